@@ -1,0 +1,12 @@
+pub mod Apart
+pub mod AreaCalls
+pub mod OneCall
+pub mod PieceLemmas
+pub mod Places
+pub mod Plans
+pub mod Ranges
+pub mod Rounding
+pub mod Sectors
+pub mod Sequence
+pub mod Touches
+pub mod WholeUnits

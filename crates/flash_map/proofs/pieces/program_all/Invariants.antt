@@ -1,0 +1,15 @@
+use Rattle.std.proofs.Common.{◌≡◌, ◌%◌, ◌-◌, ◌≤◌, ◌∷◌, [], false, length, take}
+use Rattle.flash_map.specs.Area.{unit_of, Writes}
+use Rattle.flash_map.specs.Touches.{Touches}
+use Rattle.flash_map.proofs.pieces.program_all.Given as goal
+
+abbrev pub invariant-loop-done : goal.invariant-loop-done
+invariant-loop-done g l = record {
+  in_range : l.done ≤ length l.bytes;
+  whole_units : l.done % unit_of (g.F.Flash.device l.initial.flash) l.area ≡ 0;
+  touches : Touches (l.area ∷ []) (g.F.Flash.device l.initial.flash) (g.F.Flash.device l.flash) false;
+  written : Writes (g.F.Flash.device l.initial.flash) (g.F.Flash.device l.flash) l.area l.sector l.offset (take l.done l.bytes);
+}
+
+abbrev pub decreases-loop-done : goal.decreases-loop-done
+decreases-loop-done g l = length l.bytes - l.done

@@ -1,0 +1,12 @@
+//! Areas of a flash: runs of whole sectors, and calls that change one area alone.
+#![tactic(auto)]
+
+mod area;
+mod calls;
+mod pieces;
+mod units;
+
+pub use area::{Area, Geometry, Role};
+pub use calls::{area_erase, area_program, area_view, geometry};
+pub use pieces::program_all;
+pub use units::padded;

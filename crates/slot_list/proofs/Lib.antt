@@ -1,0 +1,3 @@
+pub mod LivePairs
+pub mod Pairs
+pub mod SlotLemmas

@@ -1,0 +1,17 @@
+//! Laws on lists of pairs. The functions do nothing: their contracts are the laws.
+
+ghost use Rattle.std.specs.Prelude.{◌≡◌, ◌∷◌, [], ◌++◌, ◌==◌, ℕ, List, false, None, if◌then◌else◌};
+ghost use Rattle.slot_list.specs.Items.{last, value_of, SameItems};
+ghost use Rattle.slot_list.specs.Live.{names, live_pairs};
+
+/// A pair at the list's end decides for its id, and leaves every other id.
+pub fn one_pair_more()
+    ensures { (pairs : List (ℕ × List ℕ)) (pair : ℕ × List ℕ) (id : ℕ) → last (pairs ++ pair ∷ []) id ≡ (if pair.0 == id then value_of pair.1 else last pairs id) }
+{}
+
+/// The other sectors and the live pairs of the victim stand for the same items as the victim and the others. An id
+/// that the victim's last mark deletes is named by no pair that is left, where the others do not name it.
+pub fn collect_pairs()
+    ensures items { (victim others : List (ℕ × List ℕ)) → SameItems (others ++ live_pairs victim others) (victim ++ others) }
+    ensures marks { (victim others : List (ℕ × List ℕ)) (id : ℕ) → names id others ≡ false → last victim id ≡ None → names id (others ++ live_pairs victim others) ≡ false }
+{}

@@ -24,7 +24,6 @@ pub record IsPadding (unit : ℕ) : Type 0 where
   pub same : (n : ℕ) → n % unit ≡ 0 → padded unit n ≡ n
   pub sum_aligned : (n m : ℕ) → n % unit ≡ 0 → m % unit ≡ 0 → (n + m) % unit ≡ 0
 
-
 pub padding : (unit : ℕ) → IsUnit unit → IsPadding unit
 unfolding padded
 padding = by_unit IsPadding

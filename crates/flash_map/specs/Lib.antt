@@ -1,4 +1,5 @@
 pub mod Area
+pub mod Lawful
 pub mod Pieces
 pub mod Sectors
 pub mod Touches

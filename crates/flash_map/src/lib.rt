@@ -3,10 +3,12 @@
 
 mod area;
 mod calls;
+mod faults;
 mod pieces;
 mod units;
 
 pub use area::{Area, Geometry, Role};
 pub use calls::{area_erase, area_program, area_view, geometry};
+pub use faults::{Damaged, MountFault, Why, WriteFault};
 pub use pieces::program_all;
 pub use units::padded;

@@ -1,6 +1,5 @@
 // Programming in several calls.
 ghost use Rattle.std.specs.Prelude.{◌≡◌, ◌∷◌, [], is_err, OnOk, OnErr};
-
 ghost use Rattle.flash_map.specs.Area.{IsLawfulArea, Writes, WritesPart};
 ghost use Rattle.flash_map.specs.Pieces.{CanProgramAll};
 ghost use Rattle.flash_map.specs.Touches.{Touches};

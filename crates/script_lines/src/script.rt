@@ -6,6 +6,7 @@ ghost use Rattle.std.specs.Prelude.{◌≡◌};
 use crate::line::{Line, read_line};
 use crate::parts::cut_at;
 use std::alloc::Global;
+use thiserror::Error;
 
 /// Why a line is refused.
 #[derive(Clone, Copy, Debug, PartialEq, Eq)]
@@ -17,10 +18,12 @@ pub enum LineWhy {
 }
 
 /// What keeps a script from being read.
-#[derive(Clone, Copy, Debug, PartialEq, Eq)]
+#[derive(Clone, Copy, Debug, PartialEq, Eq, Error)]
 pub enum ScriptFault {
     /// The number of the refused line, from 1, skipped lines counted too.
+    #[error("line {line} is refused")]
     BadLine { line: u64, why: LineWhy },
+    #[error("out of memory")]
     NoMemory,
 }
 

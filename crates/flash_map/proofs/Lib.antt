@@ -8,5 +8,6 @@ pub mod Ranges
 pub mod Rounding
 pub mod Sectors
 pub mod Sequence
+pub mod SpendingLemmas
 pub mod Touches
 pub mod WholeUnits

@@ -75,6 +75,9 @@ end_whole a area lawful is_area sector offset bytes can done end is done_whole =
     ap (λ (n : ℕ). n % unit_of a area) is
     ∙ min_whole (length bytes) (done + 400) (unit_of a area) can.whole_units (add_whole done 400 (unit_of a area) done_whole (piece_whole (unit_of a area) (lawful.each_bank area.bank is_area.has_bank).unit))
 
+pub piece_len-is : (bytes : List ℕ) (done end : ℕ) → end ≤ length bytes → length (take (end - done) (drop done bytes)) ≡ end - done
+piece_len-is bytes done end inside = length-take-le (end - done) (drop done bytes) (omega (arith, length-drop done bytes))
+
 -- The area after some of the bytes, and the piece that follows.
 
 module _ (a b : Device) (area : Area) (lawful : IsLawful a.banks a.bytes) (is_area : IsLawfulArea a.banks area) (sector offset : ℕ) (bytes : List ℕ) (can : CanProgramAll a area sector offset bytes) (done end : ℕ) (some : done < end) (in_range : end ≤ length bytes) (done_whole : done % unit_of a area ≡ 0) (end_whole : end % unit_of a area ≡ 0) (touches : Touches (area ∷ []) a b false) (written : Writes a b area sector offset (take done bytes)) where
@@ -82,7 +85,7 @@ module _ (a b : Device) (area : Area) (lawful : IsLawful a.banks a.bytes) (is_ar
   piece = take (end - done) (drop done bytes)
 
   piece_len : length piece ≡ end - done
-  piece_len = length-take-le (end - done) (drop done bytes) (omega (arith, length-drop done bytes))
+  piece_len = piece_len-is bytes done end in_range
 
   done_len : length (take done bytes) ≡ done
   done_len = length-take-le done bytes (omega arith)

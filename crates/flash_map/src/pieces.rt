@@ -1,7 +1,8 @@
 // Programming in several calls.
-ghost use Rattle.std.specs.Prelude.{◌≡◌, ◌∷◌, [], is_err, OnOk, OnErr};
-ghost use Rattle.flash_map.specs.Area.{IsLawfulArea, Writes, WritesPart};
+ghost use Rattle.std.specs.Prelude.{◌≡◌, ◌/◌, length, ◌∷◌, [], is_err, OnOk, OnErr};
+ghost use Rattle.flash_map.specs.Area.{IsLawfulArea, unit_of, Writes, WritesPart};
 ghost use Rattle.flash_map.specs.Pieces.{CanProgramAll};
+ghost use Rattle.flash_map.specs.Spending.{Spends, SpendsAtMost};
 ghost use Rattle.flash_map.specs.Touches.{Touches};
 
 use crate::{Area, area_program};
@@ -24,7 +25,10 @@ pub fn program_all<F: Flash>(
 
     ensures touches { Touches (area.now ∷ []) (F.device flash.old) (F.device flash.new) (is_err result) }
     ensures ok { OnOk result (Writes (F.device flash.old) (F.device flash.new) area.now sector offset bytes.now) }
+    ensures spent { OnOk result (Spends (F.device flash.old) (F.device flash.new) (length bytes.now / unit_of (F.device flash.old) area.now)) }
+
     ensures lost { OnErr result (WritesPart (F.device flash.old) (F.device flash.new) area.now sector offset bytes.now) }
+    ensures spent_at_most { OnErr result (SpendsAtMost (F.device flash.old) (F.device flash.new) (length bytes.now / unit_of (F.device flash.old) area.now)) }
 {
     let mut done = 0;
     while done < bytes.len() {

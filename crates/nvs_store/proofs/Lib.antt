@@ -1,0 +1,10 @@
+pub mod Appends
+pub mod Blank
+pub mod Cuts
+pub mod EntryBytes
+pub mod Lookups
+pub mod Marks
+pub mod Room
+pub mod ScanLemmas
+pub mod SlotReads
+pub mod Sound

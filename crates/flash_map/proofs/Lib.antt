@@ -2,6 +2,7 @@ pub mod Apart
 pub mod AreaCalls
 pub mod OneCall
 pub mod PieceLemmas
+pub mod PaddedLemmas
 pub mod Places
 pub mod Plans
 pub mod Ranges

@@ -337,8 +337,7 @@ put_cut b e len lower h lower-long used =
     let more = has_slot_more 4 b len lower (take 4 (encoded e)) h lower-long (omega arith) (used slot slot-bytes) in
     let found : entries 4 new ≡ entries 4 b =
     ap (filter_map (counting_entry 4)) more.slots ∙ filter_map-append (counting_entry 4) (used_slots 4 b) (slot ∷ [])
-    ∙ ap (λ (o : Option Placed). entries 4 b ++ cons_option o []) (counting_entry-cut 4 slot e (omega arith) slot-bytes) ∙ append-nil (entries 4 b) in
-    (
+    ∙ ap (λ (o : Option Placed). entries 4 b ++ cons_option o []) (counting_entry-cut 4 slot e (omega arith) slot-bytes) ∙ append-nil (entries 4 b) in (
       record {
         list = ap (map (pair_of new)) found ∙ kept 4 (data_end 4 b) b new h.is_unit refl more.below;
         gc_done = ap (list_any is_gc_done) more.slots ∙ list_any_push is_gc_done (used_slots 4 b) slot (is_gc_done-cut slot e slot-bytes);

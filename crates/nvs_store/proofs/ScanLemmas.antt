@@ -1,10 +1,11 @@
 -- What a scan says, by its parts.
-use Rattle.std.proofs.Common.{◌≡◌, ℕ, ◌+◌, ◌-◌, ◌*◌, ◌≤◌, ◌<◌, Bool, true, false, eqb, List, [], length, get_or, map, max, refl, sym, ap, ◌∙◌, arith}
+use Rattle.std.proofs.Common.{◌≡◌, ℕ, ◌+◌, ◌-◌, ◌*◌, ◌≤◌, ◌<◌, Bool, true, false, eqb, List, [], length, get_or, map, max, replicate, refl, sym, ap, ◌∙◌, arith}
 use Rattle.std.specs.Prelude.{fold, sum_by}
 use Rattle.std.specs.List.{filter_map}
 use Rattle.std.proofs.Math.Nat.{zero-mod}
 use Rattle.std.proofs.lemmas.Bool.{eqb-true}
-use Rattle.std.proofs.lemmas.List.Sums.{AllPass-from_list_all}
+use Rattle.std.proofs.lemmas.List.Sums.{AllPass-from_list_all, list_all-from_AllPass}
+use Rattle.std.proofs.lemmas.List.Elements.{All-replicate}
 use Rattle.flash_map.specs.Units.{IsUnit, padded}
 use Rattle.slot_list.specs.Slots.{Slot, is_erased}
 use Rattle.nvs_store.specs.declared.scan.Placed.{Placed}
@@ -34,6 +35,9 @@ scan_grown unit place old new id bytes scan size len adds is size-is len-is =
     ∙ scan_is unit place new (scan.low - size) (scan.data_end + len) (has_gc_done unit old) (omega (arith, adds.lower)) (omega (arith, adds.grown)) (sym adds.gc_done)
 
 -- ---- a blank sector
+
+pub erased-replicate : (n : ℕ) → is_erased (replicate n 255) ≡ true
+erased-replicate n = list_all-from_AllPass (λ byte. eqb byte 255) (replicate n 255) (All-replicate (λ (byte : ℕ). eqb byte 255 ≡ true) n 255 refl)
 
 pub blank-low : (unit : ℕ) (b : List ℕ) → is_erased b ≡ true → low unit b ≡ length b - slot_size unit
 blank-low unit b blank = ap (λ (xs : List Slot). length b - (length xs + 1) * slot_size unit) (blank-used unit b blank) ∙ omega arith

@@ -21,18 +21,15 @@ use Rattle.nvs_store.proofs.Room.{data_end-above, fold_max-ge}
 use Rattle.nvs_store.proofs.EntryBytes.{decoded_cases, counting_entry-is, is_gc_done-is}
 use Rattle.nvs_store.proofs.Lookups.{slots_to_used}
 use Rattle.nvs_store.proofs.Marks.{counting_entry_under}
-use Rattle.nvs_store.specs.Sector.{has_fence, is_overfull, is_sound, pairs_cost, IsFurther}
+use Rattle.nvs_store.specs.Sector.{has_fence, is_overfull, is_sound, placed_cost, pairs_cost, IsFurther}
 use Rattle.nvs_store.proofs.Blank.{blank-pairs, blank-used}
 
 -- ---- costs by entries and by pairs
 
-abbrev found_cost : ℕ → Placed → ℕ
-found_cost unit f = cond (eqb f.entry.len 0) 0 (cost unit f.entry.len)
-
 abbrev pair_cost : ℕ → ℕ × List ℕ → ℕ
 pair_cost unit pair = cond (eqb (length pair.1) 0) 0 (cost unit (length pair.1))
 
-costs_from : (unit : ℕ) (b : List ℕ) (a n : ℕ) → sum_by (found_cost unit) (filter_map (counting_entry unit) (map (slot_at unit b) (range_with_len a n))) ≡ pairs_cost unit (map (pair_of b) (filter_map (counting_entry unit) (map (slot_at unit b) (range_with_len a n))))
+costs_from : (unit : ℕ) (b : List ℕ) (a n : ℕ) → sum_by (placed_cost unit) (filter_map (counting_entry unit) (map (slot_at unit b) (range_with_len a n))) ≡ pairs_cost unit (map (pair_of b) (filter_map (counting_entry unit) (map (slot_at unit b) (range_with_len a n))))
 costs_from unit b a zero = refl
 costs_from unit b a (suc n) =
     let tail = costs_from unit b (a + 1) n in
@@ -43,14 +40,14 @@ costs_from unit b a (suc n) =
           let long : length (slice_range b f.entry.offset (f.entry.offset + f.entry.len)) ≡ f.entry.offset + f.entry.len - f.entry.offset = length-between b f.entry.offset (f.entry.offset + f.entry.len) (omega arith) in
           let len : f.entry.len ≡ length (slice_range b f.entry.offset (f.entry.offset + f.entry.len)) = omega arith in
           let fs = filter_map (counting_entry unit) (map (slot_at unit b) (range_with_len (a + 1) n)) in
-          rw some (sum_by-cons (found_cost unit) f fs ∙ ap (λ (m : ℕ). cond (eqb m 0) 0 (cost unit m) + sum_by (found_cost unit) fs) len ∙ ap (λ (m : ℕ). pair_cost unit (pair_of b f) + m) tail
+          rw some (sum_by-cons (placed_cost unit) f fs ∙ ap (λ (m : ℕ). cond (eqb m 0) 0 (cost unit m) + sum_by (placed_cost unit) fs) len ∙ ap (λ (m : ℕ). pair_cost unit (pair_of b f) + m) tail
           ∙ sym (sum_by-cons (pair_cost unit) (pair_of b f) (map (pair_of b) fs)))
     ]
 
-pub entries_cost : (unit : ℕ) (b : List ℕ) → sum_by (found_cost unit) (entries unit b) ≡ pairs_cost unit (pairs unit b)
+pub entries_cost : (unit : ℕ) (b : List ℕ) → sum_by (placed_cost unit) (entries unit b) ≡ pairs_cost unit (pairs unit b)
 entries_cost unit b =
     let to = slots_to_used unit b (length (used_slots unit b)) refl in
-    ap (λ (xs : List Slot). sum_by (found_cost unit) (filter_map (counting_entry unit) xs)) (sym to) ∙ costs_from unit b 1 (length (used_slots unit b)) ∙ ap (λ (xs : List Slot). pairs_cost unit (map (pair_of b) (filter_map (counting_entry unit) xs))) to
+    ap (λ (xs : List Slot). sum_by (placed_cost unit) (filter_map (counting_entry unit) xs)) (sym to) ∙ costs_from unit b 1 (length (used_slots unit b)) ∙ ap (λ (xs : List Slot). pairs_cost unit (map (pair_of b) (filter_map (counting_entry unit) xs))) to
 
 -- ---- sound, from the room under the fence
 
@@ -78,7 +75,7 @@ sound-from unit b is-unit ends costs =
     let widths = slot_widths unit is-unit in
     let fence : has_fence unit b ≡ true = fence_from unit b is-unit (omega arith) in
     let no_end : list_any (λ f. ltb (low unit b - slot_size unit) (f.entry.offset + f.entry.len)) (entries unit b) ≡ false = ends_within unit (low unit b - slot_size unit) pad (entries unit b) 0 (omega arith) in
-    let no_cost : ltb (capacity unit (length b)) (sum_by (found_cost unit) (entries unit b)) ≡ false = le-ltb (capacity unit (length b)) (sum_by (found_cost unit) (entries unit b)) (let e = entries_cost unit b in omega arith) in
+    let no_cost : ltb (capacity unit (length b)) (sum_by (placed_cost unit) (entries unit b)) ≡ false = le-ltb (capacity unit (length b)) (sum_by (placed_cost unit) (entries unit b)) (let e = entries_cost unit b in omega arith) in
     let full : is_overfull unit b ≡ false = or_from _ _ no_end no_cost in
     or_right (is_erased b) (has_fence unit b && not (is_overfull unit b)) (and_from (has_fence unit b) (not (is_overfull unit b)) fence (not_from_false (is_overfull unit b) full))
 
@@ -89,7 +86,7 @@ sound-costs unit b sound =
       | inl blank ↦ let e : pairs_cost unit (pairs unit b) ≡ 0 = ap (pairs_cost unit) (blank-pairs unit b blank) in omega arith
       | inr parts ↦
           let full : is_overfull unit b ≡ false = not-true (is_overfull unit b) ((and_parts (has_fence unit b) (not (is_overfull unit b)) parts).1) in
-          let costs = ltb-false (capacity unit (length b)) (sum_by (found_cost unit) (entries unit b)) ((or_parts (list_any (λ f. ltb (low unit b - slot_size unit) (f.entry.offset + f.entry.len)) (entries unit b)) (ltb (capacity unit (length b)) (sum_by (found_cost unit) (entries unit b))) full).1) in
+          let costs = ltb-false (capacity unit (length b)) (sum_by (placed_cost unit) (entries unit b)) ((or_parts (list_any (λ f. ltb (low unit b - slot_size unit) (f.entry.offset + f.entry.len)) (entries unit b)) (ltb (capacity unit (length b)) (sum_by (placed_cost unit) (entries unit b))) full).1) in
           let e = entries_cost unit b in omega arith
     ]
 
@@ -147,8 +144,8 @@ close-sound unit old new full sound closes =
     ∙ ap (λ (n : ℕ). ltb (length (used_slots unit old)) n)
     (length-map-range_with_len (slot_at unit new) 1 (length new / slot_size unit - 1) ∙ ap (λ (m : ℕ). m / slot_size unit - 1) closes.long ∙ sym (length-map-range_with_len (slot_at unit old) 1 (length old / slot_size unit - 1))) in
     let over : is_overfull unit new ≡ is_overfull unit old =
-    ap (λ (xs : List Slot). list_any (λ (f : Placed). ltb (length new - (length xs + 1) * slot_size unit - slot_size unit) (f.entry.offset + f.entry.len)) (filter_map (counting_entry unit) xs) || ltb (capacity unit (length new)) (sum_by (found_cost unit) (filter_map (counting_entry unit) xs))) closes.same_slots
-    ∙ ap (λ (m : ℕ). list_any (λ (f : Placed). ltb (m - (length (used_slots unit old) + 1) * slot_size unit - slot_size unit) (f.entry.offset + f.entry.len)) (entries unit old) || ltb (capacity unit m) (sum_by (found_cost unit) (entries unit old))) closes.long in
+    ap (λ (xs : List Slot). list_any (λ (f : Placed). ltb (length new - (length xs + 1) * slot_size unit - slot_size unit) (f.entry.offset + f.entry.len)) (filter_map (counting_entry unit) xs) || ltb (capacity unit (length new)) (sum_by (placed_cost unit) (filter_map (counting_entry unit) xs))) closes.same_slots
+    ∙ ap (λ (m : ℕ). list_any (λ (f : Placed). ltb (m - (length (used_slots unit old) + 1) * slot_size unit - slot_size unit) (f.entry.offset + f.entry.len)) (entries unit old) || ltb (capacity unit m) (sum_by (placed_cost unit) (entries unit old))) closes.long in
     elim (or_cases (is_erased old) (has_fence unit old && not (is_overfull unit old)) sound) [
       | inl blank ↦ absurd (false≢true (sym full ∙ blank))
       | inr parts ↦
@@ -180,14 +177,14 @@ one_mark true later size = omega arith
 one_mark false true size = omega arith
 one_mark false false size = omega arith
 
-found_cost-le : (unit : ℕ) (f : Placed) → found_cost unit f ≤ padded unit f.entry.len + slot_size unit
-found_cost-le unit f =
+placed_cost-le : (unit : ℕ) (f : Placed) → placed_cost unit f ≤ padded unit f.entry.len + slot_size unit
+placed_cost-le unit f =
     elim (cases_Bool (eqb f.entry.len 0)) [
-      | inl none ↦ let e : found_cost unit f ≡ 0 = cond-true (eqb f.entry.len 0) 0 (cost unit f.entry.len) none in omega arith
-      | inr some ↦ let e : found_cost unit f ≡ cost unit f.entry.len = cond-false (eqb f.entry.len 0) 0 (cost unit f.entry.len) some in omega arith
+      | inl none ↦ let e : placed_cost unit f ≡ 0 = cond-true (eqb f.entry.len 0) 0 (cost unit f.entry.len) none in omega arith
+      | inr some ↦ let e : placed_cost unit f ≡ cost unit f.entry.len = cond-false (eqb f.entry.len 0) 0 (cost unit f.entry.len) some in omega arith
     ]
 
-slots_cost : (unit : ℕ) (ss : List Slot) → sum_by (found_cost unit) (filter_map (counting_entry unit) ss) + cond (list_any is_gc_done ss) (slot_size unit) 0 ≤ sum_by (λ f. padded unit f.entry.len) (filter_map (counting_entry unit) ss) + length ss * slot_size unit
+slots_cost : (unit : ℕ) (ss : List Slot) → sum_by (placed_cost unit) (filter_map (counting_entry unit) ss) + cond (list_any is_gc_done ss) (slot_size unit) 0 ≤ sum_by (λ f. padded unit f.entry.len) (filter_map (counting_entry unit) ss) + length ss * slot_size unit
 slots_cost unit [] = omega arith
 slots_cost unit (slot ∷ ss) =
     let tail = slots_cost unit ss in
@@ -196,16 +193,16 @@ slots_cost unit (slot ∷ ss) =
     elim (counts_not_done unit slot) [
       | inl none ↦
           let same : filter_map (counting_entry unit) (slot ∷ ss) ≡ filter_map (counting_entry unit) ss = ap (λ (o : Option Placed). cons_option o fs) none in
-          let a : sum_by (found_cost unit) (filter_map (counting_entry unit) (slot ∷ ss)) ≡ sum_by (found_cost unit) fs = ap (sum_by (found_cost unit)) same in
+          let a : sum_by (placed_cost unit) (filter_map (counting_entry unit) (slot ∷ ss)) ≡ sum_by (placed_cost unit) fs = ap (sum_by (placed_cost unit)) same in
           let b : sum_by (λ f. padded unit f.entry.len) (filter_map (counting_entry unit) (slot ∷ ss)) ≡ sum_by (λ f. padded unit f.entry.len) fs = ap (sum_by (λ (f : Placed). padded unit f.entry.len)) same in
           let mark = one_mark (is_gc_done slot) (list_any is_gc_done ss) (slot_size unit) in
           omega arith
       | inr (f, some, unmarked) ↦
           let same : filter_map (counting_entry unit) (slot ∷ ss) ≡ f ∷ fs = ap (λ (o : Option Placed). cons_option o fs) some in
-          let a : sum_by (found_cost unit) (filter_map (counting_entry unit) (slot ∷ ss)) ≡ found_cost unit f + sum_by (found_cost unit) fs = ap (sum_by (found_cost unit)) same ∙ sum_by-cons (found_cost unit) f fs in
+          let a : sum_by (placed_cost unit) (filter_map (counting_entry unit) (slot ∷ ss)) ≡ placed_cost unit f + sum_by (placed_cost unit) fs = ap (sum_by (placed_cost unit)) same ∙ sum_by-cons (placed_cost unit) f fs in
           let b : sum_by (λ f. padded unit f.entry.len) (filter_map (counting_entry unit) (slot ∷ ss)) ≡ padded unit f.entry.len + sum_by (λ f. padded unit f.entry.len) fs = ap (sum_by (λ (f : Placed). padded unit f.entry.len)) same ∙ sum_by-cons (λ (f : Placed). padded unit f.entry.len) f fs in
           let mark : cond (list_any is_gc_done (slot ∷ ss)) (slot_size unit) 0 ≡ cond (list_any is_gc_done ss) (slot_size unit) 0 = ap (λ (t : Bool). cond (t || list_any is_gc_done ss) (slot_size unit) 0) unmarked in
-          let one = found_cost-le unit f in
+          let one = placed_cost-le unit f in
           omega arith
     ]
 

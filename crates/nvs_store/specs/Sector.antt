@@ -95,6 +95,10 @@ pairs_cost unit pairs = sum_by (λ pair. if length pair.1 == 0 then 0 else cost 
 
 -- ---- soundness
 
+-- what an entry with data takes up
+abbrev pub placed_cost : ℕ → Placed → ℕ
+placed_cost unit f = if f.entry.len == 0 then 0 else cost unit f.entry.len
+
 abbrev pub has_fence : ℕ → List ℕ → Bool
 has_fence unit sector = nat_lt (length (used_slots unit sector)) (length (slots unit sector))
 
@@ -102,7 +106,7 @@ has_fence unit sector = nat_lt (length (used_slots unit sector)) (length (slots 
 abbrev pub is_overfull : ℕ → List ℕ → Bool
 is_overfull unit sector =
     list_any (λ f. nat_lt (low unit sector - slot_size unit) (f.entry.offset + f.entry.len)) (entries unit sector)
-    || nat_lt (capacity unit (length sector)) (sum_by (λ f. if f.entry.len == 0 then 0 else cost unit f.entry.len) (entries unit sector))
+    || nat_lt (capacity unit (length sector)) (sum_by (placed_cost unit) (entries unit sector))
 
 -- The sector is blank, or it has a fence and is not overfull.
 abbrev pub is_sound : ℕ → List ℕ → Bool

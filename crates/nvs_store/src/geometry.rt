@@ -1,7 +1,7 @@
 // Units, slots and room.
 ghost use Rattle.std.specs.Prelude.{◌≡◌, ◌+◌, ◌-◌, ◌<◌, ◌≤◌, ◌^◌, replicate, false};
 ghost use Rattle.flash_map.specs.Units.{IsUnit};
-ghost use Rattle.nvs_store.specs.Geometry.{slot_size, cost};
+ghost use Rattle.nvs_store.specs.Geometry.{slot_size, cost, capacity};
 ghost use Rattle.nvs_store.specs.Scans.{fits, sector_scan};
 
 use crate::scan::{Redo, Scan};
@@ -27,6 +27,14 @@ pub fn cost(unit: u32, len: u32) -> u64
 {
     let wide = u64::from(unit);
     u64::from(slot_size(unit)) + (u64::from(len) + (wide - 1)) / wide * wide
+}
+
+/// What a sector of this many bytes has for data and entries.
+pub fn capacity(unit: u32, sector: u32) -> u32
+    requires { IsUnit unit }
+    ensures { result ≡ capacity unit sector }
+{
+    sector.saturating_sub(4 * slot_size(unit))
 }
 
 /// Whether data of `len` bytes and its entry fit the sector that was scanned. A `len` of 0 is a delete.

@@ -75,7 +75,7 @@ pairs_kept unit limit old new same pad (f ∷ fs) a le =
 -- ---- a whole or a partial write of data
 
 -- the fence, by the room above the data
-fence_of : (unit : ℕ) (b : List ℕ) (len : ℕ) → HasRoom unit b len → HasFence is_used 1 (slot_size unit) b (length (used_slots unit b))
+pub fence_of : (unit : ℕ) (b : List ℕ) (len : ℕ) → HasRoom unit b len → HasFence is_used 1 (slot_size unit) b (length (used_slots unit b))
 fence_of unit b len h = let pad = padding unit h.is_unit in let widths = slot_widths unit h.is_unit in HasFence-from_low is_used 1 (slot_size unit) b (omega arith) (omega arith)
 
 used_slots-old : (unit : ℕ) (b : List ℕ) (len : ℕ) → HasRoom unit b len → used_slots unit b ≡ map (slot_at unit b) (range_with_len 1 (length (used_slots unit b)))

@@ -1,9 +1,9 @@
 -- What the code's functions on slots need.
-use Rattle.std.proofs.Common.{◌≡◌, ℕ, ◌+◌, ◌-◌, ◌*◌, ◌/◌, ◌<◌, ◌≤◌, max, Bool, true, false, cond, eqb, ◌||◌, List, [], ◌∷◌, ◌++◌, length, map, take, Option, Some, None, refl, sym, ap, subst, ◌∙◌, inl, inr, eq-eqb, not, arith}
+use Rattle.std.proofs.Common.{◌≡◌, ℕ, ◌+◌, ◌-◌, ◌*◌, ◌/◌, ◌<◌, ◌≤◌, max, Bool, true, false, cond, eqb, ltb, ◌||◌, List, [], ◌∷◌, ◌++◌, length, map, take, Option, Some, None, refl, sym, ap, subst, ◌∙◌, inl, inr, eq-eqb, not, arith}
 use Rattle.std.specs.Prelude.{fold, sum_by, slice_range}
 use Rattle.std.specs.Option.{option_and_then, option_map_or}
 use Rattle.std.specs.List.{filter_map, cons_option, range_with_len, list_any, suffix_len}
-use Rattle.std.proofs.lemmas.Bool.{cases_lt, ne_eqb}
+use Rattle.std.proofs.lemmas.Bool.{cases_lt, ne_eqb, lt-ltb, le-ltb}
 use Rattle.std.proofs.lemmas.Nat.{le-div}
 use Rattle.std.proofs.lemmas.List.{map-append, append-nil, length-take-le}
 use Rattle.std.proofs.lemmas.List.Sums.{prefix_len_is, prefix_len-le-length, fold_push}
@@ -14,10 +14,10 @@ use Rattle.std.proofs.Math.Nat.{mul-le-mul_left}
 use Rattle.nvs_store.specs.declared.entry.Entry.{Entry}
 use Rattle.nvs_store.specs.declared.scan.Placed.{Placed}
 use Rattle.flash_map.specs.Units.{IsUnit, padded}
-use Rattle.nvs_store.specs.Geometry.{slot_size}
+use Rattle.nvs_store.specs.Geometry.{slot_size, capacity}
 use Rattle.nvs_store.specs.Entries.{decoded}
 use Rattle.slot_list.specs.Slots.{Slot, is_erased}
-use Rattle.nvs_store.specs.Sector.{slot_at, slots, is_used, used_slots, counts, counting_entry, entries, entry_end, is_gc_done, written_end, data_end, low, last_placed}
+use Rattle.nvs_store.specs.Sector.{slot_at, slots, is_used, used_slots, counts, counting_entry, entries, entry_end, is_gc_done, written_end, data_end, low, last_placed, has_fence, is_overfull, placed_cost}
 use Rattle.flash_map.proofs.Rounding.{padding}
 use Rattle.nvs_store.proofs.SlotReads.{slot_widths}
 use Rattle.slot_list.specs.Slots as shared
@@ -90,9 +90,17 @@ ends_more : (unit : ℕ) (fs : List Placed) (o : Option Placed) → fold max 0 (
 ends_more unit fs None = ap (λ xs. fold max 0 (map (entry_end unit) xs)) (append-nil fs) ∙ omega arith
 ends_more unit fs (Some f) = ap (fold max 0) (map-append (entry_end unit) fs (f ∷ [])) ∙ fold_push max 0 (map (entry_end unit) fs) (entry_end unit f) ∙ omega arith
 
-lens_more : (unit : ℕ) (fs : List Placed) (o : Option Placed) → sum_by (λ f. padded unit f.entry.len) (fs ++ cons_option o []) ≡ sum_by (λ f. padded unit f.entry.len) fs + option_map_or (λ f. padded unit f.entry.len) o 0
-lens_more unit fs None = ap (sum_by (λ f. padded unit f.entry.len)) (append-nil fs) ∙ omega arith
-lens_more unit fs (Some f) = fold_push (λ a f. a + padded unit f.entry.len) 0 fs f
+or-false : (t : Bool) → (t || false) ≡ t
+or-false true = refl
+or-false false = refl
+
+sum_more : (g : Placed → ℕ) (fs : List Placed) (o : Option Placed) → sum_by g (fs ++ cons_option o []) ≡ sum_by g fs + option_map_or g o 0
+sum_more g fs None = ap (sum_by g) (append-nil fs) ∙ omega arith
+sum_more g fs (Some f) = fold_push (λ a f. a + g f) 0 fs f
+
+any_more : (p : Placed → Bool) (fs : List Placed) (o : Option Placed) → list_any p (fs ++ cons_option o []) ≡ (list_any p fs || option_map_or p o false)
+any_more p fs None = ap (list_any p) (append-nil fs) ∙ sym (or-false (list_any p fs))
+any_more p fs (Some f) = list_any-append p fs (f ∷ []) ∙ ap (λ (t : Bool). list_any p fs || t) (or-false (p f))
 
 found_more : (id : ℕ) (fs : List Placed) (o : Option Placed) → last_placed id (fs ++ cons_option o []) ≡ option_map_or (λ f. cond (eqb f.entry.id id) (Some f) (last_placed id fs)) o (last_placed id fs)
 found_more id fs None = ap (last_placed id) (append-nil fs)
@@ -138,10 +146,6 @@ find_none unit b id index rest positive is later =
 
 -- ---- the steps of the scan
 
-or-false : (t : Bool) → (t || false) ≡ t
-or-false true = refl
-or-false false = refl
-
 pub ends_step : (unit : ℕ) (b : List ℕ) (index : ℕ) (o : Option Placed) (ends end : ℕ) → 1 ≤ index → o ≡ counting_entry unit (slot_at unit b index) → ends ≡ fold max 0 (map (entry_end unit) (entries_to unit b (index - 1)))
     → end ≡ option_map_or (entry_end unit) o 0 → max end ends ≡ fold max 0 (map (entry_end unit) (entries_to unit b (index + 1 - 1)))
 ends_step unit b index o ends end positive is before at =
@@ -151,14 +155,23 @@ ends_step unit b index o ends end positive is before at =
     ∙ ap (λ fs. fold max 0 (map (entry_end unit) fs)) (entries_to_more unit b (index - 1) ∙ ap (λ (k : ℕ). entries_to unit b (index - 1) ++ cons_option (counting_entry unit (slot_at unit b k)) []) back ∙ ap (λ (x : Option Placed). entries_to unit b (index - 1) ++ cons_option x []) (sym is))
     ∙ ends_more unit (entries_to unit b (index - 1)) o ∙ ap (λ (x : ℕ). max (option_map_or (entry_end unit) o 0) x) (sym before) ∙ ap (λ (x : ℕ). max x ends) (sym at))
 
-pub lens_step : (unit : ℕ) (b : List ℕ) (index : ℕ) (o : Option Placed) (lens len : ℕ) → 1 ≤ index → o ≡ counting_entry unit (slot_at unit b index) → lens ≡ sum_by (λ f. padded unit f.entry.len) (entries_to unit b (index - 1))
-    → len ≡ option_map_or (λ f. padded unit f.entry.len) o 0 → lens + len ≡ sum_by (λ f. padded unit f.entry.len) (entries_to unit b (index + 1 - 1))
-lens_step unit b index o lens len positive is before at =
+pub sum_step : (unit : ℕ) (b : List ℕ) (g : Placed → ℕ) (index : ℕ) (o : Option Placed) (sum add : ℕ) → 1 ≤ index → o ≡ counting_entry unit (slot_at unit b index) → sum ≡ sum_by g (entries_to unit b (index - 1))
+    → add ≡ option_map_or g o 0 → sum + add ≡ sum_by g (entries_to unit b (index + 1 - 1))
+sum_step unit b g index o sum add positive is before at =
     let back : index - 1 + 1 ≡ index = omega arith in
     let next : index + 1 - 1 ≡ index - 1 + 1 = omega arith in
-    sym (ap (λ (k : ℕ). sum_by (λ f. padded unit f.entry.len) (entries_to unit b k)) next
-    ∙ ap (sum_by (λ f. padded unit f.entry.len)) (entries_to_more unit b (index - 1) ∙ ap (λ (k : ℕ). entries_to unit b (index - 1) ++ cons_option (counting_entry unit (slot_at unit b k)) []) back ∙ ap (λ (x : Option Placed). entries_to unit b (index - 1) ++ cons_option x []) (sym is))
-    ∙ lens_more unit (entries_to unit b (index - 1)) o ∙ ap (λ (x : ℕ). x + option_map_or (λ f. padded unit f.entry.len) o 0) (sym before) ∙ ap (λ (x : ℕ). lens + x) (sym at))
+    sym (ap (λ (k : ℕ). sum_by g (entries_to unit b k)) next
+    ∙ ap (sum_by g) (entries_to_more unit b (index - 1) ∙ ap (λ (k : ℕ). entries_to unit b (index - 1) ++ cons_option (counting_entry unit (slot_at unit b k)) []) back ∙ ap (λ (x : Option Placed). entries_to unit b (index - 1) ++ cons_option x []) (sym is))
+    ∙ sum_more g (entries_to unit b (index - 1)) o ∙ ap (λ (x : ℕ). x + option_map_or g o 0) (sym before) ∙ ap (λ (x : ℕ). sum + x) (sym at))
+
+pub any_step : (unit : ℕ) (b : List ℕ) (p : Placed → Bool) (index : ℕ) (o : Option Placed) (before here : Bool) → 1 ≤ index → o ≡ counting_entry unit (slot_at unit b index) → before ≡ list_any p (entries_to unit b (index - 1))
+    → here ≡ option_map_or p o false → (before || here) ≡ list_any p (entries_to unit b (index + 1 - 1))
+any_step unit b p index o before here positive is so_far at =
+    let back : index - 1 + 1 ≡ index = omega arith in
+    let next : index + 1 - 1 ≡ index - 1 + 1 = omega arith in
+    sym (ap (λ (k : ℕ). list_any p (entries_to unit b k)) next
+    ∙ ap (list_any p) (entries_to_more unit b (index - 1) ∙ ap (λ (k : ℕ). entries_to unit b (index - 1) ++ cons_option (counting_entry unit (slot_at unit b k)) []) back ∙ ap (λ (x : Option Placed). entries_to unit b (index - 1) ++ cons_option x []) (sym is))
+    ∙ any_more p (entries_to unit b (index - 1)) o ∙ ap (λ (t : Bool). t || option_map_or p o false) (sym so_far) ∙ ap (λ (t : Bool). before || t) (sym at))
 
 pub done_step : (unit : ℕ) (b : List ℕ) (index : ℕ) (before here : Bool) → 1 ≤ index → before ≡ list_any is_gc_done (slots_to unit b (index - 1)) → here ≡ is_gc_done (slot_at unit b index)
     → (before || here) ≡ list_any is_gc_done (slots_to unit b (index + 1 - 1))
@@ -182,3 +195,20 @@ data_end_is unit b under trimmed written ends lens inside is trim pad at sums =
 
 pub entries_to_used : (unit : ℕ) (b : List ℕ) (n : ℕ) → n ≡ length (used_slots unit b) → entries_to unit b n ≡ entries unit b
 entries_to_used unit b n is = ap (filter_map (counting_entry unit)) (slots_to_used unit b n is)
+
+-- the code's test for a fence
+pub fence_test : (unit : ℕ) (b : List ℕ) (used count : ℕ) → used ≡ length (used_slots unit b) → count ≡ length b / slot_size unit → ltb (used + 1) count ≡ has_fence unit b
+fence_test unit b used count is at =
+    let len : length (slots unit b) ≡ length b / slot_size unit - 1 = length-map-range_with_len (shared.slot_at (slot_size unit) b) 1 (length b / slot_size unit - 1) in
+    elim (cases_lt (used + 1) count) [
+      | inl lt ↦ lt-ltb (used + 1) count lt ∙ sym (lt-ltb (length (used_slots unit b)) (length (slots unit b)) (omega arith))
+      | inr ge ↦ le-ltb (used + 1) count ge ∙ sym (le-ltb (length (used_slots unit b)) (length (slots unit b)) (omega arith))
+    ]
+
+-- the code's test of ends and costs
+pub overfull_is : (unit : ℕ) (b : List ℕ) (fence cap costs : ℕ) (passes : Bool) → fence ≡ low unit b - slot_size unit → cap ≡ capacity unit (length b) → passes ≡ list_any (λ f. ltb fence (f.entry.offset + f.entry.len)) (entries unit b)
+    → costs ≡ sum_by (placed_cost unit) (entries unit b) → (passes || ltb cap costs) ≡ is_overfull unit b
+overfull_is unit b fence cap costs passes at room ends sums =
+    ap (λ (t : Bool). t || ltb cap costs) (ends ∙ ap (λ (n : ℕ). list_any (λ (f : Placed). ltb n (f.entry.offset + f.entry.len)) (entries unit b)) at)
+    ∙ ap (λ (n : ℕ). list_any (λ f. ltb (low unit b - slot_size unit) (f.entry.offset + f.entry.len)) (entries unit b) || ltb n costs) room
+    ∙ ap (λ (n : ℕ). list_any (λ f. ltb (low unit b - slot_size unit) (f.entry.offset + f.entry.len)) (entries unit b) || ltb (capacity unit (length b)) n) sums

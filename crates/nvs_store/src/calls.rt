@@ -63,14 +63,8 @@ pub fn find<F: Flash, L: Ledger>(
     ensures step { steps.new ≡ steps.old + 1 }
 {
     let g = geometry(flash, area);
-    let sector = scan.current;
-    let bytes = area_view(flash, area, sector, 0, g.sector, steps);
-    let placed = find_in(bytes, g.unit, id)?;
-    Some(Found {
-        sector,
-        slot: placed.slot,
-        entry: placed.entry,
-    })
+    let bytes = area_view(flash, area, scan.current, 0, g.sector, steps);
+    find_in(bytes, g.unit, scan.current, id)
 }
 
 /// Appends a pair to the list: the data is programmed, and then its entry. No bytes are a delete.

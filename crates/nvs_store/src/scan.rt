@@ -1,5 +1,8 @@
 // What a scan of an area says, and entries at their places.
 
+ghost use Rattle.std.specs.Prelude.{◌≡◌};
+ghost use Rattle.nvs_store.specs.Scans.{found_at};
+
 use crate::entry::Entry;
 
 /// An entry that counts, and its slot. Slots of entries are numbered from 1, downward from the sector's end.
@@ -7,6 +10,19 @@ use crate::entry::Entry;
 pub struct Placed {
     pub slot: u32,
     pub entry: Entry,
+}
+
+impl Placed {
+    /// The entry in this sector of the area.
+    pub fn at(self, sector: u32) -> Found
+        ensures { result ≡ found_at sector self }
+    {
+        Found {
+            sector,
+            slot: self.slot,
+            entry: self.entry,
+        }
+    }
 }
 
 /// An entry that counts, and where it stands in the area.

@@ -1,12 +1,12 @@
 // How one sector reads, over its bytes.
 ghost use Rattle.std.specs.Prelude.{◌≡◌, ◌+◌, ◌^◌, ◌≤◌, ◌<◌, length, nat_lt, false};
-ghost use Rattle.std.specs.Option.{option_map_or};
+ghost use Rattle.std.specs.Option.{option_map, option_map_or};
 ghost use Rattle.flash_map.specs.Units.{IsUnit};
 ghost use Rattle.nvs_store.specs.Sector.{entries, last_placed, placed_cost, has_fence, is_overfull};
-ghost use Rattle.nvs_store.specs.Scans.{sector_scan, damage_in};
+ghost use Rattle.nvs_store.specs.Scans.{sector_scan, damage_in, found_at};
 
 use crate::geometry::{capacity, cost, slot_size};
-use crate::scan::{Placed, Redo, Scan};
+use crate::scan::{Found, Placed, Redo, Scan};
 use crate::slots::{
     counting_entry, end_of, is_erased, is_gc_done, len_of, slot_start, trimmed_len, used_count,
 };
@@ -108,18 +108,18 @@ pub fn damage_in(bytes: &[u8], unit: u32) -> Option<Why>
     is_overfull(bytes, unit).then_some(Why::Overfull)
 }
 
-/// The last entry of the id, a delete too.
-pub fn find_in(bytes: &[u8], unit: u32, id: u16) -> Option<Placed>
+/// The last entry of the id, a delete too. The sector has this number.
+pub fn find_in(bytes: &[u8], unit: u32, place: u32, id: u16) -> Option<Found>
     requires unit { IsUnit unit }
     requires long { 16 ≤ length bytes.now }
     requires short { length bytes.now ≤ 2 ^ 15 }
-    ensures { result ≡ last_placed id (entries unit bytes.now) }
+    ensures { result ≡ option_map (found_at place) (last_placed id (entries unit bytes.now)) }
 {
     let mut index = used_count(bytes, unit);
     while index > 0 {
         if let Some(placed) = counting_entry(bytes, unit, index) {
             if placed.entry.id == id {
-                return Some(placed);
+                return Some(placed.at(place));
             }
         }
         index -= 1;

@@ -6,7 +6,7 @@ use Rattle.nvs_store.specs.Geometry.{slot_size}
 use Rattle.flash_map.specs.Units.{padded}
 use Rattle.nvs_store.specs.Sector.{is_gc_done, used_slots, low, data_end, entry_end}
 use Rattle.nvs_store.proofs.SlotReads.{slot_size_bounds}
-use Rattle.nvs_store.proofs.Lookups.{used_inside, slots_to_used, entries_to_used, ends_step, lens_step, done_step, data_end_is}
+use Rattle.nvs_store.proofs.Lookups.{used_inside, slots_to_used, entries_to_used, ends_step, sum_step, done_step, data_end_is}
 use Rattle.slot_list.proofs.SlotLemmas.{factor_le}
 use Rattle.nvs_store.proofs.ScanLemmas.{scan_is}
 use Rattle.nvs_store.proofs.sector.scan_sector.Goals as goal
@@ -44,7 +44,7 @@ loop-index-preserved c =
     let ends : max c.end_of.result c.loop-index.ends ≡ _ = ends_step c.args.unit c.args.bytes.now c.loop-index.index c.counting_entry-placed.result c.loop-index.ends c.end_of.result (omega arith) c.counting_entry-placed.ensures c.loop-index.invariant.ends c.end_of.ensures.value in
     record {
       ends = c.max-ends.ensures ∙ ends;
-      lens = lens_step c.args.unit c.args.bytes.now c.loop-index.index c.counting_entry-placed.result c.loop-index.lens c.len_of-lens.result (omega arith) c.counting_entry-placed.ensures c.loop-index.invariant.lens c.len_of-lens.ensures.value;
+      lens = sum_step c.args.unit c.args.bytes.now (λ f. padded c.args.unit f.entry.len) c.loop-index.index c.counting_entry-placed.result c.loop-index.lens c.len_of-lens.result (omega arith) c.counting_entry-placed.ensures c.loop-index.invariant.lens c.len_of-lens.ensures.value;
       gc_done = done_step c.args.unit c.args.bytes.now c.loop-index.index c.loop-index.gc_done c.is_gc_done-gc_done.result (omega arith) c.loop-index.invariant.gc_done c.is_gc_done-gc_done.ensures;
       small = omega (arith, c.len_of-lens.ensures.small);
     }

@@ -2,11 +2,13 @@ pub mod Apart
 pub mod AreaCalls
 pub mod OneCall
 pub mod PieceLemmas
+pub mod PaddedLemmas
 pub mod Places
 pub mod Plans
 pub mod Ranges
 pub mod Rounding
 pub mod Sectors
 pub mod Sequence
+pub mod SpendingLemmas
 pub mod Touches
 pub mod WholeUnits

@@ -1,12 +1,15 @@
 pub mod Apart
 pub mod AreaCalls
+pub mod MapLemmas
 pub mod OneCall
 pub mod PieceLemmas
+pub mod PaddedLemmas
 pub mod Places
 pub mod Plans
 pub mod Ranges
 pub mod Rounding
 pub mod Sectors
 pub mod Sequence
+pub mod SpendingLemmas
 pub mod Touches
 pub mod WholeUnits

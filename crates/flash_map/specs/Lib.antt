@@ -1,6 +1,8 @@
 pub mod Area
 pub mod Lawful
+pub mod Map
 pub mod Pieces
 pub mod Sectors
+pub mod Spending
 pub mod Touches
 pub mod Units

@@ -28,8 +28,9 @@ const ID_END: u64 = 65535;
 /// The units of a `cut` end here.
 const UNITS_END: u64 = 4_294_967_296;
 
-// A number below the limit, in decimal without a sign or leading zeros.
-fn read_number(alloc: Global, word: &[u8], limit: u64) -> Result<Option<u64>, NoMemory>
+/// The number below the limit that the word is, in decimal without a sign or leading zeros; none where it is no such
+/// number.
+pub fn read_number(alloc: Global, word: &[u8], limit: u64) -> Result<Option<u64>, NoMemory>
     ensures { IfOk result (λ found. MatchOption found (IsNoNumber limit word.now) (λ n. (word.now ≡ decimal n) × (n < limit))) }
 {
     let Ok(text) = str::from_utf8(word) else {

@@ -1,5 +1,6 @@
-use Rattle.std.proofs.Common.{◌≡◌, ◌%◌, ◌-◌, ◌≤◌, ◌∷◌, [], false, length, take}
+use Rattle.std.proofs.Common.{◌≡◌, ◌%◌, ◌-◌, ◌/◌, ◌≤◌, ◌∷◌, [], false, length, take}
 use Rattle.flash_map.specs.Area.{unit_of, Writes}
+use Rattle.flash_map.specs.Spending.{Spends}
 use Rattle.flash_map.specs.Touches.{Touches}
 use Rattle.flash_map.proofs.pieces.program_all.Given as goal
 
@@ -9,6 +10,7 @@ invariant-loop-done g l = record {
   whole_units : l.done % unit_of (g.F.Flash.device l.initial.flash) l.area ≡ 0;
   touches : Touches (l.area ∷ []) (g.F.Flash.device l.initial.flash) (g.F.Flash.device l.flash) false;
   written : Writes (g.F.Flash.device l.initial.flash) (g.F.Flash.device l.flash) l.area l.sector l.offset (take l.done l.bytes);
+  spent : Spends (g.F.Flash.device l.initial.flash) (g.F.Flash.device l.flash) (l.done / unit_of (g.F.Flash.device l.initial.flash) l.area);
 }
 
 abbrev pub decreases-loop-done : goal.decreases-loop-done

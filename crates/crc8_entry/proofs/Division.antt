@@ -11,7 +11,7 @@ use Rattle.crc8_entry.proofs.Bytes.{extended-small}
 
 -- Coefficients of a sum and of a product.
 
-plus_at : (p q : List ℕ) (i : ℕ) → get_or (plus p q) i 0 ≡ get_or p i 0 + get_or q i 0
+pub plus_at : (p q : List ℕ) (i : ℕ) → get_or (plus p q) i 0 ≡ get_or p i 0 + get_or q i 0
 plus_at [] q i = omega arith
 plus_at (a ∷ p) [] i = omega arith
 plus_at (a ∷ p) (b ∷ q) zero = refl
@@ -22,15 +22,15 @@ scaled_at a [] i = omega arith
 scaled_at a (b ∷ q) zero = refl
 scaled_at a (b ∷ q) (suc i) = scaled_at a q i
 
-times_at_0 : (a : ℕ) (p q : List ℕ) → get_or (times (a ∷ p) q) 0 0 ≡ a * get_or q 0 0
+pub times_at_0 : (a : ℕ) (p q : List ℕ) → get_or (times (a ∷ p) q) 0 0 ≡ a * get_or q 0 0
 times_at_0 a p q = omega (arith, plus_at (map (λ b. a * b) q) (0 ∷ times p q) 0, scaled_at a q 0)
 
-times_at_suc : (a : ℕ) (p q : List ℕ) (i : ℕ) → get_or (times (a ∷ p) q) (suc i) 0 ≡ a * get_or q (suc i) 0 + get_or (times p q) i 0
+pub times_at_suc : (a : ℕ) (p q : List ℕ) (i : ℕ) → get_or (times (a ∷ p) q) (suc i) 0 ≡ a * get_or q (suc i) 0 + get_or (times p q) i 0
 times_at_suc a p q i = omega (arith, plus_at (map (λ b. a * b) q) (0 ∷ times p q) (suc i), scaled_at a q (suc i))
 
 -- One step.
 
-divisor_at : (i : ℕ) → bit_at 263 i ≡ get_or divisor i 0
+pub divisor_at : (i : ℕ) → bit_at 263 i ≡ get_or divisor i 0
 divisor_at zero = refl
 divisor_at (suc zero) = refl
 divisor_at (suc (suc zero)) = refl
@@ -93,7 +93,7 @@ over_bits (bit ∷ bits) so quotient r small are-bits so_far =
     (one_more so quotient r bit taken.0 are-bits.0 so_far taken.1)
 
 -- a byte's bits are its coefficients
-byte_at : (r i : ℕ) → r < 256 → get_or (reverse (bits_of r)) i 0 ≡ bit_at r i
+pub byte_at : (r i : ℕ) → r < 256 → get_or (reverse (bits_of r)) i 0 ≡ bit_at r i
 unfolding bits_of
 byte_at r zero small = refl
 byte_at r (suc zero) small = refl

@@ -106,7 +106,7 @@ pub list-before_close : (reading : Reading) (laws : IsReading reading) (sectors 
 list-before_close reading laws sectors place form =
     let ring = form.ring in
     list-at_rest reading sectors place form.blanks ring form.some
-    ∙ ap (λ ps. ps ++ pairs_at reading sectors place) (others-victim reading sectors place ring.within ring.several ∙ ap (λ ps. ps ++ flat_map (pairs_at reading sectors) (rest (length sectors) place)) (blank-reading.pairs (sector_at sectors (next sectors place)) (next_blank reading sectors place form)))
+    ∙ ap (λ ps. ps ++ pairs_at reading sectors place) (others-victim reading sectors place ring.within ring.several ∙ ap (λ ps. ps ++ flat_map (pairs_at reading sectors) (rest (length sectors) place)) (laws.pairs (sector_at sectors (next sectors place)) (next_blank reading sectors place form)))
 
 -- The close entry, from its first reading on, makes the next sector open. A collection begins where the sector after that is closed.
 pub close : (reading : Reading) (laws : IsReading reading) (sectors : List (List ℕ)) (place : ℕ) (new : List ℕ) → AtRest reading sectors place → Closes reading (sector_at sectors place) new → is_sound reading new ≡ true
@@ -126,7 +126,7 @@ close reading laws sectors place new form closes sound =
       | inl more ↦ (
         inl (record { blanks = form.blanks - 1; ring = turned; some = omega arith; sound = all_sound }),
         list-at_rest reading (set sectors place new) (next sectors place) (form.blanks - 1) turned (omega arith)
-            ∙ ap (λ ps. flat_map (pairs_at reading (set sectors place new)) (others (length (set sectors place new)) (next sectors place)) ++ ps) (blank-reading.pairs (sector_at (set sectors place new) (next sectors place)) opened)
+            ∙ ap (λ ps. flat_map (pairs_at reading (set sectors place new)) (others (length (set sectors place new)) (next sectors place)) ++ ps) (laws.pairs (sector_at (set sectors place new) (next sectors place)) opened)
             ∙ append-nil (flat_map (pairs_at reading (set sectors place new)) (others (length (set sectors place new)) (next sectors place))) ∙ list,
       )
       | inr le ↦
@@ -210,7 +210,7 @@ erase_victim reading laws sectors place new form blank =
           ∙ ap (λ ps. ps ++ pairs_at reading sectors place)
           (ap (flat_map (pairs_at reading (set sectors (next sectors place) new))) (split (length sectors) place within several).first
           ∙ flat_map-cons (pairs_at reading (set sectors (next sectors place) new)) (after (length sectors) place) (rest (length sectors) place)
-          ∙ ap (λ ps. ps ++ flat_map (pairs_at reading (set sectors (next sectors place) new)) (rest (length sectors) place)) (ap (reading.pairs) (there sectors (next sectors place) new victim_within) ∙ blank-reading.pairs new blank)
+          ∙ ap (λ ps. ps ++ flat_map (pairs_at reading (set sectors (next sectors place) new)) (rest (length sectors) place)) (ap (reading.pairs) (there sectors (next sectors place) new victim_within) ∙ laws.pairs new blank)
           ∙ rest-kept reading sectors place (next sectors place) new within several (inr refl))
           ∙ sym (list-collected reading sectors place ring form.done),
     )

@@ -13,7 +13,7 @@ use Rattle.sector_ring.specs.Forms.{distance, IsRing}
 use Rattle.sector_ring.proofs.Places.{after, before, after-within, before-within, distance-within, distance-same, distance-before, distance-before_open, distance-after, All-range, filter_only, filter_none, find_none, find_first}
 use Rattle.sector_ring.specs.Reading.{Reading, is_sound}
 
-abbrev not_blank_at : List (List ℕ) → ℕ → Bool
+abbrev not_blank_at : Reading → List (List ℕ) → ℕ → Bool
 not_blank_at reading sectors k = not (is_blank_at reading sectors k)
 
 not_follows : (a b : Bool) → (b ≡ true → a ≡ true) → (not a && b) ≡ false

@@ -7,6 +7,8 @@ mod geometry;
 mod scan;
 mod sector;
 mod slots;
+#[cfg(test)]
+mod tests;
 
 pub use calls::{append, find, mount_scan};
 pub use entry::{Entry, SPECIAL_ID, decode_entry, encode_entry};

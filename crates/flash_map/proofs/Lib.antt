@@ -10,6 +10,7 @@ pub mod Ranges
 pub mod Rounding
 pub mod Sectors
 pub mod Sequence
+pub mod SpendingBounds
 pub mod SpendingLemmas
 pub mod Touches
 pub mod WholeUnits

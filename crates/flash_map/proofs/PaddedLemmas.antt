@@ -24,6 +24,10 @@ length-padded_bytes unit bytes is-unit =
     let long = (padding unit is-unit).no_less (length bytes) in
     omega (arith, length-append bytes (replicate (padded unit (length bytes) - length bytes) 0xFF), length-replicate {A = ℕ} (padded unit (length bytes) - length bytes) 0xFF)
 
+-- the bytes themselves stand before the padding
+pub take-padded_bytes : (unit : ℕ) (bytes : List ℕ) (n : ℕ) → n ≤ length bytes → take n (padded_bytes unit bytes) ≡ take n bytes
+take-padded_bytes unit bytes n le = take-append-le n bytes (replicate (padded unit (length bytes) - length bytes) 255) le
+
 pub record IsWholePart (unit n whole : ℕ) : Type 0 where
   pub no_more : whole ≤ n
   pub aligned : whole % unit ≡ 0

@@ -9,3 +9,10 @@ Spends old new units = new.spent ≡ counted old.spent units
 -- so many, or fewer
 abbrev pub SpendsAtMost : Device → Device → ℕ → Type 0
 SpendsAtMost old new most = (units : ℕ) × (units ≤ most) × Spends old new units
+
+-- at least and at most so many
+pub record SpendsBetween (old new : Device) (least most : ℕ) : Type 0 where
+  pub units : ℕ
+  pub at_least : least ≤ units
+  pub at_most : units ≤ most
+  pub spent : new.spent ≡ counted old.spent units

@@ -1,4 +1,6 @@
 pub mod ItemLemmas
 pub mod LivePairs
 pub mod Pairs
+pub mod SlotChanges
+pub mod SlotCounts
 pub mod SlotLemmas

@@ -1,0 +1,5 @@
+pub mod Entries
+pub mod Records
+pub mod Rings
+pub mod SectorStates
+pub mod Standing

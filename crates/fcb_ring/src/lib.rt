@@ -1,0 +1,12 @@
+//! A ring of records in flash: sectors with a header and rising ids, and records one behind the other. One sector is
+//! kept free, so that a collection has somewhere to put what it keeps.
+#![tactic(auto)]
+
+mod record;
+mod ring;
+mod sector;
+mod sequence;
+
+pub use record::{Record, RecordAt};
+pub use ring::{Ring, Stage};
+pub use sector::SectorState;

@@ -4,6 +4,7 @@ use Rattle.std.specs.Prelude.{slice_range}
 use Rattle.std.proofs.lemmas.List.{take_all, get_or-map, get_or_past, length-map, map-set, get_or-set_same, get_or-set_other}
 use Rattle.flash_sim.specs.Bank.{IsLawful}
 use Rattle.flash_sim.specs.Device.{Device, bytes_of}
+use Rattle.flash_sim.specs.declared.flash.Bank.{Bank}
 use Rattle.flash_map.specs.declared.area.Area.{Area}
 use Rattle.flash_map.specs.declared.area.Role.{Role}
 use Rattle.flash_map.specs.Area.{IsLawfulArea, unit_of, sector_size, sectors_of}
@@ -61,3 +62,7 @@ sector_is {unit} {size} {sectors} h bytes long = record {
   short = omega (arith, h.at_most);
   whole = ap (λ (n : ℕ). n % unit) long ∙ h.whole;
 }
+
+-- a call that leaves the banks leaves the area one for a ring
+pub area_after : (old new : Device) (area : Area) → new.banks ≡ old.banks → IsRingArea old.banks area → IsRingArea new.banks area
+area_after old new area banks is = subst (λ (all : List Bank). IsRingArea all area) (sym banks) is

@@ -5,3 +5,5 @@ pub mod RingLemmas
 pub mod AreaLemmas
 pub mod StandLemmas
 pub mod Examples
+pub mod MountLemmas
+pub mod FinishLemmas

@@ -188,12 +188,12 @@ module _ (states : List SectorState) (oldest used : ℕ) (r : IsRing states olde
       let past : (k : ℕ) → oldest + 1 ≤ k → k < oldest + 1 + (length states - (oldest + 1)) → opens_run states k ≡ false = λ k low high. opens-apart k (omega (arith, r.within)) (λ (e : k ≡ oldest). omega arith) in
       ap (λ (p : ℕ). find (opens_run states) (range_with_len (p + 1) (length states - (p + 1)))) oldest-is ∙ find_nothing (opens_run states) (oldest + 1) (length states - (oldest + 1)) past
 
-  full-yes : used ≡ length states → is_full states ≡ true
+  pub full-yes : used ≡ length states → is_full states ≡ true
   full-yes all =
       list_all-from_AllPass (λ state. not state.is_free) states (All-from_get_or (λ state. not state.is_free ≡ true) states no_state
       (by_distance (length states) oldest (λ (place : ℕ). is_used states place ≡ true) r.within (λ k lt. used-there k (omega arith))))
 
-  full-no : used < length states → is_full states ≡ false
+  pub full-no : used < length states → is_full states ≡ false
   full-no free = list_all_at (λ state. not state.is_free) states (turned (length states) oldest used) no_state (turned-within (length states) oldest used r.within (omega arith)) (free-there used (omega arith) free)
 
   newest-is : before (length states) (oldest_place states) ≡ turned (length states) oldest (length states - 1)

@@ -1,5 +1,5 @@
 -- What one sector is: free, or used by the ring.
-use Rattle.std.specs.Prelude.{◌≡◌, ◌%◌, ◌≤◌, length, ℕ, ◌+◌, ◌*◌, Bool, not, ◌&&◌, ◌||◌, List, [], ◌∷◌, drop, slice_index, ◌==◌, nat_eq}
+use Rattle.std.specs.Prelude.{◌≡◌, ◌%◌, ◌≤◌, length, ℕ, ◌+◌, ◌*◌, Bool, not, ◌&&◌, ◌||◌, List, [], ◌∷◌, ◌++◌, map, take, drop, replicate, slice_index, ◌==◌, nat_eq, if◌then◌else◌}
 use Rattle.std.specs.List.{list_all, starts_with}
 use Rattle.flash_map.specs.Units.{IsUnit}
 use Rattle.fcb_ring.specs.declared.sector.SectorState.{SectorState}
@@ -42,3 +42,11 @@ state_of unit sector = record {
   is_overfull = has_record sector (records_end unit sector);
   is_dirty = not (is_erased (drop (records_end unit sector) sector));
 }
+
+-- a sector whose torn header is erased
+unfoldable pub mended : List ℕ → List ℕ
+mended sector = if is_torn sector then replicate (length sector) 0xFF else sector
+
+-- the first so many sectors are
+abbrev pub mended_up_to : ℕ → List (List ℕ) → List (List ℕ)
+mended_up_to n sectors = map mended (take n sectors) ++ drop n sectors

@@ -39,10 +39,13 @@ abbrev pub is_collecting : Stage → Bool
 is_collecting Collecting = true
 is_collecting stage = false
 
--- the newest sector, where no sector is free before mounting has erased it
+-- no sector is free, and the newest waits to be erased
+abbrev pub is_uncounted : Stage → Bool
+is_uncounted (Inspected full) = full
+is_uncounted stage = false
+
 abbrev pub uncounted : Stage → ℕ
-uncounted (Inspected true) = 1
-uncounted stage = 0
+uncounted stage = if is_uncounted stage then 1 else 0
 
 -- what the stage says of the sectors
 abbrev pub FitsStage : Stage → List SectorState → ℕ → ℕ → Type 0

@@ -1,7 +1,8 @@
 //! A ring of records in flash: sectors with a header and rising ids, and records one behind the other. One sector is
 //! kept free, so that a collection has somewhere to put what it keeps.
-#![tactic(auto)]
+#![tactic(auto, using(flash_map::proofs::Touches::then))]
 
+mod erasing;
 mod record;
 mod ring;
 mod sector;

@@ -9,8 +9,9 @@ ghost use Rattle.flash_map.specs.Units.{padded};
 ghost use Rattle.fcb_ring.specs.SectorStates.{IsSector, state_of};
 ghost use Rattle.fcb_ring.specs.Rings.{state_at, turned, oldest_place, first_damage};
 ghost use Rattle.fcb_ring.specs.Entries.{sector_at, following};
-ghost use Rattle.fcb_ring.specs.Standing.{IsRingArea, StandsOn, states_on, entries_on, KeepsEntries, record_places, IsNext, is_up, is_finished, is_collecting, erases_due, SpendsAtMost, mount_lost, MountEnds};
+ghost use Rattle.fcb_ring.specs.Standing.{IsRingArea, StandsOn, states_on, entries_on, KeepsEntries, record_places, IsNext, is_up, is_finished, is_collecting, is_uncounted, erases_due, SpendsAtMost, mount_lost, MountEnds};
 
+use crate::erasing::{erase_if, erase_torn};
 use crate::record::{Record, RecordAt, next_checked};
 use crate::sector::{SectorState, is_torn, state_of};
 use crate::sequence::{distance, first_damage, oldest_place, turned, used_from};
@@ -163,5 +164,59 @@ impl Ring {
         ensures { result ≡ is_collecting self.now.stage }
     {
         matches!(self.stage, Stage::Collecting)
+    }
+}
+
+impl Ring {
+    /// Carries out the erases of mounting: each sector with a torn header, in rising order, and then the newest
+    /// where no sector is free. The list stays, also where power is lost.
+    ///
+    /// # Errors
+    /// `PowerLost`. The ring is then down.
+    pub fn finish<F: Flash, L: Ledger>(
+        &mut self,
+        flash: &mut F,
+        steps: &mut Steps<L>,
+    ) -> Result<(), PowerLost>
+        requires stands { StandsOn (F.device flash.old) self.old }
+        requires not_finished { is_finished self.old.stage ≡ false }
+
+        ensures touches { Touches (self.old.area ∷ []) (F.device flash.old) (F.device flash.new) (is_err result) }
+        ensures list { KeepsEntries (F.device flash.old) (F.device flash.new) self.old.area }
+        ensures area { self.new.area ≡ self.old.area }
+        ensures reserve { self.new.reserve ≡ self.old.reserve }
+
+        ensures stands { OnOk result (StandsOn (F.device flash.new) self.new) }
+        ensures ready { OnOk result (self.new.stage ≡ Stage.Ready) }
+        ensures units { OnOk result ((F.device flash.new).spent ≡ counted (F.device flash.old).spent (erases_due (states_on (F.device flash.old) self.old.area))) }
+
+        ensures down { OnErr result (is_up self.new.stage ≡ false) }
+        ensures bound { OnErr result (SpendsAtMost (F.device flash.old) (F.device flash.new) (erases_due (states_on (F.device flash.old) self.old.area))) }
+    {
+        let is_full = self.is_uncounted();
+        self.stage = Stage::Down;
+        let newest = self.place(self.used);
+        erase_torn(flash, &self.area, steps)?;
+        erase_if(flash, &self.area, newest, is_full)?;
+        self.stage = Stage::Ready;
+        Ok(())
+    }
+
+    // Whether no sector is free, and the newest waits to be erased.
+    fn is_uncounted(&self) -> bool
+        ensures { result ≡ is_uncounted self.now.stage }
+    {
+        matches!(self.stage, Stage::Inspected(true))
+    }
+
+    // The place of a sector of the run, by how far it is behind the oldest.
+    fn place(&self, further: u32) -> u32
+        requires area { self.now.area.sectors ≤ 64 }
+        requires oldest { self.now.oldest < self.now.area.sectors }
+        requires further { further ≤ self.now.area.sectors }
+        ensures value { result ≡ turned self.now.area.sectors self.now.oldest further }
+        ensures within { result < self.now.area.sectors }
+    {
+        turned(self.area.sectors as usize, self.oldest as usize, further as usize) as u32
     }
 }

@@ -7,3 +7,5 @@ pub mod StandLemmas
 pub mod Examples
 pub mod MountLemmas
 pub mod FinishLemmas
+pub mod NextLemmas
+pub mod ReadLemmas

@@ -20,10 +20,10 @@ pub walk_end-none : (step : ℕ → Option Record) (n at : ℕ) → step at ≡ 
 walk_end-none step zero at none = refl
 walk_end-none step (suc n) at none = ap (λ o. option_map_or (λ r. walk_end step n r.end) o at) none
 
-walk-some : (step : ℕ → Option Record) (n at : ℕ) (r : Record) → step at ≡ Some r → walk step (suc n) at ≡ r ∷ walk step n r.end
+pub walk-some : (step : ℕ → Option Record) (n at : ℕ) (r : Record) → step at ≡ Some r → walk step (suc n) at ≡ r ∷ walk step n r.end
 walk-some step n at r some = ap (λ o. option_map_or (λ q. q ∷ walk step n q.end) o []) some
 
-walk_end-some : (step : ℕ → Option Record) (n at : ℕ) (r : Record) → step at ≡ Some r → walk_end step (suc n) at ≡ walk_end step n r.end
+pub walk_end-some : (step : ℕ → Option Record) (n at : ℕ) (r : Record) → step at ≡ Some r → walk_end step (suc n) at ≡ walk_end step n r.end
 walk_end-some step n at r some = ap (λ o. option_map_or (λ q. walk_end step n q.end) o at) some
 
 -- at the end of the size there is none

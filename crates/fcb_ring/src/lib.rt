@@ -3,6 +3,8 @@
 #![tactic(auto, using(flash_map::proofs::Touches::then))]
 
 mod erasing;
+mod mounting;
+mod reading;
 mod record;
 mod ring;
 mod sector;

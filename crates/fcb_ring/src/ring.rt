@@ -34,16 +34,16 @@ pub enum Stage {
 /// A ring of records over the sectors of one area.
 #[derive(Debug, Drop)]
 pub struct Ring {
-    area: Area,
+    pub(crate) area: Area,
     // the room in bytes that ordinary records leave in each sector
-    reserve: u32,
+    pub(crate) reserve: u32,
     // the oldest of the used sectors, and how many are used; one that counts for nothing is not among them
-    oldest: u32,
-    used: u32,
+    pub(crate) oldest: u32,
+    pub(crate) used: u32,
     // the id of the newest of these, and where the next record goes in it, in bytes
-    id: u16,
-    end: u32,
-    stage: Stage,
+    pub(crate) id: u16,
+    pub(crate) end: u32,
+    pub(crate) stage: Stage,
 }
 
 // All bytes of a sector. It is one step.
@@ -210,7 +210,7 @@ impl Ring {
     }
 
     // The place of a sector of the run, by how far it is behind the oldest.
-    fn place(&self, further: u32) -> u32
+    pub(crate) fn place(&self, further: u32) -> u32
         requires area { self.now.area.sectors ≤ 64 }
         requires oldest { self.now.oldest < self.now.area.sectors }
         requires further { further ≤ self.now.area.sectors }

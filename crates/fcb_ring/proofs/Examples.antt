@@ -175,4 +175,3 @@ reads-unit_8 = refl
 reads-unit_16 : area_list 16 (sector_27 ∷ sector_28 ∷ []) ≡ Lists ((97 ∷ 61 ∷ 1 ∷ []) ∷ [])
 unfolding entries sector_entries counting counts oldest_place second_start first_damage turned state_of records records_end record_at record_of checks_at has_record field_width body_len id_of is_torn padded crc extended bits_of
 reads-unit_16 = refl
-

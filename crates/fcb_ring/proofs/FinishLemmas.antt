@@ -133,7 +133,7 @@ module _ (unit size : ℕ) (old : List (List ℕ)) (has : HasSize unit size old)
   none-torn c long-c each k le lt =
       let lc = length-states unit c in
       let inside : turned (length (states unit c)) ring.oldest k < length old =
-        let w = turned-within (length (states unit c)) ring.oldest k (omega (arith, stands.form.within, long)) (omega arith) in omega arith in
+      let w = turned-within (length (states unit c)) ring.oldest k (omega (arith, stands.form.within, long)) (omega arith) in omega arith in
       ap (λ (s : SectorState). s.is_torn) (state-at unit c (turned (length (states unit c)) ring.oldest k) (omega arith)) ∙ each (turned (length (states unit c)) ring.oldest k) inside
 
   finished-full : is_uncounted ring.stage ≡ true → Finished (set (mended_up_to (length old) old) (turned (length old) ring.oldest ring.used) (replicate size 255))
@@ -147,36 +147,40 @@ module _ (unit size : ℕ) (old : List (List ℕ)) (has : HasSize unit size old)
       let sum = counts.2 full in
       let empty : ring.used ≡ 0 → ring.oldest ≡ 0 = λ none. empty-first none full in
       let clean-b : AreClean (states unit (mended_up_to (length old) old)) ring.oldest ring.used =
-        kept-clean unit old (mended_up_to (length old) old) ring.oldest all all (mended-kept (length old)) stands.form (omega arith) stands.form.empty ring.used (omega arith) stands.clean in
+      kept-clean unit old (mended_up_to (length old) old) ring.oldest all all (mended-kept (length old)) stands.form (omega arith) stands.form.empty ring.used (omega arith) stands.clean in
       let clean-count-b : AreClean (states unit (mended_up_to (length old) old)) ring.oldest (min ring.used (length (mended_up_to (length old) old) - 1)) = λ k lt. clean-b k (omega arith) in
       let has-b = mended-has (length old) in
-      let has-c = kept-has unit b c ring.oldest all ring.used kept form-b (omega arith) empty clean-count-b (omega (arith, sum, one, lb, long)) in
-      (record {
+      let has-c = kept-has unit b c ring.oldest all ring.used kept form-b (omega arith) empty clean-count-b (omega (arith, sum, one, lb, long)) in (
+        record {
           form = subst (λ (n : ℕ). IsRing (states unit c) ring.oldest n) (omega arith) (kept-form unit b c ring.oldest all ring.used kept form-b (omega arith) empty);
           clean = kept-clean unit b c ring.oldest all ring.used kept form-b (omega arith) empty ring.used (omega arith) clean-b;
           last = written c (λ positive. same-state unit b c ring.oldest all ring.used kept form-b (omega arith) empty (ring.used - 1) (omega arith) ∙ mended-state (length old) (ring.used - 1) (omega arith));
           stage = (
             omega (arith, length-states unit c, kept.long, lb, sum, one, long),
             none-torn c (kept.long ∙ lb) (λ place lt.
-              elim (cases_eq place (turned (length old) ring.oldest ring.used)) [
-                | inl same ↦
-                    ap (λ (l : List ℕ). (state_of unit l).is_torn) (ap (sector_at c) same ∙ get_or-set_same b (turned (length old) ring.oldest ring.used) (replicate size 255) [] (omega (arith, same, lb)))
-                    ∙ blank-untorn unit size (omega (arith, has.at_least))
-                | inr apart ↦ ap (λ (l : List ℕ). (state_of unit l).is_torn) (get_or-set_other b (turned (length old) ring.oldest ring.used) place (replicate size 255) [] apart) ∙ untorn-b place lt
-              ]),
+                elim (cases_eq place (turned (length old) ring.oldest ring.used)) [
+                  | inl same ↦
+                      ap (λ (l : List ℕ). (state_of unit l).is_torn) (ap (sector_at c) same ∙ get_or-set_same b (turned (length old) ring.oldest ring.used) (replicate size 255) [] (omega (arith, same, lb)))
+                      ∙ blank-untorn unit size (omega (arith, has.at_least))
+                  | inr apart ↦ ap (λ (l : List ℕ). (state_of unit l).is_torn) (get_or-set_other b (turned (length old) ring.oldest ring.used) place (replicate size 255) [] apart) ∙ untorn-b place lt
+                ]),
           );
-        }, record { undamaged = has-c.undamaged; are = has-c.are ∙ has-b.are })
+        },
+        record { undamaged = has-c.undamaged; are = has-c.are ∙ has-b.are },
+      )
 
   finished-free : is_uncounted ring.stage ≡ false → Finished (mended_up_to (length old) old)
   finished-free free =
       let none : uncounted ring.stage ≡ 0 = ap (λ (t : Bool). cond t 1 0) free in
-      let lb = length-mended (length old) old in
-      (record {
+      let lb = length-mended (length old) old in (
+        record {
           form = subst (λ (n : ℕ). IsRing (states unit (mended_up_to (length old) old)) ring.oldest n) (omega arith) (mended-form (length old));
           clean = kept-clean unit old (mended_up_to (length old) old) ring.oldest all all (mended-kept (length old)) stands.form (omega arith) stands.form.empty ring.used (omega arith) stands.clean;
           last = written (mended_up_to (length old) old) (λ positive. mended-state (length old) (ring.used - 1) (omega arith));
           stage = (omega (arith, length-states unit (mended_up_to (length old) old), lb, counts.1, long), none-torn (mended_up_to (length old) old) lb untorn-b);
-        }, mended-has (length old))
+        },
+        mended-has (length old),
+      )
 
   finished-by : (due : Bool) → due ≡ is_uncounted ring.stage → Finished (final due)
   finished-by true is = finished-full (sym is)

@@ -9,3 +9,6 @@ pub mod MountLemmas
 pub mod FinishLemmas
 pub mod NextLemmas
 pub mod ReadLemmas
+pub mod LayLemmas
+pub mod TestBank
+pub mod ImageLemmas

@@ -22,7 +22,7 @@ pub mends_next : (a b c : List (List ℕ)) (j size : ℕ) (due : Bool) → j < l
 mends_next a b c j size due lt so_far long is after =
     let here : sector_at b j ≡ sector_at a j = ap (λ (l : List (List ℕ)). sector_at l j) so_far ∙ mended-behind j a j lt (omega arith) in
     let next : set b j (mended (sector_at b j)) ≡ mended_up_to (j + 1) a =
-      ap (λ (l : List (List ℕ)). set l j (mended (sector_at b j))) so_far ∙ ap (λ (s : List ℕ). set (mended_up_to j a) j (mended s)) here ∙ mended-more j a lt in
+    ap (λ (l : List (List ℕ)). set l j (mended (sector_at b j))) so_far ∙ ap (λ (s : List ℕ). set (mended_up_to j a) j (mended s)) here ∙ mended-more j a lt in
     elim (cases_Bool (is_torn (sector_at b j))) [
       | inl torn ↦
           after ∙ cond-true due (set b j (replicate size 255)) b (is ∙ torn)

@@ -5,7 +5,7 @@ use Rattle.std.specs.List.{range_with_len, filter, flat_map, slice_get, All}
 use Rattle.std.specs.Option.{option_map, option_map_or}
 use Rattle.std.proofs.lemmas.Bool.{cases_lt, cases_Bool, cond-true, cond-false, lt-ltb, le-ltb}
 use Rattle.std.proofs.lemmas.List.{map-append, drop-append-le, length-append, drop-drop, drop_all, drop_at}
-use Rattle.std.proofs.lemmas.Option.{none-some, slice_get-map, slice_get-get_or}
+use Rattle.std.proofs.lemmas.Option.{none-some, slice_get-map, slice_get-get_or, slice_get_within, get_or_from_slice_get}
 use Rattle.flash_map.specs.Units.{IsUnit, padded}
 use Rattle.fcb_ring.specs.declared.record.Record.{Record}
 use Rattle.fcb_ring.specs.declared.record.RecordAt.{RecordAt}
@@ -284,3 +284,9 @@ pub body_is : (unit : ℕ) (sectors : List (List ℕ)) (oldest used : ℕ) → I
 body_is unit sectors oldest used form i entry is =
     from_part (HasBody sectors) (part unit sectors oldest) (range_with_len 0 (min used (length sectors - 1))) i entry (part-bodies unit sectors oldest)
     (sym (ap (λ (l : List (RecordAt × List ℕ)). slice_get l i) (entries-are unit sectors oldest used form)) ∙ is)
+
+-- what the list gives at a place is one of its records
+pub listed_from : (list : List RecordAt) (i : ℕ) (o : Option RecordAt) → o ≡ slice_get list i → (r : RecordAt) → o ≡ Some r → Contains list r
+listed_from list i o is r some =
+    let there : slice_get list i ≡ Some r = sym is ∙ some in
+    (i, slice_get_within list i r there, get_or_from_slice_get list i r r there)

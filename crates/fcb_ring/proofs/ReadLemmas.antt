@@ -71,8 +71,8 @@ module _ (unit size : ℕ) (sectors : List (List ℕ)) (has : HasSize unit size 
   later-is r further result far is i listed =
       let h = behind unit size sectors has ring.oldest all stands.form i r listed in
       let j : distance n ring.oldest r.sector ≡ h.j =
-        ap (λ (m : ℕ). distance m ring.oldest r.sector) count-is ∙ ap (distance (length sectors) ring.oldest) h.here
-        ∙ distance-turned (length sectors) ring.oldest h.j (omega (arith, stands.form.within, length-states unit sectors)) (omega (arith, h.below)) in
+      ap (λ (m : ℕ). distance m ring.oldest r.sector) count-is ∙ ap (distance (length sectors) ring.oldest) h.here
+      ∙ distance-turned (length sectors) ring.oldest h.j (omega (arith, stands.form.within, length-states unit sectors)) (omega (arith, h.below)) in
       is ∙ ap (λ (k : ℕ). slice_get (following unit sectors ring.oldest (min ring.used (n - 1)) k (after_of unit r)) 0) (far ∙ j)
       ∙ ap (λ (l : List RecordAt). slice_get l 0) (sym (moved h.j (after_of unit r))) ∙ sym (next-is unit size sectors has ring.oldest all stands.form i r h)
 
@@ -85,7 +85,7 @@ module _ (unit size : ℕ) (sectors : List (List ℕ)) (has : HasSize unit size 
   found-there k from r lt found =
       ap (λ (l : List RecordAt). slice_get l 0) (sym (moved k from) ∙ following-is unit size sectors has ring.oldest all stands.form k from (omega (arith, counted-is)))
       ∙ head-stays (records_from unit (turned (length sectors) ring.oldest k) (sector_at sectors (turned (length sectors) ring.oldest k)) from) _ r
-        (sym (ap (λ (m : ℕ). slice_get (records_from unit (turned m ring.oldest k) (sector_at sectors (turned m ring.oldest k)) from) 0) count-is) ∙ found)
+      (sym (ap (λ (m : ℕ). slice_get (records_from unit (turned m ring.oldest k) (sector_at sectors (turned m ring.oldest k)) from) 0) count-is) ∙ found)
     where
       head-stays : (xs ys : List RecordAt) (r : RecordAt) → slice_get xs 0 ≡ Some r → slice_get (xs ++ ys) 0 ≡ Some r
       head-stays [] ys r e = absurd (none-some r e)
@@ -96,8 +96,8 @@ module _ (unit size : ℕ) (sectors : List (List ℕ)) (has : HasSize unit size 
   none-there k from lt none =
       sym (moved k from)
       ∙ following-next unit size sectors has ring.oldest all stands.form k from (omega (arith, counted-is))
-        (empty-by (records_from unit (turned (length sectors) ring.oldest k) (sector_at sectors (turned (length sectors) ring.oldest k)) from)
-        (sym (ap (λ (m : ℕ). slice_get (records_from unit (turned m ring.oldest k) (sector_at sectors (turned m ring.oldest k)) from) 0) count-is) ∙ none))
+      (empty-by (records_from unit (turned (length sectors) ring.oldest k) (sector_at sectors (turned (length sectors) ring.oldest k)) from)
+      (sym (ap (λ (m : ℕ). slice_get (records_from unit (turned m ring.oldest k) (sector_at sectors (turned m ring.oldest k)) from) 0) count-is) ∙ none))
       ∙ moved (k + 1) (padded unit 8)
     where
       empty-by : (xs : List RecordAt) → slice_get xs 0 ≡ None → xs ≡ []

@@ -163,14 +163,14 @@ module _ (states : List SectorState) (oldest used : ℕ) (r : IsRing states olde
 
   opens-apart : (place : ℕ) → place < length states → (place ≡ oldest → ⊥) → opens_run states place ≡ false
   opens-apart = by_distance (length states) oldest (λ (place : ℕ). (place ≡ oldest → ⊥) → opens_run states place ≡ false) r.within (λ k lt apart.
-    elim (cases_eq k 0) [
-      | inl e ↦ absurd (apart (ap (turned (length states) oldest) e ∙ turned-zero (length states) oldest r.within))
-      | inr other ↦ opens-other k (omega (arith, other)) lt
-    ])
+      elim (cases_eq k 0) [
+        | inl e ↦ absurd (apart (ap (turned (length states) oldest) e ∙ turned-zero (length states) oldest r.within))
+        | inr other ↦ opens-other k (omega (arith, other)) lt
+      ])
 
   opens-none : used ≡ 0 → (place : ℕ) → place < length states → opens_run states place ≡ false
   opens-none none = by_distance (length states) oldest (λ (place : ℕ). opens_run states place ≡ false) r.within (λ k lt.
-    and_left (is_used states (turned (length states) oldest k)) (not (continues states (turned (length states) oldest k))) (free-there k (omega arith) lt))
+      and_left (is_used states (turned (length states) oldest k)) (not (continues states (turned (length states) oldest k))) (free-there k (omega arith) lt))
 
   pub oldest-is : oldest_place states ≡ oldest
   unfolding oldest_place
@@ -204,7 +204,7 @@ module _ (states : List SectorState) (oldest used : ℕ) (r : IsRing states olde
   counts-yes k lt =
       let place = turned (length states) oldest k in
       let apart : eqb (turned (length states) oldest k) (before (length states) (oldest_place states)) ≡ false = ne_eqb (turned (length states) oldest k) (before (length states) (oldest_place states)) (λ (e : turned (length states) oldest k ≡ before (length states) (oldest_place states)).
-        let same = turned-same (length states) oldest k (length states - 1) r.within (omega (arith, r.several)) (omega (arith, r.several)) (e ∙ newest-is) in omega arith) in
+      let same = turned-same (length states) oldest k (length states - 1) r.within (omega (arith, r.several)) (omega (arith, r.several)) (e ∙ newest-is) in omega arith) in
       and_from (is_used states place) (not (is_full states && eqb place (before (length states) (oldest_place states)))) (used-there k (omega arith))
       (not_from_false (is_full states && eqb place (before (length states) (oldest_place states))) (and_right (is_full states) (eqb place (before (length states) (oldest_place states))) apart))
 
@@ -228,9 +228,9 @@ module _ (states : List SectorState) (oldest used : ℕ) (r : IsRing states olde
       let c = min used (length states - 1) in
       let split : length states ≡ c + (length states - c) = omega (arith, r.most) in
       let front : All (λ p. counts states p ≡ true) (map (turned (length states) oldest) (range_with_len 0 (min used (length states - 1)))) =
-        All-map (λ p. counts states p ≡ true) f 0 c (λ k low high. counts-yes k (omega arith)) in
+      All-map (λ p. counts states p ≡ true) f 0 c (λ k low high. counts-yes k (omega arith)) in
       let back : All (λ p. counts states p ≡ false) (map (turned (length states) oldest) (range_with_len (0 + min used (length states - 1)) (length states - min used (length states - 1)))) =
-        All-map (λ p. counts states p ≡ false) f (0 + c) (length states - c) (λ k low high. counts-no k (omega arith) (omega arith)) in
+      All-map (λ p. counts states p ≡ false) f (0 + c) (length states - c) (λ k low high. counts-no k (omega arith) (omega arith)) in
       ap (λ (o : ℕ). filter (counts states) (map (turned (length states) o) (range_with_len 0 (length states)))) oldest-is
       ∙ ap (λ (m : ℕ). filter (counts states) (map f (range_with_len 0 m))) split
       ∙ ap (λ (ps : List ℕ). filter (counts states) (map f ps)) (range-append 0 c (length states - c))
@@ -352,7 +352,7 @@ module _ (states : List SectorState) (several : 2 ≤ length states) (few : leng
   not-opening : (k : ℕ) → k + 1 < length states → opens_run states (turned (length states) (oldest_place states) (k + 1)) ≡ false
   not-opening k lt = only-oldest (turned (length states) (oldest_place states) (k + 1)) (turned-within (length states) (oldest_place states) (k + 1) oldest-within (omega arith))
       (λ (e : turned (length states) (oldest_place states) (k + 1) ≡ oldest_place states).
-        let same = turned-same (length states) (oldest_place states) (k + 1) 0 oldest-within lt (omega arith) (e ∙ sym (turned-zero (length states) (oldest_place states) oldest-within)) in omega arith)
+      let same = turned-same (length states) (oldest_place states) (k + 1) 0 oldest-within lt (omega arith) (e ∙ sym (turned-zero (length states) (oldest_place states) oldest-within)) in omega arith)
 
   -- a used one but the oldest continues the one before it
   continues-next : (k : ℕ) → k + 1 < length states → is_used states (turned (length states) (oldest_place states) (k + 1)) ≡ true → (is_used states (turned (length states) (oldest_place states) k) ≡ true) × ((here (k + 1)).id ≡ ((here k).id + 1) % 65536)
@@ -387,7 +387,7 @@ module _ (states : List SectorState) (several : 2 ≤ length states) (few : leng
           let first = found_some (opens_run states) 0 (length states) p some in
           let taken = and_parts (is_used states p) (not (continues states p)) first.passes in
           let at_used : (here used).is_free ≡ (state_at states p).is_free =
-            ap (λ (k : ℕ). (here k).is_free) none ∙ ap (λ (q : ℕ). (state_at states q).is_free) (turned-zero (length states) (oldest_place states) oldest-within ∙ is) in
+          ap (λ (k : ℕ). (here k).is_free) none ∙ ap (λ (q : ℕ). (state_at states q).is_free) (turned-zero (length states) (oldest_place states) oldest-within ∙ is) in
           absurd (both_ways (state_at states p).is_free (not-true (state_at states p).is_free taken.0) (sym at_used ∙ stops (omega arith)))
     ]
 

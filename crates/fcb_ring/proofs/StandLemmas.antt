@@ -135,8 +135,8 @@ module _ (unit : ℕ) (old new : List (List ℕ)) (oldest used count : ℕ) (kep
       entries-are unit new oldest count kept-form
       ∙ ap (λ (n : ℕ). flat_map (λ k. sector_entries unit (turned n oldest k) (sector_at new (turned n oldest k))) (range_with_len 0 (min count (n - 1)))) kept.long
       ∙ flat_map-agree (λ k. sector_entries unit (turned (length old) oldest k) (sector_at new (turned (length old) oldest k))) (part unit old oldest) (range_with_len 0 (min count (length old - 1)))
-        (All-range (λ k. sector_entries unit (turned (length old) oldest k) (sector_at new (turned (length old) oldest k)) ≡ part unit old oldest k) 0 (min count (length old - 1))
-        (λ k low high. ap (sector_entries unit (turned (length old) oldest k)) (kept.same k (omega arith))))
+      (All-range (λ k. sector_entries unit (turned (length old) oldest k) (sector_at new (turned (length old) oldest k)) ≡ part unit old oldest k) 0 (min count (length old - 1))
+      (λ k low high. ap (sector_entries unit (turned (length old) oldest k)) (kept.same k (omega arith))))
 
   pub kept-has : AreClean (states unit old) oldest (min count (length old - 1)) → min used (length old - 1) ≡ min count (length old - 1) → HasEntries unit new (entries unit old)
   kept-has clean same = record {
@@ -234,7 +234,7 @@ mended-run unit sectors oldest used j form =
           let place = turned (length sectors) oldest k in
           let inside : turned (length sectors) oldest k < length sectors = turned-within (length sectors) oldest k (omega (arith, form.within)) (omega (arith, form.most)) in
           let taken : (state_of unit (sector_at sectors (turned (length sectors) oldest k))).is_free ≡ false =
-            sym (ap (λ (s : SectorState). s.is_free) (state-at unit sectors place inside)) ∙ subst (λ (n : ℕ). (state_at (states unit sectors) (turned n oldest k)).is_free ≡ false) long (form.used_ones k lt) in
+          sym (ap (λ (s : SectorState). s.is_free) (state-at unit sectors place inside)) ∙ subst (λ (n : ℕ). (state_at (states unit sectors) (turned n oldest k)).is_free ≡ false) long (form.used_ones k lt) in
           elim (cases_lt place j) [
             | inl below ↦ mended-at j sectors place inside below ∙ mended-used unit (sector_at sectors place) taken
             | inr behind ↦ mended-behind j sectors place inside behind
@@ -243,7 +243,7 @@ mended-run unit sectors oldest used j form =
           let place = turned (length sectors) oldest k in
           let inside : turned (length sectors) oldest k < length sectors = turned-within (length sectors) oldest k (omega (arith, form.within)) (omega arith) in
           let free : (state_of unit (sector_at sectors (turned (length sectors) oldest k))).is_free ≡ true =
-            sym (ap (λ (s : SectorState). s.is_free) (state-at unit sectors place inside)) ∙ subst (λ (n : ℕ). (state_at (states unit sectors) (turned n oldest k)).is_free ≡ true) long (form.free_ones k le (omega arith)) in
+          sym (ap (λ (s : SectorState). s.is_free) (state-at unit sectors place inside)) ∙ subst (λ (n : ℕ). (state_at (states unit sectors) (turned n oldest k)).is_free ≡ true) long (form.free_ones k le (omega arith)) in
           elim (cases_lt place j) [
             | inl below ↦ ap (λ (l : List ℕ). (state_of unit l).is_free) (mended-at j sectors place inside below) ∙ mended-free unit (sector_at sectors place) free
             | inr behind ↦ ap (λ (l : List ℕ). (state_of unit l).is_free) (mended-behind j sectors place inside behind) ∙ free

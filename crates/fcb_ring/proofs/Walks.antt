@@ -1,5 +1,6 @@
 -- Records that are read one after the other, whatever the step is that reads one.
-use Rattle.std.proofs.Common.{◌≡◌, ℕ, zero, suc, ◌+◌, ◌-◌, ◌<◌, ◌≤◌, List, [], ◌∷◌, ◌++◌, length, Option, Some, None, ◌⊎◌, inl, inr, refl, sym, ap, ◌∙◌, zero-add, arith}
+use Rattle.std.proofs.Common.{◌≡◌, ℕ, zero, suc, ◌+◌, ◌-◌, ◌<◌, ◌≤◌, Bool, true, false, cond, map, List, [], ◌∷◌, ◌++◌, length, Option, Some, None, ◌⊎◌, inl, inr, refl, sym, ap, ◌∙◌, zero-add, arith}
+use Rattle.std.specs.List.{filter}
 use Rattle.std.specs.Option.{option_map_or}
 use Rattle.fcb_ring.specs.declared.record.Record.{Record}
 use Rattle.fcb_ring.specs.Records.{walk, walk_end}
@@ -92,3 +93,59 @@ walk_end-keeps step P (suc n) at keeps p = elim (option_cases (step at)) [
   | inl none ↦ rw (walk_end-none step (suc n) at none) p
   | inr (r, some) ↦ rw (walk_end-some step n at r some) (walk_end-keeps step P n r.end keeps (keeps at r some p))
 ]
+
+-- ---- what was read stays, whatever is put behind it
+
+abbrev pub Same : (ℕ → Option Record) → (ℕ → Option Record) → ℕ → Type 0
+Same step later e = (k : ℕ) (r : Record) → step k ≡ Some r → r.end ≤ e → later k ≡ Some r
+
+pub walk-more : (step later : ℕ → Option Record) (size e : ℕ) → Advances step size → Advances later size → Same step later e → (n at : ℕ) → at ≤ size → walk_end step n at ≤ e
+    → walk later size at ≡ walk step n at ++ walk later size (walk_end step n at)
+walk-more step later size e first second same zero at inside le = refl
+walk-more step later size e first second same (suc n) at inside le = elim (option_cases (step at)) [
+  | inl none ↦
+      ap (walk later size) (sym (walk_end-none step (suc n) at none)) ∙ ap (λ rs. rs ++ walk later size (walk_end step (suc n) at)) (sym (walk-none step (suc n) at none))
+  | inr (r, some) ↦
+      let h = first at r some in
+      let end = walk_end-some step n at r some in
+      let rest = walk_end-within step size n r.end first h.1 in
+      walk-next later size at r second (same at r some (omega arith))
+      ∙ ap (λ rs. r ∷ rs) (walk-more step later size e first second same n r.end h.1 (omega arith))
+      ∙ ap (λ (k : ℕ). r ∷ (walk step n r.end ++ walk later size k)) (sym end)
+      ∙ ap (λ rs. rs ++ walk later size (walk_end step (suc n) at)) (sym (walk-some step n at r some))
+]
+
+pub walk_end-more : (step later : ℕ → Option Record) (size e : ℕ) → Advances step size → Advances later size → Same step later e → (n at : ℕ) → at ≤ size → walk_end step n at ≤ e
+    → walk_end later size at ≡ walk_end later size (walk_end step n at)
+walk_end-more step later size e first second same zero at inside le = refl
+walk_end-more step later size e first second same (suc n) at inside le = elim (option_cases (step at)) [
+  | inl none ↦ ap (walk_end later size) (sym (walk_end-none step (suc n) at none))
+  | inr (r, some) ↦
+      let h = first at r some in
+      let end = walk_end-some step n at r some in
+      let rest = walk_end-within step size n r.end first h.1 in
+      walk_end-next later size at r second (same at r some (omega arith))
+      ∙ walk_end-more step later size e first second same n r.end h.1 (omega arith)
+      ∙ ap (walk_end later size) (sym end)
+]
+
+-- what is said of each record that lies before the end
+pub walk-agree : {X : Type 0} (f g : Record → X) (p : Record → Bool) (step : ℕ → Option Record) (size e : ℕ) → Advances step size → ((k : ℕ) (r : Record) → step k ≡ Some r → r.end ≤ e → f r ≡ g r)
+    → (n at : ℕ) → walk_end step n at ≤ e → map f (filter p (walk step n at)) ≡ map g (filter p (walk step n at))
+walk-agree f g p step size e first same zero at le = refl
+walk-agree f g p step size e first same (suc n) at le = elim (option_cases (step at)) [
+  | inl none ↦ ap (λ rs. map f (filter p rs)) (walk-none step (suc n) at none) ∙ sym (ap (λ rs. map g (filter p rs)) (walk-none step (suc n) at none))
+  | inr (r, some) ↦
+      let h = first at r some in
+      let end = walk_end-some step n at r some in
+      let rest = walk_end-within step size n r.end first h.1 in
+      let later = walk-agree f g p step size e first same n r.end (omega arith) in
+      let list = walk-some step n at r some in
+      ap (λ rs. map f (filter p rs)) list
+      ∙ both (p r) r (filter p (walk step n r.end)) (same at r some (omega arith)) later
+      ∙ sym (ap (λ rs. map g (filter p rs)) list)
+]
+  where
+    both : (t : Bool) (r : Record) (rs : List Record) → f r ≡ g r → map f rs ≡ map g rs → map f (cond t (r ∷ rs) rs) ≡ map g (cond t (r ∷ rs) rs)
+    both true r rs here rest = ap (λ x. x ∷ map f rs) here ∙ ap (λ xs. g r ∷ xs) rest
+    both false r rs here rest = rest

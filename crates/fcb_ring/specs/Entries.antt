@@ -40,8 +40,8 @@ unfoldable pub following : ℕ → List (List ℕ) → ℕ → ℕ → ℕ → �
 following unit sectors oldest count k from =
     let at = turned (length sectors) oldest in
     if nat_lt k count then
-      records_from unit (at k) (sector_at sectors (at k)) from
-      ++ flat_map (λ j. records_from unit (at j) (sector_at sectors (at j)) (padded unit 8)) (range_with_len (k + 1) (count - (k + 1)))
+    records_from unit (at k) (sector_at sectors (at k)) from
+    ++ flat_map (λ j. records_from unit (at j) (sector_at sectors (at j)) (padded unit 8)) (range_with_len (k + 1) (count - (k + 1)))
     else []
 
 abbrev pub bodies : List (RecordAt × List ℕ) → List (List ℕ)

@@ -3,3 +3,4 @@ pub mod Records
 pub mod Rings
 pub mod SectorStates
 pub mod Standing
+pub mod Writing

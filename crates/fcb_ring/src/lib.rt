@@ -13,3 +13,6 @@ mod sequence;
 pub use record::{Record, RecordAt};
 pub use ring::{Ring, Stage};
 pub use sector::SectorState;
+
+#[cfg(test)]
+mod tests;

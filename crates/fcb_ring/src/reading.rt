@@ -39,7 +39,8 @@ impl Ring {
     ) -> Option<RecordAt>
         requires stands { StandsOn (F.device flash.now) self.now }
         requires after { ForSome after (λ r. Contains (record_places (entries_on (F.device flash.now) self.now.area)) r) }
-        ensures { IsNext (entries_on (F.device flash.now) self.now.area) after result }
+        ensures next { IsNext (entries_on (F.device flash.now) self.now.area) after result }
+        ensures listed { ForSome result (λ r. Contains (record_places (entries_on (F.device flash.now) self.now.area)) r) }
     {
         let unit = geometry(flash, &self.area).unit;
         match after {

@@ -217,6 +217,10 @@ impl Ring {
         ensures value { result ≡ turned self.now.area.sectors self.now.oldest further }
         ensures within { result < self.now.area.sectors }
     {
-        turned(self.area.sectors as usize, self.oldest as usize, further as usize) as u32
+        turned(
+            self.area.sectors as usize,
+            self.oldest as usize,
+            further as usize,
+        ) as u32
     }
 }

@@ -1,8 +1,7 @@
-use Rattle.std.proofs.Common.{◌≡◌, ◌∷◌, [], ℕ, ◌<◌, List, Bool, length, sym, ap, subst, ◌∙◌, arith}
+use Rattle.std.proofs.Common.{◌≡◌, ℕ, ◌<◌, List, length, sym, ap, ◌∙◌, arith}
 use Rattle.std.specs.Prelude.{count_by}
 use Rattle.std.proofs.lemmas.List.{take_all}
 use Rattle.flash_sim.specs.Device.{counted}
-use Rattle.flash_sim.specs.declared.flash.Bank.{Bank}
 use Rattle.flash_map.specs.Area.{sectors_of, sector_size}
 use Rattle.flash_map.proofs.Touches.{then}
 use Rattle.fcb_ring.specs.SectorStates.{is_torn}
@@ -29,7 +28,7 @@ loop-sector-preserved g c =
     let bytes = c.sector_view.ensures.bytes in
     let due : c.is_torn-is_due.result ≡ is_torn (sector_at (sectors_of (g.F.Flash.device c.loop-sector.flash) c.args.area.now) c.loop-sector.sector) = c.is_torn-is_due.ensures ∙ ap is_torn bytes in
     let here : sector_at (sectors_of (g.F.Flash.device c.loop-sector.flash) c.args.area.now) c.loop-sector.sector ≡ sector_at (sectors_of (g.F.Flash.device c.args.flash.now) c.args.area.now) c.loop-sector.sector =
-      ap (λ (l : List (List ℕ)). sector_at l j) kept.so_far ∙ mended-behind j (sectors_of a area) j inside (omega arith) in
+    ap (λ (l : List (List ℕ)). sector_at l j) kept.so_far ∙ mended-behind j (sectors_of a area) j inside (omega arith) in
     record {
       within = omega arith;
       touches = then kept.touches c.in_ok-erase_if.ensures.touches;

@@ -1,4 +1,4 @@
-use Rattle.std.proofs.Common.{◌≡◌, ◌∙◌, ◌∷◌, Bool, cond, find, length, sym, ap, Some, None, arith}
+use Rattle.std.proofs.Common.{◌≡◌, ◌∙◌, Bool, cond, find, length, sym, ap, Some, arith}
 use Rattle.fcb_ring.specs.Records.{record_at, walk}
 use Rattle.fcb_ring.proofs.Walks.{walk-next, walk-none}
 use Rattle.fcb_ring.proofs.RecordLemmas.{advances, aligned_after, unit_there}

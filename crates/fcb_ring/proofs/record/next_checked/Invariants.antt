@@ -1,4 +1,4 @@
-use Rattle.std.proofs.Common.{◌≡◌, ℕ, ◌-◌, ◌%◌, ◌≤◌, length, find}
+use Rattle.std.proofs.Common.{◌≡◌, ◌-◌, ◌%◌, ◌≤◌, length, find}
 use Rattle.fcb_ring.specs.Records.{record_at, walk}
 use Rattle.fcb_ring.proofs.record.next_checked.Given as goal
 

@@ -1,5 +1,4 @@
 use Rattle.std.proofs.Common.{◌≡◌, ◌%◌, ◌∙◌, ℕ, length, sym, ap, Some, arith}
-use Rattle.flash_map.specs.Units.{padded}
 use Rattle.fcb_ring.specs.Records.{record_at, records_end, walk_end}
 use Rattle.fcb_ring.proofs.Walks.{walk_end-next, walk_end-none}
 use Rattle.fcb_ring.proofs.RecordLemmas.{advances, aligned_after, unit_there, header_fits}

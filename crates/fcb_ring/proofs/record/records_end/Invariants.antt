@@ -1,4 +1,4 @@
-use Rattle.std.proofs.Common.{◌≡◌, ℕ, ◌-◌, ◌%◌, ◌≤◌, length}
+use Rattle.std.proofs.Common.{◌≡◌, ◌-◌, ◌%◌, ◌≤◌, length}
 use Rattle.fcb_ring.specs.Records.{record_at, records_end, walk_end}
 use Rattle.fcb_ring.proofs.record.records_end.Given as goal
 

@@ -1,4 +1,4 @@
-use Rattle.std.proofs.Common.{ℕ, List, sym, ap, subst, ◌∙◌}
+use Rattle.std.proofs.Common.{sym, ap, subst, ◌∙◌}
 use Rattle.flash_map.specs.declared.area.Geometry.{Geometry}
 use Rattle.fcb_ring.specs.SectorStates.{IsSector, state_of}
 use Rattle.fcb_ring.proofs.ring.look.Goals as goal

@@ -1,4 +1,4 @@
-use Rattle.std.proofs.Common.{◌≡◌, ◌+◌, ◌∷◌, [], ◌++◌, ℕ, List, ◌∙◌, length, map, take, sym, ap, arith}
+use Rattle.std.proofs.Common.{◌≡◌, ◌∷◌, [], ◌++◌, List, ◌∙◌, length, map, take, sym, ap, arith}
 use Rattle.flash_map.specs.Area.{unit_of, sectors_of}
 use Rattle.std.proofs.lemmas.List.{map_more, take_all, length-map, length-take-le}
 use Rattle.fcb_ring.proofs.AreaLemmas.{count-sectors}
@@ -12,7 +12,7 @@ push-requires g c =
     let unit = unit_of (g.F.Flash.device c.args.flash.now) c.args.area.now in
     let count = count-sectors (g.F.Flash.device c.args.flash.now) c.args.area.now in
     let long : length c.loop-sector.states.items ≡ c.loop-sector.sector =
-      ap length c.loop-sector.invariant.so_far ∙ length-map (take c.loop-sector.sector sectors) (state_of unit) ∙ length-take-le c.loop-sector.sector sectors (omega arith) in
+    ap length c.loop-sector.invariant.so_far ∙ length-map (take c.loop-sector.sector sectors) (state_of unit) ∙ length-take-le c.loop-sector.sector sectors (omega arith) in
     (omega arith, omega (arith, long, c.requires.lawful.few))
 
 pub loop-sector-preserved : goal.loop-sector-preserved

@@ -1,4 +1,4 @@
-use Rattle.std.proofs.Common.{◌-◌, ℕ, Option, length, sym, ◌∙◌, ap, arith}
+use Rattle.std.proofs.Common.{ℕ, Option, length, sym, ◌∙◌, ap, arith}
 use Rattle.std.specs.Option.{option_map}
 use Rattle.flash_map.specs.declared.faults.Damaged.{Damaged}
 use Rattle.fcb_ring.specs.Rings.{shows}

@@ -1,7 +1,6 @@
-use Rattle.std.proofs.Common.{◌≡◌, ◌+◌, ◌∙◌, ℕ, List, Some, length, sym, ap, arith}
+use Rattle.std.proofs.Common.{◌+◌, ◌∙◌, ℕ, List, Some, sym, ap, arith}
 use Rattle.std.specs.Prelude.{slice_range}
 use Rattle.flash_map.specs.Area.{unit_of, sectors_of, sector_size}
-use Rattle.fcb_ring.specs.declared.record.RecordAt.{RecordAt}
 use Rattle.fcb_ring.proofs.AreaLemmas.{has_size, count-sectors}
 use Rattle.fcb_ring.proofs.ReadLemmas.{there, body-there}
 use Rattle.fcb_ring.proofs.ring.Ring.body.Goals as goal

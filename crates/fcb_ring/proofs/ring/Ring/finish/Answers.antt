@@ -1,14 +1,12 @@
-use Rattle.std.proofs.Common.{◌≡◌, ◌+◌, ◌∷◌, [], ◌∙◌, ℕ, Bool, List, length, cond, map, set, replicate, sym, ap, subst, arith}
+use Rattle.std.proofs.Common.{◌∙◌, ℕ, List, length, cond, sym, ap, subst, arith}
 use Rattle.std.specs.Prelude.{count_by}
-use Rattle.std.proofs.lemmas.Result.{on_err_weaker}
-use Rattle.flash_sim.specs.Device.{Device, counted}
+use Rattle.flash_sim.specs.Device.{counted}
 use Rattle.flash_map.specs.Area.{unit_of, sector_size, sectors_of}
 use Rattle.flash_map.proofs.Plans.{counted_counted}
-use Rattle.fcb_ring.specs.SectorStates.{is_torn, mended}
+use Rattle.fcb_ring.specs.SectorStates.{is_torn}
 use Rattle.fcb_ring.specs.declared.ring.Stage.TheVariants.{Ready}
-use Rattle.fcb_ring.specs.Rings.{turned}
 use Rattle.fcb_ring.specs.Entries.{HasEntries}
-use Rattle.fcb_ring.specs.Standing.{StandsOn, Stands, is_uncounted, entries_on, states_on, erases_due, SpendsAtMost}
+use Rattle.fcb_ring.specs.Standing.{Stands, entries_on, states_on, erases_due}
 use Rattle.fcb_ring.proofs.AreaLemmas.{has_size, count-sectors, area_after}
 use Rattle.fcb_ring.proofs.MountLemmas.{on_err, spends_then, mends_all}
 use Rattle.fcb_ring.proofs.FinishLemmas.{with_unit, after_erases, place-within, mended-has, finished, due-is}

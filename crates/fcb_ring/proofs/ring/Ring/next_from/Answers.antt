@@ -1,11 +1,10 @@
-use Rattle.std.proofs.Common.{◌≡◌, ◌+◌, ◌%◌, ◌≤◌, ◌-◌, ◌∙◌, ℕ, List, Option, Some, None, min, length, sym, ap, arith}
+use Rattle.std.proofs.Common.{◌≡◌, ◌+◌, ◌%◌, ◌-◌, ◌∙◌, ℕ, List, min, sym, ap, arith}
 use Rattle.std.specs.List.{slice_get}
 use Rattle.flash_map.specs.declared.area.Geometry.{Geometry}
 use Rattle.flash_map.specs.Area.{unit_of, sectors_of, sector_size}
 use Rattle.flash_map.specs.Units.{padded}
 use Rattle.fcb_ring.specs.declared.record.RecordAt.{RecordAt}
 use Rattle.fcb_ring.specs.Entries.{sector_at, records_from, following}
-use Rattle.fcb_ring.specs.Rings.{turned}
 use Rattle.fcb_ring.proofs.AreaLemmas.{has_size, count-sectors}
 use Rattle.fcb_ring.proofs.RecordLemmas.{header_fits}
 use Rattle.fcb_ring.proofs.ReadLemmas.{place-facts, found-there, none-there, none-behind, some_from, is_none_from}

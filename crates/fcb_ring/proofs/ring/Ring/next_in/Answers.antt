@@ -1,4 +1,4 @@
-use Rattle.std.proofs.Common.{◌≡◌, ◌∙◌, ℕ, List, Option, Some, None, length, find, sym, ap}
+use Rattle.std.proofs.Common.{◌≡◌, ◌∙◌, ℕ, List, Option, length, find, sym, ap}
 use Rattle.std.specs.Option.{option_map}
 use Rattle.flash_map.specs.declared.area.Geometry.{Geometry}
 use Rattle.flash_map.specs.Area.{unit_of, sectors_of}
@@ -14,9 +14,9 @@ returns-in-Some g c =
     let sector = sector_at (sectors_of (g.F.Flash.device c.args.flash.now) c.args.self.now.area) c.args.place in
     let view = c.sector_view-sector.result.now in
     let found : c.next_checked.result ≡ find (λ r. r.checks) (walk (record_at (unit_of (g.F.Flash.device c.args.flash.now) c.args.self.now.area) (sector_at (sectors_of (g.F.Flash.device c.args.flash.now) c.args.self.now.area) c.args.place)) (length (sector_at (sectors_of (g.F.Flash.device c.args.flash.now) c.args.self.now.area) c.args.place)) c.args.from) =
-      c.next_checked.ensures
-      ∙ ap (λ (geometry : Geometry). find (λ r. r.checks) (walk (record_at geometry.unit view) (length view) c.args.from)) c.geometry-unit.ensures
-      ∙ ap (λ (l : List ℕ). find (λ r. r.checks) (walk (record_at unit l) (length l) c.args.from)) c.sector_view-sector.ensures.bytes in
+    c.next_checked.ensures
+    ∙ ap (λ (geometry : Geometry). find (λ r. r.checks) (walk (record_at geometry.unit view) (length view) c.args.from)) c.geometry-unit.ensures
+    ∙ ap (λ (l : List ℕ). find (λ r. r.checks) (walk (record_at unit l) (length l) c.args.from)) c.sector_view-sector.ensures.bytes in
     sym (first-passing (placed c.args.place) (λ r. r.checks) (walk (record_at unit sector) (length sector) c.args.from) ∙ ap (λ (o : Option Record). option_map (placed c.args.place) o) (sym found ∙ c.in-Some.is))
 
 pub returns-in-None : goal.returns-in-None
@@ -25,7 +25,7 @@ returns-in-None g c =
     let sector = sector_at (sectors_of (g.F.Flash.device c.args.flash.now) c.args.self.now.area) c.args.place in
     let view = c.sector_view-sector.result.now in
     let found : c.next_checked.result ≡ find (λ r. r.checks) (walk (record_at (unit_of (g.F.Flash.device c.args.flash.now) c.args.self.now.area) (sector_at (sectors_of (g.F.Flash.device c.args.flash.now) c.args.self.now.area) c.args.place)) (length (sector_at (sectors_of (g.F.Flash.device c.args.flash.now) c.args.self.now.area) c.args.place)) c.args.from) =
-      c.next_checked.ensures
-      ∙ ap (λ (geometry : Geometry). find (λ r. r.checks) (walk (record_at geometry.unit view) (length view) c.args.from)) c.geometry-unit.ensures
-      ∙ ap (λ (l : List ℕ). find (λ r. r.checks) (walk (record_at unit l) (length l) c.args.from)) c.sector_view-sector.ensures.bytes in
+    c.next_checked.ensures
+    ∙ ap (λ (geometry : Geometry). find (λ r. r.checks) (walk (record_at geometry.unit view) (length view) c.args.from)) c.geometry-unit.ensures
+    ∙ ap (λ (l : List ℕ). find (λ r. r.checks) (walk (record_at unit l) (length l) c.args.from)) c.sector_view-sector.ensures.bytes in
     sym (first-passing (placed c.args.place) (λ r. r.checks) (walk (record_at unit sector) (length sector) c.args.from) ∙ ap (λ (o : Option Record). option_map (placed c.args.place) o) (sym found ∙ c.in-None.is))

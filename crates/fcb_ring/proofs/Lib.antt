@@ -1,0 +1,14 @@
+pub mod RecordLemmas
+pub mod Walks
+pub mod PlaceLemmas
+pub mod RingLemmas
+pub mod AreaLemmas
+pub mod StandLemmas
+pub mod Examples
+pub mod MountLemmas
+pub mod FinishLemmas
+pub mod NextLemmas
+pub mod ReadLemmas
+pub mod LayLemmas
+pub mod TestBank
+pub mod ImageLemmas

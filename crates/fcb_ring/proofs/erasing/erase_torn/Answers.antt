@@ -1,0 +1,48 @@
+use Rattle.std.proofs.Common.{◌≡◌, ℕ, ◌<◌, List, length, sym, ap, ◌∙◌, arith}
+use Rattle.std.specs.Prelude.{count_by}
+use Rattle.std.proofs.lemmas.List.{take_all}
+use Rattle.flash_sim.specs.Device.{counted}
+use Rattle.flash_map.specs.Area.{sectors_of, sector_size}
+use Rattle.flash_map.proofs.Touches.{then}
+use Rattle.fcb_ring.specs.SectorStates.{is_torn}
+use Rattle.fcb_ring.specs.Entries.{sector_at}
+use Rattle.fcb_ring.proofs.AreaLemmas.{count-sectors}
+use Rattle.fcb_ring.proofs.StandLemmas.{mended-behind}
+use Rattle.fcb_ring.proofs.MountLemmas.{on_err, mends_next, mends_all, spends_next, spends_part}
+use Rattle.fcb_ring.proofs.erasing.erase_torn.Goals as goal
+
+pub returns-in_err-erase_if-clause-bound : goal.returns-in_err-erase_if-clause-bound
+returns-in_err-erase_if-clause-bound g c =
+    let a = g.F.Flash.device c.args.flash.now in
+    on_err c.from_residual.result (spends_part a (g.F.Flash.device c.loop-sector.flash) (g.F.Flash.device c.erase_if.new.flash) (sectors_of a c.args.area.now) c.loop-sector.sector c.loop-sector.invariant.spent c.in_err-erase_if.ensures.bound)
+
+pub loop-sector-preserved : goal.loop-sector-preserved
+loop-sector-preserved g c =
+    let a = g.F.Flash.device c.args.flash.now in
+    let b = g.F.Flash.device c.loop-sector.flash in
+    let after = g.F.Flash.device c.erase_if.new.flash in
+    let area = c.args.area.now in
+    let kept = c.loop-sector.invariant in
+    let j = c.loop-sector.sector in
+    let inside : c.loop-sector.sector < length (sectors_of (g.F.Flash.device c.args.flash.now) c.args.area.now) = omega (arith, count-sectors a area) in
+    let bytes = c.sector_view.ensures.bytes in
+    let due : c.is_torn-is_due.result ≡ is_torn (sector_at (sectors_of (g.F.Flash.device c.loop-sector.flash) c.args.area.now) c.loop-sector.sector) = c.is_torn-is_due.ensures ∙ ap is_torn bytes in
+    let here : sector_at (sectors_of (g.F.Flash.device c.loop-sector.flash) c.args.area.now) c.loop-sector.sector ≡ sector_at (sectors_of (g.F.Flash.device c.args.flash.now) c.args.area.now) c.loop-sector.sector =
+    ap (λ (l : List (List ℕ)). sector_at l j) kept.so_far ∙ mended-behind j (sectors_of a area) j inside (omega arith) in
+    record {
+      within = omega arith;
+      touches = then kept.touches c.in_ok-erase_if.ensures.touches;
+      so_far = mends_next (sectors_of a area) (sectors_of b area) (sectors_of after area) j (sector_size b area) c.is_torn-is_due.result inside kept.so_far (sym (ap length bytes) ∙ c.sector_view.ensures.len) due c.in_ok-erase_if.ensures.erased;
+      spent = spends_next a b after (sectors_of a area) j c.is_torn-is_due.result inside (due ∙ ap is_torn here) kept.spent c.in_ok-erase_if.ensures.units;
+    }
+
+pub returns-clause-mended : goal.returns-clause-mended
+returns-clause-mended g c =
+    let a = g.F.Flash.device c.args.flash.now in
+    c.loop-sector.invariant.so_far ∙ mends_all (sectors_of a c.args.area.now) c.loop-sector.sector (omega (arith, count-sectors a c.args.area.now))
+
+pub returns-clause-units : goal.returns-clause-units
+returns-clause-units g c =
+    let a = g.F.Flash.device c.args.flash.now in
+    c.loop-sector.invariant.spent
+    ∙ ap (λ (l : List (List ℕ)). counted a.spent (count_by is_torn l)) (take_all c.loop-sector.sector (sectors_of a c.args.area.now) (omega (arith, count-sectors a c.args.area.now)))

@@ -1,0 +1,94 @@
+use Rattle.std.proofs.Common.{◌∙◌, ℕ, List, length, cond, sym, ap, subst, arith}
+use Rattle.std.specs.Prelude.{count_by}
+use Rattle.flash_sim.specs.Device.{counted}
+use Rattle.flash_map.specs.Area.{unit_of, sector_size, sectors_of}
+use Rattle.flash_map.proofs.Plans.{counted_counted}
+use Rattle.fcb_ring.specs.SectorStates.{is_torn}
+use Rattle.fcb_ring.specs.declared.ring.Stage.TheVariants.{Ready}
+use Rattle.fcb_ring.specs.Entries.{HasEntries}
+use Rattle.fcb_ring.specs.Standing.{Stands, entries_on, states_on, erases_due}
+use Rattle.fcb_ring.proofs.AreaLemmas.{has_size, count-sectors, area_after}
+use Rattle.fcb_ring.proofs.MountLemmas.{on_err, spends_then, mends_all}
+use Rattle.fcb_ring.proofs.FinishLemmas.{with_unit, after_erases, place-within, mended-has, finished, due-is}
+use Rattle.fcb_ring.proofs.ring.Ring.finish.Goals as goal
+
+pub place-newest-requires-clause-oldest : goal.place-newest-requires-clause-oldest
+place-newest-requires-clause-oldest g c =
+    let a = g.F.Flash.device c.args.flash.now in
+    let ring = c.args.self.now in
+    let within = place-within (unit_of a ring.area) (sector_size a ring.area) (sectors_of a ring.area) (has_size a ring.area (g.met.F.Flash.is_lawful c.args.flash.now) c.requires.stands.area) ring c.requires.stands.sectors c.requires.not_finished in
+    omega (arith, count-sectors a ring.area)
+
+pub place-newest-requires-clause-further : goal.place-newest-requires-clause-further
+place-newest-requires-clause-further g c =
+    let a = g.F.Flash.device c.args.flash.now in
+    let ring = c.args.self.now in
+    let within = place-within (unit_of a ring.area) (sector_size a ring.area) (sectors_of a ring.area) (has_size a ring.area (g.met.F.Flash.is_lawful c.args.flash.now) c.requires.stands.area) ring c.requires.stands.sectors c.requires.not_finished in
+    omega (arith, count-sectors a ring.area)
+
+pub returns-in_err-erase_torn-clause-list : goal.returns-in_err-erase_torn-clause-list
+returns-in_err-erase_torn-clause-list g c =
+    let a = g.F.Flash.device c.args.flash.now in
+    let b = g.F.Flash.device c.erase_torn.new.flash in
+    let ring = c.args.self.now in
+    let part = c.in_err-erase_torn.ensures.part in
+    let has = mended-has (unit_of a ring.area) (sector_size a ring.area) (sectors_of a ring.area) (has_size a ring.area (g.met.F.Flash.is_lawful c.args.flash.now) c.requires.stands.area) ring c.requires.stands.sectors c.requires.not_finished part.0 in
+    with_unit (λ (unit : ℕ). HasEntries unit (sectors_of b ring.area) (entries_on a ring.area)) a b ring.area c.in_err-erase_torn.ensures.touches.banks
+    (subst (λ (l : List (List ℕ)). HasEntries (unit_of a ring.area) l (entries_on a ring.area)) (sym part.1) has)
+
+pub returns-in_err-erase_torn-clause-bound : goal.returns-in_err-erase_torn-clause-bound
+returns-in_err-erase_torn-clause-bound g c =
+    let a = g.F.Flash.device c.args.flash.now in
+    let ring = c.args.self.now in
+    let due = due-is (unit_of a ring.area) (sector_size a ring.area) (sectors_of a ring.area) (has_size a ring.area (g.met.F.Flash.is_lawful c.args.flash.now) c.requires.stands.area) ring c.requires.stands.sectors c.requires.not_finished c.is_uncounted-is_full.result c.is_uncounted-is_full.ensures in
+    let bound = c.in_err-erase_torn.ensures.bound in
+    on_err c.from_residual.result (bound.0, omega (arith, bound.1), bound.2)
+
+pub returns-in_err-erase_if-clause-list : goal.returns-in_err-erase_if-clause-list
+returns-in_err-erase_if-clause-list g c =
+    let a = g.F.Flash.device c.args.flash.now in
+    let d = g.F.Flash.device c.erase_if.new.flash in
+    let ring = c.args.self.now in
+    let is = mends_all (sectors_of a ring.area) (length (sectors_of a ring.area)) (omega arith) in
+    let has = mended-has (unit_of a ring.area) (sector_size a ring.area) (sectors_of a ring.area) (has_size a ring.area (g.met.F.Flash.is_lawful c.args.flash.now) c.requires.stands.area) ring c.requires.stands.sectors c.requires.not_finished (length (sectors_of a ring.area)) in
+    with_unit (λ (unit : ℕ). HasEntries unit (sectors_of d ring.area) (entries_on a ring.area)) a d ring.area (c.in_err-erase_if.ensures.touches.banks ∙ c.in_ok-erase_torn.ensures.touches.banks)
+    (subst (λ (l : List (List ℕ)). HasEntries (unit_of a ring.area) l (entries_on a ring.area)) (is ∙ sym c.in_ok-erase_torn.ensures.mended ∙ sym c.in_err-erase_if.ensures.same) has)
+
+pub returns-in_err-erase_if-clause-bound : goal.returns-in_err-erase_if-clause-bound
+returns-in_err-erase_if-clause-bound g c =
+    let a = g.F.Flash.device c.args.flash.now in
+    let ring = c.args.self.now in
+    let due = due-is (unit_of a ring.area) (sector_size a ring.area) (sectors_of a ring.area) (has_size a ring.area (g.met.F.Flash.is_lawful c.args.flash.now) c.requires.stands.area) ring c.requires.stands.sectors c.requires.not_finished c.is_uncounted-is_full.result c.is_uncounted-is_full.ensures in
+    on_err c.from_residual-in_err-erase_if.result (spends_then a (g.F.Flash.device c.erase_torn.new.flash) (g.F.Flash.device c.erase_if.new.flash) (count_by is_torn (sectors_of a ring.area)) 0 (erases_due (states_on a ring.area)) c.in_ok-erase_torn.ensures.units c.in_err-erase_if.ensures.bound (omega arith))
+
+pub returns-clause-list : goal.returns-clause-list
+returns-clause-list g c =
+    let a = g.F.Flash.device c.args.flash.now in
+    let b = g.F.Flash.device c.erase_torn.new.flash in
+    let d = g.F.Flash.device c.erase_if.new.flash in
+    let ring = c.args.self.now in
+    let after = after_erases a b d ring.area c.place-newest.result ring.oldest ring.used c.place-newest.ensures.value c.is_uncounted-is_full.result c.in_ok-erase_torn.ensures.touches.banks c.in_ok-erase_torn.ensures.mended c.in_ok-erase_if.ensures.erased in
+    let done = finished (unit_of a ring.area) (sector_size a ring.area) (sectors_of a ring.area) (has_size a ring.area (g.met.F.Flash.is_lawful c.args.flash.now) c.requires.stands.area) ring c.requires.stands.sectors c.requires.not_finished (sectors_of d ring.area) c.is_uncounted-is_full.result c.is_uncounted-is_full.ensures after in
+    with_unit (λ (unit : ℕ). HasEntries unit (sectors_of d ring.area) (entries_on a ring.area)) a d ring.area (c.in_ok-erase_if.ensures.touches.banks ∙ c.in_ok-erase_torn.ensures.touches.banks) done.1
+
+pub returns-clause-stands : goal.returns-clause-stands
+returns-clause-stands g c =
+    let a = g.F.Flash.device c.args.flash.now in
+    let b = g.F.Flash.device c.erase_torn.new.flash in
+    let d = g.F.Flash.device c.erase_if.new.flash in
+    let ring = c.args.self.now in
+    let banks = c.in_ok-erase_if.ensures.touches.banks ∙ c.in_ok-erase_torn.ensures.touches.banks in
+    let after = after_erases a b d ring.area c.place-newest.result ring.oldest ring.used c.place-newest.ensures.value c.is_uncounted-is_full.result c.in_ok-erase_torn.ensures.touches.banks c.in_ok-erase_torn.ensures.mended c.in_ok-erase_if.ensures.erased in
+    let done = finished (unit_of a ring.area) (sector_size a ring.area) (sectors_of a ring.area) (has_size a ring.area (g.met.F.Flash.is_lawful c.args.flash.now) c.requires.stands.area) ring c.requires.stands.sectors c.requires.not_finished (sectors_of d ring.area) c.is_uncounted-is_full.result c.is_uncounted-is_full.ensures after in
+    record {
+      area = area_after a d ring.area (c.in_ok-erase_if.ensures.touches.banks ∙ c.in_ok-erase_torn.ensures.touches.banks) c.requires.stands.area;
+      sectors = with_unit (λ (unit : ℕ). Stands unit (sectors_of d ring.area) (record ring { stage = Ready })) a d ring.area (c.in_ok-erase_if.ensures.touches.banks ∙ c.in_ok-erase_torn.ensures.touches.banks) done.0;
+    }
+
+pub returns-clause-units : goal.returns-clause-units
+returns-clause-units g c =
+    let a = g.F.Flash.device c.args.flash.now in
+    let ring = c.args.self.now in
+    let due = due-is (unit_of a ring.area) (sector_size a ring.area) (sectors_of a ring.area) (has_size a ring.area (g.met.F.Flash.is_lawful c.args.flash.now) c.requires.stands.area) ring c.requires.stands.sectors c.requires.not_finished c.is_uncounted-is_full.result c.is_uncounted-is_full.ensures in
+    c.in_ok-erase_if.ensures.units ∙ ap (λ (n : ℕ). counted n (cond c.is_uncounted-is_full.result 1 0)) c.in_ok-erase_torn.ensures.units
+    ∙ counted_counted a.spent (count_by is_torn (sectors_of a ring.area)) (cond c.is_uncounted-is_full.result 1 0) ∙ ap (counted a.spent) (sym due)

@@ -1,0 +1,31 @@
+use Rattle.std.proofs.Common.{◌≡◌, ◌∙◌, ℕ, List, Option, length, find, sym, ap}
+use Rattle.std.specs.Option.{option_map}
+use Rattle.flash_map.specs.declared.area.Geometry.{Geometry}
+use Rattle.flash_map.specs.Area.{unit_of, sectors_of}
+use Rattle.fcb_ring.specs.declared.record.Record.{Record}
+use Rattle.fcb_ring.specs.Records.{record_at, walk}
+use Rattle.fcb_ring.specs.Entries.{sector_at, placed}
+use Rattle.fcb_ring.proofs.NextLemmas.{first-passing}
+use Rattle.fcb_ring.proofs.ring.Ring.next_in.Goals as goal
+
+pub returns-in-Some : goal.returns-in-Some
+returns-in-Some g c =
+    let unit = unit_of (g.F.Flash.device c.args.flash.now) c.args.self.now.area in
+    let sector = sector_at (sectors_of (g.F.Flash.device c.args.flash.now) c.args.self.now.area) c.args.place in
+    let view = c.sector_view-sector.result.now in
+    let found : c.next_checked.result ≡ find (λ r. r.checks) (walk (record_at (unit_of (g.F.Flash.device c.args.flash.now) c.args.self.now.area) (sector_at (sectors_of (g.F.Flash.device c.args.flash.now) c.args.self.now.area) c.args.place)) (length (sector_at (sectors_of (g.F.Flash.device c.args.flash.now) c.args.self.now.area) c.args.place)) c.args.from) =
+    c.next_checked.ensures
+    ∙ ap (λ (geometry : Geometry). find (λ r. r.checks) (walk (record_at geometry.unit view) (length view) c.args.from)) c.geometry-unit.ensures
+    ∙ ap (λ (l : List ℕ). find (λ r. r.checks) (walk (record_at unit l) (length l) c.args.from)) c.sector_view-sector.ensures.bytes in
+    sym (first-passing (placed c.args.place) (λ r. r.checks) (walk (record_at unit sector) (length sector) c.args.from) ∙ ap (λ (o : Option Record). option_map (placed c.args.place) o) (sym found ∙ c.in-Some.is))
+
+pub returns-in-None : goal.returns-in-None
+returns-in-None g c =
+    let unit = unit_of (g.F.Flash.device c.args.flash.now) c.args.self.now.area in
+    let sector = sector_at (sectors_of (g.F.Flash.device c.args.flash.now) c.args.self.now.area) c.args.place in
+    let view = c.sector_view-sector.result.now in
+    let found : c.next_checked.result ≡ find (λ r. r.checks) (walk (record_at (unit_of (g.F.Flash.device c.args.flash.now) c.args.self.now.area) (sector_at (sectors_of (g.F.Flash.device c.args.flash.now) c.args.self.now.area) c.args.place)) (length (sector_at (sectors_of (g.F.Flash.device c.args.flash.now) c.args.self.now.area) c.args.place)) c.args.from) =
+    c.next_checked.ensures
+    ∙ ap (λ (geometry : Geometry). find (λ r. r.checks) (walk (record_at geometry.unit view) (length view) c.args.from)) c.geometry-unit.ensures
+    ∙ ap (λ (l : List ℕ). find (λ r. r.checks) (walk (record_at unit l) (length l) c.args.from)) c.sector_view-sector.ensures.bytes in
+    sym (first-passing (placed c.args.place) (λ r. r.checks) (walk (record_at unit sector) (length sector) c.args.from) ∙ ap (λ (o : Option Record). option_map (placed c.args.place) o) (sym found ∙ c.in-None.is))

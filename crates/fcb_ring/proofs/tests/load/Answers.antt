@@ -1,0 +1,7 @@
+use Rattle.std.proofs.Common.{◌≡◌, ℕ, List, [], ◌∷◌, length, refl, sym, ap, subst, ◌∙◌, arith}
+use Rattle.flash_sim.specs.Bank.{IsLawful}
+use Rattle.fcb_ring.proofs.TestBank.{one_lawful}
+use Rattle.fcb_ring.proofs.tests.load.Goals as goal
+
+pub load-requires : goal.load-requires
+load-requires g c = rw (c.in_ok-banks.ensures.items, c.in_ok-all.ensures.items) (one_lawful c.args.bytes.items (omega arith))

@@ -1,0 +1,6 @@
+pub mod Entries
+pub mod Records
+pub mod Rings
+pub mod SectorStates
+pub mod Standing
+pub mod Writing

@@ -1,0 +1,52 @@
+-- The records of a sector, one behind the other. A record is a length field, a body and a CRC, each padded to the unit.
+use Rattle.std.specs.Prelude.{ℕ, zero, suc, ◌+◌, ◌*◌, ◌%◌, Bool, not, ◌&&◌, List, [], ◌∷◌, ◌++◌, length, slice_index, slice_range, Option, Some, None, ◌==◌, nat_lt, nat_le, if◌then◌else◌}
+use Rattle.std.specs.Option.{option_map_or}
+use Rattle.crc8_entry.specs.Crc.{crc}
+use Rattle.flash_map.specs.Units.{padded}
+use Rattle.fcb_ring.specs.declared.record.Record.{Record}
+
+-- A first byte below 128 is the length. Else it has the low seven bits, and the second byte has the rest.
+unfoldable pub body_len : ℕ → ℕ → ℕ
+body_len first second = if nat_lt first 0x80 then first else first % 0x80 + 0x80 * second
+
+-- the bytes that the length is written by
+unfoldable pub field_width : ℕ → ℕ
+field_width first = if nat_lt first 0x80 then 1 else 2
+
+-- Two bytes FF FF are an erased length field. It ends the records, as the sector's end does.
+unfoldable pub has_record : List ℕ → ℕ → Bool
+has_record sector at = nat_lt at (length sector) && not ((slice_index sector at == 0xFF) && (slice_index sector (at + 1) == 0xFF))
+
+-- The CRC covers the length as it is written, and the body, without their padding.
+unfoldable pub checks_at : List ℕ → ℕ → ℕ → ℕ → ℕ → Bool
+checks_at sector at body len crc_at =
+    crc 0xFF (slice_range sector at (at + field_width (slice_index sector at)) ++ slice_range sector body (body + len)) == slice_index sector crc_at
+
+-- what the bytes from there on read as, where a record stands there
+unfoldable pub record_of : ℕ → List ℕ → ℕ → Record
+record_of unit sector at =
+    let len = body_len (slice_index sector at) (slice_index sector (at + 1)) in
+    let body = at + unit in
+    let crc_at = body + padded unit len in
+    record { offset = at; body = body; len = len; end = crc_at + unit; checks = checks_at sector at body len crc_at }
+
+-- the record there; none where the records end, or where it would pass the sector's end
+unfoldable pub record_at : ℕ → List ℕ → ℕ → Option Record
+record_at unit sector at = if has_record sector at && nat_le (record_of unit sector at).end (length sector) then Some (record_of unit sector at) else None
+
+-- The records from a place on, where step reads one of them. The first number bounds how many there are.
+abbrev pub walk : (ℕ → Option Record) → ℕ → ℕ → List Record
+walk step zero at = []
+walk step (suc n) at = option_map_or (λ r. r ∷ walk step n r.end) (step at) []
+
+-- where they end
+abbrev pub walk_end : (ℕ → Option Record) → ℕ → ℕ → ℕ
+walk_end step zero at = at
+walk_end step (suc n) at = option_map_or (λ r. walk_end step n r.end) (step at) at
+
+-- the records of a sector, those that do not check too; they begin behind the header's eight bytes
+unfoldable pub records : ℕ → List ℕ → List Record
+records unit sector = walk (record_at unit sector) (length sector) (padded unit 8)
+
+unfoldable pub records_end : ℕ → List ℕ → ℕ
+records_end unit sector = walk_end (record_at unit sector) (length sector) (padded unit 8)

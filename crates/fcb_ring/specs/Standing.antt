@@ -1,0 +1,115 @@
+-- When a ring stands on the bytes of its area.
+use Rattle.std.specs.Prelude.{◌≡◌, ◌⊎◌, ℕ, ◌+◌, ◌-◌, ◌<◌, ◌≤◌, Bool, true, false, List, [], length, map, count_by, Option, Some, None, if◌then◌else◌, Result, Ok, Err}
+use Rattle.std.specs.List.{slice_get}
+use Rattle.flash_sim.specs.Device.{Device, counted}
+use Rattle.flash_sim.specs.declared.flash.Bank.{Bank}
+use Rattle.flash_map.specs.declared.area.Area.{Area}
+use Rattle.flash_map.specs.declared.faults.Damaged.{Damaged}
+use Rattle.flash_map.specs.declared.faults.MountFault.{MountFault}
+use Rattle.flash_map.specs.declared.faults.MountFault.TheVariants.{Damaged as HasDamage, PowerLost, NoMemory}
+use Rattle.flash_map.specs.declared.area.Role.TheVariants.{Fcb, Sel}
+use Rattle.flash_map.specs.Area.{unit_of, sectors_of}
+use Rattle.flash_map.specs.Lawful.{IsLawfulFor}
+use Rattle.fcb_ring.specs.declared.record.RecordAt.{RecordAt}
+use Rattle.fcb_ring.specs.declared.ring.Ring.{Ring}
+use Rattle.fcb_ring.specs.declared.ring.Stage.{Stage}
+use Rattle.fcb_ring.specs.declared.ring.Stage.TheVariants.{Inspected, Ready, Collecting, Down}
+use Rattle.fcb_ring.specs.declared.sector.SectorState.{SectorState}
+use Rattle.fcb_ring.specs.Entries.{states, entries, HasEntries}
+use Rattle.fcb_ring.specs.Rings.{state_at, turned, is_full, first_damage, IsRing, AreClean}
+
+-- an area on which a ring may stand
+pub record IsRingArea (banks : List Bank) (area : Area) : Type 0 where
+  pub lawful : IsLawfulFor banks area
+  pub role : (area.role ≡ Fcb) ⊎ (area.role ≡ Sel)
+  pub several : 2 ≤ area.sectors
+
+-- no call of it answered that power was lost
+abbrev pub is_up : Stage → Bool
+is_up Down = false
+is_up stage = true
+
+-- the erases of mounting are done
+abbrev pub is_finished : Stage → Bool
+is_finished Ready = true
+is_finished Collecting = true
+is_finished stage = false
+
+abbrev pub is_collecting : Stage → Bool
+is_collecting Collecting = true
+is_collecting stage = false
+
+-- no sector is free, and the newest waits to be erased
+abbrev pub is_uncounted : Stage → Bool
+is_uncounted (Inspected full) = full
+is_uncounted stage = false
+
+abbrev pub uncounted : Stage → ℕ
+uncounted stage = if is_uncounted stage then 1 else 0
+
+-- what the stage says of the sectors
+abbrev pub FitsStage : Stage → List SectorState → ℕ → ℕ → Type 0
+FitsStage (Inspected true) sectors oldest used = used + 1 ≡ length sectors
+FitsStage (Inspected false) sectors oldest used = used < length sectors
+FitsStage Ready sectors oldest used = (used < length sectors) × ((k : ℕ) → used ≤ k → k < length sectors → (state_at sectors (turned (length sectors) oldest k)).is_torn ≡ false)
+FitsStage Collecting sectors oldest used = used ≡ length sectors
+FitsStage Down sectors oldest used = ⊥
+
+-- the sector in which the ring writes goes on where the ring says, and has the id that it says
+pub record IsWritten (state : SectorState) (ring : Ring) : Type 0 where
+  pub end : ring.end ≡ state.end
+  pub id : ring.id ≡ state.id
+
+pub record Stands (unit : ℕ) (sectors : List (List ℕ)) (ring : Ring) : Type 0 where
+  pub form : IsRing (states unit sectors) ring.oldest (ring.used + uncounted ring.stage)
+  pub clean : AreClean (states unit sectors) ring.oldest ring.used
+  pub last : 0 < ring.used → IsWritten (state_at (states unit sectors) (turned (length (states unit sectors)) ring.oldest (ring.used - 1))) ring
+  pub stage : FitsStage ring.stage (states unit sectors) ring.oldest ring.used
+
+-- the ring stands on this device
+pub record StandsOn (d : Device) (ring : Ring) : Type 0 where
+  pub area : IsRingArea d.banks ring.area
+  pub sectors : Stands (unit_of d ring.area) (sectors_of d ring.area) ring
+
+abbrev pub states_on : Device → Area → List SectorState
+states_on d area = states (unit_of d area) (sectors_of d area)
+
+-- the records that the area holds, with their bodies
+abbrev pub entries_on : Device → Area → List (RecordAt × List ℕ)
+entries_on d area = entries (unit_of d area) (sectors_of d area)
+
+-- the area is not damaged, and holds the same records
+abbrev pub KeepsEntries : Device → Device → Area → Type 0
+KeepsEntries old new area = HasEntries (unit_of new area) (sectors_of new area) (entries_on old area)
+
+abbrev pub record_places : List (RecordAt × List ℕ) → List RecordAt
+record_places list = map (λ entry. entry.0) list
+
+-- the record after this one, or the first of all
+abbrev pub IsNext : List (RecordAt × List ℕ) → Option RecordAt → Option RecordAt → Type 0
+IsNext list None next = next ≡ slice_get (record_places list) 0
+IsNext list (Some r) next = (i : ℕ) → slice_get (record_places list) i ≡ Some r → next ≡ slice_get (record_places list) (i + 1)
+
+-- what mounting erases: each sector with a torn header, and the newest one where no sector is free
+abbrev pub erases_due : List SectorState → ℕ
+erases_due sectors = count_by (λ state. state.is_torn) sectors + (if is_full sectors then 1 else 0)
+
+-- at most so many units and erases were spent
+abbrev pub SpendsAtMost : Device → Device → ℕ → Type 0
+SpendsAtMost old new most = (units : ℕ) × (units ≤ most) × (new.spent ≡ counted old.spent units)
+
+-- the answer says that power was lost
+abbrev pub mount_lost : {T : Type 0} → Result T MountFault → Bool
+mount_lost (Ok ring) = false
+mount_lost (Err (HasDamage damaged)) = false
+mount_lost (Err PowerLost) = true
+mount_lost (Err NoMemory) = false
+
+-- how mounting ends: the damage of the area, and then nothing changed; or it is not damaged
+abbrev pub MountEnds : Device → Device → Area → ℕ → Result Ring MountFault → Type 0
+MountEnds old new area reserve (Ok ring) =
+    (first_damage (states_on old area) ≡ None) × StandsOn new ring × (ring.stage ≡ Ready) × (ring.area ≡ area) × (ring.reserve ≡ reserve)
+    × (new.spent ≡ counted old.spent (erases_due (states_on old area)))
+MountEnds old new area reserve (Err (HasDamage damaged)) = (first_damage (states_on old area) ≡ Some damaged) × (new ≡ old)
+MountEnds old new area reserve (Err PowerLost) = (first_damage (states_on old area) ≡ None) × SpendsAtMost old new (erases_due (states_on old area))
+MountEnds old new area reserve (Err NoMemory) = ⊥

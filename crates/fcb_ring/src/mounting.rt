@@ -1,0 +1,36 @@
+// Mounting.
+ghost use Rattle.std.specs.Prelude.{◌≡◌, ◌+◌, ◌<◌, ◌≤◌, ◌∷◌, [], None};
+ghost use Rattle.flash_map.specs.Touches.{Touches};
+ghost use Rattle.fcb_ring.specs.Rings.{first_damage};
+ghost use Rattle.fcb_ring.specs.Standing.{IsRingArea, states_on, KeepsEntries, mount_lost, MountEnds};
+
+use crate::ring::Ring;
+use flash_map::{Area, MountFault};
+use flash_sim::{Flash, Steps};
+use std::sync::ledger::Ledger;
+
+impl Ring {
+    /// `inspect`, and then `finish`. It takes no memory.
+    ///
+    /// # Errors
+    /// `Damaged`, and then nothing was programmed, or `PowerLost`. Never `NoMemory`.
+    pub fn mount<F: Flash, L: Ledger>(
+        flash: &mut F,
+        area: Area,
+        reserve: u32,
+        steps: &mut Steps<L>,
+    ) -> Result<Ring, MountFault>
+        requires { IsRingArea (F.device flash.old).banks area }
+        ensures touches { Touches (area ∷ []) (F.device flash.old) (F.device flash.new) (mount_lost result) }
+        ensures ends { MountEnds (F.device flash.old) (F.device flash.new) area reserve result }
+        ensures list { first_damage (states_on (F.device flash.old) area) ≡ None → KeepsEntries (F.device flash.old) (F.device flash.new) area }
+    {
+        match Ring::inspect(flash, area, reserve, steps) {
+            Err(damaged) => Err(MountFault::Damaged(damaged)),
+            Ok(mut ring) => match ring.finish(flash, steps) {
+                Err(_) => Err(MountFault::PowerLost),
+                Ok(()) => Ok(ring),
+            },
+        }
+    }
+}

@@ -1,0 +1,131 @@
+// The records of a ring, one after the other.
+ghost use Rattle.std.specs.Prelude.{◌≡◌, ◌+◌, ◌-◌, ◌*◌, ◌%◌, ◌<◌, ◌≤◌, ◌==◌, ℕ, Some, None, Contains, length, min, slice_range, if◌then◌else◌};
+ghost use Rattle.std.specs.List.{slice_get};
+ghost use Rattle.std.specs.Option.{ForSome};
+ghost use Rattle.flash_map.specs.Area.{unit_of, sectors_of, sector_size};
+ghost use Rattle.fcb_ring.specs.Entries.{sector_at, records_from, following};
+ghost use Rattle.fcb_ring.specs.Rings.{turned};
+ghost use Rattle.fcb_ring.specs.Standing.{StandsOn, entries_on, record_places, IsNext};
+
+use crate::record::{RecordAt, next_checked};
+use crate::ring::{Ring, sector_view};
+use crate::sequence::distance;
+use flash_map::{geometry, padded};
+use flash_sim::{Flash, Steps};
+use std::sync::ledger::Ledger;
+
+impl Ring {
+    /// The oldest of the used sectors.
+    pub fn oldest(&self) -> Option<u32>
+        ensures { result ≡ (if self.now.used == 0 then None else Some self.now.oldest) }
+    {
+        (self.used > 0).then_some(self.oldest)
+    }
+
+    // How many sectors count, the oldest first: the used ones but, where no sector is free, the newest.
+    fn counted(&self) -> u32
+        requires { 0 < self.now.area.sectors }
+        ensures { result ≡ min self.now.used (self.now.area.sectors - 1) }
+    {
+        self.used.min(self.area.sectors - 1)
+    }
+
+    /// The record after the given one, or the first of all: the records that check, oldest first.
+    pub fn next<F: Flash, L: Ledger>(
+        &self,
+        flash: &F,
+        after: Option<RecordAt>,
+        steps: &mut Steps<L>,
+    ) -> Option<RecordAt>
+        requires stands { StandsOn (F.device flash.now) self.now }
+        requires after { ForSome after (λ r. Contains (record_places (entries_on (F.device flash.now) self.now.area)) r) }
+        ensures next { IsNext (entries_on (F.device flash.now) self.now.area) after result }
+        ensures listed { ForSome result (λ r. Contains (record_places (entries_on (F.device flash.now) self.now.area)) r) }
+    {
+        let unit = geometry(flash, &self.area).unit;
+        match after {
+            None => self.next_from(flash, 0, padded(unit, 8), steps),
+            Some(record) => {
+                let further = distance(
+                    self.area.sectors as usize,
+                    self.oldest as usize,
+                    record.sector as usize,
+                );
+                let from = record.body + padded(unit, record.len) + unit;
+                self.next_from(flash, further as u32, from, steps)
+            }
+        }
+    }
+
+    // The first record in one sector from there on.
+    fn next_in<F: Flash, L: Ledger>(
+        &self,
+        flash: &F,
+        place: u32,
+        from: u32,
+        steps: &mut Steps<L>,
+    ) -> Option<RecordAt>
+        requires stands { StandsOn (F.device flash.now) self.now }
+        requires place { place < self.now.area.sectors }
+        requires aligned { from % unit_of (F.device flash.now) self.now.area ≡ 0 }
+        requires within { from ≤ sector_size (F.device flash.now) self.now.area }
+        ensures { result ≡ slice_get (records_from (unit_of (F.device flash.now) self.now.area) place (sector_at (sectors_of (F.device flash.now) self.now.area) place) from) 0 }
+    {
+        let unit = geometry(flash, &self.area).unit;
+        let sector = sector_view(flash, &self.area, place, steps);
+        match next_checked(sector, unit, from) {
+            Some(record) => Some(RecordAt {
+                sector: place,
+                offset: record.offset,
+                body: record.body,
+                len: record.len,
+            }),
+            None => None,
+        }
+    }
+
+    // The first record from there on, in the sector so far behind the oldest, and in those after it.
+    fn next_from<F: Flash, L: Ledger>(
+        &self,
+        flash: &F,
+        further: u32,
+        from: u32,
+        steps: &mut Steps<L>,
+    ) -> Option<RecordAt>
+        requires stands { StandsOn (F.device flash.now) self.now }
+        requires further { further ≤ self.now.area.sectors }
+        requires aligned { from % unit_of (F.device flash.now) self.now.area ≡ 0 }
+        requires within { from ≤ sector_size (F.device flash.now) self.now.area }
+        ensures { result ≡ slice_get (following (unit_of (F.device flash.now) self.now.area) (sectors_of (F.device flash.now) self.now.area) self.now.oldest (min self.now.used (self.now.area.sectors - 1)) further from) 0 }
+    {
+        let header = padded(geometry(flash, &self.area).unit, 8);
+        let mut at = further;
+        let mut offset = from;
+        while at < self.counted() {
+            let found = self.next_in(flash, self.place(at), offset, steps);
+            if found.is_some() {
+                return found;
+            }
+            at += 1;
+            offset = header;
+        }
+        None
+    }
+
+    /// The body of a record. It is one step.
+    pub fn body<'a, F: Flash, L: Ledger>(
+        &self,
+        flash: &'a F,
+        r: &RecordAt,
+        steps: &mut Steps<L>,
+    ) -> &'a [u8]
+        requires stands { StandsOn (F.device flash.now) self.now }
+        requires record { Contains (record_places (entries_on (F.device flash.now) self.now.area)) r.now }
+        ensures bytes { result.now ≡ slice_range (sector_at (sectors_of (F.device flash.now) self.now.area) r.now.sector) r.now.body (r.now.body + r.now.len) }
+        ensures body { (i : ℕ) → slice_get (record_places (entries_on (F.device flash.now) self.now.area)) i ≡ Some r.now → slice_get (entries_on (F.device flash.now) self.now.area) i ≡ Some (r.now, result.now) }
+    {
+        let sector = sector_view(flash, &self.area, r.sector, steps);
+        let start = r.body as usize;
+        &sector[start..start + r.len as usize]
+    }
+}

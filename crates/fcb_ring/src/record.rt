@@ -1,0 +1,134 @@
+// Reading records.
+ghost use Rattle.std.specs.Prelude.{◌≡◌, ◌+◌, ◌-◌, ◌*◌, ◌%◌, ◌<◌, ◌≤◌, ◌^◌, length, slice_index, find, IsTrue};
+ghost use Rattle.flash_map.specs.Units.{IsUnit, padded};
+ghost use Rattle.fcb_ring.specs.SectorStates.{IsSector};
+ghost use Rattle.fcb_ring.specs.Records.{body_len, field_width, has_record, checks_at, record_at, records_end, walk};
+
+use crc8_entry::{START, crc8};
+use flash_map::padded;
+
+/// A record that a sector holds, whether it checks or not. Places are bytes from the sector's start.
+#[derive(Clone, Copy, Debug, PartialEq, Eq)]
+pub struct Record {
+    pub offset: u32,
+    /// Where the body starts, and its bytes.
+    pub body: u32,
+    pub len: u32,
+    /// Where the next record would start.
+    pub end: u32,
+    pub checks: bool,
+}
+
+/// A record that checks, in a sector of the area. Places are bytes from the sector's start.
+#[derive(Clone, Copy, Debug, PartialEq, Eq)]
+pub struct RecordAt {
+    pub sector: u32,
+    pub offset: u32,
+    /// Where the body starts, and its bytes.
+    pub body: u32,
+    pub len: u32,
+}
+
+// The length that a field of these two bytes says.
+#[tactic(auto, unfolding(crate::specs::Records::body_len))]
+fn body_len(first: u8, second: u8) -> u32
+    ensures value { result ≡ body_len first second }
+    ensures small { result < 2 ^ 15 }
+{
+    if first < 0x80 {
+        u32::from(first)
+    } else {
+        u32::from(first % 0x80) + 0x80 * u32::from(second)
+    }
+}
+
+// How many bytes a length is written by, from its first byte.
+#[tactic(auto, unfolding(crate::specs::Records::field_width))]
+fn field_width(first: u8) -> usize
+    ensures value { result ≡ field_width first }
+    ensures at_most { result ≤ 2 }
+{
+    if first < 0x80 { 1 } else { 2 }
+}
+
+// Whether a record stands there: the sector does not end, and its length field is not erased.
+#[tactic(auto, unfolding(crate::specs::Records::has_record))]
+pub(crate) fn has_record(sector: &[u8], at: usize) -> bool
+    requires { at < length sector.now → at + 1 < length sector.now }
+    ensures value { result ≡ has_record sector.now at }
+    ensures within { IsTrue result → at < length sector.now }
+{
+    at < sector.len() && !(sector[at] == 0xFF && sector[at + 1] == 0xFF)
+}
+
+// Whether the CRC at its place is that of the length field and the body.
+fn checks_at(sector: &[u8], at: usize, body: usize, len: usize, crc_at: usize) -> bool
+    requires field { at + 2 ≤ length sector.now }
+    requires body { body + len ≤ length sector.now }
+    requires crc { crc_at < length sector.now }
+    ensures { result ≡ checks_at sector.now at body len crc_at }
+{
+    let field = &sector[at..at + field_width(sector[at])];
+    crc8(crc8(START, field), &sector[body..body + len]) == sector[crc_at]
+}
+
+// The record there. None where the records end, or where it would pass the sector's end.
+#[tactic(auto, unfolding(crate::specs::Records::record_at, crate::specs::Records::record_of))]
+pub(crate) fn record_at(sector: &[u8], unit: u32, at: u32) -> Option<Record>
+    requires unit { IsUnit unit }
+    requires short { length sector.now ≤ 32768 }
+    requires room { at < length sector.now → at + unit ≤ length sector.now }
+    requires at { at ≤ length sector.now }
+    ensures value { result ≡ record_at unit sector.now at }
+{
+    let start = at as usize;
+    if !has_record(sector, start) {
+        return None;
+    }
+    let len = body_len(sector[start], sector[start + 1]);
+    let body = at + unit;
+    let crc_at = body + padded(unit, len);
+    let end = crc_at + unit;
+    if end as usize > sector.len() {
+        return None;
+    }
+    let checks = checks_at(sector, start, body as usize, len as usize, crc_at as usize);
+    Some(Record {
+        offset: at,
+        body,
+        len,
+        end,
+        checks,
+    })
+}
+
+// Where the records of a sector end.
+pub(crate) fn records_end(sector: &[u8], unit: u32) -> u32
+    requires { IsSector unit sector.now }
+    ensures value { result ≡ records_end unit sector.now }
+    ensures at_most { result ≤ length sector.now }
+    ensures aligned { result % unit ≡ 0 }
+{
+    let mut end = padded(unit, 8);
+    while let Some(record) = record_at(sector, unit, end) {
+        end = record.end;
+    }
+    end
+}
+
+// The first record from there on that checks.
+pub(crate) fn next_checked(sector: &[u8], unit: u32, from: u32) -> Option<Record>
+    requires sector { IsSector unit sector.now }
+    requires aligned { from % unit ≡ 0 }
+    requires within { from ≤ length sector.now }
+    ensures { result ≡ find (λ r. r.checks) (walk (record_at unit sector.now) (length sector.now) from) }
+{
+    let mut at = from;
+    while let Some(record) = record_at(sector, unit, at) {
+        if record.checks {
+            return Some(record);
+        }
+        at = record.end;
+    }
+    None
+}

@@ -1,0 +1,226 @@
+// The ring over one area.
+ghost use Rattle.std.specs.Prelude.{◌≡◌, ◌+◌, ◌-◌, ◌*◌, ◌<◌, ◌≤◌, ◌∷◌, [], ℕ, Some, None, IsTrue, Contains, is_err, length, map, min, slice_range, IfOk, IfErr, OnOk, OnErr, MatchResult, false, true};
+ghost use Rattle.std.specs.List.{slice_get};
+ghost use Rattle.std.specs.Option.{ForSome};
+ghost use Rattle.flash_sim.specs.Device.{counted};
+ghost use Rattle.flash_map.specs.Area.{unit_of, sectors_of, sector_size};
+ghost use Rattle.flash_map.specs.Touches.{Touches};
+ghost use Rattle.flash_map.specs.Units.{padded};
+ghost use Rattle.fcb_ring.specs.SectorStates.{IsSector, state_of};
+ghost use Rattle.fcb_ring.specs.Rings.{state_at, turned, oldest_place, first_damage};
+ghost use Rattle.fcb_ring.specs.Entries.{sector_at, following};
+ghost use Rattle.fcb_ring.specs.Standing.{IsRingArea, StandsOn, states_on, entries_on, KeepsEntries, record_places, IsNext, is_up, is_finished, is_collecting, is_uncounted, erases_due, SpendsAtMost, mount_lost, MountEnds};
+
+use crate::erasing::{erase_if, erase_torn};
+use crate::record::{Record, RecordAt, next_checked};
+use crate::sector::{SectorState, is_torn, state_of};
+use crate::sequence::{distance, first_damage, oldest_place, turned, used_from};
+use arrayvec::ArrayVec;
+use flash_map::{Area, Damaged, MountFault, area_erase, area_view, geometry, padded};
+use flash_sim::{Flash, PowerLost, Steps};
+use std::sync::ledger::Ledger;
+
+/// How far a ring has come.
+#[derive(Clone, Copy, Debug, PartialEq, Eq)]
+pub enum Stage {
+    /// The erases of mounting are to come. Where no sector is free, the newest counts for nothing.
+    Inspected(bool),
+    Ready,
+    Collecting,
+    /// A call answered that power was lost.
+    Down,
+}
+
+/// A ring of records over the sectors of one area.
+#[derive(Debug, Drop)]
+pub struct Ring {
+    pub(crate) area: Area,
+    // the room in bytes that ordinary records leave in each sector
+    pub(crate) reserve: u32,
+    // the oldest of the used sectors, and how many are used; one that counts for nothing is not among them
+    pub(crate) oldest: u32,
+    pub(crate) used: u32,
+    // the id of the newest of these, and where the next record goes in it, in bytes
+    pub(crate) id: u16,
+    pub(crate) end: u32,
+    pub(crate) stage: Stage,
+}
+
+// All bytes of a sector. It is one step.
+pub(crate) fn sector_view<'a, F: Flash, L: Ledger>(
+    flash: &'a F,
+    area: &Area,
+    sector: u32,
+    steps: &mut Steps<L>,
+) -> &'a [u8]
+    requires area { IsRingArea (F.device flash.now).banks area.now }
+    requires has_sector { sector < area.now.sectors }
+    ensures bytes { result.now ≡ sector_at (sectors_of (F.device flash.now) area.now) sector }
+    ensures sector { IsSector (unit_of (F.device flash.now) area.now) result.now }
+    ensures len { length result.now ≡ sector_size (F.device flash.now) area.now }
+{
+    let size = geometry(flash, area).sector;
+    area_view(flash, area, sector, 0, size, steps)
+}
+
+// The state of one sector.
+fn look<F: Flash, L: Ledger>(
+    flash: &F,
+    area: &Area,
+    sector: u32,
+    steps: &mut Steps<L>,
+) -> SectorState
+    requires area { IsRingArea (F.device flash.now).banks area.now }
+    requires has_sector { sector < area.now.sectors }
+    ensures { result ≡ state_of (unit_of (F.device flash.now) area.now) (sector_at (sectors_of (F.device flash.now) area.now) sector) }
+{
+    let unit = geometry(flash, area).unit;
+    state_of(sector_view(flash, area, sector, steps), unit)
+}
+
+// The state of each sector.
+fn read_states<F: Flash, L: Ledger>(
+    flash: &F,
+    area: &Area,
+    steps: &mut Steps<L>,
+) -> ArrayVec<SectorState, 64>
+    requires { IsRingArea (F.device flash.now).banks area.now }
+    ensures { result.items ≡ states_on (F.device flash.now) area.now }
+{
+    let mut states = ArrayVec::new();
+    for sector in 0..area.sectors {
+        states.push(look(flash, area, sector, steps));
+    }
+    states
+}
+
+// The state of the newest of so many sectors, the oldest of which is given.
+fn newest_state(states: &[SectorState], oldest: usize, used: usize) -> SectorState
+    requires oldest { oldest < length states.now }
+    requires used { used ≤ length states.now }
+    requires few { length states.now ≤ 64 }
+    ensures { 0 < used → result ≡ state_at states.now (turned (length states.now) oldest (used - 1)) }
+{
+    if used == 0 {
+        SectorState::default()
+    } else {
+        states[turned(states.len(), oldest, used - 1)]
+    }
+}
+
+impl Ring {
+    /// Reads the area, and programs nothing. The ring gives the records that count, and is not finished.
+    ///
+    /// # Errors
+    /// The damage of the area: the lowest sector of the first kind that it shows.
+    pub fn inspect<F: Flash, L: Ledger>(
+        flash: &F,
+        area: Area,
+        reserve: u32,
+        steps: &mut Steps<L>,
+    ) -> Result<Ring, Damaged>
+        requires { IsRingArea (F.device flash.now).banks area }
+
+        ensures ok { IfOk result (λ ring. StandsOn (F.device flash.now) ring) }
+        ensures ring { IfOk result (λ ring. (ring.area ≡ area) × (ring.reserve ≡ reserve) × (is_up ring.stage ≡ true) × (is_finished ring.stage ≡ false)) }
+        ensures damaged { MatchResult result (λ _. first_damage (states_on (F.device flash.now) area) ≡ None) (λ damaged. first_damage (states_on (F.device flash.now) area) ≡ Some damaged) }
+    {
+        let found = read_states(flash, &area, steps);
+        let states = found.as_slice();
+        if let Some(damaged) = first_damage(states) {
+            return Err(damaged);
+        }
+        let count = states.len();
+        let oldest = oldest_place(states);
+        let all_used = used_from(states, oldest);
+        let used = all_used.min(count - 1);
+        let newest = newest_state(states, oldest, used);
+        Ok(Ring {
+            area,
+            reserve,
+            oldest: oldest as u32,
+            used: used as u32,
+            id: newest.id,
+            end: newest.end,
+            stage: Stage::Inspected(all_used == count),
+        })
+    }
+
+    /// Whether no call answered that power was lost.
+    pub fn is_up(&self) -> bool
+        ensures { result ≡ is_up self.now.stage }
+    {
+        !matches!(self.stage, Stage::Down)
+    }
+
+    /// Whether the erases of mounting are done.
+    pub fn is_finished(&self) -> bool
+        ensures { result ≡ is_finished self.now.stage }
+    {
+        matches!(self.stage, Stage::Ready | Stage::Collecting)
+    }
+
+    pub fn is_collecting(&self) -> bool
+        ensures { result ≡ is_collecting self.now.stage }
+    {
+        matches!(self.stage, Stage::Collecting)
+    }
+}
+
+impl Ring {
+    /// Carries out the erases of mounting: each sector with a torn header, in rising order, and then the newest
+    /// where no sector is free. The list stays, also where power is lost.
+    ///
+    /// # Errors
+    /// `PowerLost`. The ring is then down.
+    pub fn finish<F: Flash, L: Ledger>(
+        &mut self,
+        flash: &mut F,
+        steps: &mut Steps<L>,
+    ) -> Result<(), PowerLost>
+        requires stands { StandsOn (F.device flash.old) self.old }
+        requires not_finished { is_finished self.old.stage ≡ false }
+
+        ensures touches { Touches (self.old.area ∷ []) (F.device flash.old) (F.device flash.new) (is_err result) }
+        ensures list { KeepsEntries (F.device flash.old) (F.device flash.new) self.old.area }
+        ensures area { self.new.area ≡ self.old.area }
+        ensures reserve { self.new.reserve ≡ self.old.reserve }
+
+        ensures stands { OnOk result (StandsOn (F.device flash.new) self.new) }
+        ensures ready { OnOk result (self.new.stage ≡ Stage.Ready) }
+        ensures units { OnOk result ((F.device flash.new).spent ≡ counted (F.device flash.old).spent (erases_due (states_on (F.device flash.old) self.old.area))) }
+
+        ensures down { OnErr result (is_up self.new.stage ≡ false) }
+        ensures bound { OnErr result (SpendsAtMost (F.device flash.old) (F.device flash.new) (erases_due (states_on (F.device flash.old) self.old.area))) }
+    {
+        let is_full = self.is_uncounted();
+        self.stage = Stage::Down;
+        let newest = self.place(self.used);
+        erase_torn(flash, &self.area, steps)?;
+        erase_if(flash, &self.area, newest, is_full)?;
+        self.stage = Stage::Ready;
+        Ok(())
+    }
+
+    // Whether no sector is free, and the newest waits to be erased.
+    fn is_uncounted(&self) -> bool
+        ensures { result ≡ is_uncounted self.now.stage }
+    {
+        matches!(self.stage, Stage::Inspected(true))
+    }
+
+    // The place of a sector of the run, by how far it is behind the oldest.
+    pub(crate) fn place(&self, further: u32) -> u32
+        requires area { self.now.area.sectors ≤ 64 }
+        requires oldest { self.now.oldest < self.now.area.sectors }
+        requires further { further ≤ self.now.area.sectors }
+        ensures value { result ≡ turned self.now.area.sectors self.now.oldest further }
+        ensures within { result < self.now.area.sectors }
+    {
+        turned(
+            self.area.sectors as usize,
+            self.oldest as usize,
+            further as usize,
+        ) as u32
+    }
+}

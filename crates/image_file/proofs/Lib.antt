@@ -5,3 +5,6 @@ pub mod ReadingLemmas
 pub mod RowLemmas
 pub mod SaidLemmas
 pub mod WritingLemmas
+pub mod NumberLemmas
+pub mod PartLemmas
+pub mod SpecLemmas

@@ -1,6 +1,7 @@
 // Images, and why bytes or words are none.
 ghost use Rattle.std.specs.Prelude.{◌≡◌};
 ghost use Rattle.image_file.specs.declared.image.ImageFault.TheVariants.{NoMemory};
+ghost use Rattle.image_file.specs.declared.image.SpecFault.TheVariants.{NoMemory as OutOfMemory};
 
 use flash_map::FlashMap;
 use flash_sim::Bank;
@@ -64,4 +65,28 @@ pub enum SpecFault {
     /// that the whole needs.
     BadSpec { item: u32 },
     NoMemory,
+}
+
+impl From<AllocError> for SpecFault {
+    ghost from_gives = { λ _ fault. fault ≡ OutOfMemory };
+
+    fn from(_: AllocError) -> Self {
+        SpecFault::NoMemory
+    }
+}
+
+impl<T: Drop> From<AllocFailed<T>> for SpecFault {
+    ghost from_gives = { λ _ fault. fault ≡ OutOfMemory };
+
+    fn from(_: AllocFailed<T>) -> Self {
+        SpecFault::NoMemory
+    }
+}
+
+impl From<flash_sim::NoMemory> for SpecFault {
+    ghost from_gives = { λ _ fault. fault ≡ OutOfMemory };
+
+    fn from(_: flash_sim::NoMemory) -> Self {
+        SpecFault::NoMemory
+    }
 }

@@ -1,6 +1,7 @@
 // Which banks and areas an image may have.
 ghost use Rattle.std.specs.Prelude.{◌≡◌, ◌<◌, ◌≤◌, ◌↔◌, IsTrue, length, map, count_by};
 ghost use Rattle.std.specs.List.{list_all};
+ghost use Rattle.flash_sim.specs.Bank.{capacity};
 ghost use Rattle.image_file.specs.Format.{plain_area};
 ghost use Rattle.image_file.specs.Lawful.{IsImageBank, IsLabel, StandsOn, HasNeeded, is_label_byte, is_selector, area_at};
 ghost use Rattle.image_file.specs.Takes.{TakesArea};
@@ -78,7 +79,8 @@ pub fn has_needed(areas: &FlashMap) -> bool
     stores >= 1 && selectors <= 1 && (stores < 2 || selectors == 1)
 }
 
-fn count_selectors(areas: &FlashMap) -> usize
+/// How many areas are selectors.
+pub fn count_selectors(areas: &FlashMap) -> usize
     ensures value { result ≡ count_by is_selector (map plain_area areas.now) }
     ensures at_most { result ≤ length areas.now }
 {
@@ -89,6 +91,14 @@ fn count_selectors(areas: &FlashMap) -> usize
         }
     }
     count
+}
+
+/// The bytes of a bank.
+pub fn capacity(bank: &Bank) -> usize
+    requires { IsImageBank bank.now }
+    ensures { result ≡ capacity bank.now }
+{
+    bank.sector as usize * bank.count as usize
 }
 
 fn is_selector_at(areas: &FlashMap, i: usize) -> bool

@@ -5,12 +5,16 @@ mod fields;
 mod image;
 mod lawful;
 mod laws;
+mod numbers;
+mod parts;
 mod reading;
+mod spec;
 mod writing;
 
 pub use image::{Image, ImageFault, ImageWhy, SpecFault};
 pub use laws::one_reading;
 pub use reading::read_image;
+pub use spec::read_spec;
 pub use writing::write_image;
 
 #[cfg(test)]

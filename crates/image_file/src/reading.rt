@@ -12,7 +12,7 @@ ghost use Rattle.image_file.specs.Reading.{Reads, ReadsImage};
 
 use crate::fields::{area_of, bank_of, field};
 use crate::image::{Image, ImageFault, ImageWhy};
-use crate::lawful::{has_needed, take_area};
+use crate::lawful::{capacity, has_needed, take_area};
 use flash_map::FlashMap;
 use flash_sim::Bank;
 use std::alloc::Global;
@@ -143,13 +143,6 @@ fn read_areas(
         read_area(bytes, i, banks, &mut areas)?;
     }
     Ok(areas)
-}
-
-fn capacity(bank: &Bank) -> usize
-    requires { IsImageBank bank.now }
-    ensures { result ≡ capacity bank.now }
-{
-    bank.sector as usize * bank.count as usize
 }
 
 // The bytes of each bank, and nothing behind them.

@@ -96,3 +96,64 @@ fn first_faults(rt: HostRuntime) -> Result<(), Fail> {
     assert_eq!(rt; fault, Some(long));
     Ok(())
 }
+
+#[test]
+fn blank_image(rt: HostRuntime) -> Result<(), Fail> {
+    let alloc = rt.alloc();
+    let image = read_spec(alloc, "bank=erasing/4/512/2,area=nvs/main/0/0/2")
+        .ok()
+        .ok_or("the word is lawful")?;
+    assert_eq!(rt; image.map.len(), 1);
+    let file = write_image(alloc, &image.banks, &image.map, &image.bytes)?;
+    assert_eq!(rt; file.len(), 1060);
+    let header = [
+        0x5A, 0x53, 0x49, 0x4D, 1, 1, 1, 0, 0, 4, 0, 0, 0, 2, 0, 0, 2, 0, 0, 0, 1, 0, 0, 0, 2, 0,
+        4, 0, 0x6D, 0x61, 0x69, 0x6E, 0, 0, 0, 0, 255,
+    ];
+    assert_eq!(rt; &file[..37], header.as_slice());
+    assert_eq!(rt; file[1059], 255);
+    Ok(())
+}
+
+// A word, and the number of its first unlawful item.
+const WORDS: [(&str, u32); 21] = [
+    ("", 1),
+    ("bank=erasing/4/512/2", 2),
+    ("bank=erasing/4/512/2,", 2),
+    ("area=nvs/main/0/0/2", 1),
+    ("bank=erasing/4/512/4,area=nvs/a/0/0/2,area=nvs/b/0/2/2", 4),
+    (
+        "bank=erasing/4/512/6,area=nvs/a/0/0/2,area=sel/s/0/2/2,area=sel/t/0/4/2",
+        4,
+    ),
+    (
+        "bank=erasing/4/512/2,area=nvs/main/0/0/2,bank=erasing/4/512/2",
+        3,
+    ),
+    ("bank=erasing/04/512/2", 1),
+    ("bank=erasing/4/+512/2", 1),
+    ("bank=erasing/4/512/2/2", 1),
+    ("bank=erasing/5/512/2", 1),
+    ("bank=flat/4/512/2", 1),
+    ("tank=erasing/4/512/2", 1),
+    ("bank=erasing/4/512/4,area=nvs/a/0/0/2,area=nvs/a/0/2/2", 3),
+    ("bank=erasing/4/512/4,area=nvs/a/0/0/2,area=nvs/b/0/1/2", 3),
+    ("bank=erasing/4/512/4,area=zms/a/0/0/2", 2),
+    ("bank=erasing/4/512/4,area=nvs/A/0/0/2", 2),
+    ("bank=erasing/4/512/4,area=nvs/a/1/0/2", 2),
+    ("bank=erasing/4/512/4,area=nvs/a/0/0", 2),
+    (
+        "bank=erasing/4/512/2,bank=erasing/4/512/2,bank=erasing/4/512/2",
+        3,
+    ),
+    ("bank=erasing/4/512/2,area=sel/s/0/0/2", 3),
+];
+
+#[test]
+fn unlawful_words(rt: HostRuntime) -> Result<(), Fail> {
+    for (word, item) in WORDS {
+        let fault = read_spec(rt.alloc(), word).err();
+        assert_eq!(rt; fault, Some(SpecFault::BadSpec { item }));
+    }
+    Ok(())
+}

@@ -1,0 +1,210 @@
+-- Items that are added one after another.
+use Rattle.std.proofs.Common.{◌≡◌, ◌⊎◌, inl, inr, ℕ, zero, suc, ◌+◌, ◌-◌, ◌^◌, ◌<◌, ◌≤◌, Bool, true, false, Option, Some, None, Result, Ok, Err, List, [], ◌∷◌, ◌++◌, length, get_or, map, take, replicate, refl, sym, ap, subst, ◌∙◌, arith, Bor}
+use Rattle.std.specs.Prelude.{count_by, IfSome, IsErrAnd}
+use Rattle.std.specs.Option.{option_map}
+use Rattle.std.specs.Fmt.{decimal}
+use Rattle.std.proofs.lemmas.Bool.{cases_lt}
+use Rattle.std.proofs.lemmas.List.{length-append, length-map, get_or-map, map_push, take-append-le, take_all, get_or_append_left, get_or-append_right, length-replicate}
+use Rattle.flash_sim.specs.Bank.{bank_at, no_bank, capacity}
+use Rattle.flash_sim.specs.declared.flash.Bank.{Bank}
+use Rattle.flash_sim.specs.declared.flash.NoMemory.{NoMemory as OutOfMemory}
+use Rattle.flash_map.specs.declared.area.Area.{Area}
+use Rattle.image_file.specs.Format.{Plain, plain_area}
+use Rattle.image_file.specs.Lawful.{IsImage, IsImageBank, IsImageArea, HasNeeded, is_selector, area_at, no_area}
+use Rattle.image_file.specs.Parts.{parts, parts_of}
+use Rattle.image_file.specs.Spec.{Listed, listed, nothing_listed, Adds, AddsBank, AddsArea, AddsAll, FirstBad, IsBankItem, IsAreaItem, FitsItem, bank_word, area_word, bank_words, area_words}
+use Rattle.image_file.specs.Items.{IsListed, TakesBank, TakesListed, TakesFound, TakesItem, ReadsItems, IsAlone}
+use Rattle.image_file.specs.Takes.{TakesArea}
+use Rattle.image_file.specs.declared.spec.Items.{Items}
+use Rattle.image_file.specs.declared.image.SpecFault.{SpecFault}
+use Rattle.image_file.specs.declared.image.SpecFault.TheVariants.{BadSpec, NoMemory}
+use Rattle.image_file.specs.declared.image.Image.{Image}
+use Rattle.image_file.specs.Spec.{ReadsSpec}
+
+same_some : {X : Type 0} (x y : X) → Some x ≡ Some y → x ≡ y
+same_some x y is = cc
+
+none_some : {X : Type 0} (x : X) → None ≡ Some x → ⊥
+none_some x is = cc
+
+no_areas : (areas : List Area) → map plain_area areas ≡ [] → areas ≡ []
+no_areas [] is = refl
+no_areas (area ∷ areas) is = cc
+
+differ : (a b c d e f g h i : List ℕ) → a ∷ b ∷ c ∷ d ∷ [] ≡ e ∷ f ∷ g ∷ h ∷ i ∷ [] → ⊥
+differ a b c d e f g h i same = cc
+
+four_is_five : (bank : Bank) (area : Area) (words : List (List ℕ)) → words ≡ bank_words bank → words ≡ area_words area → ⊥
+four_is_five bank area words four five = differ (bank_word bank.kind) (decimal bank.unit) (decimal bank.sector) (decimal bank.count) (area_word area.role) area.label.bytes (decimal area.bank) (decimal area.first) (decimal area.sectors) (sym four ∙ five)
+
+-- numbers of a lawful area are small
+fits_item : (banks : List Bank) (others : List Area) (area : Area) → length banks ≤ 2 → ((i : ℕ) → i < length banks → IsImageBank (bank_at banks i)) → IsImageArea banks others area → FitsItem area
+fits_item banks others area few each is =
+    let count = (each area.bank is.in_bank.has_bank).few in
+    record {
+      label = is.label;
+      bank = omega (arith, is.in_bank.has_bank, few);
+      first = omega (arith, is.in_bank.in_bank, count);
+      sectors = omega (arith, is.in_bank.in_bank, count);
+    }
+
+pub bank_answer : (item : List ℕ) (bank : Bank) (old new : List Bank) (areas : List Area) (b : Bool) → IsBankItem item (Some bank) → TakesBank old new areas bank (Ok b) → TakesItem item (listed old areas) (listed new areas) (Ok b)
+bank_answer item bank old new areas true is takes =
+    let none : map plain_area areas ≡ [] = ap (map plain_area) takes.1 in
+    inl (record {
+      bank = bank;
+      words = is.sound;
+      lawful = takes.0;
+      no_areas = none;
+      few = takes.2;
+      is = ap (λ (bs : List Bank). record { banks = bs; areas = map plain_area areas }) takes.3 ∙ ap (λ (l : List Area). record { banks = old ++ bank ∷ []; areas = l }) none;
+    })
+bank_answer item bank old new areas false is takes = λ any adds. elim adds [
+  | inl a ↦ let same : bank ≡ a.bank = same_some bank a.bank (is.only a.bank a.lawful a.words) in
+      takes.0 (subst IsImageBank (sym same) a.lawful) (no_areas areas a.no_areas) a.few
+  | inr a ↦ four_is_five bank a.area (parts 47 item) is.sound a.words
+]
+
+pub area_answer : (item : List ℕ) (area : Area) (banks : List Bank) (old new : List Area) (b : Bool) → length banks ≤ 2 → ((i : ℕ) → i < length banks → IsImageBank (bank_at banks i)) → IsBankItem item None → IsAreaItem item (Some area) → TakesListed banks old new area (Ok b) → TakesItem item (listed banks old) (listed banks new) (Ok b)
+area_answer item area banks old new true few each none is takes =
+    inr (record {
+      area = plain_area area;
+      plain = refl;
+      words = is.sound.0;
+      lawful = takes.0;
+      few = omega (arith, takes.1, length-map old plain_area);
+      alone = takes.2;
+      is = ap (λ (l : List Area). record { banks = banks; areas = l }) (ap (map plain_area) takes.3 ∙ map_push plain_area old area);
+    })
+area_answer item area banks old new false few each none is takes = λ any adds. elim adds [
+  | inl a ↦ none_some a.bank (none.only a.bank a.lawful a.words)
+  | inr a ↦ let same : plain_area area ≡ a.area = same_some (plain_area area) a.area (is.only a.area (fits_item banks (map plain_area old) a.area few each a.lawful) a.plain a.words) in
+      takes.0 (subst (λ (x : Area). IsImageArea banks (map plain_area old) x) (sym same) a.lawful) (omega (arith, a.few, length-map old plain_area)) (subst (λ (x : Area). IsAlone (map plain_area old) x) (sym same) a.alone)
+]
+
+pub no_answer : (item : List ℕ) (banks : List Bank) (old : List Area) → length banks ≤ 2 → ((i : ℕ) → i < length banks → IsImageBank (bank_at banks i)) → IsBankItem item None → IsAreaItem item None → (any : Listed) → Adds (listed banks old) item any → ⊥
+no_answer item banks old few each none without any adds = elim adds [
+  | inl a ↦ none_some a.bank (none.only a.bank a.lawful a.words)
+  | inr a ↦ none_some a.area (without.only a.area (fits_item banks (map plain_area old) a.area few each a.lawful) a.plain a.words)
+]
+
+pub listed_answer : (banks : List Bank) (old new : List Area) (area : Area) (b : Bool) → length old < 8 → IsAlone (map plain_area old) area → TakesArea banks old new area (Ok b) → TakesListed banks old new area (Ok b)
+listed_answer banks old new area true few alone takes = (takes.0, few, alone, takes.1)
+listed_answer banks old new area false few alone takes = (λ is few alone. takes.0 is, takes.1)
+
+abbrev answered : Bool → Result Bool OutOfMemory
+answered b = Ok b
+
+false_is : (b : Bool) → answered b ≡ answered false → b ≡ false
+false_is b is = cc
+
+pub found_answer : (item : List ℕ) (old_banks banks : List Bank) (old_areas areas : List Area) (bank : Option Bank) (area : Option Area) (b : Bool) → IsListed (listed old_banks old_areas) → IsBankItem item bank → IsAreaItem item area → TakesFound old_banks banks old_areas areas bank area (Ok b) → TakesItem item (listed old_banks old_areas) (listed banks areas) (Ok b)
+found_answer item old_banks banks old_areas areas (Some bank) area b lawful is_bank is_area takes =
+    subst (λ (l : List Area). TakesItem item (listed old_banks old_areas) (listed banks l) (Ok b)) (sym takes.1) (bank_answer item bank old_banks banks old_areas b is_bank takes.0)
+found_answer item old_banks banks old_areas areas None (Some area) b lawful is_bank is_area takes =
+    subst (λ (l : List Bank). TakesItem item (listed old_banks old_areas) (listed l areas) (Ok b)) (sym takes.1) (area_answer item area old_banks old_areas areas b lawful.few_banks lawful.each_bank is_bank is_area takes.0)
+found_answer item old_banks banks old_areas areas None None b lawful is_bank is_area takes =
+    subst (λ (x : Bool). TakesItem item (listed old_banks old_areas) (listed banks areas) (Ok x)) (sym (false_is b takes)) (λ any adds. no_answer item old_banks old_areas lawful.few_banks lawful.each_bank is_bank is_area any adds)
+
+-- one more item
+last_zero : (i n : ℕ) → n ≤ i → i < n + 1 → i - n ≡ 0
+last_zero i n least below = omega arith
+
+pub adds_listed : (old new : Listed) (item : List ℕ) → IsListed old → Adds old item new → IsListed new
+adds_listed old new item l (inl a) = subst IsListed (sym a.is) (record {
+  few_banks = omega (arith, a.few, length-append old.banks (a.bank ∷ []));
+  each_bank = λ i below. elim (cases_lt i (length old.banks)) [
+    | inl lt ↦ subst IsImageBank (sym (get_or_append_left old.banks (a.bank ∷ []) no_bank i lt)) (l.each_bank i lt)
+    | inr le ↦ subst IsImageBank (sym (get_or-append_right old.banks (a.bank ∷ []) (length old.banks) i no_bank refl le ∙ ap (λ (k : ℕ). get_or (a.bank ∷ []) k no_bank) (last_zero i (length old.banks) le (omega (arith, below, length-append old.banks (a.bank ∷ [])))))) a.lawful
+  ];
+  few_areas = omega arith;
+  each_area = λ i below. absurd (omega (arith, below));
+  plain = refl;
+})
+adds_listed old new item l (inr a) = subst IsListed (sym a.is) (record {
+  few_banks = l.few_banks;
+  each_bank = l.each_bank;
+  few_areas = omega (arith, a.few, length-append old.areas (a.area ∷ []));
+  each_area = λ i below. elim (cases_lt i (length old.areas)) [
+    | inl lt ↦ subst (λ (x : Area). IsImageArea old.banks (take i (old.areas ++ a.area ∷ [])) x) (sym (get_or_append_left old.areas (a.area ∷ []) no_area i lt))
+        (subst (λ (xs : List Area). IsImageArea old.banks xs (area_at old.areas i)) (sym (take-append-le i old.areas (a.area ∷ []) (omega (arith, lt)))) (l.each_area i lt))
+    | inr le ↦
+        let front : take i (old.areas ++ a.area ∷ []) ≡ old.areas = take-append-le i old.areas (a.area ∷ []) (omega (arith, below, length-append old.areas (a.area ∷ []))) ∙ take_all i old.areas le in
+        subst (λ (x : Area). IsImageArea old.banks (take i (old.areas ++ a.area ∷ [])) x) (sym (get_or-append_right old.areas (a.area ∷ []) (length old.areas) i no_area refl le ∙ ap (λ (k : ℕ). get_or (a.area ∷ []) k no_area) (last_zero i (length old.areas) le (omega (arith, below, length-append old.areas (a.area ∷ []))))))
+        (subst (λ (xs : List Area). IsImageArea old.banks xs a.area) (sym front) a.lawful)
+  ];
+  plain = map_push plain_area old.areas a.area ∙ ap (λ (xs : List Area). xs ++ plain_area a.area ∷ []) l.plain ∙ ap (λ (x : Area). old.areas ++ x ∷ []) a.plain;
+})
+
+pub adds_count : (old new : Listed) (item : List ℕ) → Adds old item new → length new.banks + length new.areas ≡ length old.banks + length old.areas + 1
+adds_count old new item (inl a) =
+    let one : length new.banks + length new.areas ≡ length (old.banks ++ a.bank ∷ []) + 0 = ap (λ (l : Listed). length l.banks + length l.areas) a.is in
+    omega (arith, one, length-append old.banks (a.bank ∷ []), ap length a.no_areas)
+adds_count old new item (inr a) =
+    let one : length new.banks + length new.areas ≡ length old.banks + length (old.areas ++ a.area ∷ []) = ap (λ (l : Listed). length l.banks + length l.areas) a.is in
+    omega (arith, one, length-append old.areas (a.area ∷ []))
+
+pub nothing_lawful : IsListed nothing_listed
+nothing_lawful = record { few_banks = omega arith; each_bank = λ i below. absurd (omega (arith, below)); few_areas = omega arith; each_area = λ i below. absurd (omega (arith, below)); plain = refl }
+
+pub item_taken : (item : List ℕ) (old new : Listed) (b : Bool) → b ≡ true → TakesItem item old new (Ok b) → Adds old item new
+item_taken item old new true is takes = takes
+item_taken item old new false is takes = absurd cc
+
+pub item_refused : (item : List ℕ) (old new : Listed) (b : Bool) → b ≡ false → TakesItem item old new (Ok b) → (any : Listed) → Adds old item any → ⊥
+item_refused item old new true is takes = absurd cc
+item_refused item old new false is takes = takes
+
+pub refused_more : (all items : List (List ℕ)) (item : List ℕ) (old mid : Listed) (n : ℕ) → Adds old item mid → ((k : ℕ) → FirstBad old (item ∷ items) k → FirstBad nothing_listed all (n + k)) → (k : ℕ) → FirstBad mid items k → FirstBad nothing_listed all (n + 1 + k)
+refused_more all items item old mid n adds refused k bad =
+    let same : n + (1 + k) ≡ n + 1 + k = omega arith in
+    subst (FirstBad nothing_listed all) same (refused (1 + k) (inr (mid, adds, k, refl, bad)))
+
+-- how much text is left
+abbrev pub left : Option (Bor (List ℕ)) → ℕ
+left None = 0
+left (Some text) = length text.now + 1
+
+pub left_shorter : (rest : Option (Bor (List ℕ))) (text : List ℕ) → IfSome rest (λ r. length r.now < length text) → left rest < length text + 1
+left_shorter None text shorter = omega arith
+left_shorter (Some r) text shorter = omega (arith, shorter)
+
+-- the exits of a `?`
+abbrev pub OnlyMemory : SpecFault → Type 0
+OnlyMemory (BadSpec n) = ⊥
+OnlyMemory NoMemory = Unit {0}
+
+pub memory_exit : (word : List ℕ) (r : Result Items SpecFault) (fault : SpecFault) → IsErrAnd r (λ y. y ≡ fault) → OnlyMemory fault → ReadsItems word r
+memory_exit word (Ok x) fault is only = absurd is
+memory_exit word (Err y) (BadSpec n) is only = absurd only
+memory_exit word (Err y) NoMemory is only = subst (λ (f : SpecFault). ReadsItems word (Err f)) (sym is) tt
+
+abbrev pub FailsItems : List ℕ → SpecFault → Type 0
+FailsItems word (BadSpec n) = FirstBad nothing_listed (parts 44 word) n
+FailsItems word NoMemory = Unit {0}
+
+pub items_exit : (word : List ℕ) (r : Result Image SpecFault) (fault : SpecFault) → IsErrAnd r (λ y. y ≡ fault) → FailsItems word fault → ReadsSpec word r
+items_exit word (Ok x) fault is fails = absurd is
+items_exit word (Err y) (BadSpec n) is fails = subst (λ (f : SpecFault). ReadsSpec word (Err f)) (sym is) fails
+items_exit word (Err y) NoMemory is fails = subst (λ (f : SpecFault). ReadsSpec word (Err f)) (sym is) tt
+
+-- banks and areas that were added one after another are those of an image
+pub listed_image : (banks : List Bank) (areas : List Area) (copies : List (List ℕ)) → IsListed (listed banks areas) → HasNeeded (map plain_area areas) → copies ≡ map (λ bank. replicate (capacity bank) 255) banks → IsImage (record { banks = banks; areas = map plain_area areas; bytes = copies })
+listed_image banks areas copies l needed is =
+    let first : 0 < length (map plain_area areas) = omega (arith, needed.some_store) in
+    let a_bank = (l.each_area 0 first).in_bank.has_bank in
+    record {
+      some_banks = omega (arith, a_bank);
+      few_banks = l.few_banks;
+      each_bank = l.each_bank;
+      some_areas = omega (arith, first);
+      few_areas = l.few_areas;
+      each_area = l.each_area;
+      plain = l.plain;
+      needed = needed;
+      count = ap length is ∙ length-map banks (λ bank. replicate (capacity bank) 255);
+      lengths = λ i below.
+          ap (λ (c : List (List ℕ)). length (get_or c i [])) is
+          ∙ ap length (get_or-map (λ bank. replicate (capacity bank) 255) banks i no_bank [] below)
+          ∙ length-replicate {A = ℕ} (capacity (bank_at banks i)) 255;
+    }

@@ -1,0 +1,139 @@
+// Words of items.
+ghost use Rattle.std.specs.Prelude.{◌≡◌, ◌≢◌, ◌^◌, ◌<◌, ℕ, IfOk, MatchOption};
+ghost use Rattle.std.specs.Fmt.{decimal};
+ghost use Rattle.image_file.specs.Spec.{IsKind, IsRole, IsNumber, IsBankItem, IsAreaItem, bank_from, area_from};
+
+use crate::fields::label_from;
+use crate::parts::{five_words, four_words};
+use arrayvec::ArrayString;
+use flash_map::{Area, Role};
+use flash_sim::{Bank, Kind};
+use std::alloc::{AllocError, Global};
+
+// A number in decimal, without a sign or leading zeros.
+fn read_number(alloc: Global, word: &[u8]) -> Result<Option<u32>, AllocError>
+    ensures { IfOk result (λ found. MatchOption found ((n : ℕ) → n < 2 ^ 32 → word.now ≢ decimal n) (λ n. (word.now ≡ decimal n) × (n < 2 ^ 32))) }
+{
+    let Ok(text) = str::from_utf8(word) else {
+        return Ok(None);
+    };
+    let Ok(n) = text.parse::<u32>() else {
+        return Ok(None);
+    };
+    let written = n.to_string(alloc)?;
+    if written.as_bytes() == word {
+        Ok(Some(n))
+    } else {
+        Ok(None)
+    }
+}
+
+// The number that a word is.
+fn number_of(alloc: Global, word: &[u8]) -> Result<Option<u32>, AllocError>
+    ensures { IfOk result (IsNumber word.now) }
+{
+    match read_number(alloc, word) {
+        Ok(found) => Ok(found),
+        Err(fault) => Err(fault),
+    }
+}
+
+fn kind_of(word: &[u8]) -> Option<Kind>
+    ensures { IsKind word.now result }
+{
+    if word == b"bank=erasing".as_slice() {
+        Some(Kind::Erasing)
+    } else if word == b"bank=rewritable".as_slice() {
+        Some(Kind::Rewritable)
+    } else {
+        None
+    }
+}
+
+// The role in the first word of an area's item.
+fn role_of(word: &[u8]) -> Option<Role>
+    ensures { IsRole word.now result }
+{
+    if word == b"area=nvs".as_slice() {
+        Some(Role::Nvs)
+    } else if word == b"area=zms".as_slice() {
+        Some(Role::Zms)
+    } else if word == b"area=fcb".as_slice() {
+        Some(Role::Fcb)
+    } else if word == b"area=sel".as_slice() {
+        Some(Role::Sel)
+    } else {
+        None
+    }
+}
+
+fn bank_from(
+    kind: Option<Kind>,
+    unit: Option<u32>,
+    sector: Option<u32>,
+    count: Option<u32>,
+) -> Option<Bank>
+    ensures { result ≡ bank_from kind unit sector count }
+{
+    let kind = kind?;
+    let unit = unit?;
+    let sector = sector?;
+    let count = count?;
+    Some(Bank {
+        kind,
+        unit,
+        sector,
+        count,
+    })
+}
+
+/// The bank that an item describes.
+pub fn bank_item(alloc: Global, item: &[u8]) -> Result<Option<Bank>, AllocError>
+    ensures { IfOk result (IsBankItem item.now) }
+{
+    let Some((kind, unit, sector, count)) = four_words(item) else {
+        return Ok(None);
+    };
+    let unit = number_of(alloc, unit)?;
+    let sector = number_of(alloc, sector)?;
+    let count = number_of(alloc, count)?;
+    Ok(bank_from(kind_of(kind), unit, sector, count))
+}
+
+fn area_from(
+    role: Option<Role>,
+    label: ArrayString<8>,
+    bank: Option<u32>,
+    first: Option<u32>,
+    sectors: Option<u32>,
+) -> Option<Area>
+    ensures { result ≡ area_from role label bank first sectors }
+{
+    let role = role?;
+    let bank = bank?;
+    let first = first?;
+    let sectors = sectors?;
+    Some(Area {
+        label,
+        role,
+        bank: bank as usize,
+        first,
+        sectors,
+    })
+}
+
+/// The area that an item describes.
+pub fn area_item(alloc: Global, item: &[u8]) -> Result<Option<Area>, AllocError>
+    ensures { IfOk result (IsAreaItem item.now) }
+{
+    let Some((role, label, bank, first, sectors)) = five_words(item) else {
+        return Ok(None);
+    };
+    let Some(label) = label_from(label) else {
+        return Ok(None);
+    };
+    let bank = number_of(alloc, bank)?;
+    let first = number_of(alloc, first)?;
+    let sectors = number_of(alloc, sectors)?;
+    Ok(area_from(role_of(role), label, bank, first, sectors))
+}

@@ -1,0 +1,164 @@
+// Reading the word that describes a blank image.
+ghost use Rattle.std.specs.Prelude.{◌≡◌, ◌<◌, ◌↔◌, ℕ, true, length, map, count_by, replicate, IsTrue, IfOk, IfSome};
+ghost use Rattle.flash_sim.specs.Bank.{bank_at, capacity};
+ghost use Rattle.flash_sim.specs.Contents.{contents};
+ghost use Rattle.image_file.specs.Format.{plain_area};
+ghost use Rattle.image_file.specs.Items.{IsListed, TakesBank, TakesListed, TakesFound, TakesItem, ReadsItems};
+ghost use Rattle.image_file.specs.Lawful.{IsImageBank, IsLabel, is_sel, is_selector};
+ghost use Rattle.image_file.specs.Spec.{listed, ReadsSpec};
+
+use crate::image::{Image, SpecFault};
+use crate::lawful::{capacity, count_selectors, has_needed, is_lawful_bank, take_area};
+use crate::numbers::{area_item, bank_item};
+use crate::parts::cut_at;
+use flash_map::{Area, FlashMap, Role};
+use flash_sim::{Bank, NoMemory};
+use std::alloc::{AllocError, Global};
+
+// The banks and areas of a word, and how many items it has.
+#[derive(Drop)]
+struct Items {
+    banks: Vec<Bank>,
+    areas: FlashMap,
+    count: u32,
+}
+
+// Adds a bank that may be added, and says whether it may.
+#[tactic(auto, using(std::proofs::lemmas::List::nil_from_length))]
+fn take_bank(banks: &mut Vec<Bank>, areas: &FlashMap, bank: Bank) -> Result<bool, NoMemory>
+    ensures { TakesBank banks.old.items banks.new.items areas.now bank result }
+{
+    if areas.len() > 0 {
+        return Ok(false);
+    }
+    if banks.len() >= 2 {
+        return Ok(false);
+    }
+    if !is_lawful_bank(&bank) {
+        return Ok(false);
+    }
+    match banks.push(bank) {
+        Ok(()) => Ok(true),
+        Err(_) => Err(NoMemory),
+    }
+}
+
+// Whether the area is no second selector.
+fn is_alone(areas: &FlashMap, role: Role) -> bool
+    ensures { IsTrue result ↔ (is_sel role ≡ true → count_by is_selector (map plain_area areas.now) ≡ 0) }
+{
+    match role {
+        Role::Sel => count_selectors(areas) == 0,
+        Role::Nvs | Role::Zms | Role::Fcb => true,
+    }
+}
+
+// Adds an area that may be added, and says whether it may.
+fn take_listed(areas: &mut FlashMap, banks: &[Bank], area: Area) -> Result<bool, NoMemory>
+    requires { IsLabel area.label.bytes }
+    ensures { TakesListed banks.now areas.old areas.new area result }
+{
+    if areas.len() >= 8 {
+        return Ok(false);
+    }
+    if !is_alone(areas, area.role) {
+        return Ok(false);
+    }
+    let taken = take_area(areas, banks, area)?;
+    Ok(taken)
+}
+
+fn take_found(
+    banks: &mut Vec<Bank>,
+    areas: &mut FlashMap,
+    bank: Option<Bank>,
+    area: Option<Area>,
+) -> Result<bool, NoMemory>
+    requires { IfSome area (λ a. IsLabel a.label.bytes) }
+    ensures { TakesFound banks.old.items banks.new.items areas.old areas.new bank area result }
+{
+    match bank {
+        Some(bank) => take_bank(banks, areas, bank),
+        None => match area {
+            Some(area) => take_listed(areas, banks, area),
+            None => Ok(false),
+        },
+    }
+}
+
+// Adds what an item describes, if it may be added, and says whether it may.
+fn take_item(
+    alloc: Global,
+    item: &[u8],
+    banks: &mut Vec<Bank>,
+    areas: &mut FlashMap,
+) -> Result<bool, SpecFault>
+    requires { IsListed (listed banks.old.items areas.old) }
+    ensures { TakesItem item.now (listed banks.old.items areas.old) (listed banks.new.items areas.new) result }
+{
+    let bank = bank_item(alloc, item)?;
+    let area = area_item(alloc, item)?;
+    let taken = take_found(banks, areas, bank, area)?;
+    Ok(taken)
+}
+
+fn read_items(alloc: Global, word: &[u8]) -> Result<Items, SpecFault>
+    ensures { ReadsItems word.now result }
+{
+    let mut banks = Vec::new(alloc);
+    let mut areas = FlashMap::new(alloc);
+    let mut count = 0u32;
+    let mut rest = Some(word);
+    while let Some(items) = rest {
+        let (item, after) = cut_at(items, b',');
+        count += 1;
+        let taken = take_item(alloc, item, &mut banks, &mut areas)?;
+        if !taken {
+            return Err(SpecFault::BadSpec { item: count });
+        }
+        rest = after;
+    }
+    Ok(Items {
+        banks,
+        areas,
+        count,
+    })
+}
+
+fn blank_bytes(alloc: Global, len: usize) -> Result<Vec<u8>, AllocError>
+    ensures { IfOk result (λ v. v.items ≡ replicate len 255) }
+{
+    vec![in alloc; 255u8; len]
+}
+
+fn blank_banks(alloc: Global, banks: &[Bank]) -> Result<Vec<Vec<u8>>, AllocError>
+    requires { (i : ℕ) → i < length banks.now → IsImageBank (bank_at banks.now i) }
+    ensures { IfOk result (λ copies. contents copies.items ≡ map (λ bank. replicate (capacity bank) 255) banks.now) }
+{
+    let mut copies = Vec::new(alloc);
+    for bank in banks {
+        let copy = blank_bytes(alloc, capacity(bank))?;
+        copies.push(copy)?;
+    }
+    Ok(copies)
+}
+
+/// The blank image that a word describes, all FF, or the number of its first unlawful item.
+///
+/// The items stand between commas, the banks first: `bank=KIND/UNIT/SECTOR/COUNT` and `area=ROLE/LABEL/BANK/FIRST/SECTORS`.
+pub fn read_spec(alloc: Global, word: &str) -> Result<Image, SpecFault>
+    ensures { ReadsSpec word.now result }
+{
+    let items = read_items(alloc, word.as_bytes())?;
+    if !has_needed(&items.areas) {
+        return Err(SpecFault::BadSpec {
+            item: items.count + 1,
+        });
+    }
+    let bytes = blank_banks(alloc, &items.banks)?;
+    Ok(Image {
+        banks: items.banks,
+        map: items.areas,
+        bytes,
+    })
+}

@@ -1,14 +1,14 @@
 -- A program whose words begin with the name of a form: what a parse of its words finds, and when it fails.
-use Rattle.std.proofs.Common.{◌≡◌, ◌≢◌, ◌∙◌, ◌==◌, ◌&&◌, ◌||◌, ℕ, Bool, true, false, not, List, [], ◌∷◌, Option, Some, None, option_map, is_some, map, refl, sym, ap, ap₂, subst, cond}
+use Rattle.std.proofs.Common.{◌≡◌, ◌∙◌, ◌==◌, ◌&&◌, ◌||◌, Bool, true, false, not, List, [], ◌∷◌, Option, Some, None, option_map, is_some, map, refl, sym, ap, ap₂, subst, cond}
 use Rattle.std.specs.Prelude.{fold, find}
 use Rattle.std.specs.List.{list_all}
 use Rattle.std.specs.Option.{option_map_or}
 use Rattle.std.specs.Str.{bytes_eq}
 use Rattle.std.proofs.lemmas.Slice.Eq.{bytes_eq-Decides}
-use Rattle.clap.specs.Walk.{Held, Names, Row, Rule, Text, Walk, answers_to, arg_by_index, finished, idle, is_empty, is_multiple, nothing_held, rows_after, settled, stop_after, subcommand_met, value, walk, walk_from, walked}
+use Rattle.clap.specs.Walk.{Held, Names, Row, Rule, Text, Walk, answers_to, arg_by_index, finished, idle, is_multiple, nothing_held, rows_after, settled, stop_after, subcommand_met, walk, walk_from}
 use Rattle.clap.specs.Kinds.{Kinds, or_else}
 use Rattle.clap.specs.Simple.{App, Shape, entered, label_of, names_of, rows_at}
-use Rattle.clap.specs.Faults.{built_fault, check_fault, defaults_fault, entered_fault, level_fault, other_fault, settle_fault, step_fault, stray_fault, turn_fault, walk_fault}
+use Rattle.clap.specs.Faults.{built_fault, check_fault, defaults_fault, entered_fault, level_fault, other_fault, settle_fault, stray_fault, turn_fault, walk_fault}
 use Rattle.command_words.specs.Commands.{is_operand}
 use Rattle.command_words.proofs.OperandWalk.{IsSingle, form_walk, form_walk_fault, named_walk, named_walk_fault, placed, placed_fault, starts_idle, turn_operand}
 

@@ -1,5 +1,5 @@
 -- What `clap` found, read as a command.
-use Rattle.std.proofs.Common.{◌≡◌, ◌∙◌, ◌⊎◌, ◌++◌, ℕ, List, [], ◌∷◌, Option, Some, None, option_map, map, refl, sym, ap, codes, inl, inr, Global}
+use Rattle.std.proofs.Common.{◌≡◌, ◌∙◌, ◌⊎◌, ◌++◌, List, [], ◌∷◌, Option, Some, None, option_map, sym, ap, codes, inl, inr, Global}
 use Rattle.std.proofs.lemmas.List.{map-append}
 use Rattle.std.specs.Prelude.{Box}
 use Rattle.std.specs.Borrow.{Bor}
@@ -7,13 +7,13 @@ use Rattle.std.specs.Option.{option_map_or}
 use Rattle.std.specs.Box.{box_value}
 use Rattle.clap.specs.Walk.{Row, Text, first_of, rows_of}
 use Rattle.clap.specs.Simple.{new_shape, subcommand_rows, subcommand_rows_of}
-use Rattle.clap.specs.Matches.{first_value, found_of, subcommand_name_of}
+use Rattle.clap.specs.Matches.{first_value, subcommand_name_of}
 use Rattle.clap.specs.declared.parser.matches.ArgMatches.{ArgMatches}
 use Rattle.clap.specs.declared.parser.matches.ArgMatches.TheViews.{out-ArgMatches, out-SubCommand}
 use Rattle.clap.specs.declared.parser.matches.SubCommand.{SubCommand}
 use Rattle.clap.specs.declared.parser.matches.Found.{Found}
 use Rattle.clap.proofs.WalkLemmas.{first_value-rows}
-use Rattle.command_words.specs.Forms.{IsFound, IsNoneFound, form, operand_rule}
+use Rattle.command_words.specs.Forms.{IsNoneFound, form, operand_rule}
 use Rattle.command_words.specs.declared.commands.Command.TheVariants.{Build, Run, Dump}
 
 pub found_at : (m : ArgMatches) (name : Text) (rows : List Row) → Some name ≡ subcommand_name_of m → Some rows ≡ option_map (λ p. p.1) (subcommand_rows_of m)

@@ -1,16 +1,15 @@
 -- The walk of `clap` over words that are operands, at any command whose positionals take one word each, and over words
 -- of which the first names a form.
-use Rattle.std.proofs.Common.{◌≡◌, ◌∙◌, ◌==◌, ◌&&◌, ◌||◌, ◌++◌, ℕ, Bool, true, false, not, List, [], ◌∷◌, Option, Some, None, option_map, is_some, map, refl, sym, ap, ap₂, append_assoc, cond}
-use Rattle.std.specs.Prelude.{fold, find}
+use Rattle.std.proofs.Common.{◌≡◌, ◌∙◌, ◌==◌, ◌&&◌, ◌++◌, ℕ, Bool, true, false, not, List, [], ◌∷◌, Option, Some, None, refl, sym, ap, ap₂, append_assoc}
+use Rattle.std.specs.Prelude.{fold}
 use Rattle.std.specs.List.{list_all}
 use Rattle.std.specs.Str.{bytes_eq}
 use Rattle.std.proofs.lemmas.List.{append-nil}
-use Rattle.std.proofs.lemmas.Slice.Eq.{bytes_eq-Decides}
 use Rattle.clap.specs.Lexer.{long_of, short_of}
-use Rattle.clap.specs.Walk.{Held, Names, Rule, Text, Waiting, Walk, answers_to, arg_by_index, idle, is_empty, is_multiple, nothing_held, subcommand_met, to_positional, value, walk, walk_from, walked}
+use Rattle.clap.specs.Walk.{Held, Names, Rule, Text, Walk, arg_by_index, idle, is_multiple, nothing_held, subcommand_met, to_positional, value, walk, walk_from, walked}
 use Rattle.clap.specs.Kinds.{Kinds, or_else}
 use Rattle.clap.specs.Simple.{Shape}
-use Rattle.clap.specs.Faults.{check_fault, defaults_fault, level_fault, other_fault, settle_fault, step_fault, turn_fault, walk_fault}
+use Rattle.clap.specs.Faults.{other_fault, step_fault, turn_fault, walk_fault}
 use Rattle.command_words.specs.Commands.{is_operand}
 
 -- ---- what the lexer makes of an operand

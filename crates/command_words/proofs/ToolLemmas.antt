@@ -1,14 +1,14 @@
 -- The words of `image_tool`, by its forms.
-use Rattle.std.proofs.Common.{◌≡◌, ◌∙◌, ◌⊎◌, inl, inr, MatchOption, ℕ, Bool, true, false, List, [], ◌∷◌, Option, Some, None, option_map, map, refl, sym, ap, ap₂, subst, codes}
+use Rattle.std.proofs.Common.{◌≡◌, ◌∙◌, ◌⊎◌, inl, inr, MatchOption, true, false, List, [], ◌∷◌, Option, Some, None, map, refl, sym, ap, ap₂, subst, codes}
 use Rattle.std.specs.Option.{option_map_or}
 use Rattle.std.specs.List.{list_all}
-use Rattle.clap.specs.Walk.{Row, Rule, Text, first_of, idle, nothing_held, rows_after, value}
-use Rattle.clap.specs.Kinds.{IsAmong, Kinds}
+use Rattle.clap.specs.Walk.{Row, Text}
+use Rattle.clap.specs.Kinds.{IsAmong}
 use Rattle.clap.specs.declared.error.kind.ErrorKind.{ErrorKind}
 use Rattle.clap.specs.declared.error.kind.ErrorKind.TheVariants.{OutOfMemory}
 use Rattle.clap.specs.declared.parser.matches.ArgMatches.{ArgMatches}
 use Rattle.clap.specs.Simple.{App, HasMatchesOf, Shape, built, built_leaf, inherited, is_simple, subcommand_of, subcommand_rows_of}
-use Rattle.clap.specs.Faults.{fault_of, is_simple_and_free, level_fault}
+use Rattle.clap.specs.Faults.{fault_of, is_simple_and_free}
 use Rattle.clap.proofs.OnLiterals.{clap_on_literals}
 use Rattle.command_words.specs.Commands.{IsCommand, IsNoCommand, asks_for_help, is_operand, name_of, operands_of}
 use Rattle.command_words.specs.Forms.{IsFound, IsNoneFound, build_form, dump_form, image_tool, operand_names, run_form, values_at}

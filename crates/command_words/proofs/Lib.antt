@@ -1,0 +1,4 @@
+pub mod FormWalk
+pub mod FoundLemmas
+pub mod OperandWalk
+pub mod ToolLemmas

@@ -1,0 +1,79 @@
+// Words, read as a command.
+ghost use Rattle.std.specs.Prelude.{◌≡◌, map, IfOk, MatchOption};
+ghost use Rattle.std.specs.String.{string_bytes};
+ghost use Rattle.std.specs.List.{list_all};
+ghost use Rattle.clap.specs.Words.{subcommand_rows_of};
+ghost use Rattle.command_words.specs.Commands.{asks_for_help, is_operand, IsCommand, IsNoCommand};
+ghost use Rattle.command_words.specs.Forms.{IsFound, IsNoneFound};
+ghost use Rattle.command_words.specs.Laws.{OneCommand};
+
+use crate::commands::Command;
+use crate::forms::image_tool;
+use clap::ArgMatches;
+use clap::error::ErrorKind;
+use std::alloc::{AllocError, Global};
+
+fn is_operand(word: &str) -> bool
+    ensures { result ≡ is_operand word.now }
+{
+    !word.is_empty() && !word.starts_with('-')
+}
+
+fn are_operands(words: &[String]) -> bool
+    ensures { result ≡ list_all is_operand (map string_bytes words.now) }
+{
+    words.iter().all(|word| is_operand(word.as_str()))
+}
+
+fn asks_for_help(words: &[String]) -> bool
+    ensures { result ≡ asks_for_help (map string_bytes words.now) }
+{
+    match words.first() {
+        Some(word) => word.as_str() == "help",
+        None => false,
+    }
+}
+
+// The command that a parse found.
+fn found_command<'a>(matches: &ArgMatches<'a>) -> Option<Command<'a>>
+    ensures { MatchOption result (IsNoneFound (subcommand_rows_of matches.now)) (IsFound (subcommand_rows_of matches.now)) }
+{
+    let (name, operands) = matches.subcommand()?;
+    match name {
+        "build" => Some(Command::Build {
+            out: operands.get_str("OUT")?,
+            spec: operands.get_str("SPEC")?,
+        }),
+        "run" => Some(Command::Run {
+            image: operands.get_str("IMAGE")?,
+            script: operands.get_str("SCRIPT")?,
+            out: operands.get_str("OUT")?,
+        }),
+        "dump" => Some(Command::Dump {
+            image: operands.get_str("IMAGE")?,
+        }),
+        _ => None,
+    }
+}
+
+/// The command that the words write, if they write one. They are read without the program's own name. The one error is
+/// that memory ran out.
+pub fn read_words<'a>(alloc: Global, words: &'a [String]) -> Result<Option<Command<'a>>, AllocError>
+    ensures { IfOk result (λ command. MatchOption command (IsNoCommand (map string_bytes words.now)) (IsCommand (map string_bytes words.now))) }
+{
+    if asks_for_help(words) || !are_operands(words) {
+        return Ok(None);
+    }
+    match image_tool(alloc)?.try_get_matches_from(words) {
+        Ok(matches) => Ok(found_command(&matches)),
+        Err(error) => match error.kind() {
+            ErrorKind::OutOfMemory => Err(AllocError),
+            _ => Ok(None),
+        },
+    }
+}
+
+/// Words are one command at most.
+pub fn one_command()
+    ensures { OneCommand }
+{}

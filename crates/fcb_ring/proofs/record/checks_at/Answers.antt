@@ -8,4 +8,4 @@ unfolding checks_at
 returns c =
     let sector = c.args.sector.now in
     ap (λ (n : ℕ). eqb n (get_or sector c.args.crc_at 0))
-    (crc_by_parts sector c.args.at c.field_width.result c.args.body c.args.len c.crc8.result c.crc8-2.result (λ k. omega (arith, c.type_inv.sector k)) c.field_width.ensures.value c.crc8.ensures c.crc8-2.ensures)
+    (crc_by_parts sector c.args.at c.field_width.result c.args.body c.args.len c.crc8.result c.crc8-2.result (λ k. omega (arith, c.type_inv.sector k)) c.field_width.ensures.value c.crc8.ensures.value c.crc8-2.ensures.value)

@@ -2,9 +2,11 @@
 #![tactic(auto)]
 
 mod answers;
+mod listing;
 mod run;
 mod store;
 
 pub use answers::Answers;
-pub use run::run_lines;
+pub use listing::{Item, list_items};
+pub use run::{SessionFault, run_lines};
 pub use store::{SetFault, item, set};

@@ -1,15 +1,17 @@
 // The session.
-ghost use Rattle.std.specs.Prelude.{◌≡◌, ◌+◌, ◌<◌, ◌≤◌, ◌∷◌, [], true, length, All, IfOk, MatchResult};
+ghost use Rattle.std.specs.Prelude.{◌≡◌, ◌+◌, ◌<◌, ◌≤◌, ◌∷◌, [], true, length, All, IfOk, IfErr, OnOk};
 ghost use Rattle.flash_map.specs.Lawful.{IsLawfulFor};
 ghost use Rattle.flash_map.specs.Area.{unit_of, sectors_of};
 ghost use Rattle.flash_map.specs.declared.area.Role.TheVariants.{Nvs};
 ghost use Rattle.session.specs.LineDone.{LineDone, IsLawfulLine, Runs};
+ghost use Rattle.session.specs.Fault.{IsFault};
 ghost use Rattle.session.specs.Standing.{IsSound, Stands};
+ghost use Rattle.session.specs.declared.run.SessionFault.TheVariants as session_fault;
 ghost use Rattle.script_lines.specs.declared.line.Line.TheVariants.{Set, Get, Cut, Uncut, Mount};
 
 use crate::answers::Answers;
 use crate::store::{SetFault, item, set};
-use flash_map::Area;
+use flash_map::{Area, Damaged};
 use flash_sim::{Bench, NoMemory, Steps};
 use nvs_store::{Scan, mount_scan};
 use script_lines::{Answer, Bytes, Line};
@@ -130,6 +132,30 @@ fn run_line<B: Bench, L: Ledger>(
     }
 }
 
+/// Why a run has no answers.
+#[derive(Clone, Copy, Debug, PartialEq, Eq)]
+pub enum SessionFault {
+    /// The opening mount found the area damaged.
+    Damaged(Damaged),
+    NoMemory,
+}
+
+impl From<NoMemory> for SessionFault {
+    ghost from_gives = { λ _ fault. fault ≡ session_fault.NoMemory };
+
+    fn from(_: NoMemory) -> Self {
+        SessionFault::NoMemory
+    }
+}
+
+impl From<AllocError> for SessionFault {
+    ghost from_gives = { λ _ fault. fault ≡ session_fault.NoMemory };
+
+    fn from(_: AllocError) -> Self {
+        SessionFault::NoMemory
+    }
+}
+
 // With a counter of steps.
 fn run_counted<B: Bench, L: Ledger>(
     alloc: Global,
@@ -137,20 +163,23 @@ fn run_counted<B: Bench, L: Ledger>(
     bench: &mut B,
     area: &Area,
     blank: Blank,
-) -> Result<Answers, NoMemory>
+) -> Result<Answers, SessionFault>
     requires name { blank.name ≡ L.name }
     requires parts { blank.parts ≡ L.parts }
     requires some { 0 < L.parts }
-    requires sound { IsSound (B.device bench.old) area.now }
+    requires lawful { IsLawfulFor (B.device bench.old).banks area.now }
+    requires role { area.now.role ≡ Nvs }
     requires on { (B.device bench.old).is_on ≡ true }
     requires lines { All IsLawfulLine lines.now }
     ensures runs { IfOk result (λ answers. Runs area.now (Mount ∷ lines.now) answers (B.device bench.old) (B.device bench.new)) }
-    ensures loads { (B.device bench.new).loads ≡ (B.device bench.old).loads }
+    ensures undamaged { OnOk result (IsSound (B.device bench.old) area.now) }
+    ensures fault { IfErr result (IsFault area.now (B.device bench.old) (B.device bench.new)) }
 {
     let mut steps = Steps::<L>::new(blank);
     let mut answers = Answers::new(alloc);
-    let Ok(mut scan) = mount_scan(bench, area, &mut steps) else {
-        unreachable!()
+    let mut scan = match mount_scan(bench, area, &mut steps) {
+        Ok(scan) => scan,
+        Err(damaged) => return Err(SessionFault::Damaged(damaged)),
     };
     answers.push(Answer::Done { units: 0 })?;
     for line in lines {
@@ -161,18 +190,20 @@ fn run_counted<B: Bench, L: Ledger>(
 }
 
 /// Mounts, and carries out the lines: one answer for the opening mount, and then one for each line. The bench is
-/// never loaded.
+/// never loaded. `Damaged` comes exactly where the area's bytes are damaged, and then the bench is as it was.
 pub fn run_lines<B: Bench>(
     alloc: Global,
     lines: &[Line],
     bench: &mut B,
     area: &Area,
-) -> Result<Answers, NoMemory>
-    requires sound { IsSound (B.device bench.old) area.now }
+) -> Result<Answers, SessionFault>
+    requires lawful { IsLawfulFor (B.device bench.old).banks area.now }
+    requires role { area.now.role ≡ Nvs }
     requires on { (B.device bench.old).is_on ≡ true }
     requires lines { All IsLawfulLine lines.now }
     ensures runs { IfOk result (λ answers. Runs area.now (Mount ∷ lines.now) answers (B.device bench.old) (B.device bench.new)) }
-    ensures loads { (B.device bench.new).loads ≡ (B.device bench.old).loads }
+    ensures undamaged { OnOk result (IsSound (B.device bench.old) area.now) }
+    ensures fault { IfErr result (IsFault area.now (B.device bench.old) (B.device bench.new)) }
 {
     run_counted::<B, Brand>(alloc, lines, bench, area, Blank::new(1))
 }

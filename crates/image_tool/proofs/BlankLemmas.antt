@@ -1,13 +1,13 @@
 -- One sector that is blank at first.
-use Rattle.std.proofs.Common.{◌≡◌, ℕ, ◌+◌, ◌-◌, ◌*◌, ◌%◌, ◌<◌, ◌≤◌, List, [], ◌∷◌, length, get_or, take, drop, replicate, Bool, not, cond, refl, sym, ◌∙◌, ap, subst, arith, true, Some, None}
+use Rattle.std.proofs.Common.{◌≡◌, ℕ, ◌+◌, ◌*◌, ◌%◌, ◌≤◌, List, [], ◌∷◌, length, get_or, drop, Bool, not, cond, refl, sym, ◌∙◌, ap, subst, arith, true, Some, None}
 use Rattle.std.proofs.lemmas.List.{take_all, length-replicate}
-use Rattle.flash_sim.specs.Device.{Device, bytes_of, loaded, counted, dropped, Plan}
+use Rattle.flash_sim.specs.Device.{Device, bytes_of, loaded}
 use Rattle.flash_sim.specs.Bank.{IsLawful, bank_at}
 use Rattle.flash_sim.specs.declared.flash.Bank.{Bank}
 use Rattle.flash_map.specs.declared.area.Area.{Area}
 use Rattle.flash_map.specs.declared.area.Geometry.{Geometry}
 use Rattle.flash_map.specs.declared.area.Role.TheVariants.{Nvs}
-use Rattle.flash_map.specs.Area.{unit_of, sector_size, sectors_of, geometry_of}
+use Rattle.flash_map.specs.Area.{sectors_of, geometry_of}
 use Rattle.flash_map.specs.declared.area.Role.{Role}
 use Rattle.flash_map.specs.declared.faults.Why.TheVariants.{NoFence, Overfull}
 use Rattle.flash_map.specs.Lawful.{IsLawfulFor, kind_of, HasUnit}

@@ -1,5 +1,5 @@
 -- How a run ends, from what was prepared and what was delivered.
-use Rattle.std.proofs.Common.{◌≡◌, ◌⊎◌, ℕ, List, Result, Ok, Err, refl, sym, ◌∙◌, ap, subst, inl, inr}
+use Rattle.std.proofs.Common.{ℕ, List, Result, Ok, Err, ◌∙◌, ap, inl, inr}
 use Rattle.flash_sim.specs.Device.{Device}
 use Rattle.zs_host.specs.Outside.{Outside, written, printed_more}
 use Rattle.script_lines.specs.declared.line.Line.{Line}

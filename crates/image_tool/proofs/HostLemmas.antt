@@ -1,10 +1,10 @@
 -- When a host failed, and which lines a script has.
-use Rattle.std.proofs.Common.{◌≡◌, ℕ, ◌+◌, ◌-◌, ◌^◌, ◌<◌, ◌≤◌, List, [], ◌∷◌, All, refl, sym, ap, inl, inr, arith}
+use Rattle.std.proofs.Common.{◌≡◌, ℕ, ◌-◌, ◌^◌, List, [], ◌∷◌, All, ap, inl, inr, arith}
 use Rattle.std.specs.List.{AllByRecursion}
 use Rattle.std.proofs.lemmas.Bool.{cases_lt}
 use Rattle.std.proofs.lemmas.List.Elements.{All-from_recursion}
 use Rattle.zs_host.specs.Outside.{Outside, failed}
-use Rattle.zs_host.specs.Host.{PrintsPart, Spoils}
+use Rattle.zs_host.specs.Host.{PrintsPart}
 use Rattle.script_lines.specs.declared.line.Line.{Line}
 use Rattle.script_lines.specs.declared.line.Line.TheVariants.{Set, Get, Cut, Uncut, Mount}
 use Rattle.script_lines.specs.Parts.{parts}

@@ -1,5 +1,5 @@
 -- Words of a command.
-use Rattle.std.proofs.Common.{◌≡◌, ℕ, ◌+◌, ◌<◌, ◌≤◌, ◌%◌, List, [], ◌∷◌, length, get_or, map, not, true, false, Bool, refl, sym, ◌∙◌, ap, subst, inl, inr, arith, codes}
+use Rattle.std.proofs.Common.{◌≡◌, ℕ, ◌<◌, ◌≤◌, ◌%◌, List, [], ◌∷◌, length, get_or, map, not, true, false, Bool, refl, sym, ◌∙◌, ap, subst, arith, codes}
 use Rattle.std.specs.Prelude.{String}
 use Rattle.std.specs.String.{string_bytes}
 use Rattle.std.specs.Global.{Global}
@@ -10,7 +10,7 @@ use Rattle.std.proofs.lemmas.Slice.Eq.{bytes_eq-Decides}
 use Rattle.flash_map.specs.Units.{IsUnit}
 use Rattle.flash_map.proofs.Rounding.{padding}
 use Rattle.image_tool.specs.WordCases.{IsUnitWord, IsSectorWord}
-use Rattle.image_tool.specs.Words.{Command, IsRun}
+use Rattle.image_tool.specs.Words.{IsRun}
 
 pub not_unequal : (xs ys : List ℕ) → false ≡ not (bytes_eq xs ys) → xs ≡ ys
 not_unequal xs ys is = (bytes_eq-Decides xs ys).0 (was (bytes_eq xs ys) is) where

@@ -1,5 +1,5 @@
 -- The bench with one blank sector, and the lines run on it.
-use Rattle.std.specs.Prelude.{◌≡◌, ℕ, ◌+◌, List, [], ◌∷◌, length, replicate}
+use Rattle.std.specs.Prelude.{◌≡◌, ℕ, ◌+◌, List, [], ◌∷◌, replicate}
 use Rattle.flash_sim.specs.Device.{Device, counted, bytes_of, dropped}
 use Rattle.flash_sim.specs.declared.flash.Bank.{Bank}
 use Rattle.flash_sim.specs.declared.flash.Kind.TheVariants.{Erasing}

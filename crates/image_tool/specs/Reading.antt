@@ -1,5 +1,5 @@
 -- What reading a script from a host answers.
-use Rattle.std.specs.Prelude.{◌≡◌, ◌⊎◌, ℕ, ◌+◌, ◌-◌, ◌^◌, ◌<◌, ◌≤◌, ⊤, Result, Ok, Err, List, length, All}
+use Rattle.std.specs.Prelude.{◌≡◌, ◌⊎◌, ℕ, ◌-◌, ◌^◌, ◌<◌, ◌≤◌, Result, Ok, Err, List, length, All}
 use Rattle.std.specs.Global.{Vec}
 use Rattle.zs_host.specs.Outside.{Outside, HasFile, LacksFile}
 use Rattle.zs_host.specs.Host.{HasLongFile}

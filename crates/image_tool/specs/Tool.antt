@@ -1,5 +1,5 @@
 -- What the program does, by its status.
-use Rattle.std.specs.Prelude.{◌≡◌, ◌⊎◌, ℕ, ◌+◌, ⊤, Result, Ok, Err, List, [], ◌∷◌, ◌++◌, take, codes, flat_map}
+use Rattle.std.specs.Prelude.{◌≡◌, ◌⊎◌, ℕ, Result, Ok, Err, List, [], ◌∷◌, ◌++◌, codes, flat_map}
 use Rattle.std.specs.Fmt.{decimal}
 use Rattle.flash_sim.specs.Device.{Device, bytes_of}
 use Rattle.zs_host.specs.Outside.{Outside, LacksFile, SameBut, written, printed_more}

@@ -10,7 +10,7 @@ use arrayvec::ArrayString;
 use flash_map::{Area, Role};
 use flash_sim::{Bank, Bench, Kind, NoMemory};
 use script_lines::Line;
-use session::{Answers, run_lines};
+use session::{Answers, SessionFault, run_lines};
 use std::alloc::{AllocError, Global};
 
 // The area is the one sector.
@@ -83,7 +83,12 @@ pub fn run_on_blank<B: Bench>(
 {
     load_blank(alloc, unit, sector, bench)?;
     let area = the_area();
-    run_lines(alloc, lines, bench, &area)
+    match run_lines(alloc, lines, bench, &area) {
+        Ok(answers) => Ok(answers),
+        Err(SessionFault::NoMemory) => Err(NoMemory),
+        // a blank sector is never damaged
+        Err(SessionFault::Damaged(_)) => unreachable!(),
+    }
 }
 
 /// The bytes of the one bank.

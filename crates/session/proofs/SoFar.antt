@@ -1,6 +1,5 @@
 -- A run of lines, one line after another.
-use Rattle.std.proofs.Common.{◌≡◌, ℕ, ◌+◌, ◌-◌, ◌^◌, ◌<◌, ◌≤◌, Bool, true, false, cond, List, [], ◌∷◌, ◌++◌, refl, sym, ◌∙◌, ap, subst, append_assoc, append-nil, arith, min, length, get_or, drop, drop-cons, suc, add-one}
-use Rattle.std.specs.List.{sum_by, count_by}
+use Rattle.std.proofs.Common.{◌≡◌, ℕ, ◌+◌, ◌<◌, ◌≤◌, Bool, true, cond, List, [], ◌∷◌, ◌++◌, refl, sym, ◌∙◌, ap, subst, append_assoc, append-nil, arith, length, get_or, drop, drop-cons, suc, add-one}
 use Rattle.std.proofs.lemmas.List.Sums.{fold_push}
 use Rattle.std.proofs.lemmas.List.{drop_all}
 use Rattle.flash_sim.specs.Device.{Device, Plan, counted}
@@ -17,7 +16,7 @@ use Rattle.flash_map.specs.Area.{geometry_of}
 use Rattle.session.specs.Counts.{units_of, is_lost, units_in, losses_in}
 use Rattle.session.specs.Planned.{Planned}
 use Rattle.session.specs.Session.{State, Step, Session, IsCounted}
-use Rattle.session.specs.LineDone.{state_of, Accounts, LineDone, Runs}
+use Rattle.session.specs.LineDone.{state_of, LineDone, Runs}
 
 -- after these answers `rest` is left of the lines
 pub record SoFar (area : Area) (lines rest : List Line) (answers : List Answer) (first now : Device) : Type 0 where

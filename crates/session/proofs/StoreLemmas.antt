@@ -1,5 +1,5 @@
 -- What a set makes of a sector's contents.
-use Rattle.std.proofs.Common.{◌≡◌, ◌⊎◌, ℕ, zero, suc, ◌+◌, ◌-◌, ◌*◌, ◌/◌, ◌^◌, ◌<◌, ◌≤◌, Bool, true, false, cond, eqb, leb, List, [], ◌∷◌, ◌++◌, length, take, drop, Option, Some, None, refl, sym, ap, subst, ◌∙◌, inl, inr, arith}
+use Rattle.std.proofs.Common.{◌≡◌, ◌⊎◌, ℕ, zero, suc, ◌+◌, ◌-◌, ◌*◌, ◌/◌, ◌^◌, ◌<◌, ◌≤◌, Bool, true, false, cond, eqb, leb, List, [], ◌∷◌, ◌++◌, length, take, drop, Some, None, refl, sym, ap, subst, ◌∙◌, inl, inr, arith}
 use Rattle.std.specs.Prelude.{slice_range}
 use Rattle.std.proofs.lemmas.Nat.{le-div}
 use Rattle.std.proofs.lemmas.List.{length-take-le, length-drop}
@@ -21,7 +21,7 @@ use Rattle.slot_list.specs.Items.{Items, items_of, value_of}
 use Rattle.slot_list.specs.Slots.{Slot}
 use Rattle.slot_list.proofs.ItemLemmas.{items_of-push}
 use Rattle.nvs_store.specs.Geometry.{slot_size, cost, capacity}
-use Rattle.nvs_store.specs.Sector.{low, data_end, has_gc_done, used_slots, is_gc_done, pairs, AddsPair, KeepsList, StopsAdding}
+use Rattle.nvs_store.specs.Sector.{low, data_end, has_gc_done, used_slots, is_gc_done, pairs, AddsPair, StopsAdding}
 use Rattle.nvs_store.specs.Scans.{fits, sector_scan, scan_of, sector_at, AddsPairAt, StopsAddingAt}
 use Rattle.nvs_store.proofs.SlotReads.{slot_widths}
 use Rattle.session.specs.Contents.{contents_of, used_of, IsStored, Fits}

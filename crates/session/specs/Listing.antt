@@ -1,7 +1,7 @@
 -- All items of a map, by rising ids.
-use Rattle.std.specs.Prelude.{ℕ, Option, List, ◌++◌}
+use Rattle.std.specs.Prelude.{ℕ, Option, List}
 use Rattle.std.specs.List.{filter_map, range_with_len}
-use Rattle.std.specs.Option.{option_map, option_to_list}
+use Rattle.std.specs.Option.{option_map}
 use Rattle.std.specs.FinMap.{get}
 use Rattle.slot_list.specs.Items.{Items}
 use Rattle.session.specs.declared.listing.Item.{Item}

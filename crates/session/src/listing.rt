@@ -30,12 +30,7 @@ pub struct Item {
 const ID_END: u16 = 65535;
 
 // Puts an item behind the others, if there is one.
-fn put(
-    alloc: Global,
-    all: &mut Vec<Item>,
-    id: u16,
-    found: Option<&[u8]>,
-) -> Result<(), NoMemory>
+fn put(alloc: Global, all: &mut Vec<Item>, id: u16, found: Option<&[u8]>) -> Result<(), NoMemory>
     ensures { OnOk result (all.new.items ≡ all.old.items ++ option_to_list (item_of id (option_map (λ bytes. bytes.now) found.entry))) }
 {
     match found {

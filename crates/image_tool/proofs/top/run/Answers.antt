@@ -1,4 +1,4 @@
-use Rattle.std.proofs.Common.{◌≡◌, List, ℕ, subst, sym, ap}
+use Rattle.std.proofs.Common.{List, ℕ, subst}
 use Rattle.zs_host.specs.Outside.{Outside}
 use Rattle.script_lines.specs.declared.line.Line.{Line}
 use Rattle.image_tool.specs.Delivers.{Delivers}

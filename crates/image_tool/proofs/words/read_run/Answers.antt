@@ -1,4 +1,4 @@
-use Rattle.std.proofs.Common.{◌≡◌, ◌∙◌, ◌∷◌, [], sym, ap, subst, codes, List, ℕ, map}
+use Rattle.std.proofs.Common.{◌≡◌, ◌∙◌, sym, subst, codes, List, ℕ, map}
 use Rattle.std.specs.String.{string_bytes}
 use Rattle.image_tool.specs.WordCases.{IsUnitWord, IsSectorWord}
 use Rattle.image_tool.proofs.WordLemmas.{five_words, not_unequal, is_run}

@@ -1,4 +1,4 @@
-use Rattle.std.proofs.Common.{◌≡◌, ◌∙◌, ◌++◌, List, ap, sym, arith}
+use Rattle.std.proofs.Common.{◌∙◌, ◌++◌, List, ap, sym, arith}
 use Rattle.std.specs.Prelude.{option_map}
 use Rattle.std.specs.Option.{option_to_list}
 use Rattle.flash_map.specs.Area.{unit_of, sectors_of}
@@ -21,4 +21,6 @@ loop-id-preserved g c =
     ∙ sym (below_more items c.loop-id.id found c.item-found.ensures)
 
 pub returns : goal.returns
-returns g c = ?
+returns g c =
+    let d = g.F.Flash.device c.args.flash.now in
+    c.loop-id.invariant ∙ below_all (contents_of (unit_of d c.args.area.now) (sectors_of d c.args.area.now)).items c.loop-id.id (omega arith)

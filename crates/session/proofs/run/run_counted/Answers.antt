@@ -1,4 +1,4 @@
-use Rattle.std.proofs.Common.{◌≡◌, ◌∷◌, ◌+◌, drop, List, [], arith, subst, length, ℕ}
+use Rattle.std.proofs.Common.{◌∷◌, List, subst}
 use Rattle.script_lines.specs.declared.line.Line.{Line}
 use Rattle.script_lines.specs.declared.line.Line.TheVariants.{Mount}
 use Rattle.session.proofs.SoFar.{SoFar, opened, one_more, whole, next_line, no_line}

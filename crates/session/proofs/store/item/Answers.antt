@@ -3,7 +3,7 @@ use Rattle.std.specs.Prelude.{slice_range}
 use Rattle.flash_map.specs.Area.{unit_of, sectors_of, sector_bytes}
 use Rattle.flash_map.proofs.Places.{length-sector}
 use Rattle.slot_list.proofs.ItemLemmas.{get-items_of}
-use Rattle.nvs_store.specs.Scans.{list_of, found_bytes}
+use Rattle.nvs_store.specs.Scans.{list_of}
 use Rattle.session.proofs.StoreLemmas.{value_none, value_some}
 use Rattle.session.proofs.store.item.Goals as goal
 

@@ -1,4 +1,4 @@
-use Rattle.std.proofs.Common.{◌≡◌, List, ℕ, sym, ap, subst, inr, length, true, false}
+use Rattle.std.proofs.Common.{◌≡◌, List, ℕ, ap, subst, inr, length, true, false}
 use Rattle.flash_sim.specs.declared.flash.Bank.{Bank}
 use Rattle.flash_sim.specs.Bank.{bank_at}
 use Rattle.flash_map.specs.Area.{unit_of, sectors_of, geometry_of}

@@ -1,6 +1,7 @@
 pub mod Apart
 pub mod AreaCalls
 pub mod OneCall
+pub mod Padding
 pub mod PieceLemmas
 pub mod Places
 pub mod Plans
@@ -8,5 +9,6 @@ pub mod Ranges
 pub mod Rounding
 pub mod Sectors
 pub mod Sequence
+pub mod Spending
 pub mod Touches
 pub mod WholeUnits

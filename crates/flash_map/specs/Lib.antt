@@ -2,5 +2,6 @@ pub mod Area
 pub mod Lawful
 pub mod Pieces
 pub mod Sectors
+pub mod Spending
 pub mod Touches
 pub mod Units

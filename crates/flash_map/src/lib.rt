@@ -10,5 +10,5 @@ mod units;
 pub use area::{Area, Geometry, Role};
 pub use calls::{area_erase, area_program, area_view, geometry};
 pub use faults::{Damaged, MountFault, Why, WriteFault};
-pub use pieces::program_all;
+pub use pieces::{program_all, program_padded};
 pub use units::padded;

@@ -1,5 +1,6 @@
-use Rattle.std.proofs.Common.{◌≡◌, ◌%◌, ◌-◌, ◌≤◌, ◌∷◌, [], false, length, take}
+use Rattle.std.proofs.Common.{◌≡◌, ◌/◌, ◌%◌, ◌-◌, ◌≤◌, ◌∷◌, [], false, length, take}
 use Rattle.flash_map.specs.Area.{unit_of, Writes}
+use Rattle.flash_map.specs.Spending.{Spends}
 use Rattle.flash_map.specs.Touches.{Touches}
 use Rattle.flash_map.proofs.pieces.program_all.Given as goal
 
@@ -8,6 +9,7 @@ invariant-loop-done g l = record {
   in_range : l.done ≤ length l.bytes;
   whole_units : l.done % unit_of (g.F.Flash.device l.initial.flash) l.area ≡ 0;
   touches : Touches (l.area ∷ []) (g.F.Flash.device l.initial.flash) (g.F.Flash.device l.flash) false;
+  spends : Spends (g.F.Flash.device l.initial.flash) (g.F.Flash.device l.flash) (l.done / unit_of (g.F.Flash.device l.initial.flash) l.area) (l.done / unit_of (g.F.Flash.device l.initial.flash) l.area);
   written : Writes (g.F.Flash.device l.initial.flash) (g.F.Flash.device l.flash) l.area l.sector l.offset (take l.done l.bytes);
 }
 

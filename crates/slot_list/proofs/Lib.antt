@@ -1,3 +1,4 @@
 pub mod LivePairs
 pub mod Pairs
 pub mod SlotLemmas
+pub mod SlotChanges

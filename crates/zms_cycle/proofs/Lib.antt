@@ -1,0 +1,5 @@
+pub mod Appends
+pub mod Bytes
+pub mod Frames
+pub mod Marking
+pub mod Slots16

@@ -1,0 +1,4 @@
+pub mod Entries
+pub mod Sector
+pub mod States
+pub mod Changes

@@ -1,4 +1,5 @@
 pub mod LivePairs
 pub mod Pairs
-pub mod SlotLemmas
 pub mod SlotChanges
+pub mod SlotCounts
+pub mod SlotLemmas

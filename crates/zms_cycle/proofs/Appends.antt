@@ -14,7 +14,8 @@ use Rattle.slot_list.proofs.SlotLemmas.{index-slot_at}
 use Rattle.slot_list.proofs.SlotChanges.{SameFrom, slot_at-same, slot_at-from, used_slots-more}
 use Rattle.zms_cycle.specs.declared.entry.ZEntry.{ZEntry}
 use Rattle.zms_cycle.specs.Entries.{encoded, decoded, offset_of, is_special, is_done, value_entry, done_entry}
-use Rattle.zms_cycle.specs.Sector.{slot_of, is_valid_under, is_valid, cycle_of, valid_slots, is_closed, Found, entry_in, entries, holds_done, has_gc_done, data_len, low, value_end, end_of, data_end, is_under, is_sound, value_of, pair_of, pairs}
+use Rattle.zms_cycle.specs.declared.reading.Found.{Found}
+use Rattle.zms_cycle.specs.Sector.{slot_of, is_valid_under, is_valid, cycle_of, valid_slots, is_closed, entry_in, entries, holds_done, has_gc_done, data_len, low, value_end, end_of, data_end, is_under, is_sound, value_of, pair_of, pairs}
 use Rattle.zms_cycle.specs.Changes.{with_slot, KeepsSlots, KeepsList, AddsPair, MarksDone}
 use Rattle.zms_cycle.proofs.Bytes.{IsEntry, IsEntry-value, IsEntry-done, length-encoded, decoded-encoded, four_bytes, value_entry-short, value_entry-long, take-short, ordinary-not_special, ordinary-not_done, done-is_done}
 use Rattle.zms_cycle.proofs.Slots16.{valid-is, done-is, entry_in-is, slot-put, with_slot-above, with_slot-below, length-with_slot}

@@ -11,7 +11,8 @@ use Rattle.crc8_entry.specs.Crc.{crc, extended, bits_of}
 use Rattle.slot_list.specs.Slots.{Slot}
 use Rattle.zms_cycle.specs.declared.entry.ZEntry.{ZEntry}
 use Rattle.zms_cycle.specs.Entries.{fields, encoded, entry_of, decoded, fill, offset_of, is_special, is_empty, is_close, is_done, empty_entry, close_entry, done_entry, value_entry}
-use Rattle.zms_cycle.specs.Sector.{is_valid_under, holds_close, holds_done, Found, entry_in}
+use Rattle.zms_cycle.specs.declared.reading.Found.{Found}
+use Rattle.zms_cycle.specs.Sector.{is_valid_under, holds_close, holds_done, entry_in}
 
 -- a list of eight, cell by cell
 pub eight_cells : (xs : List ℕ) → length xs ≡ 8

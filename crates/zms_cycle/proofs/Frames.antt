@@ -14,7 +14,8 @@ use Rattle.slot_list.proofs.SlotLemmas.{HasFence, HasFence-from_low}
 use Rattle.slot_list.proofs.SlotChanges.{SameFrom, slot_at-from, used_slots-kept}
 use Rattle.zms_cycle.specs.declared.entry.ZEntry.{ZEntry}
 use Rattle.zms_cycle.specs.Entries.{offset_of, decoded}
-use Rattle.zms_cycle.specs.Sector.{slot_of, is_valid, cycle_of, valid_slots, holds_close, is_closed, Found, entry_in, entries, holds_done, has_gc_done, data_len, low, value_end, end_of, data_end, is_under, has_guard, is_sound, value_of, pair_of, pairs}
+use Rattle.zms_cycle.specs.declared.reading.Found.{Found}
+use Rattle.zms_cycle.specs.Sector.{slot_of, is_valid, cycle_of, valid_slots, holds_close, is_closed, entry_in, entries, holds_done, has_gc_done, data_len, low, value_end, end_of, data_end, is_under, has_guard, is_sound, value_of, pair_of, pairs}
 use Rattle.zms_cycle.specs.Changes.{KeepsSlots, KeepsList}
 use Rattle.zms_cycle.proofs.Slots16.{Covers, covers-not_valid, covers-higher, cycle_of-is}
 

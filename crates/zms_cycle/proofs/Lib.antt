@@ -1,5 +1,7 @@
 pub mod Appends
+pub mod AreaFacts
 pub mod Bytes
 pub mod Frames
 pub mod Marking
+pub mod Scanning
 pub mod Slots16

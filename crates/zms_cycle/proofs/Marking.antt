@@ -9,7 +9,8 @@ use Rattle.slot_list.proofs.SlotChanges.{slot_at-same, slot_at-from, used_slots-
 use Rattle.slot_list.proofs.SlotLemmas.{used_slots-from}
 use Rattle.zms_cycle.specs.declared.entry.ZEntry.{ZEntry}
 use Rattle.zms_cycle.specs.Entries.{encoded, decoded, fill, is_empty, close_entry, empty_entry}
-use Rattle.zms_cycle.specs.Sector.{slot_of, is_valid_under, is_valid, cycle_of, valid_slots, holds_close, is_closed, Found, entry_in, entries, holds_done, value_end, end_of, is_under, is_sound, low, pair_of, pairs}
+use Rattle.zms_cycle.specs.declared.reading.Found.{Found}
+use Rattle.zms_cycle.specs.Sector.{slot_of, is_valid_under, is_valid, cycle_of, valid_slots, holds_close, is_closed, entry_in, entries, holds_done, value_end, end_of, is_under, is_sound, low, pair_of, pairs}
 use Rattle.zms_cycle.specs.Changes.{with_slot, guarded, KeepsSlots, KeepsList, KeepsState, Closes, next_cycle, Empties}
 use Rattle.zms_cycle.proofs.Bytes.{length-encoded, decoded-encoded, IsEntry-close, IsEntry-empty, close-is_close, empty-is_empty}
 use Rattle.zms_cycle.proofs.Slots16.{Covers, valid-is, close-is, cycle_of-is, not_valid, slot-put, with_slot-above, with_slot-below, decoded-put, covers-fill, covers-guarded, covers-higher, covers-lower, guarded-not_valid}

@@ -12,7 +12,8 @@ use Rattle.slot_list.proofs.SlotLemmas.{bytes-slot_at, index-slot_at}
 use Rattle.slot_list.proofs.SlotChanges.{SameFrom, slot_at-same, slot_at-from}
 use Rattle.zms_cycle.specs.declared.entry.ZEntry.{ZEntry}
 use Rattle.zms_cycle.specs.Entries.{decoded, fill, is_special, is_empty, is_close, is_done}
-use Rattle.zms_cycle.specs.Sector.{slot_of, is_valid_under, is_valid, cycle_of, holds_close, holds_done, Found, entry_in}
+use Rattle.zms_cycle.specs.declared.reading.Found.{Found}
+use Rattle.zms_cycle.specs.Sector.{slot_of, is_valid_under, is_valid, cycle_of, holds_close, holds_done, entry_in}
 use Rattle.zms_cycle.specs.Changes.{with_slot, guarded}
 use Rattle.zms_cycle.proofs.Bytes.{decoded-fill, length-fill}
 

@@ -3,7 +3,8 @@ use Rattle.std.specs.Prelude.{◌≡◌, ℕ, ◌+◌, ◌-◌, ◌*◌, ◌%◌
 use Rattle.std.specs.Option.{option_map_or}
 use Rattle.flash_sim.specs.Device.{overwritten}
 use Rattle.zms_cycle.specs.Entries.{fill}
-use Rattle.zms_cycle.specs.Sector.{slot_of, is_valid_under, cycle_of, valid_slots, is_closed, Found, entries, has_gc_done, data_len, low, data_end, is_sound, pairs}
+use Rattle.zms_cycle.specs.declared.reading.Found.{Found}
+use Rattle.zms_cycle.specs.Sector.{slot_of, is_valid_under, cycle_of, valid_slots, is_closed, entries, has_gc_done, data_len, low, data_end, is_sound, pairs}
 
 -- the sector with these bytes in a slot
 abbrev pub with_slot : List ℕ → ℕ → List ℕ → List ℕ

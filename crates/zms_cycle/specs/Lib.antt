@@ -1,3 +1,4 @@
+pub mod Areas
 pub mod Entries
 pub mod Sector
 pub mod States

@@ -6,6 +6,7 @@ use Rattle.std.specs.Option.{option_and_then, option_map_or}
 use Rattle.flash_map.specs.Units.{padded}
 use Rattle.slot_list.specs.Slots.{Slot, slot_at, used_slots, low as low_of}
 use Rattle.zms_cycle.specs.declared.entry.ZEntry.{ZEntry}
+use Rattle.zms_cycle.specs.declared.reading.Found.{Found}
 use Rattle.zms_cycle.specs.Entries.{decoded, offset_of, is_special, is_empty, is_close, is_done}
 
 -- Slots and cycles.
@@ -37,11 +38,6 @@ abbrev pub is_closed : List ℕ → Bool
 is_closed sector = is_valid (cycle_of sector) (slot_of sector 1) && holds_close (slot_of sector 1)
 
 -- Entries.
-
--- an ordinary entry and its slot
-pub record Found : Type 0 where
-  pub slot : ℕ
-  pub entry : ZEntry
 
 -- special entries are passed over
 unfoldable pub entry_in : Slot → Option Found

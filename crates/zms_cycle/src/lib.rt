@@ -5,4 +5,4 @@ mod entry;
 mod reading;
 
 pub use entry::{ZEntry, decode_zentry, encode_zentry, fill_unit};
-pub use reading::{SectorState, state};
+pub use reading::{Found, SectorState, state};

@@ -5,3 +5,4 @@ pub mod Frames
 pub mod Marking
 pub mod Scanning
 pub mod Slots16
+pub mod UnitCalls

@@ -2,7 +2,9 @@
 #![tactic(auto, using(flash_map::proofs::Touches::then))]
 
 mod entry;
+mod guarding;
 mod reading;
 
 pub use entry::{ZEntry, decode_zentry, encode_zentry, fill_unit};
+pub use guarding::guard;
 pub use reading::{Found, SectorState, state};

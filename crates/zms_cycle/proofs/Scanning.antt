@@ -1,6 +1,6 @@
 -- Going over the entries of a sector.
 use Rattle.std.proofs.Common.{◌≡◌, ℕ, ◌+◌, ◌-◌, ◌*◌, ◌/◌, ◌^◌, ◌<◌, ◌≤◌, min, max, Bool, true, false, ◌&&◌, ◌||◌, cond, List, [], ◌∷◌, ◌++◌, length, map, Option, Some, None, refl, sym, ap, ◌∙◌, arith}
-use Rattle.std.specs.Prelude.{fold, sum_by}
+use Rattle.std.specs.Prelude.{fold, sum_by, IsSome}
 use Rattle.std.specs.List.{filter_map, cons_option, list_any}
 use Rattle.std.specs.Option.{option_and_then, option_map_or}
 use Rattle.std.proofs.lemmas.List.{map-append, append-nil}
@@ -81,3 +81,19 @@ state_is b cycle n ends lens closed done of_cycle closed-is n-is ends-is lens-is
 
 pub blank_is : (b : List ℕ) → cycle_of b ≡ None → Blank ≡ state_of b
 blank_is b none = ap (λ (o : Option ℕ). state_with o b) (sym none)
+
+-- what a used state says, whatever the cycle is
+used_with : (o : Option ℕ) (b : List ℕ) (cycle n end : ℕ) (closed done : Bool) → Used cycle closed n end done ≡ state_with o b → (o ≡ Some cycle) × (n ≡ length (used_slots (is_valid o) 2 16 b)) × (end ≡ min (end_of (filter_map entry_in (used_slots (is_valid o) 2 16 b))) (2 ^ 32 - 1))
+used_with None b cycle n end closed done is = cc
+used_with (Some c) b cycle n end closed done is = (cc, cc, cc)
+
+pub used_parts : (b : List ℕ) (cycle n end : ℕ) (closed done : Bool) → Used cycle closed n end done ≡ state_of b → (cycle_of b ≡ Some cycle) × (n ≡ length (used_slots (is_valid (cycle_of b)) 2 16 b)) × (end ≡ min (end_of (filter_map entry_in (used_slots (is_valid (cycle_of b)) 2 16 b))) (2 ^ 32 - 1))
+used_parts b = used_with (cycle_of b) b
+
+-- a used sector has no blank state
+not_blank_with : (o : Option ℕ) (b : List ℕ) → IsSome o → Blank ≡ state_with o b → ⊥
+not_blank_with None b some is = cc
+not_blank_with (Some c) b some is = cc
+
+pub not_blank : (b : List ℕ) → IsSome (cycle_of b) → Blank ≡ state_of b → ⊥
+not_blank b = not_blank_with (cycle_of b) b

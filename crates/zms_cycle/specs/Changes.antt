@@ -1,7 +1,8 @@
 -- What a step leaves of a sector.
-use Rattle.std.specs.Prelude.{◌≡◌, ℕ, ◌+◌, ◌-◌, ◌*◌, ◌%◌, Bool, true, false, List, [], ◌∷◌, ◌++◌, length, Option, Some, None, if◌then◌else◌}
+use Rattle.std.specs.Prelude.{◌≡◌, ℕ, ◌+◌, ◌-◌, ◌*◌, ◌%◌, ◌≤◌, nat_le, Bool, true, false, List, [], ◌∷◌, ◌++◌, length, Option, Some, None, if◌then◌else◌}
 use Rattle.std.specs.Option.{option_map_or}
 use Rattle.flash_sim.specs.Device.{overwritten}
+use Rattle.flash_map.specs.Pieces.{padded_bytes}
 use Rattle.zms_cycle.specs.Entries.{fill}
 use Rattle.zms_cycle.specs.declared.reading.Found.{Found}
 use Rattle.zms_cycle.specs.Sector.{slot_of, is_valid_under, cycle_of, valid_slots, is_closed, entries, has_gc_done, data_len, low, data_end, is_sound, pairs}
@@ -13,6 +14,14 @@ with_slot sector slot bytes = overwritten sector (length sector - (slot + 1) * 1
 -- the sector with the fill unit in a slot that was valid under the cycle
 abbrev pub guarded : ℕ → ℕ → List ℕ → List ℕ
 guarded cycle slot sector = if is_valid_under cycle (slot_of sector slot) then with_slot sector slot fill else sector
+
+-- the sector with a value there, where it has more than 8 bytes
+abbrev pub with_value : List ℕ → ℕ → List ℕ → List ℕ
+with_value sector at bytes = if nat_le (length bytes) 8 then sector else overwritten sector at (padded_bytes 16 bytes)
+
+-- at most so many bytes were put there
+abbrev pub HasPart : List ℕ → List ℕ → ℕ → ℕ → Type 0
+HasPart old new at most = (part : List ℕ) × (length part ≤ most) × (new ≡ overwritten old at part)
 
 -- the cycle, the slots and the marks stay
 pub record KeepsSlots (old new : List ℕ) : Type 0 where

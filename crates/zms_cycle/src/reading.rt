@@ -1,12 +1,12 @@
 // How a sector reads.
-ghost use Rattle.std.specs.Prelude.{◌≡◌, ◌+◌, ◌*◌, ◌^◌, ◌<◌, ◌≤◌, ◌&&◌, ◌==◌, max, length, false, Some, None, if◌then◌else◌};
+ghost use Rattle.std.specs.Prelude.{◌≡◌, ◌+◌, ◌*◌, ◌^◌, ◌<◌, ◌≤◌, ◌&&◌, ◌==◌, ◌-◌, min, max, length, false, Some, None, IsSome, if◌then◌else◌};
 ghost use Rattle.std.specs.List.{list_all};
 ghost use Rattle.std.specs.Option.{option_and_then, option_map_or};
 ghost use Rattle.flash_map.specs.Area.{sector_bytes};
 ghost use Rattle.slot_list.specs.Slots.{used_slots};
 ghost use Rattle.zms_cycle.specs.Areas.{IsZmsSector};
 ghost use Rattle.zms_cycle.specs.Entries.{decoded, offset_of, is_special, mark_of, is_empty, is_close, is_done};
-ghost use Rattle.zms_cycle.specs.Sector.{slot_of, is_valid_under, is_valid, cycle_of, valid_slots, holds_close, is_closed, value_end, data_len};
+ghost use Rattle.zms_cycle.specs.Sector.{slot_of, is_valid_under, is_valid, cycle_of, valid_slots, holds_close, is_closed, value_end, data_len, data_end};
 ghost use Rattle.zms_cycle.specs.States.{state_of};
 
 use crate::{ZEntry, decode_zentry};
@@ -276,4 +276,40 @@ pub fn state<F: Flash, L: Ledger>(
 {
     let size = geometry(flash, area).sector;
     read(area_view(flash, area, sector, 0, size, steps))
+}
+
+/// A used sector: its cycle, the number of its valid slots, and the end of its values, in bytes.
+#[derive(Clone, Copy, Debug, PartialEq, Eq)]
+pub struct Opened {
+    pub cycle: u8,
+    pub slots: u32,
+    pub data_end: u32,
+}
+
+// What a step has to know of a used sector.
+pub fn opened_sector<F: Flash, L: Ledger>(
+    flash: &F,
+    area: &Area,
+    sector: u32,
+    steps: &mut Steps<L>,
+) -> Opened
+    requires zms { IsZmsSector (F.device flash.now) area.now sector }
+    requires used { IsSome (cycle_of (sector_bytes (F.device flash.now) area.now sector)) }
+    ensures cycle { cycle_of (sector_bytes (F.device flash.now) area.now sector) ≡ Some result.cycle }
+    ensures slots { result.slots ≡ length (valid_slots (sector_bytes (F.device flash.now) area.now sector)) }
+    ensures data_end { result.data_end ≡ min (data_end (sector_bytes (F.device flash.now) area.now sector)) (2 ^ 32 - 1) }
+{
+    match state(flash, area, sector, steps) {
+        SectorState::Used {
+            cycle,
+            slots,
+            data_end,
+            ..
+        } => Opened {
+            cycle,
+            slots,
+            data_end,
+        },
+        SectorState::Blank => unreachable!(),
+    }
 }

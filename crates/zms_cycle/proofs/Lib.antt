@@ -1,9 +1,10 @@
 pub mod Appends
 pub mod AreaFacts
 pub mod Bytes
+pub mod EmptyCalls
 pub mod EntryCalls
 pub mod Frames
-pub mod Marking
+pub mod Marks
 pub mod PairCalls
 pub mod Scanning
 pub mod Slots16

@@ -15,7 +15,7 @@ use flash_sim::{Flash, PowerLost, Steps};
 use std::sync::ledger::Ledger;
 
 // Where a slot starts in a sector.
-fn slot_start<F: Flash>(flash: &F, area: &Area, slot: u32) -> u32
+pub fn slot_start<F: Flash>(flash: &F, area: &Area, slot: u32) -> u32
     requires lawful { IsLawfulArea (F.device flash.now).banks area.now }
     requires slot { HasSlot (F.device flash.now) area.now slot }
     ensures { result ≡ sector_size (F.device flash.now) area.now - (slot + 1) * 16 }

@@ -4,9 +4,11 @@
 mod appending;
 mod entry;
 mod guarding;
+mod marking;
 mod reading;
 
 pub use appending::{put_done, put_entry};
 pub use entry::{ZEntry, decode_zentry, encode_zentry, fill_unit};
 pub use guarding::guard;
+pub use marking::{close, empty_sector};
 pub use reading::{Found, SectorState, state};

@@ -278,6 +278,20 @@ pub fn state<F: Flash, L: Ledger>(
     read(area_view(flash, area, sector, 0, size, steps))
 }
 
+// The cycle of a sector, or none where it is blank.
+pub fn sector_cycle<F: Flash, L: Ledger>(
+    flash: &F,
+    area: &Area,
+    sector: u32,
+    steps: &mut Steps<L>,
+) -> Option<u8>
+    requires { IsZmsSector (F.device flash.now) area.now sector }
+    ensures { result ≡ cycle_of (sector_bytes (F.device flash.now) area.now sector) }
+{
+    let size = geometry(flash, area).sector;
+    cycle_of(area_view(flash, area, sector, 0, size, steps))
+}
+
 /// A used sector: its cycle, the number of its valid slots, and the end of its values, in bytes.
 #[derive(Clone, Copy, Debug, PartialEq, Eq)]
 pub struct Opened {

@@ -71,7 +71,7 @@ other_cycle None slot valid = refl
 other_cycle (Some c) slot valid =
     valid-is c slot (decoded slot.bytes) refl ∙ valid_once (decoded slot.bytes) ((c + 1) % 256) c (sym (valid-is ((c + 1) % 256) slot (decoded slot.bytes) refl) ∙ valid) (λ z. omega (arith, z))
 
-state_same : (b : List ℕ) → KeepsState b b
+pub state_same : (b : List ℕ) → KeepsState b b
 state_same b = record { kept = (keeps_same b).kept; list = λ sound. refl }
 
 -- the guard of slot 1 for the next cycle

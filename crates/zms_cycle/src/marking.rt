@@ -71,7 +71,6 @@ pub fn empty_sector<F: Flash, L: Ledger>(
     put_unit(flash, area, sector, 0, &encode_zentry(&empty_entry(cycle)))
 }
 
-#[tactic(none)]
 // Makes a slot the fill unit. A cut changes no byte.
 fn fill_slot<F: Flash, L: Ledger>(
     flash: &mut F,
@@ -99,7 +98,6 @@ fn fill_slot<F: Flash, L: Ledger>(
     put_unit(flash, area, sector, slot, &unit)
 }
 
-#[tactic(none)]
 // Makes the slots under the one called top fill units, upward, down to the one called bottom.
 fn fill_slots<F: Flash, L: Ledger>(
     flash: &mut F,
@@ -127,7 +125,6 @@ fn fill_slots<F: Flash, L: Ledger>(
     Ok(())
 }
 
-#[tactic(none)]
 /// Closes a sector: every unit between its values and its slots becomes the fill unit, and then the close entry is put.
 /// A cut leaves the sector's list and marks as they were.
 pub fn close<F: Flash, L: Ledger>(

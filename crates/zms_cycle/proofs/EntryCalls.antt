@@ -22,57 +22,57 @@ use Rattle.zms_cycle.proofs.AreaFacts.{unit_is, never_erasing, size_is, sector_s
 use Rattle.zms_cycle.proofs.Frames.{IsSound, sound-parts, pad, padded-aligned, data_len-short, data_len-long, data_end-aligned, keeps_same}
 use Rattle.zms_cycle.proofs.PairCalls.{value_kept, value_stored, part_kept, guard_keeps, done_put, pair_put}
 
--- A value of more than 8 bytes.
-module _ (old new : Device) (area : Area) (sector at : ℕ) (bytes : List ℕ) (zms : IsZmsSector old area sector) (long : 8 < length bytes) where
-  is_long : leb (length bytes) 8 ≡ false
-  is_long = lt-leb (length bytes) 8 long
-
-  len_is : data_len (length bytes) ≡ padded 16 (length bytes)
-  len_is = data_len-long (length bytes) is_long
-
+-- Bytes that are padded to whole units.
+module _ (old new : Device) (area : Area) (sector at : ℕ) (bytes : List ℕ) (zms : IsZmsSector old area sector) where
   image_is : padded_bytes (unit_of old area) bytes ≡ padded_bytes 16 bytes
   image_is = ap (λ (u : ℕ). padded_bytes u bytes) (unit_is old area sector zms)
 
-  image_long : length (padded_bytes (unit_of old area) bytes) ≡ data_len (length bytes)
-  image_long = ap length image_is ∙ length-padded_bytes 16 bytes (inr (inr refl)) ∙ sym len_is
+  image_long : length (padded_bytes (unit_of old area) bytes) ≡ padded 16 (length bytes)
+  image_long = ap length image_is ∙ length-padded_bytes 16 bytes (inr (inr refl))
 
-  pub can_value : at + data_len (length bytes) ≤ sector_size old area → at % 16 ≡ 0 → CanProgramAll old area sector at (padded_bytes (unit_of old area) bytes)
-  can_value fits aligned =
+  pub can_bytes : at + padded 16 (length bytes) ≤ sector_size old area → at % 16 ≡ 0 → CanProgramAll old area sector at (padded_bytes (unit_of old area) bytes)
+  can_bytes fits aligned =
       let size = image_long in
       record {
         has_sector = zms.has_sector;
-        whole_units = ap (λ (n : ℕ). n % unit_of old area) (size ∙ len_is) ∙ ap (λ (u : ℕ). padded 16 (length bytes) % u) (unit_is old area sector zms) ∙ padded-aligned (length bytes);
+        whole_units = ap (λ (n : ℕ). n % unit_of old area) size ∙ ap (λ (u : ℕ). padded 16 (length bytes) % u) (unit_is old area sector zms) ∙ padded-aligned (length bytes);
         aligned = ap (λ (u : ℕ). at % u) (unit_is old area sector zms) ∙ aligned;
         in_sector = omega arith;
         erased = λ erasing. absurd (never_erasing old area sector zms erasing);
       }
 
-  pub value_ok : Writes old new area sector at (padded_bytes (unit_of old area) bytes) → sector_bytes new area sector ≡ with_value (sector_bytes old area sector) at bytes
-  value_ok writes =
+  pub bytes_ok : Writes old new area sector at (padded_bytes (unit_of old area) bytes) → sector_bytes new area sector ≡ overwritten (sector_bytes old area sector) at (padded_bytes 16 bytes)
+  bytes_ok writes =
       sector_set old new area sector (overwritten (sector_bytes old area sector) at (padded_bytes (unit_of old area) bytes)) zms writes
       ∙ ap (λ (image : List ℕ). overwritten (sector_bytes old area sector) at image) image_is
-      ∙ sym (cond-false (leb (length bytes) 8) (sector_bytes old area sector) (overwritten (sector_bytes old area sector) at (padded_bytes 16 bytes)) is_long)
 
-  pub value_others : Writes old new area sector at (padded_bytes (unit_of old area) bytes) → OthersStay old new area sector
-  value_others writes = others_set old new area sector (overwritten (sector_bytes old area sector) at (padded_bytes (unit_of old area) bytes)) zms writes
+  pub bytes_others : Writes old new area sector at (padded_bytes (unit_of old area) bytes) → OthersStay old new area sector
+  bytes_others writes = others_set old new area sector (overwritten (sector_bytes old area sector) at (padded_bytes (unit_of old area) bytes)) zms writes
 
-  pub value_lost : WritesPart old new area sector at (padded_bytes (unit_of old area) bytes) → HasPart (sector_bytes old area sector) (sector_bytes new area sector) at (data_len (length bytes))
-  value_lost part =
+  pub bytes_lost : WritesPart old new area sector at (padded_bytes (unit_of old area) bytes) → HasPart (sector_bytes old area sector) (sector_bytes new area sector) at (padded 16 (length bytes))
+  bytes_lost part =
       let size = image_long in
       let front = length-take (part.0 * unit_of old area) (padded_bytes (unit_of old area) bytes) in
       (take (part.0 * unit_of old area) (padded_bytes (unit_of old area) bytes), omega arith, sector_set old new area sector (overwritten (sector_bytes old area sector) at (take (part.0 * unit_of old area) (padded_bytes (unit_of old area) bytes))) zms part.2)
 
-  pub value_lost_others : WritesPart old new area sector at (padded_bytes (unit_of old area) bytes) → OthersStay old new area sector
-  value_lost_others part = others_set old new area sector (overwritten (sector_bytes old area sector) at (take (part.0 * unit_of old area) (padded_bytes (unit_of old area) bytes))) zms part.2
+  pub bytes_lost_others : WritesPart old new area sector at (padded_bytes (unit_of old area) bytes) → OthersStay old new area sector
+  bytes_lost_others part = others_set old new area sector (overwritten (sector_bytes old area sector) at (take (part.0 * unit_of old area) (padded_bytes (unit_of old area) bytes))) zms part.2
 
-  units_are : padded (unit_of old area) (length bytes) / unit_of old area ≡ data_len (length bytes) / 16
-  units_are = ap (λ (u : ℕ). padded u (length bytes) / u) (unit_is old area sector zms) ∙ ap (λ (n : ℕ). n / 16) (sym len_is)
+  units_are : padded (unit_of old area) (length bytes) / unit_of old area ≡ padded 16 (length bytes) / 16
+  units_are = ap (λ (u : ℕ). padded u (length bytes) / u) (unit_is old area sector zms)
 
-  pub value_spends : Spends old new (padded (unit_of old area) (length bytes) / unit_of old area) (padded (unit_of old area) (length bytes) / unit_of old area) → Spends old new (data_len (length bytes) / 16) (data_len (length bytes) / 16)
-  value_spends spends = subst (λ (n : ℕ). Spends old new n n) units_are spends
+  pub bytes_spend : Spends old new (padded (unit_of old area) (length bytes) / unit_of old area) (padded (unit_of old area) (length bytes) / unit_of old area) → Spends old new (padded 16 (length bytes) / 16) (padded 16 (length bytes) / 16)
+  bytes_spend spends = subst (λ (n : ℕ). Spends old new n n) units_are spends
 
-  pub value_spends_lost : Spends old new 0 (padded (unit_of old area) (length bytes) / unit_of old area) → Spends old new 0 (data_len (length bytes) / 16)
-  value_spends_lost spends = subst (λ (n : ℕ). Spends old new 0 n) units_are spends
+  pub bytes_spend_lost : Spends old new 0 (padded (unit_of old area) (length bytes) / unit_of old area) → Spends old new 0 (padded 16 (length bytes) / 16)
+  bytes_spend_lost spends = subst (λ (n : ℕ). Spends old new 0 n) units_are spends
+
+-- A value of more than 8 bytes.
+pub long_len : (len : ℕ) → 8 < len → data_len len ≡ padded 16 len
+long_len len long = data_len-long len (lt-leb len 8 long)
+
+pub long_value : (b : List ℕ) (at : ℕ) (bytes : List ℕ) → 8 < length bytes → overwritten b at (padded_bytes 16 bytes) ≡ with_value b at bytes
+long_value b at bytes long = sym (cond-false (leb (length bytes) 8) b (overwritten b at (padded_bytes 16 bytes)) (lt-leb (length bytes) 8 long))
 
 pub short_spends : (d : Device) (len : ℕ) → len ≤ 8 → Spends d d (data_len len / 16) (data_len len / 16)
 short_spends d len short = let none = data_len-short len short in spends_within (spends_none d) (data_len len / 16) (data_len len / 16) (omega arith) (omega arith)

@@ -71,3 +71,12 @@ value_entry cycle id bytes offset = record {
   id = id;
   tail = if nat_le (length bytes) 8 then bytes ++ replicate (8 - length bytes) 0 else to_le_bytes w32 offset ++ replicate 4 0;
 }
+
+-- the entry of the same value in another sector
+abbrev pub moved_entry : ℕ → ZEntry → ℕ → ZEntry
+moved_entry cycle e offset = record {
+  cycle = cycle;
+  len = e.len;
+  id = e.id;
+  tail = if nat_le e.len 8 then take e.len e.tail ++ replicate (8 - e.len) 0 else to_le_bytes w32 offset ++ replicate 4 0;
+}

@@ -1,6 +1,6 @@
 -- How one sector reads. Values grow upward from its start, and slots of sixteen bytes downward from its end.
 -- Slot 0 holds the empty entry, which gives the sector's cycle; slot 1 is for the close entry; entries follow from slot 2.
-use Rattle.std.specs.Prelude.{◌≡◌, ◌⊎◌, ℕ, ◌+◌, ◌-◌, ◌*◌, ◌%◌, ◌<◌, ◌≤◌, max, Bool, true, false, ◌&&◌, List, length, take, map, fold, sum_by, slice_range, Option, Some, None, ◌==◌, nat_le, if◌then◌else◌}
+use Rattle.std.specs.Prelude.{◌≡◌, ◌⊎◌, ℕ, ◌+◌, ◌-◌, ◌*◌, ◌%◌, ◌<◌, ◌≤◌, max, Bool, true, false, ◌&&◌, List, [], length, take, map, fold, sum_by, slice_range, Option, Some, None, ◌==◌, nat_le, if◌then◌else◌}
 use Rattle.std.specs.List.{filter_map, list_all, list_any}
 use Rattle.std.specs.Option.{option_and_then, option_map_or}
 use Rattle.flash_map.specs.Units.{padded}
@@ -111,3 +111,11 @@ pair_of sector f = (f.entry.id, value_of sector f.entry)
 -- the sector's part of the list: ids with their bytes, in the order in which they were put
 abbrev pub pairs : List ℕ → List (ℕ × List ℕ)
 pairs sector = map (pair_of sector) (entries sector)
+
+-- the length of the value of the ordinary entry in a slot; 0 where there is none
+abbrev pub entry_len : List ℕ → ℕ → ℕ
+entry_len sector slot = option_map_or (λ f. f.entry.len) (entry_in (slot_of sector slot)) 0
+
+-- the pair of the ordinary entry in a slot
+abbrev pub pair_at : List ℕ → ℕ → ℕ × List ℕ
+pair_at sector slot = option_map_or (pair_of sector) (entry_in (slot_of sector slot)) (0, [])

@@ -1,7 +1,10 @@
 // Entries with their values.
 ghost use Rattle.std.specs.Prelude.{◌≡◌, ◌+◌, ◌-◌, ◌*◌, ◌/◌, ◌%◌, ◌^◌, ◌<◌, ◌≤◌, ◌∷◌, [], ◌++◌, nat_le, length, replicate, is_err, IsTrue, IsSome, OnOk, OnErr, if◌then◌else◌};
 ghost use Rattle.std.specs.Int.{w32, to_le_bytes};
+ghost use Rattle.flash_sim.specs.Device.{overwritten};
 ghost use Rattle.flash_map.specs.Area.{sector_size, sector_bytes};
+ghost use Rattle.flash_map.specs.Pieces.{padded_bytes};
+ghost use Rattle.flash_map.specs.Units.{padded};
 ghost use Rattle.flash_map.specs.Spending.{Spends};
 ghost use Rattle.flash_map.specs.Touches.{Touches};
 ghost use Rattle.zms_cycle.specs.Areas.{IsZmsSector, HasSlot, OthersStay};
@@ -17,19 +20,32 @@ use flash_sim::{Flash, PowerLost, Steps};
 use std::sync::ledger::Ledger;
 
 // The longest value that its entry holds.
-const INLINE: usize = 8;
+pub const INLINE: usize = 8;
 
-// The tail of a value's entry: the value, or its offset.
+// The tail that holds a value of at most 8 bytes.
+pub fn short_tail(bytes: &[u8]) -> [u8; 8]
+    requires { length bytes.now ≤ 8 }
+    ensures { result ≡ bytes.now ++ replicate (8 - length bytes.now) 0 }
+{
+    let mut tail = [0; 8];
+    tail[..bytes.len()].copy_from_slice(bytes);
+    tail
+}
+
+// The tail that holds the offset of a value.
+pub fn long_tail(offset: u32) -> [u8; 8]
+    ensures { result ≡ to_le_bytes w32 offset ++ replicate 4 0 }
+{
+    let mut tail = [0; 8];
+    tail[..4].copy_from_slice(&offset.to_le_bytes());
+    tail
+}
+
+// The tail of a value's entry.
 fn tail_of(bytes: &[u8], offset: u32) -> [u8; 8]
     ensures { result ≡ (if nat_le (length bytes.now) 8 then bytes.now ++ replicate (8 - length bytes.now) 0 else to_le_bytes w32 offset ++ replicate 4 0) }
 {
-    let mut tail = [0; 8];
-    if bytes.len() <= INLINE {
-        tail[..bytes.len()].copy_from_slice(bytes);
-        return tail;
-    }
-    tail[..4].copy_from_slice(&offset.to_le_bytes());
-    tail
+    if bytes.len() <= INLINE { short_tail(bytes) } else { long_tail(offset) }
 }
 
 // The entry of a value.
@@ -43,6 +59,29 @@ fn value_entry(cycle: u8, id: u32, bytes: &[u8], offset: u32) -> ZEntry
         id,
         tail: tail_of(bytes, offset),
     }
+}
+
+// Programs bytes, padded to whole units.
+pub fn put_bytes<F: Flash>(
+    flash: &mut F,
+    area: &Area,
+    sector: u32,
+    at: u32,
+    bytes: &[u8],
+) -> Result<(), PowerLost>
+    requires zms { IsZmsSector (F.device flash.old) area.now sector }
+    requires fits { at + padded 16 (length bytes.now) ≤ sector_size (F.device flash.old) area.now }
+    requires aligned { at % 16 ≡ 0 }
+
+    ensures touches { Touches (area.now ∷ []) (F.device flash.old) (F.device flash.new) (is_err result) }
+    ensures others { OthersStay (F.device flash.old) (F.device flash.new) area.now sector }
+    ensures ok { OnOk result (sector_bytes (F.device flash.new) area.now sector ≡ overwritten (sector_bytes (F.device flash.old) area.now sector) at (padded_bytes 16 bytes.now)) }
+    ensures lost { OnErr result (HasPart (sector_bytes (F.device flash.old) area.now sector) (sector_bytes (F.device flash.new) area.now sector) at (padded 16 (length bytes.now))) }
+    ensures spends { let units = padded 16 (length bytes.now) / 16 in
+        OnOk result (Spends (F.device flash.old) (F.device flash.new) units units) }
+    ensures spends_lost { OnErr result (Spends (F.device flash.old) (F.device flash.new) 0 (padded 16 (length bytes.now) / 16)) }
+{
+    program_padded(flash, area, sector, at, bytes)
 }
 
 // Programs a value, where its entry does not hold it.
@@ -68,7 +107,7 @@ fn put_value<F: Flash>(
     if bytes.len() <= INLINE {
         return Ok(());
     }
-    program_padded(flash, area, sector, at, bytes)
+    put_bytes(flash, area, sector, at, bytes)
 }
 
 /// Puts a value, in calls of at most 400 bytes, and then its entry, under which the guard is set first. No bytes are a

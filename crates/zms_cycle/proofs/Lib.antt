@@ -2,6 +2,7 @@ pub mod Appends
 pub mod AreaFacts
 pub mod Bytes
 pub mod CloseCalls
+pub mod CopyCalls
 pub mod EmptyCalls
 pub mod EntryCalls
 pub mod Frames

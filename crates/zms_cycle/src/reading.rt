@@ -175,7 +175,7 @@ fn holds_done(entry: &Option<ZEntry>) -> bool
 }
 
 // Where a value of more than 8 bytes stands in the sector.
-fn offset_of(entry: &ZEntry) -> u32
+pub fn offset_of(entry: &ZEntry) -> u32
     ensures { result ≡ offset_of entry.now }
 {
     u32::from_le_bytes([entry.tail[0], entry.tail[1], entry.tail[2], entry.tail[3]])

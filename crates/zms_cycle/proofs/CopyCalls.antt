@@ -3,8 +3,8 @@ use Rattle.std.proofs.Common.{◌≡◌, ℕ, zero, suc, ◌+◌, ◌-◌, ◌*�
 use Rattle.std.specs.Prelude.{slice_range}
 use Rattle.std.specs.List.{filter_map, cons_option, list_all, range_with_len}
 use Rattle.std.specs.Option.{option_and_then, option_map_or}
-use Rattle.std.proofs.lemmas.Bool.{cases_Bool, cond-true, cond-false, leb-true, leb-false, and_parts, le-leb, lt-leb}
-use Rattle.std.proofs.lemmas.List.{places, same_lists, length-take-le, length-drop, length-append, take_all, append-nil, get_or-set_other}
+use Rattle.std.proofs.lemmas.Bool.{cases_Bool, cases_eq, false≢true, eq-eqb, cond-true, cond-false, leb-true, leb-false, and_parts, le-leb, lt-leb}
+use Rattle.std.proofs.lemmas.List.{places, same_lists, length-take-le, length-take, length-drop, length-append, take_all, append-nil, get_or-set_other}
 use Rattle.flash_sim.specs.Device.{Device, overwritten}
 use Rattle.flash_map.specs.declared.area.Area.{Area}
 use Rattle.flash_map.specs.Area.{sectors_of, sector_bytes}
@@ -20,11 +20,11 @@ use Rattle.slot_list.proofs.SlotLemmas.{index-slot_at, used_slots-from}
 use Rattle.zms_cycle.specs.declared.entry.ZEntry.{ZEntry}
 use Rattle.zms_cycle.specs.declared.reading.Found.{Found}
 use Rattle.zms_cycle.specs.Areas.{OthersStay}
-use Rattle.zms_cycle.specs.Changes.{HasPart}
+use Rattle.zms_cycle.specs.Changes.{with_value, HasPart}
 use Rattle.zms_cycle.specs.Entries.{decoded, offset_of, is_special, value_entry, moved_entry}
-use Rattle.zms_cycle.specs.Sector.{slot_of, is_valid, cycle_of, entry_in, entry_len, pair_at, pair_of, value_of, low, entries, is_under, valid_slots}
+use Rattle.zms_cycle.specs.Sector.{slot_of, is_valid, cycle_of, entry_in, entry_len, pair_at, pair_of, value_of, low, entries, is_under, is_sound, valid_slots}
 use Rattle.zms_cycle.proofs.Slots16.{entry_in-is}
-use Rattle.zms_cycle.proofs.Frames.{IsSound, pad, padded-aligned, under-parts, value_end-long, fence_of}
+use Rattle.zms_cycle.proofs.Frames.{IsSound, sound-parts, pad, padded-aligned, under-parts, value_end-long, fence_of}
 
 -- The entry that is read.
 
@@ -212,3 +212,49 @@ padded_at len count to size same fits = let e : padded 16 count ≡ padded 16 le
 
 pub padded_sum : (done n : ℕ) → done % 16 ≡ 0 → padded 16 (done + n) ≡ done + padded 16 n
 padded_sum done n whole = padded_more done n whole
+
+-- a value that has its length stands in the sector
+pub range_fits : (b : List ℕ) (from len : ℕ) → 0 < len → length (slice_range b from (from + len)) ≡ len → from + len ≤ length b
+range_fits b from len some long =
+    let width : from + len - from ≡ len = omega arith in
+    let cut : length (take len (drop from b)) ≡ len = ap (λ (n : ℕ). length (take n (drop from b))) (sym width) ∙ long in
+    omega (arith, length-take len (drop from b), length-drop from b, cut)
+
+pub with_copy : (b c : List ℕ) (e : ZEntry) (to : ℕ) → 8 < e.len → length (value_of c e) ≡ e.len → overwritten b to (padded_bytes 16 (slice_range c (offset_of e) (offset_of e + e.len))) ≡ with_value b to (value_of c e)
+with_copy b c e to long len =
+    ap (λ (p : List ℕ). overwritten b to (padded_bytes 16 p)) (sym (long_value_is c e long)) ∙ sym (cond-false (leb (length (value_of c e)) 8) b (overwritten b to (padded_bytes 16 (value_of c e))) (lt-leb (length (value_of c e)) 8 (omega (arith, len))))
+
+-- everything that is known of the entry that is copied
+pub record IsCopied (b : List ℕ) (slot : ℕ) (e : ZEntry) : Type 0 where
+  pub len : length (value_of b e) ≡ e.len
+  pub listed_len : entry_len b slot ≡ e.len
+  pub pair : pair_at b slot ≡ (e.id, value_of b e)
+
+pub copied : (b : List ℕ) (slot : ℕ) (e : ZEntry) → is_sound b ≡ true → 2 ≤ slot → slot < length (valid_slots b) + 2 → length e.tail ≡ 8 → entry_in (slot_of b slot) ≡ Some (record { slot = slot; entry = e }) → IsCopied b slot e
+copied b slot e sound from below eight is =
+    let parts = sound-parts b sound in
+    let f : Found = record { slot = slot; entry = e } in
+    record {
+      len = value_len b f (low b - 16) eight (listed_under b slot f parts from below is) (omega arith);
+      listed_len = entry_len_is b slot e is;
+      pair = pair_is b slot e is;
+    }
+
+-- an ordinary entry is not special
+pub ordinary_id : (slot : Slot) (e : ZEntry) (index : ℕ) → e.id < 2 ^ 32 → entry_in slot ≡ Some (record { slot = index; entry = e }) → e.id < 0xFFFFFFFF
+ordinary_id slot e index small is = elim (cases_eq e.id 0xFFFFFFFF) [
+  | inl special ↦ absurd (never (decoded slot.bytes) (sym (entry_in-is slot (decoded slot.bytes) refl) ∙ is) special)
+  | inr other ↦ omega (arith, other)
+]
+  where
+    from_cond : (t : Bool) (x y : Found) → cond t None (Some x) ≡ Some y → (t ≡ false) × (x ≡ y)
+    from_cond true x y h = cc
+    from_cond false x y h = (refl, cc)
+
+    never : (o : Option ZEntry) → option_and_then {U = Found} (λ e. cond (is_special e) None (Some (record { slot = slot.index; entry = e }))) o ≡ Some (record { slot = index; entry = e }) → e.id ≡ 0xFFFFFFFF → ⊥
+    never None h special = cc
+    never (Some x) h special =
+        let parts = from_cond (is_special x) (record { slot = slot.index; entry = x }) (record { slot = index; entry = e }) h in
+        let same : x ≡ e = ap (λ (f : Found). f.entry) parts.1 in
+        let id : x.id ≡ 0xFFFFFFFF = ap (λ (z : ZEntry). z.id) same ∙ special in
+        false≢true (sym parts.0 ∙ eq-eqb x.id 0xFFFFFFFF id)

@@ -152,7 +152,7 @@ fn copy_value<F: Flash, L: Ledger>(
     if from.len as usize <= INLINE {
         return Ok(());
     }
-    copy_bytes(flash, area, sector, to, from_sector, offset_of(from), u32::from(from.len), steps)
+    copy_bytes(flash, area, sector, to, from_sector, offset_of(from), from.len as u32, steps)
 }
 
 /// Copies an entry of another sector's list, its value in pieces of at most 32 bytes and then the entry, under which the

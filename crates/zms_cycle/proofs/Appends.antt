@@ -1,25 +1,24 @@
 -- What an entry in the guard slot makes of a sector.
-use Rattle.std.proofs.Common.{◌≡◌, ℕ, ◌+◌, ◌-◌, ◌*◌, ◌%◌, ◌^◌, ◌<◌, ◌≤◌, max, Bool, true, false, ◌&&◌, ◌||◌, cond, eqb, leb, ◌⊎◌, List, [], ◌∷◌, ◌++◌, length, map, take, Option, Some, None, refl, sym, ap, subst, ◌∙◌, inl, inr, arith}
+use Rattle.std.proofs.Common.{◌≡◌, ℕ, ◌+◌, ◌-◌, ◌*◌, ◌%◌, ◌^◌, ◌<◌, ◌≤◌, max, Bool, true, false, ◌&&◌, ◌||◌, cond, eqb, leb, List, [], ◌∷◌, ◌++◌, length, map, take, Option, Some, None, refl, sym, ap, subst, ◌∙◌, inl, inr, arith}
 use Rattle.std.specs.Prelude.{slice_range, fold, sum_by}
 use Rattle.std.specs.List.{filter_map, cons_option, list_any, list_all}
 use Rattle.std.specs.Int.{w32, from_le_bytes}
-use Rattle.std.proofs.lemmas.Bool.{cases_Bool, cases_lt, cond-true, cond-false, and_from, and_parts, leb-true, eqb-true, eq-eqb, le-leb, or_right}
+use Rattle.std.proofs.lemmas.Bool.{cases_Bool, cond-true, cond-false, and_from, and_parts, leb-true, eqb-true, eq-eqb, le-leb, or_right}
 use Rattle.std.proofs.lemmas.List.{map_push, append-nil, length-append}
 use Rattle.std.proofs.lemmas.List.Sums.{fold_push, sum_by_push}
 use Rattle.std.proofs.lemmas.List.Folds.{list_any-append}
 use Rattle.std.proofs.lemmas.List.Elements.{filter_map-append}
 use Rattle.flash_map.specs.Units.{padded}
 use Rattle.slot_list.specs.Slots.{Slot, used_slots}
-use Rattle.slot_list.proofs.SlotLemmas.{index-slot_at}
 use Rattle.slot_list.proofs.SlotChanges.{SameFrom, slot_at-same, slot_at-from, used_slots-more}
 use Rattle.zms_cycle.specs.declared.entry.ZEntry.{ZEntry}
-use Rattle.zms_cycle.specs.Entries.{encoded, decoded, offset_of, is_special, is_done, value_entry, done_entry}
+use Rattle.zms_cycle.specs.Entries.{encoded, decoded, offset_of, value_entry, done_entry}
 use Rattle.zms_cycle.specs.declared.reading.Found.{Found}
-use Rattle.zms_cycle.specs.Sector.{slot_of, is_valid_under, is_valid, cycle_of, valid_slots, is_closed, entry_in, entries, holds_done, has_gc_done, data_len, low, value_end, end_of, data_end, is_under, is_sound, value_of, pair_of, pairs}
-use Rattle.zms_cycle.specs.Changes.{with_slot, KeepsSlots, KeepsList, AddsPair, MarksDone}
-use Rattle.zms_cycle.proofs.Bytes.{IsEntry, IsEntry-value, IsEntry-done, length-encoded, decoded-encoded, four_bytes, value_entry-short, value_entry-long, take-short, ordinary-not_special, ordinary-not_done, done-is_done}
-use Rattle.zms_cycle.proofs.Slots16.{valid-is, done-is, entry_in-is, slot-put, with_slot-above, with_slot-below, length-with_slot}
-use Rattle.zms_cycle.proofs.Frames.{IsSound, pad, data_len-short, data_len-long, value_end-long, value_end-short, end_of-above, pairs-same, under-parts, data_end-aligned, cycle_of-same, closed-same, fence_of, fold_max-ge}
+use Rattle.zms_cycle.specs.Sector.{slot_of, is_valid, cycle_of, valid_slots, is_closed, entry_in, entries, holds_done, data_len, low, value_end, end_of, data_end, is_under, is_sound, value_of, pair_of, pairs}
+use Rattle.zms_cycle.specs.Changes.{with_slot, KeepsList, AddsPair, MarksDone}
+use Rattle.zms_cycle.proofs.Bytes.{IsEntry, length-encoded, decoded-encoded, four_bytes, value_entry-short, value_entry-long, take-short, ordinary-not_special, ordinary-not_done, done-is_done}
+use Rattle.zms_cycle.proofs.Slots16.{valid-is, done-is, entry_in-is, slot-put, with_slot-above, with_slot-below}
+use Rattle.zms_cycle.proofs.Frames.{IsSound, pad, data_len-short, data_len-long, value_end-long, value_end-short, end_of-above, pairs-same, data_end-aligned, cycle_of-same, closed-same, fence_of, fold_max-ge}
 
 -- The sector has one valid slot more, with this entry, and reads as before elsewhere.
 pub record HasSlotMore (old new : List ℕ) (e : ZEntry) : Type 0 where

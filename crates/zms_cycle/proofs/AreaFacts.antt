@@ -1,11 +1,10 @@
 -- What is known of a sector of a ZMS area.
-use Rattle.std.proofs.Common.{◌≡◌, ℕ, ◌+◌, ◌-◌, ◌*◌, ◌%◌, ◌<◌, ◌≤◌, List, [], length, set, get_or, take, drop, sym, ap, subst, ◌∙◌, arith}
+use Rattle.std.proofs.Common.{◌≡◌, ℕ, ◌+◌, ◌-◌, ◌*◌, List, [], length, set, get_or, drop, sym, ap, subst, ◌∙◌, arith}
 use Rattle.std.specs.Prelude.{slice_range}
 use Rattle.std.proofs.lemmas.List.{take_all, get_or-set_same, set-set, set-get_or}
-use Rattle.flash_sim.specs.Bank.{IsLawful, bank_at}
-use Rattle.flash_sim.specs.Device.{Device, bank_of, bytes_of, overwritten}
+use Rattle.flash_sim.specs.Bank.{IsLawful}
+use Rattle.flash_sim.specs.Device.{Device, bank_of, bytes_of}
 use Rattle.flash_sim.specs.declared.flash.Bank.{Bank}
-use Rattle.flash_sim.specs.declared.flash.Kind.{Kind}
 use Rattle.flash_sim.specs.declared.flash.Kind.TheVariants.{Erasing, Rewritable}
 use Rattle.flash_map.specs.declared.area.Area.{Area}
 use Rattle.flash_map.specs.declared.area.Role.{Role}

@@ -1,18 +1,12 @@
 -- Entries and their bytes.
-use Rattle.std.proofs.Common.{◌≡◌, ℕ, ◌+◌, ◌-◌, ◌*◌, ◌%◌, ◌/◌, ◌^◌, ◌<◌, ◌≤◌, Bool, true, false, not, ◌&&◌, cond, eqb, leb, ◌⊎◌, List, [], ◌∷◌, ◌++◌, length, get_or, take, drop, replicate, Option, Some, None, refl, sym, ap, subst, ◌∙◌, inl, inr, arith, eq-eqb}
-use Rattle.std.specs.Prelude.{slice_index}
-use Rattle.std.specs.List.{range_with_len}
-use Rattle.std.specs.Option.{option_and_then, option_map_or}
+use Rattle.std.proofs.Common.{◌≡◌, ℕ, ◌-◌, ◌%◌, ◌/◌, ◌^◌, ◌<◌, ◌≤◌, Bool, true, false, ◌&&◌, cond, eqb, leb, List, [], ◌∷◌, ◌++◌, length, get_or, take, drop, replicate, Some, None, refl, sym, ap, ◌∙◌, inl, inr, arith, eq-eqb}
 use Rattle.std.specs.Int.{w16, w32, to_le_bytes, from_le_bytes}
-use Rattle.std.proofs.lemmas.List.{take_all, length-append, length-replicate, take-append-le, take_at}
+use Rattle.std.proofs.lemmas.List.{take_all, length-append, length-replicate, take-append-le}
 use Rattle.std.proofs.lemmas.List.FromFn.{fill_by_all}
 use Rattle.std.proofs.lemmas.Bool.{ne_eqb, and_left, cases_Bool, leb-true, cond-true, cond-false}
 use Rattle.crc8_entry.specs.Crc.{crc, extended, bits_of}
-use Rattle.slot_list.specs.Slots.{Slot}
 use Rattle.zms_cycle.specs.declared.entry.ZEntry.{ZEntry}
-use Rattle.zms_cycle.specs.Entries.{fields, encoded, entry_of, decoded, fill, offset_of, is_special, is_empty, is_close, is_done, empty_entry, close_entry, done_entry, value_entry}
-use Rattle.zms_cycle.specs.declared.reading.Found.{Found}
-use Rattle.zms_cycle.specs.Sector.{is_valid_under, holds_close, holds_done, entry_in}
+use Rattle.zms_cycle.specs.Entries.{fields, encoded, entry_of, decoded, fill, is_special, is_empty, is_close, is_done, empty_entry, close_entry, done_entry, value_entry}
 
 -- a list of eight, cell by cell
 pub eight_cells : (xs : List ℕ) → length xs ≡ 8

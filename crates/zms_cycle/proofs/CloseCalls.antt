@@ -1,5 +1,5 @@
 -- Closing a sector of an area.
-use Rattle.std.proofs.Common.{◌≡◌, ◌⊎◌, ℕ, ◌+◌, ◌-◌, ◌*◌, ◌/◌, ◌^◌, ◌<◌, ◌≤◌, min, true, List, [], length, take, drop, Option, Some, sym, ap, subst, ◌∙◌, arith, rules}
+use Rattle.std.proofs.Common.{◌≡◌, ℕ, ◌+◌, ◌-◌, ◌*◌, ◌/◌, ◌^◌, ◌<◌, ◌≤◌, min, true, List, length, take, drop, Some, sym, ap, subst, ◌∙◌, arith, rules}
 use Rattle.std.specs.Prelude.{slice_range}
 use Rattle.std.proofs.lemmas.List.{places, same_lists}
 use Rattle.flash_sim.specs.Device.{overwritten}
@@ -8,7 +8,7 @@ use Rattle.zms_cycle.specs.Entries.{encoded, fill, close_entry}
 use Rattle.zms_cycle.specs.Sector.{cycle_of, valid_slots, low, data_end, free, is_sound}
 use Rattle.zms_cycle.specs.Changes.{with_slot, KeepsList, Closes}
 use Rattle.zms_cycle.proofs.Slots16.{covers-fill}
-use Rattle.zms_cycle.proofs.Frames.{IsSound, sound-parts, keeps_then, keeps-covered}
+use Rattle.zms_cycle.proofs.Frames.{sound-parts, keeps_then, keeps-covered}
 use Rattle.zms_cycle.proofs.Marks.{closes}
 
 -- bytes that stand there already

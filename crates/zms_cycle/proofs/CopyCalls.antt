@@ -1,10 +1,10 @@
 -- Copying a value, and its entry.
-use Rattle.std.proofs.Common.{◌≡◌, ℕ, zero, suc, ◌+◌, ◌-◌, ◌*◌, ◌/◌, ◌%◌, ◌^◌, ◌<◌, ◌≤◌, min, Bool, true, false, ◌&&◌, cond, eqb, leb, List, [], ◌∷◌, ◌++◌, length, map, get_or, set, take, drop, replicate, Option, Some, None, refl, sym, ap, subst, ◌∙◌, inl, inr, arith, rules}
+use Rattle.std.proofs.Common.{◌≡◌, ℕ, zero, suc, ◌+◌, ◌-◌, ◌/◌, ◌%◌, ◌^◌, ◌<◌, ◌≤◌, min, Bool, true, false, cond, leb, List, [], ◌∷◌, ◌++◌, length, map, get_or, take, drop, replicate, Option, Some, None, refl, sym, ap, ◌∙◌, inl, inr, arith, rules}
 use Rattle.std.specs.Prelude.{slice_range}
 use Rattle.std.specs.List.{filter_map, cons_option, list_all, range_with_len}
 use Rattle.std.specs.Option.{option_and_then, option_map_or}
-use Rattle.std.proofs.lemmas.Bool.{cases_Bool, cases_eq, false≢true, eq-eqb, cond-true, cond-false, leb-true, leb-false, and_parts, le-leb, lt-leb}
-use Rattle.std.proofs.lemmas.List.{places, same_lists, length-take-le, length-take, length-drop, length-append, take_all, append-nil, get_or-set_other}
+use Rattle.std.proofs.lemmas.Bool.{cases_Bool, cases_eq, false≢true, eq-eqb, cond-true, cond-false, leb-true, and_parts, lt-leb}
+use Rattle.std.proofs.lemmas.List.{places, same_lists, length-take-le, length-take, length-drop, length-append, append-nil, get_or-set_other}
 use Rattle.flash_sim.specs.Device.{Device, overwritten}
 use Rattle.flash_map.specs.declared.area.Area.{Area}
 use Rattle.flash_map.specs.Area.{sectors_of, sector_bytes}
@@ -22,7 +22,7 @@ use Rattle.zms_cycle.specs.declared.reading.Found.{Found}
 use Rattle.zms_cycle.specs.Areas.{OthersStay}
 use Rattle.zms_cycle.specs.Changes.{with_value, HasPart}
 use Rattle.zms_cycle.specs.Entries.{decoded, offset_of, is_special, value_entry, moved_entry}
-use Rattle.zms_cycle.specs.Sector.{slot_of, is_valid, cycle_of, entry_in, entry_len, pair_at, pair_of, value_of, low, entries, is_under, is_sound, valid_slots}
+use Rattle.zms_cycle.specs.Sector.{slot_of, is_valid, cycle_of, entry_in, entry_len, pair_at, pair_of, value_of, low, is_under, is_sound, valid_slots}
 use Rattle.zms_cycle.proofs.Slots16.{entry_in-is}
 use Rattle.zms_cycle.proofs.Frames.{IsSound, sound-parts, pad, padded-aligned, under-parts, value_end-long, fence_of}
 

@@ -1,5 +1,5 @@
 -- The calls that put a value, an entry and gc-done, by what the calls below them leave.
-use Rattle.std.proofs.Common.{◌≡◌, ℕ, ◌+◌, ◌-◌, ◌*◌, ◌/◌, ◌%◌, ◌^◌, ◌<◌, ◌≤◌, min, Bool, true, false, cond, eqb, leb, ◌⊎◌, List, [], ◌∷◌, ◌++◌, length, set, take, Option, Some, None, refl, sym, ap, subst, ◌∙◌, inl, inr, arith}
+use Rattle.std.proofs.Common.{◌≡◌, ℕ, ◌+◌, ◌-◌, ◌*◌, ◌/◌, ◌%◌, ◌^◌, ◌<◌, ◌≤◌, min, true, leb, ◌⊎◌, List, length, take, Some, refl, sym, ap, subst, ◌∙◌, inl, inr, arith}
 use Rattle.std.proofs.lemmas.Bool.{cases_Bool, cond-true, cond-false, leb-true, le-leb, lt-leb}
 use Rattle.std.specs.Prelude.{slice_range}
 use Rattle.std.proofs.lemmas.List.{length-take}
@@ -7,19 +7,19 @@ use Rattle.flash_sim.specs.Bank.{IsLawful, bank_at}
 use Rattle.flash_sim.specs.Device.{Device, overwritten}
 use Rattle.flash_sim.specs.declared.flash.Bank.{Bank}
 use Rattle.flash_map.specs.declared.area.Area.{Area}
-use Rattle.flash_map.specs.Area.{unit_of, sector_size, sectors_of, sector_bytes, Writes, WritesPart}
+use Rattle.flash_map.specs.Area.{unit_of, sector_size, sector_bytes, Writes, WritesPart}
 use Rattle.flash_map.specs.Pieces.{CanProgramAll, padded_bytes}
 use Rattle.flash_map.specs.Spending.{Spends}
 use Rattle.flash_map.specs.Units.{padded}
 use Rattle.flash_map.proofs.Padding.{length-padded_bytes}
-use Rattle.flash_map.proofs.Spending.{spends_none, spends_then, spends_within}
+use Rattle.flash_map.proofs.Spending.{spends_none, spends_within}
 use Rattle.zms_cycle.specs.declared.entry.ZEntry.{ZEntry}
 use Rattle.zms_cycle.specs.Areas.{IsZmsSector, HasSlot, OthersStay}
 use Rattle.zms_cycle.specs.Entries.{encoded, value_entry, done_entry}
-use Rattle.zms_cycle.specs.Sector.{cycle_of, valid_slots, data_len, cost, low, data_end, free, is_sound}
+use Rattle.zms_cycle.specs.Sector.{cycle_of, valid_slots, data_len, low, data_end, is_sound}
 use Rattle.zms_cycle.specs.Changes.{with_slot, guarded, with_value, HasPart, KeepsList, AddsPair, MarksDone}
 use Rattle.zms_cycle.proofs.AreaFacts.{unit_is, never_erasing, size_is, sector_set, others_set}
-use Rattle.zms_cycle.proofs.Frames.{IsSound, sound-parts, pad, padded-aligned, data_len-short, data_len-long, data_end-aligned, keeps_same}
+use Rattle.zms_cycle.proofs.Frames.{IsSound, sound-parts, pad, padded-aligned, data_len-short, data_len-long, data_end-aligned}
 use Rattle.zms_cycle.proofs.PairCalls.{value_kept, value_stored, part_kept, guard_keeps, done_put, pair_put}
 
 -- Bytes that are padded to whole units.

@@ -1,9 +1,8 @@
 -- What stays of a sector where its slots and its values are not touched.
-use Rattle.std.proofs.Common.{◌≡◌, ℕ, ◌+◌, ◌-◌, ◌*◌, ◌%◌, ◌<◌, ◌≤◌, max, Bool, true, false, ◌&&◌, cond, eqb, leb, ◌⊎◌, List, [], ◌∷◌, ◌++◌, length, map, take, Option, Some, None, refl, sym, ap, subst, ◌∙◌, inl, inr, arith}
+use Rattle.std.proofs.Common.{◌≡◌, ℕ, ◌+◌, ◌-◌, ◌*◌, ◌%◌, ◌≤◌, max, true, false, ◌&&◌, eqb, leb, List, [], ◌∷◌, length, map, take, Option, refl, sym, ap, subst, ◌∙◌, inl, inr, arith}
 use Rattle.std.specs.Prelude.{slice_range, fold, sum_by}
 use Rattle.std.specs.List.{filter_map, list_any, list_all}
-use Rattle.std.proofs.Math.Nat.{zero-mod}
-use Rattle.std.proofs.lemmas.Bool.{cases_Bool, cases_lt, cond-true, cond-false, and_parts, and_from, leb-true, leb-false, eqb-true, le-leb}
+use Rattle.std.proofs.lemmas.Bool.{cases_Bool, cases_lt, cond-true, cond-false, and_parts, leb-true, eqb-true, le-leb}
 use Rattle.flash_map.specs.Units.{padded}
 use Rattle.flash_map.proofs.Rounding.{padding}
 use Rattle.flash_sim.specs.Device.{overwritten}
@@ -12,10 +11,9 @@ use Rattle.flash_map.proofs.Sectors.{length-overwritten}
 use Rattle.slot_list.specs.Slots.{Slot, used_slots}
 use Rattle.slot_list.proofs.SlotLemmas.{HasFence, HasFence-from_low}
 use Rattle.slot_list.proofs.SlotChanges.{SameFrom, slot_at-from, used_slots-kept}
-use Rattle.zms_cycle.specs.declared.entry.ZEntry.{ZEntry}
 use Rattle.zms_cycle.specs.Entries.{offset_of, decoded}
 use Rattle.zms_cycle.specs.declared.reading.Found.{Found}
-use Rattle.zms_cycle.specs.Sector.{slot_of, is_valid, cycle_of, valid_slots, holds_close, is_closed, entry_in, entries, holds_done, has_gc_done, data_len, low, value_end, end_of, data_end, is_under, has_guard, is_sound, value_of, pair_of, pairs}
+use Rattle.zms_cycle.specs.Sector.{slot_of, is_valid, cycle_of, valid_slots, holds_close, is_closed, entry_in, entries, holds_done, data_len, low, value_end, end_of, data_end, is_under, has_guard, is_sound, value_of, pair_of}
 use Rattle.zms_cycle.specs.Changes.{KeepsSlots, KeepsList}
 use Rattle.zms_cycle.proofs.Slots16.{Covers, covers-not_valid, covers-higher, cycle_of-is}
 

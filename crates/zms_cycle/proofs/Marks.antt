@@ -1,19 +1,19 @@
 -- What the close entry and emptying make of a sector.
-use Rattle.std.proofs.Common.{◌≡◌, ℕ, ◌+◌, ◌-◌, ◌*◌, ◌%◌, ◌<◌, ◌≤◌, max, Bool, true, false, ◌&&◌, cond, eqb, leb, ◌⊎◌, List, [], ◌∷◌, ◌++◌, length, map, Option, Some, None, refl, sym, ap, subst, ◌∙◌, inl, inr, arith}
-use Rattle.std.specs.Prelude.{slice_range, fold}
+use Rattle.std.proofs.Common.{◌≡◌, ℕ, ◌+◌, ◌-◌, ◌*◌, ◌%◌, ◌≤◌, max, true, false, ◌&&◌, eqb, leb, List, [], length, map, Option, Some, None, refl, sym, ap, subst, ◌∙◌, inl, inr, arith}
+use Rattle.std.specs.Prelude.{fold}
 use Rattle.std.specs.List.{filter_map, list_any, list_all}
 use Rattle.std.specs.Option.{option_map_or}
-use Rattle.std.proofs.lemmas.Bool.{cases_Bool, cond-true, cond-false, and_from, and_left, eq-eqb, eqb-true, ne_eqb, le-leb, false≢true}
+use Rattle.std.proofs.lemmas.Bool.{cases_Bool, cond-true, cond-false, and_from, and_left, eq-eqb, eqb-true, ne_eqb, le-leb}
 use Rattle.slot_list.specs.Slots.{Slot, used_slots}
 use Rattle.slot_list.proofs.SlotChanges.{slot_at-same, slot_at-from, used_slots-under}
 use Rattle.slot_list.proofs.SlotLemmas.{used_slots-from}
 use Rattle.zms_cycle.specs.declared.entry.ZEntry.{ZEntry}
 use Rattle.zms_cycle.specs.Entries.{encoded, decoded, fill, is_empty, close_entry, empty_entry}
 use Rattle.zms_cycle.specs.declared.reading.Found.{Found}
-use Rattle.zms_cycle.specs.Sector.{slot_of, is_valid_under, is_valid, cycle_of, valid_slots, holds_close, is_closed, entry_in, entries, holds_done, value_end, end_of, is_under, is_sound, low, pair_of, pairs}
+use Rattle.zms_cycle.specs.Sector.{slot_of, is_valid_under, is_valid, cycle_of, valid_slots, holds_close, is_closed, entry_in, entries, holds_done, value_end, end_of, is_under, is_sound, low, pair_of}
 use Rattle.zms_cycle.specs.Changes.{with_slot, guarded, KeepsSlots, KeepsList, KeepsState, Closes, next_cycle, Empties}
 use Rattle.zms_cycle.proofs.Bytes.{length-encoded, decoded-encoded, IsEntry-close, IsEntry-empty, close-is_close, empty-is_empty}
-use Rattle.zms_cycle.proofs.Slots16.{Covers, valid-is, close-is, cycle_of-is, not_valid, slot-put, with_slot-above, with_slot-below, decoded-put, covers-fill, covers-guarded, covers-higher, covers-lower, guarded-not_valid}
+use Rattle.zms_cycle.proofs.Slots16.{Covers, valid-is, close-is, cycle_of-is, not_valid, slot-put, with_slot-above, with_slot-below, decoded-put, covers-fill, covers-guarded, covers-higher, guarded-not_valid}
 use Rattle.zms_cycle.proofs.Frames.{IsSound, sound-parts, sound-ends, pairs-same, cycle_of-same, closed-same, slots-keep, keeps_same}
 
 -- the close entry in slot 1, after steps that kept the list

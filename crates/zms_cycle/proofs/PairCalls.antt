@@ -1,20 +1,20 @@
 -- An entry with its value, and gc-done, in a sector of an area.
-use Rattle.std.proofs.Common.{◌≡◌, ℕ, ◌+◌, ◌-◌, ◌*◌, ◌/◌, ◌%◌, ◌^◌, ◌<◌, ◌≤◌, min, Bool, true, false, cond, eqb, leb, ◌⊎◌, List, [], ◌∷◌, ◌++◌, length, take, Option, Some, None, Result, Ok, Err, OnOk, OnErr, refl, sym, ap, subst, ◌∙◌, inl, inr, arith}
-use Rattle.std.specs.Prelude.{slice_range, replicate, IsSome, IsTrue}
+use Rattle.std.proofs.Common.{◌≡◌, ℕ, ◌+◌, ◌-◌, ◌*◌, ◌^◌, ◌<◌, ◌≤◌, Bool, true, false, cond, eqb, leb, List, length, Option, Some, refl, sym, ap, subst, ◌∙◌, inl, inr, arith}
+use Rattle.std.specs.Prelude.{slice_range, replicate}
 use Rattle.std.proofs.lemmas.Bool.{cases_Bool, cond-true, cond-false, leb-true, eqb-true}
-use Rattle.std.proofs.lemmas.List.{take_at, length-take, length-take-le}
+use Rattle.std.proofs.lemmas.List.{take_at}
 use Rattle.flash_sim.specs.Device.{overwritten}
 use Rattle.flash_map.specs.Pieces.{padded_bytes}
 use Rattle.flash_map.specs.Units.{padded}
 use Rattle.flash_map.proofs.Ranges.{range_at}
-use Rattle.flash_map.proofs.Padding.{length-padded_bytes, take-padded_bytes}
+use Rattle.flash_map.proofs.Padding.{length-padded_bytes}
 use Rattle.zms_cycle.specs.declared.entry.ZEntry.{ZEntry}
 use Rattle.zms_cycle.specs.Entries.{encoded, value_entry, done_entry}
-use Rattle.zms_cycle.specs.Sector.{slot_of, is_valid, is_valid_under, cycle_of, valid_slots, has_gc_done, data_len, cost, low, data_end, free, is_sound, fits}
-use Rattle.zms_cycle.specs.Changes.{with_slot, guarded, with_value, HasPart, KeepsSlots, KeepsList, AddsPair, MarksDone}
+use Rattle.zms_cycle.specs.Sector.{slot_of, is_valid, cycle_of, valid_slots, has_gc_done, data_len, cost, low, data_end, free, fits}
+use Rattle.zms_cycle.specs.Changes.{with_slot, guarded, with_value, HasPart, KeepsList, AddsPair, MarksDone}
 use Rattle.zms_cycle.proofs.Bytes.{IsEntry, IsEntry-value, IsEntry-done}
 use Rattle.zms_cycle.proofs.Slots16.{Covers, covers-guarded, guarded-not_valid}
-use Rattle.zms_cycle.proofs.Frames.{IsSound, sound-parts, pad, data_len-short, data_len-long, keeps_then, keeps_same, keeps-data, keeps-covered}
+use Rattle.zms_cycle.proofs.Frames.{IsSound, pad, data_len-short, data_len-long, keeps_then, keeps_same, keeps-data, keeps-covered}
 use Rattle.zms_cycle.proofs.Appends.{HasSlotMore, has_slot_more, marks_done, adds_pair}
 
 at_least_two : (t : Bool) → 2 ≤ cond t 2 3

@@ -1,18 +1,16 @@
 -- One slot of a sector is overwritten: what the slots read.
-use Rattle.std.proofs.Common.{◌≡◌, ℕ, ◌+◌, ◌-◌, ◌*◌, ◌<◌, ◌≤◌, Bool, true, false, cond, eqb, ◌⊎◌, List, [], ◌∷◌, ◌++◌, length, take, Option, Some, None, refl, sym, ap, subst, ◌∙◌, inl, inr, arith}
+use Rattle.std.proofs.Common.{◌≡◌, ℕ, ◌+◌, ◌-◌, ◌*◌, ◌<◌, ◌≤◌, false, cond, eqb, ◌⊎◌, List, length, Option, Some, None, refl, sym, ap, subst, ◌∙◌, inl, inr, arith}
 use Rattle.std.specs.Prelude.{slice_range}
 use Rattle.std.specs.Option.{option_and_then, option_map_or}
 use Rattle.std.proofs.lemmas.Bool.{cases_Bool, cond-true, cond-false}
 use Rattle.std.proofs.lemmas.List.{take_all}
-use Rattle.flash_sim.specs.Device.{overwritten}
 use Rattle.flash_map.proofs.Ranges.{range_above, range_below, range_at}
 use Rattle.flash_map.proofs.Sectors.{length-overwritten}
-use Rattle.slot_list.specs.Slots.{Slot, slot_at}
-use Rattle.slot_list.proofs.SlotLemmas.{bytes-slot_at, index-slot_at}
+use Rattle.slot_list.specs.Slots.{Slot}
+use Rattle.slot_list.proofs.SlotLemmas.{bytes-slot_at}
 use Rattle.slot_list.proofs.SlotChanges.{SameFrom, slot_at-same, slot_at-from}
 use Rattle.zms_cycle.specs.declared.entry.ZEntry.{ZEntry}
 use Rattle.zms_cycle.specs.Entries.{decoded, fill, is_special, is_empty, is_close, is_done}
-use Rattle.zms_cycle.specs.declared.reading.Found.{Found}
 use Rattle.zms_cycle.specs.Sector.{slot_of, is_valid_under, is_valid, cycle_of, holds_close, holds_done, entry_in}
 use Rattle.zms_cycle.specs.Changes.{with_slot, guarded}
 use Rattle.zms_cycle.proofs.Bytes.{decoded-fill, length-fill}

@@ -1,5 +1,5 @@
 -- A call that programs one slot, and the guard.
-use Rattle.std.proofs.Common.{◌≡◌, ◌⊎◌, ℕ, ◌+◌, ◌-◌, ◌*◌, ◌/◌, ◌%◌, ◌<◌, ◌≤◌, Bool, true, false, cond, eqb, Result, Ok, Err, OnOk, OnErr, is_err, List, [], length, set, take, Option, refl, sym, ap, subst, ◌∙◌, inl, inr, arith}
+use Rattle.std.proofs.Common.{◌≡◌, ℕ, ◌+◌, ◌-◌, ◌*◌, ◌/◌, ◌%◌, ◌<◌, ◌≤◌, Bool, true, false, cond, eqb, Result, Ok, Err, OnOk, OnErr, List, length, set, take, Option, sym, ap, subst, ◌∙◌, inl, inr, arith}
 use Rattle.std.specs.Option.{option_map_or}
 use Rattle.std.proofs.lemmas.Bool.{cond-true, cond-false}
 use Rattle.flash_sim.specs.Bank.{IsLawful}
@@ -9,14 +9,14 @@ use Rattle.flash_map.specs.declared.area.Area.{Area}
 use Rattle.flash_map.specs.Area.{unit_of, sector_size, sectors_of, sector_bytes, CanProgramIn, Writes, WritesPart}
 use Rattle.flash_map.specs.Spending.{Spends}
 use Rattle.flash_map.proofs.AreaCalls.{unwritten}
-use Rattle.flash_map.proofs.Spending.{spends_program, spends_then, spends_within, spends_none}
+use Rattle.flash_map.proofs.Spending.{spends_program, spends_within}
 use Rattle.zms_cycle.specs.declared.entry.ZEntry.{ZEntry}
-use Rattle.zms_cycle.specs.Entries.{decoded, encoded, fill}
+use Rattle.zms_cycle.specs.Entries.{decoded, fill}
 use Rattle.zms_cycle.specs.Areas.{IsZmsSector, HasSlot, OthersStay}
 use Rattle.zms_cycle.specs.Changes.{with_slot, guarded}
 use Rattle.zms_cycle.specs.Sector.{slot_of, is_valid_under}
-use Rattle.zms_cycle.proofs.AreaFacts.{unit_is, never_erasing, size_is, sector_set, others_set, others_same}
-use Rattle.zms_cycle.proofs.Slots16.{valid-is, guarded-not_valid}
+use Rattle.zms_cycle.proofs.AreaFacts.{unit_is, never_erasing, size_is, sector_set, others_set}
+use Rattle.zms_cycle.proofs.Slots16.{valid-is}
 
 -- what holds at both ends of a call
 pub both_ends : {T E P : Type 0} (r : Result T E) → OnOk r P → OnErr r P → P

@@ -1,5 +1,5 @@
 -- Entries, and their sixteen bytes. An entry with the id FFFFFFFF is a special one and holds no value.
-use Rattle.std.specs.Prelude.{ℕ, ◌-◌, Bool, ◌&&◌, List, [], ◌∷◌, ◌++◌, length, nat_le, take, drop, replicate, slice_range, slice_index, Option, Some, None, ◌==◌, if◌then◌else◌}
+use Rattle.std.specs.Prelude.{ℕ, ◌-◌, Bool, ◌&&◌, List, ◌∷◌, ◌++◌, length, nat_le, take, drop, replicate, slice_range, slice_index, Option, Some, None, ◌==◌, if◌then◌else◌}
 use Rattle.std.specs.List.{list_all}
 use Rattle.std.specs.Int.{w16, w32, to_le_bytes, from_le_bytes}
 use Rattle.crc8_entry.specs.Crc.{crc}

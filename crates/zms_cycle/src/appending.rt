@@ -45,7 +45,11 @@ pub fn long_tail(offset: u32) -> [u8; 8]
 fn tail_of(bytes: &[u8], offset: u32) -> [u8; 8]
     ensures { result ≡ (if nat_le (length bytes.now) 8 then bytes.now ++ replicate (8 - length bytes.now) 0 else to_le_bytes w32 offset ++ replicate 4 0) }
 {
-    if bytes.len() <= INLINE { short_tail(bytes) } else { long_tail(offset) }
+    if bytes.len() <= INLINE {
+        short_tail(bytes)
+    } else {
+        long_tail(offset)
+    }
 }
 
 // The entry of a value.
@@ -137,7 +141,14 @@ pub fn put_entry<F: Flash, L: Ledger>(
     let opened = opened_sector(flash, area, sector, steps);
     let entry = value_entry(opened.cycle, id, bytes, opened.data_end);
     put_value(flash, area, sector, opened.data_end, bytes)?;
-    put_slot(flash, area, sector, opened.slots + FIRST as u32, &entry, steps)
+    put_slot(
+        flash,
+        area,
+        sector,
+        opened.slots + FIRST as u32,
+        &entry,
+        steps,
+    )
 }
 
 // The entry of gc-done.
@@ -175,5 +186,12 @@ pub fn put_done<F: Flash, L: Ledger>(
 {
     let opened = opened_sector(flash, area, sector, steps);
     let entry = done_entry(opened.cycle, opened.data_end);
-    put_slot(flash, area, sector, opened.slots + FIRST as u32, &entry, steps)
+    put_slot(
+        flash,
+        area,
+        sector,
+        opened.slots + FIRST as u32,
+        &entry,
+        steps,
+    )
 }

@@ -119,7 +119,16 @@ fn copy_bytes<F: Flash, L: Ledger>(
     let mut done = 0;
     while done < len {
         let count = (len - done).min(PIECE);
-        copy_piece(flash, area, sector, to + done, from_sector, from + done, count, steps)?;
+        copy_piece(
+            flash,
+            area,
+            sector,
+            to + done,
+            from_sector,
+            from + done,
+            count,
+            steps,
+        )?;
         done += count;
     }
     Ok(())
@@ -152,7 +161,16 @@ fn copy_value<F: Flash, L: Ledger>(
     if from.len as usize <= INLINE {
         return Ok(());
     }
-    copy_bytes(flash, area, sector, to, from_sector, offset_of(from), from.len as u32, steps)
+    copy_bytes(
+        flash,
+        area,
+        sector,
+        to,
+        from_sector,
+        offset_of(from),
+        from.len as u32,
+        steps,
+    )
 }
 
 /// Copies an entry of another sector's list, its value in pieces of at most 32 bytes and then the entry, under which the
@@ -188,6 +206,21 @@ pub fn copy_entry<F: Flash, L: Ledger>(
     let opened = opened_sector(flash, area, sector, steps);
     let from = ordinary_entry(flash, area, from_sector, from_slot, steps);
     let entry = moved_entry(opened.cycle, &from, opened.data_end);
-    copy_value(flash, area, sector, opened.data_end, from_sector, &from, steps)?;
-    put_slot(flash, area, sector, opened.slots + FIRST as u32, &entry, steps)
+    copy_value(
+        flash,
+        area,
+        sector,
+        opened.data_end,
+        from_sector,
+        &from,
+        steps,
+    )?;
+    put_slot(
+        flash,
+        area,
+        sector,
+        opened.slots + FIRST as u32,
+        &entry,
+        steps,
+    )
 }

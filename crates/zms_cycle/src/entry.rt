@@ -22,15 +22,24 @@ pub fn encode_zentry(e: &ZEntry) -> [u8; 16]
     let cycle = e.cycle;
     let [len_low, len_high] = e.len.to_le_bytes();
     let [id_0, id_1, id_2, id_3] = e.id.to_le_bytes();
-    let [tail_0, tail_1, tail_2, tail_3, tail_4, tail_5, tail_6, tail_7] = e.tail;
+    let [
+        tail_0,
+        tail_1,
+        tail_2,
+        tail_3,
+        tail_4,
+        tail_5,
+        tail_6,
+        tail_7,
+    ] = e.tail;
     let covered = [
-        cycle, len_low, len_high, id_0, id_1, id_2, id_3, tail_0, tail_1, tail_2, tail_3, tail_4, tail_5,
-        tail_6, tail_7,
+        cycle, len_low, len_high, id_0, id_1, id_2, id_3, tail_0, tail_1, tail_2, tail_3, tail_4,
+        tail_5, tail_6, tail_7,
     ];
     let crc = crc8(START, &covered);
     [
-        crc, cycle, len_low, len_high, id_0, id_1, id_2, id_3, tail_0, tail_1, tail_2, tail_3, tail_4,
-        tail_5, tail_6, tail_7,
+        crc, cycle, len_low, len_high, id_0, id_1, id_2, id_3, tail_0, tail_1, tail_2, tail_3,
+        tail_4, tail_5, tail_6, tail_7,
     ]
 }
 

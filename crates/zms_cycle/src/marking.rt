@@ -150,5 +150,11 @@ pub fn close<F: Flash, L: Ledger>(
     let low = size - bottom * SLOT as u32;
     let top = size.saturating_sub(opened.data_end) / SLOT as u32;
     fill_slots(flash, area, sector, top, bottom, steps)?;
-    put_unit(flash, area, sector, 1, &encode_zentry(&close_entry(opened.cycle, low)))
+    put_unit(
+        flash,
+        area,
+        sector,
+        1,
+        &encode_zentry(&close_entry(opened.cycle, low)),
+    )
 }

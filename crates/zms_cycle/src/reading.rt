@@ -187,7 +187,11 @@ pub fn data_len(len: u16) -> u32
     ensures value { result ≡ data_len len }
     ensures small { result < 2 ^ 17 }
 {
-    if len <= 8 { 0 } else { padded(SLOT as u32, u32::from(len)) }
+    if len <= 8 {
+        0
+    } else {
+        padded(SLOT as u32, u32::from(len))
+    }
 }
 
 // The end of the value that an entry names.

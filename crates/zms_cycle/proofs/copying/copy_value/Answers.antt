@@ -1,6 +1,6 @@
 use Rattle.std.proofs.Common.{ℕ, ◌/◌, sym, subst, ◌∙◌, arith, length, ap}
 use Rattle.std.proofs.lemmas.Result.{on_ok_weaker, on_err_weaker}
-use Rattle.std.specs.Prelude.{◌+◌, List, slice_range}
+use Rattle.std.specs.Prelude.{◌+◌, slice_range}
 use Rattle.flash_sim.specs.Device.{overwritten}
 use Rattle.flash_map.specs.Pieces.{padded_bytes}
 use Rattle.flash_map.specs.Area.{sector_bytes}

@@ -1,4 +1,4 @@
-use Rattle.std.proofs.Common.{arith, rules}
+use Rattle.std.proofs.Common.{arith}
 use Rattle.zms_cycle.proofs.Bytes.{encoded_from}
 use Rattle.zms_cycle.proofs.entry.encode_zentry.Goals as goal
 

@@ -1,4 +1,4 @@
-use Rattle.std.proofs.Common.{◌≡◌, ◌+◌, ◌-◌, ◌*◌, ◌/◌, length, List, refl, sym, ap, ◌∙◌, arith}
+use Rattle.std.proofs.Common.{◌≡◌, ◌+◌, ◌-◌, ◌*◌, ◌/◌, List, refl, sym, ap, ◌∙◌, arith}
 use Rattle.std.proofs.lemmas.Result.{on_ok_weaker, on_err_weaker}
 use Rattle.flash_sim.specs.Bank.{bank_at}
 use Rattle.flash_sim.specs.declared.flash.Bank.{Bank}
@@ -6,10 +6,8 @@ use Rattle.flash_map.specs.Area.{sector_bytes, sector_size}
 use Rattle.flash_map.specs.declared.area.Geometry.{Geometry}
 use Rattle.flash_map.proofs.PieceLemmas.{on_err}
 use Rattle.flash_map.proofs.Spending.{spends_then, spends_within}
-use Rattle.zms_cycle.specs.Entries.{encoded, close_entry}
 use Rattle.zms_cycle.specs.Sector.{free}
 use Rattle.zms_cycle.proofs.AreaFacts.{size_is, still_zms, others_then}
-use Rattle.zms_cycle.proofs.Bytes.{length-encoded, IsEntry-close}
 use Rattle.zms_cycle.proofs.EmptyCalls.{same_bytes}
 use Rattle.zms_cycle.proofs.CloseCalls.{numbers, close_ok, keeps_equal}
 use Rattle.zms_cycle.proofs.marking.close.Goals as goal

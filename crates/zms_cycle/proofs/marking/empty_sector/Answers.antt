@@ -1,11 +1,11 @@
-use Rattle.std.proofs.Common.{◌≡◌, ℕ, ◌≤◌, length, List, Bool, ap, sym, subst, ◌∙◌, arith}
+use Rattle.std.proofs.Common.{ap, ◌∙◌, arith}
 use Rattle.std.proofs.lemmas.Result.{on_ok_weaker, on_err_weaker}
 use Rattle.flash_map.specs.Area.{sector_bytes}
 use Rattle.flash_map.proofs.PieceLemmas.{on_err}
 use Rattle.flash_map.proofs.Spending.{spends_then, spends_within}
 use Rattle.flash_map.proofs.Touches.{then}
 use Rattle.zms_cycle.specs.Sector.{slot_of, is_valid_under}
-use Rattle.zms_cycle.specs.Changes.{next_cycle, guarded}
+use Rattle.zms_cycle.specs.Changes.{next_cycle}
 use Rattle.zms_cycle.proofs.AreaFacts.{size_is, still_zms, others_then}
 use Rattle.zms_cycle.proofs.UnitCalls.{zero_or_one}
 use Rattle.zms_cycle.proofs.EmptyCalls.{kept_none, kept_first, kept_both, emptied, same_bytes}

@@ -1,13 +1,12 @@
-use Rattle.std.proofs.Common.{◌≡◌, ◌-◌, ◌∷◌, [], false, List, refl, ap, arith}
+use Rattle.std.proofs.Common.{◌≡◌, ◌-◌, ◌∷◌, [], List, refl, ap, arith}
 use Rattle.flash_sim.specs.Bank.{bank_at}
 use Rattle.flash_sim.specs.declared.flash.Bank.{Bank}
 use Rattle.flash_map.specs.Area.{sector_bytes, sector_size}
-use Rattle.flash_map.proofs.PieceLemmas.{on_err}
 use Rattle.flash_map.proofs.Spending.{spends_none, spends_then, spends_within}
 use Rattle.flash_map.proofs.Touches.{then, untouched}
 use Rattle.zms_cycle.proofs.AreaFacts.{size_is, still_zms, others_same, others_then}
 use Rattle.zms_cycle.proofs.EmptyCalls.{same_bytes}
-use Rattle.zms_cycle.proofs.Frames.{keeps_same, keeps_then}
+use Rattle.zms_cycle.proofs.Frames.{keeps_same}
 use Rattle.zms_cycle.proofs.CloseCalls.{fill_keeps, keeps_equal}
 use Rattle.zms_cycle.proofs.marking.fill_slots.Goals as goal
 

@@ -1,4 +1,4 @@
-use Rattle.std.proofs.Common.{ℕ, List, ap, ◌∙◌, sym}
+use Rattle.std.proofs.Common.{ap, ◌∙◌, sym}
 use Rattle.flash_map.specs.Area.{sector_bytes}
 use Rattle.flash_map.specs.declared.area.Geometry.{Geometry}
 use Rattle.zms_cycle.specs.States.{state_of}

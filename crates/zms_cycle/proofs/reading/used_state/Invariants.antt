@@ -1,4 +1,4 @@
-use Rattle.std.proofs.Common.{◌≡◌, ℕ, ◌-◌, ◌*◌, ◌^◌, ◌≤◌, max, map}
+use Rattle.std.proofs.Common.{◌≡◌, ◌-◌, ◌*◌, ◌^◌, ◌≤◌, max, map}
 use Rattle.std.specs.Prelude.{fold, sum_by}
 use Rattle.std.specs.List.{list_any}
 use Rattle.slot_list.proofs.SlotCounts.{slots_to}

@@ -8,6 +8,7 @@ pub mod EntryCalls
 pub mod Frames
 pub mod Marks
 pub mod PairCalls
+pub mod Rooms
 pub mod Scanning
 pub mod Slots16
 pub mod UnitCalls

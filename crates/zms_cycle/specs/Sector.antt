@@ -84,7 +84,7 @@ data_end sector = end_of (entries sector)
 abbrev pub free : List ℕ → ℕ
 free sector = low sector - data_end sector
 
--- Whether a value of this length fits; a length of 0 is a delete. Slots stay for the close entry's fellows: gc-done, a delete and the guard.
+-- Whether a value of this length fits; a length of 0 is a delete. Slots stay for gc-done, a delete and the guard.
 abbrev pub fits : List ℕ → ℕ → Bool
 fits sector len = if len == 0 then nat_le 32 (free sector) else nat_le (cost len + (if has_gc_done sector then 2 else 3) * 16) (free sector)
 

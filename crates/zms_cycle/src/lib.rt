@@ -14,3 +14,6 @@ pub use entry::{ZEntry, decode_zentry, encode_zentry, fill_unit};
 pub use guarding::guard;
 pub use marking::{close, empty_sector};
 pub use reading::{Found, SectorState, state};
+
+#[cfg(test)]
+mod tests;

@@ -1,22 +1,20 @@
 -- A list of bytes, programmed piece by piece.
-use Rattle.std.proofs.Common.{◌≡◌, inl, inr, ℕ, ◌+◌, ◌*◌, ◌-◌, ◌/◌, ◌%◌, ◌<◌, ◌≤◌, ◌||◌, eqb, IsTrue, Result, Ok, Err, OnErr, false, List, [], ◌∷◌, length, set, take, drop, min, replicate, sym, ◌∙◌, ap, subst, arith, rules}
+use Rattle.std.proofs.Common.{◌≡◌, ◌⊎◌, inl, inr, ℕ, ◌+◌, ◌*◌, ◌-◌, ◌/◌, ◌%◌, ◌<◌, ◌≤◌, ◌||◌, eqb, IsTrue, Result, Ok, Err, OnErr, false, List, [], ◌∷◌, length, set, take, drop, min, replicate, sym, ◌∙◌, ap, subst, arith, rules}
 use Rattle.std.specs.Prelude.{slice_range}
 use Rattle.std.proofs.Math.Nat.{mul-sub, mul-mod_left, mul-mod_right, mul-le-mul_left}
 use Rattle.std.proofs.lemmas.Nat.{div-add-mod', le-div}
 use Rattle.std.proofs.lemmas.List.{places, same_lists, take-take, length-take-le, length-drop, take-replicate, drop-replicate}
 use Rattle.std.proofs.lemmas.Bool.Decides.{nat_tests}
 use Rattle.std.proofs.lemmas.Bool.{cases_lt}
-use Rattle.flash_sim.specs.Bank.{IsLawful}
-use Rattle.flash_sim.specs.Device.{Device, overwritten, Programs, FailsToProgram, units_in}
-use Rattle.flash_sim.specs.declared.flash.At.{At}
+use Rattle.flash_sim.specs.Bank.{IsLawful, bank_at}
 use Rattle.flash_sim.specs.declared.flash.Bank.{Bank}
-use Rattle.flash_sim.specs.Bank.{bank_at}
+use Rattle.flash_sim.specs.Device.{Device, overwritten}
 use Rattle.flash_map.specs.declared.area.Area.{Area}
-use Rattle.flash_map.specs.Area.{IsLawfulArea, unit_of, sectors_of, sector_bytes, CanProgramIn, Writes, WritesPart}
+use Rattle.flash_map.specs.Area.{IsLawfulArea, unit_of, sector_size, sectors_of, sector_bytes, CanProgramIn, Writes, WritesPart}
 use Rattle.flash_map.specs.Touches.{Touches}
 use Rattle.flash_map.proofs.Places.{length-sector}
-use Rattle.flash_map.proofs.Sequence.{can_after, writes_twice, writes_then_part}
-use Rattle.flash_map.proofs.WholeUnits.{unit_below, div_sum}
+use Rattle.flash_map.proofs.Sequence.{can_after, range_apart, sector_written, writes_twice, writes_then_part}
+use Rattle.flash_map.proofs.WholeUnits.{unit_below}
 use Rattle.flash_map.specs.Pieces.{CanProgramAll}
 use Rattle.flash_map.specs.Spending.{Spends}
 use Rattle.flash_map.proofs.Spending.{spends_then, spends_within, spends_program, spends_part}
@@ -80,6 +78,27 @@ end_whole a area lawful is_area sector offset bytes can done end is done_whole =
     ap (λ (n : ℕ). n % unit_of a area) is
     ∙ min_whole (length bytes) (done + 400) (unit_of a area) can.whole_units (add_whole done 400 (unit_of a area) done_whole (piece_whole (unit_of a area) (lawful.each_bank area.bank is_area.has_bank).unit))
 
+-- what could be programmed before a write elsewhere in the sector can be programmed after it
+pub can_all_after : (old new : Device) (area : Area) (sector offset at : ℕ) (bytes written : List ℕ) → IsLawful old.banks old.bytes → IsLawfulArea old.banks area → new.banks ≡ old.banks → Writes old new area sector at written
+    → at + length written ≤ sector_size old area → (offset + length bytes ≤ at) ⊎ (at + length written ≤ offset) → CanProgramAll old area sector offset bytes → CanProgramAll new area sector offset bytes
+can_all_after old new area sector offset at bytes written lawful is_area banks writes fits apart can =
+    let sector_is = sector_written old new area sector at written can.has_sector writes in
+    let len = length-sector old area lawful is_area sector can.has_sector in
+    let same : (bank_at new.banks area.bank) ≡ (bank_at old.banks area.bank) = ap (λ (l : List Bank). bank_at l area.bank) banks in
+    record {
+      has_sector = can.has_sector;
+      whole_units = subst (λ (bank : Bank). length bytes % bank.unit ≡ 0) (sym same) can.whole_units;
+      aligned = subst (λ (bank : Bank). offset % bank.unit ≡ 0) (sym same) can.aligned;
+      in_sector = subst (λ (bank : Bank). offset + length bytes ≤ bank.sector) (sym same) can.in_sector;
+      erased = λ erasing.
+          ap (λ (l : List ℕ). slice_range l offset (offset + length bytes)) sector_is
+          ∙ range_apart (sector_bytes old area sector) at written offset (offset + length bytes) (omega (arith, len)) (omega (arith, len, can.in_sector)) apart
+          ∙ can.erased (ap (λ (bank : Bank). bank.kind) (sym same) ∙ erasing);
+    }
+
+pub piece_len-is : (bytes : List ℕ) (done end : ℕ) → end ≤ length bytes → length (take (end - done) (drop done bytes)) ≡ end - done
+piece_len-is bytes done end inside = length-take-le (end - done) (drop done bytes) (omega (arith, length-drop done bytes))
+
 -- The area after some of the bytes, and the piece that follows.
 
 module _ (a b : Device) (area : Area) (lawful : IsLawful a.banks a.bytes) (is_area : IsLawfulArea a.banks area) (sector offset : ℕ) (bytes : List ℕ) (can : CanProgramAll a area sector offset bytes) (done end : ℕ) (some : done < end) (in_range : end ≤ length bytes) (done_whole : done % unit_of a area ≡ 0) (end_whole : end % unit_of a area ≡ 0) (touches : Touches (area ∷ []) a b false) (written : Writes a b area sector offset (take done bytes)) where
@@ -87,7 +106,7 @@ module _ (a b : Device) (area : Area) (lawful : IsLawful a.banks a.bytes) (is_ar
   piece = take (end - done) (drop done bytes)
 
   piece_len : length piece ≡ end - done
-  piece_len = length-take-le (end - done) (drop done bytes) (omega (arith, length-drop done bytes))
+  piece_len = piece_len-is bytes done end in_range
 
   done_len : length (take done bytes) ≡ done
   done_len = length-take-le done bytes (omega arith)

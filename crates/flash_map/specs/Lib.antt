@@ -1,5 +1,6 @@
 pub mod Area
 pub mod Lawful
+pub mod Map
 pub mod Pieces
 pub mod Sectors
 pub mod Spending

@@ -2,8 +2,16 @@
 use Rattle.std.specs.Prelude.{◌≡◌, ℕ, ◌≤◌}
 use Rattle.flash_sim.specs.Device.{Device, counted}
 
+-- just so many
+abbrev pub Spends : Device → Device → ℕ → Type 0
+Spends old new units = new.spent ≡ counted old.spent units
+
+-- so many, or fewer
+abbrev pub SpendsAtMost : Device → Device → ℕ → Type 0
+SpendsAtMost old new most = (units : ℕ) × (units ≤ most) × Spends old new units
+
 -- at least and at most so many
-pub record Spends (old new : Device) (least most : ℕ) : Type 0 where
+pub record SpendsBetween (old new : Device) (least most : ℕ) : Type 0 where
   pub units : ℕ
   pub at_least : least ≤ units
   pub at_most : units ≤ most

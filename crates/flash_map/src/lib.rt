@@ -4,11 +4,16 @@
 mod area;
 mod calls;
 mod faults;
+mod map;
 mod pieces;
 mod units;
 
 pub use area::{Area, Geometry, Role};
 pub use calls::{area_erase, area_program, area_view, geometry};
 pub use faults::{Damaged, MountFault, Why, WriteFault};
+pub use map::{AddFault, FlashMap};
 pub use pieces::{program_all, program_padded};
 pub use units::padded;
+
+#[cfg(test)]
+mod tests;

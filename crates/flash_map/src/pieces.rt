@@ -1,16 +1,19 @@
 // Programming in several calls.
-ghost use Rattle.std.specs.Prelude.{◌≡◌, ◌-◌, ◌/◌, ◌≤◌, ◌∷◌, [], ◌++◌, is_err, length, replicate, OnOk, OnErr};
+ghost use Rattle.std.specs.Prelude.{◌≡◌, ◌+◌, ◌-◌, ◌/◌, ◌≤◌, ◌++◌, length, replicate, ◌∷◌, [], is_err, OnOk, OnErr};
 ghost use Rattle.flash_map.specs.Area.{IsLawfulArea, unit_of, Writes, WritesPart};
-ghost use Rattle.flash_map.specs.Pieces.{CanProgramAll, padded_bytes};
-ghost use Rattle.flash_map.specs.Spending.{Spends};
+ghost use Rattle.flash_map.specs.Pieces.{CanProgramAll};
+ghost use Rattle.flash_map.specs.Spending.{Spends, SpendsAtMost};
 ghost use Rattle.flash_map.specs.Touches.{Touches};
-ghost use Rattle.flash_map.specs.Units.{padded};
+ghost use Rattle.flash_map.specs.Units.{padded, padded_bytes};
 
 use crate::{Area, area_program, geometry};
 use flash_sim::{Flash, PowerLost};
 
 // The most bytes of one call. Every unit divides it.
 const PIECE: usize = 400;
+
+// The bytes of the greatest unit.
+const UNIT: usize = 16;
 
 /// Programs any number of whole units of one sector, upward and in calls of at most 400 bytes.
 #[tactic(auto, using(crate::proofs::Touches::then))]
@@ -26,10 +29,10 @@ pub fn program_all<F: Flash>(
 
     ensures touches { Touches (area.now ∷ []) (F.device flash.old) (F.device flash.new) (is_err result) }
     ensures ok { OnOk result (Writes (F.device flash.old) (F.device flash.new) area.now sector offset bytes.now) }
+    ensures spent { OnOk result (Spends (F.device flash.old) (F.device flash.new) (length bytes.now / unit_of (F.device flash.old) area.now)) }
+
     ensures lost { OnErr result (WritesPart (F.device flash.old) (F.device flash.new) area.now sector offset bytes.now) }
-    ensures spends { let units = length bytes.now / unit_of (F.device flash.old) area.now in
-        OnOk result (Spends (F.device flash.old) (F.device flash.new) units units) }
-    ensures spends_part { OnErr result (Spends (F.device flash.old) (F.device flash.new) 0 (length bytes.now / unit_of (F.device flash.old) area.now)) }
+    ensures spent_at_most { OnErr result (SpendsAtMost (F.device flash.old) (F.device flash.new) (length bytes.now / unit_of (F.device flash.old) area.now)) }
 {
     let mut done = 0;
     while done < bytes.len() {
@@ -40,18 +43,17 @@ pub fn program_all<F: Flash>(
     Ok(())
 }
 
-// The bytes, and FF up to sixteen.
-fn filled(bytes: &[u8]) -> [u8; 16]
+/// The bytes with FF behind them.
+fn last_unit(bytes: &[u8]) -> [u8; UNIT]
     requires { length bytes.now ≤ 16 }
-    ensures { result ≡ bytes.now ++ replicate (16 - length bytes.now) 255 }
+    ensures { result ≡ bytes.now ++ replicate (16 - length bytes.now) 0xFF }
 {
-    let mut unit = [0xFF; 16];
+    let mut unit = [0xFF; UNIT];
     unit[..bytes.len()].copy_from_slice(bytes);
     unit
 }
 
-/// Programs any number of bytes of one sector, padded with FF to whole units, upward and in calls of at most 400 bytes.
-#[tactic(auto, using(crate::proofs::Touches::then))]
+/// Programs any number of bytes of one sector, with FF behind them up to whole units.
 pub fn program_padded<F: Flash>(
     flash: &mut F,
     area: &Area,
@@ -64,19 +66,19 @@ pub fn program_padded<F: Flash>(
 
     ensures touches { Touches (area.now ∷ []) (F.device flash.old) (F.device flash.new) (is_err result) }
     ensures ok { OnOk result (Writes (F.device flash.old) (F.device flash.new) area.now sector offset (padded_bytes (unit_of (F.device flash.old) area.now) bytes.now)) }
+    ensures spent { let unit = unit_of (F.device flash.old) area.now in
+        OnOk result (Spends (F.device flash.old) (F.device flash.new) (padded unit (length bytes.now) / unit)) }
+
     ensures lost { OnErr result (WritesPart (F.device flash.old) (F.device flash.new) area.now sector offset (padded_bytes (unit_of (F.device flash.old) area.now) bytes.now)) }
-    ensures spends { let unit = unit_of (F.device flash.old) area.now in
-        let units = padded unit (length bytes.now) / unit in
-        OnOk result (Spends (F.device flash.old) (F.device flash.new) units units) }
-    ensures spends_part { let unit = unit_of (F.device flash.old) area.now in
-        OnErr result (Spends (F.device flash.old) (F.device flash.new) 0 (padded unit (length bytes.now) / unit)) }
+    ensures spent_at_most { let unit = unit_of (F.device flash.old) area.now in
+        OnErr result (SpendsAtMost (F.device flash.old) (F.device flash.new) (padded unit (length bytes.now) / unit)) }
 {
     let unit = geometry(flash, area).unit as usize;
-    let whole = bytes.len() - bytes.len() % unit;
+    let whole = bytes.len() / unit * unit;
     program_all(flash, area, sector, offset, &bytes[..whole])?;
     if whole == bytes.len() {
         return Ok(());
     }
-    let last = filled(&bytes[whole..]);
+    let last = last_unit(&bytes[whole..]);
     area_program(flash, area, sector, offset + whole as u32, &last[..unit])
 }

@@ -1,3 +1,4 @@
+pub mod ItemLemmas
 pub mod LivePairs
 pub mod Pairs
 pub mod SlotChanges

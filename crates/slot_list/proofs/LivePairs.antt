@@ -8,13 +8,13 @@ use Rattle.slot_list.specs.Items.{last, value_of, SameItems}
 use Rattle.slot_list.specs.Live.{names, live_pairs}
 
 -- the step of `last`, and `last` from what was found so far
-abbrev step : ℕ → Option (List ℕ) → ℕ × List ℕ → Option (List ℕ)
+abbrev pub step : ℕ → Option (List ℕ) → ℕ × List ℕ → Option (List ℕ)
 step id found pair = cond (eqb pair.0 id) (value_of pair.1) found
 
-abbrev last_from : ℕ → Option (List ℕ) → List (ℕ × List ℕ) → Option (List ℕ)
+abbrev pub last_from : ℕ → Option (List ℕ) → List (ℕ × List ℕ) → Option (List ℕ)
 last_from id found pairs = fold (step id) found pairs
 
-last-is : (pairs : List (ℕ × List ℕ)) (id : ℕ) → last pairs id ≡ last_from id None pairs
+pub last-is : (pairs : List (ℕ × List ℕ)) (id : ℕ) → last pairs id ≡ last_from id None pairs
 unfolding last
 last-is pairs id = refl
 

@@ -1,4 +1,4 @@
-use Rattle.std.proofs.Common.{◌≡◌, ◌/◌, ◌%◌, ◌-◌, ◌≤◌, ◌∷◌, [], false, length, take}
+use Rattle.std.proofs.Common.{◌≡◌, ◌%◌, ◌-◌, ◌/◌, ◌≤◌, ◌∷◌, [], false, length, take}
 use Rattle.flash_map.specs.Area.{unit_of, Writes}
 use Rattle.flash_map.specs.Spending.{Spends}
 use Rattle.flash_map.specs.Touches.{Touches}
@@ -11,6 +11,7 @@ invariant-loop-done g l = record {
   touches : Touches (l.area ∷ []) (g.F.Flash.device l.initial.flash) (g.F.Flash.device l.flash) false;
   spends : Spends (g.F.Flash.device l.initial.flash) (g.F.Flash.device l.flash) (l.done / unit_of (g.F.Flash.device l.initial.flash) l.area) (l.done / unit_of (g.F.Flash.device l.initial.flash) l.area);
   written : Writes (g.F.Flash.device l.initial.flash) (g.F.Flash.device l.flash) l.area l.sector l.offset (take l.done l.bytes);
+  spent : Spends (g.F.Flash.device l.initial.flash) (g.F.Flash.device l.flash) (l.done / unit_of (g.F.Flash.device l.initial.flash) l.area);
 }
 
 abbrev pub decreases-loop-done : goal.decreases-loop-done

@@ -1,47 +1,97 @@
-use Rattle.std.proofs.Common.{◌+◌, ◌-◌, ◌%◌, length, refl, ap}
+use Rattle.std.proofs.Common.{◌≡◌, ◌+◌, ◌*◌, ◌/◌, length, take, ap}
 use Rattle.std.proofs.lemmas.Result.{on_ok_weaker, on_err_weaker}
-use Rattle.flash_map.specs.Area.{place_of}
+use Rattle.flash_sim.specs.Device.{Device}
 use Rattle.flash_map.specs.declared.area.Geometry.{Geometry}
+use Rattle.flash_map.specs.Area.{unit_of, place_of}
+use Rattle.flash_map.proofs.PaddedLemmas.{can_front, front_part, front_most, all_written, all_spent, can_last, last_written, last_part, last_spent, last_most}
 use Rattle.flash_map.proofs.PieceLemmas.{on_err}
-use Rattle.flash_map.proofs.Padding.{can_whole, lost_whole, spends_part_whole, writes_all, spends_all, can_last, writes_last, lost_last, spends_last, spends_part_last}
+use Rattle.flash_map.proofs.SpendingLemmas.{spends-programs, most-fails}
+use Rattle.flash_map.proofs.Touches.{then}
 use Rattle.flash_map.proofs.pieces.program_padded.Goals as goal
 
 pub program_all-requires-clause-can : goal.program_all-requires-clause-can
 program_all-requires-clause-can g c =
-    can_whole (g.F.Flash.device c.args.flash.now) c.args.area.now (g.met.F.Flash.is_lawful c.args.flash.now) c.requires.lawful c.args.sector c.args.offset c.args.bytes.now c.requires.can c.geometry-unit.result.unit (ap (λ (shape : Geometry). shape.unit) c.geometry-unit.ensures)
+    let a : Device = g.F.Flash.device c.args.flash.now in
+    let lawful = g.met.F.Flash.is_lawful c.args.flash.now in
+    let unit : c.geometry-unit.result.unit ≡ unit_of a c.args.area.now = ap (λ (x : Geometry). x.unit) c.geometry-unit.ensures in
+    can_front a a c.args.area.now lawful c.requires.lawful c.args.sector c.args.offset c.args.bytes.now c.requires.can c.geometry-unit.result.unit unit
 
 pub returns-in_err-program_all-clause-lost : goal.returns-in_err-program_all-clause-lost
 returns-in_err-program_all-clause-lost g c =
-    on_err c.from_residual.result (lost_whole (g.F.Flash.device c.args.flash.now) c.args.area.now (g.met.F.Flash.is_lawful c.args.flash.now) c.requires.lawful c.args.sector c.args.offset c.args.bytes.now c.requires.can c.geometry-unit.result.unit (ap (λ (shape : Geometry). shape.unit) c.geometry-unit.ensures) (g.F.Flash.device c.program_all.new.flash) c.in_err-program_all.ensures.lost)
+    let a : Device = g.F.Flash.device c.args.flash.now in
+    let lawful = g.met.F.Flash.is_lawful c.args.flash.now in
+    let unit : c.geometry-unit.result.unit ≡ unit_of a c.args.area.now = ap (λ (x : Geometry). x.unit) c.geometry-unit.ensures in
+    let b : Device = g.F.Flash.device c.program_all.new.flash in
+    on_err c.from_residual.result (front_part a b c.args.area.now lawful c.requires.lawful c.args.sector c.args.offset c.args.bytes.now c.requires.can c.geometry-unit.result.unit unit c.in_err-program_all.ensures.lost)
 
-pub returns-in_err-program_all-clause-spends_part : goal.returns-in_err-program_all-clause-spends_part
-returns-in_err-program_all-clause-spends_part g c =
-    on_err c.from_residual.result (spends_part_whole (g.F.Flash.device c.args.flash.now) c.args.area.now (g.met.F.Flash.is_lawful c.args.flash.now) c.requires.lawful c.args.sector c.args.offset c.args.bytes.now c.requires.can c.geometry-unit.result.unit (ap (λ (shape : Geometry). shape.unit) c.geometry-unit.ensures) (g.F.Flash.device c.program_all.new.flash) c.in_err-program_all.ensures.spends_part)
+pub returns-in_err-program_all-clause-spent_at_most : goal.returns-in_err-program_all-clause-spent_at_most
+returns-in_err-program_all-clause-spent_at_most g c =
+    let a : Device = g.F.Flash.device c.args.flash.now in
+    let lawful = g.met.F.Flash.is_lawful c.args.flash.now in
+    let unit : c.geometry-unit.result.unit ≡ unit_of a c.args.area.now = ap (λ (x : Geometry). x.unit) c.geometry-unit.ensures in
+    let b : Device = g.F.Flash.device c.program_all.new.flash in
+    on_err c.from_residual.result (front_most a b c.args.area.now lawful c.requires.lawful c.args.sector c.args.offset c.args.bytes.now c.requires.can c.geometry-unit.result.unit unit c.in_err-program_all.ensures.spent_at_most)
 
 pub returns-then-whole-bytes-clause-ok : goal.returns-then-whole-bytes-clause-ok
 returns-then-whole-bytes-clause-ok g c =
-    writes_all (g.F.Flash.device c.args.flash.now) c.args.area.now (g.met.F.Flash.is_lawful c.args.flash.now) c.requires.lawful c.args.sector c.args.offset c.args.bytes.now c.requires.can c.geometry-unit.result.unit (ap (λ (shape : Geometry). shape.unit) c.geometry-unit.ensures) (g.F.Flash.device c.program_all.new.flash) c.if-whole-bytes.true c.in_ok-program_all.ensures.ok
+    let a : Device = g.F.Flash.device c.args.flash.now in
+    let lawful = g.met.F.Flash.is_lawful c.args.flash.now in
+    let unit : c.geometry-unit.result.unit ≡ unit_of a c.args.area.now = ap (λ (x : Geometry). x.unit) c.geometry-unit.ensures in
+    let b : Device = g.F.Flash.device c.program_all.new.flash in
+    all_written a b c.args.area.now lawful c.requires.lawful c.args.sector c.args.offset c.args.bytes.now c.requires.can c.geometry-unit.result.unit unit c.if-whole-bytes.true c.in_ok-program_all.ensures.ok
 
-pub returns-then-whole-bytes-clause-spends : goal.returns-then-whole-bytes-clause-spends
-returns-then-whole-bytes-clause-spends g c =
-    spends_all (g.F.Flash.device c.args.flash.now) c.args.area.now (g.met.F.Flash.is_lawful c.args.flash.now) c.requires.lawful c.args.sector c.args.offset c.args.bytes.now c.requires.can c.geometry-unit.result.unit (ap (λ (shape : Geometry). shape.unit) c.geometry-unit.ensures) (g.F.Flash.device c.program_all.new.flash) c.if-whole-bytes.true c.in_ok-program_all.ensures.spends
+pub returns-then-whole-bytes-clause-spent : goal.returns-then-whole-bytes-clause-spent
+returns-then-whole-bytes-clause-spent g c =
+    let a : Device = g.F.Flash.device c.args.flash.now in
+    let lawful = g.met.F.Flash.is_lawful c.args.flash.now in
+    let unit : c.geometry-unit.result.unit ≡ unit_of a c.args.area.now = ap (λ (x : Geometry). x.unit) c.geometry-unit.ensures in
+    let b : Device = g.F.Flash.device c.program_all.new.flash in
+    all_spent a b c.args.area.now lawful c.requires.lawful c.args.sector c.args.offset c.args.bytes.now c.requires.can c.geometry-unit.result.unit unit c.if-whole-bytes.true c.in_ok-program_all.ensures.spent
 
 pub area_program-requires-clause-can : goal.area_program-requires-clause-can
 area_program-requires-clause-can g c =
-    can_last (g.F.Flash.device c.args.flash.now) c.args.area.now (g.met.F.Flash.is_lawful c.args.flash.now) c.requires.lawful c.args.sector c.args.offset c.args.bytes.now c.requires.can c.geometry-unit.result.unit (ap (λ (shape : Geometry). shape.unit) c.geometry-unit.ensures) (g.F.Flash.device c.program_all.new.flash) c.if-whole-bytes.false c.in_ok-program_all.ensures.touches c.in_ok-program_all.ensures.ok c.filled-last.result c.filled-last.ensures
+    let a : Device = g.F.Flash.device c.args.flash.now in
+    let lawful = g.met.F.Flash.is_lawful c.args.flash.now in
+    let unit : c.geometry-unit.result.unit ≡ unit_of a c.args.area.now = ap (λ (x : Geometry). x.unit) c.geometry-unit.ensures in
+    let b : Device = g.F.Flash.device c.program_all.new.flash in
+    can_last a b c.args.area.now lawful c.requires.lawful c.args.sector c.args.offset c.args.bytes.now c.requires.can c.geometry-unit.result.unit unit c.if-whole-bytes.false c.in_ok-program_all.ensures.touches c.in_ok-program_all.ensures.ok c.in_ok-program_all.ensures.spent c.last_unit-last.result c.last_unit-last.ensures
+
+pub returns-clause-touches : goal.returns-clause-touches
+returns-clause-touches g c =
+    then c.in_ok-program_all.ensures.touches c.area_program.ensures.touches
 
 pub returns-clause-ok : goal.returns-clause-ok
 returns-clause-ok g c =
-    on_ok_weaker c.area_program.result (writes_last (g.F.Flash.device c.args.flash.now) c.args.area.now (g.met.F.Flash.is_lawful c.args.flash.now) c.requires.lawful c.args.sector c.args.offset c.args.bytes.now c.requires.can c.geometry-unit.result.unit (ap (λ (shape : Geometry). shape.unit) c.geometry-unit.ensures) (g.F.Flash.device c.program_all.new.flash) c.if-whole-bytes.false c.in_ok-program_all.ensures.touches c.in_ok-program_all.ensures.ok c.filled-last.result c.filled-last.ensures (g.F.Flash.device c.area_program.new.flash)) c.area_program.ensures.written
+    let a : Device = g.F.Flash.device c.args.flash.now in
+    let lawful = g.met.F.Flash.is_lawful c.args.flash.now in
+    let unit : c.geometry-unit.result.unit ≡ unit_of a c.args.area.now = ap (λ (x : Geometry). x.unit) c.geometry-unit.ensures in
+    let b : Device = g.F.Flash.device c.program_all.new.flash in
+    let end : Device = g.F.Flash.device c.area_program.new.flash in
+    on_ok_weaker c.area_program.result (last_written a b c.args.area.now lawful c.requires.lawful c.args.sector c.args.offset c.args.bytes.now c.requires.can c.geometry-unit.result.unit unit c.if-whole-bytes.false c.in_ok-program_all.ensures.touches c.in_ok-program_all.ensures.ok c.in_ok-program_all.ensures.spent c.last_unit-last.result c.last_unit-last.ensures end) c.area_program.ensures.written
+
+pub returns-clause-spent : goal.returns-clause-spent
+returns-clause-spent g c =
+    let a : Device = g.F.Flash.device c.args.flash.now in
+    let lawful = g.met.F.Flash.is_lawful c.args.flash.now in
+    let unit : c.geometry-unit.result.unit ≡ unit_of a c.args.area.now = ap (λ (x : Geometry). x.unit) c.geometry-unit.ensures in
+    let b : Device = g.F.Flash.device c.program_all.new.flash in
+    let end : Device = g.F.Flash.device c.area_program.new.flash in
+    on_ok_weaker c.area_program.result (λ done. last_spent a b c.args.area.now lawful c.requires.lawful c.args.sector c.args.offset c.args.bytes.now c.requires.can c.geometry-unit.result.unit unit c.if-whole-bytes.false c.in_ok-program_all.ensures.touches c.in_ok-program_all.ensures.ok c.in_ok-program_all.ensures.spent c.last_unit-last.result c.last_unit-last.ensures end (spends-programs b end (place_of b c.args.area.now c.args.sector (c.args.offset + length c.args.bytes.now / c.geometry-unit.result.unit * c.geometry-unit.result.unit)) (take c.geometry-unit.result.unit c.last_unit-last.result) done)) c.area_program.ensures.ok
 
 pub returns-clause-lost : goal.returns-clause-lost
 returns-clause-lost g c =
-    on_err_weaker c.area_program.result (lost_last (g.F.Flash.device c.args.flash.now) c.args.area.now (g.met.F.Flash.is_lawful c.args.flash.now) c.requires.lawful c.args.sector c.args.offset c.args.bytes.now c.requires.can c.geometry-unit.result.unit (ap (λ (shape : Geometry). shape.unit) c.geometry-unit.ensures) (g.F.Flash.device c.program_all.new.flash) c.if-whole-bytes.false c.in_ok-program_all.ensures.touches c.in_ok-program_all.ensures.ok c.filled-last.result c.filled-last.ensures (g.F.Flash.device c.area_program.new.flash)) c.area_program.ensures.part
+    let a : Device = g.F.Flash.device c.args.flash.now in
+    let lawful = g.met.F.Flash.is_lawful c.args.flash.now in
+    let unit : c.geometry-unit.result.unit ≡ unit_of a c.args.area.now = ap (λ (x : Geometry). x.unit) c.geometry-unit.ensures in
+    let b : Device = g.F.Flash.device c.program_all.new.flash in
+    let end : Device = g.F.Flash.device c.area_program.new.flash in
+    on_err_weaker c.area_program.result (last_part a b c.args.area.now lawful c.requires.lawful c.args.sector c.args.offset c.args.bytes.now c.requires.can c.geometry-unit.result.unit unit c.if-whole-bytes.false c.in_ok-program_all.ensures.touches c.in_ok-program_all.ensures.ok c.in_ok-program_all.ensures.spent c.last_unit-last.result c.last_unit-last.ensures end) c.area_program.ensures.part
 
-pub returns-clause-spends : goal.returns-clause-spends
-returns-clause-spends g c =
-    on_ok_weaker c.area_program.result (spends_last (g.F.Flash.device c.args.flash.now) c.args.area.now (g.met.F.Flash.is_lawful c.args.flash.now) c.requires.lawful c.args.sector c.args.offset c.args.bytes.now c.requires.can c.geometry-unit.result.unit (ap (λ (shape : Geometry). shape.unit) c.geometry-unit.ensures) (g.F.Flash.device c.program_all.new.flash) c.if-whole-bytes.false c.in_ok-program_all.ensures.touches c.in_ok-program_all.ensures.ok c.filled-last.result c.filled-last.ensures (g.F.Flash.device c.area_program.new.flash) (place_of (g.F.Flash.device c.program_all.new.flash) c.args.area.now c.args.sector (c.args.offset + (length c.args.bytes.now - length c.args.bytes.now % c.geometry-unit.result.unit))) refl c.in_ok-program_all.ensures.spends) c.area_program.ensures.ok
-
-pub returns-clause-spends_part : goal.returns-clause-spends_part
-returns-clause-spends_part g c =
-    on_err_weaker c.area_program.result (spends_part_last (g.F.Flash.device c.args.flash.now) c.args.area.now (g.met.F.Flash.is_lawful c.args.flash.now) c.requires.lawful c.args.sector c.args.offset c.args.bytes.now c.requires.can c.geometry-unit.result.unit (ap (λ (shape : Geometry). shape.unit) c.geometry-unit.ensures) (g.F.Flash.device c.program_all.new.flash) c.if-whole-bytes.false c.in_ok-program_all.ensures.touches c.in_ok-program_all.ensures.ok c.filled-last.result c.filled-last.ensures (g.F.Flash.device c.area_program.new.flash) (place_of (g.F.Flash.device c.program_all.new.flash) c.args.area.now c.args.sector (c.args.offset + (length c.args.bytes.now - length c.args.bytes.now % c.geometry-unit.result.unit))) refl c.in_ok-program_all.ensures.spends) c.area_program.ensures.lost
+pub returns-clause-spent_at_most : goal.returns-clause-spent_at_most
+returns-clause-spent_at_most g c =
+    let a : Device = g.F.Flash.device c.args.flash.now in
+    let lawful = g.met.F.Flash.is_lawful c.args.flash.now in
+    let unit : c.geometry-unit.result.unit ≡ unit_of a c.args.area.now = ap (λ (x : Geometry). x.unit) c.geometry-unit.ensures in
+    let b : Device = g.F.Flash.device c.program_all.new.flash in
+    let end : Device = g.F.Flash.device c.area_program.new.flash in
+    on_err_weaker c.area_program.result (λ cut. last_most a b c.args.area.now lawful c.requires.lawful c.args.sector c.args.offset c.args.bytes.now c.requires.can c.geometry-unit.result.unit unit c.if-whole-bytes.false c.in_ok-program_all.ensures.touches c.in_ok-program_all.ensures.ok c.in_ok-program_all.ensures.spent c.last_unit-last.result c.last_unit-last.ensures end (most-fails b end (place_of b c.args.area.now c.args.sector (c.args.offset + length c.args.bytes.now / c.geometry-unit.result.unit * c.geometry-unit.result.unit)) (take c.geometry-unit.result.unit c.last_unit-last.result) cut)) c.area_program.ensures.lost

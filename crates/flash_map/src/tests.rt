@@ -1,0 +1,128 @@
+ghost use Rattle.std.specs.Prelude.{◌≡◌, ◌<◌, ◌∷◌, [], OnOk, replicate};
+ghost use Rattle.flash_sim.specs.Device.{loaded};
+
+use super::*;
+use arrayvec::ArrayString;
+use flash_sim::{Bank, Bench, FlatSim, Kind, Steps};
+use std::alloc::Global;
+use std::marker::Brand;
+use std::process::Abort;
+use std::sync::ledger::{Blank, Ledger};
+use std::test::Fail;
+
+const BANK: Bank = Bank {
+    kind: Kind::Erasing,
+    unit: 4,
+    sector: 512,
+    count: 6,
+};
+
+fn area(label: &str, bank: usize, first: u32, sectors: u32) -> Result<Area, Fail> {
+    let label = ArrayString::from(label)
+        .ok()
+        .ok_or("a label has 8 bytes at most")?;
+    Ok(Area {
+        label,
+        role: Role::Nvs,
+        bank,
+        first,
+        sectors,
+    })
+}
+
+#[test]
+fn areas_side_by_side(rt: HostRuntime) -> Result<(), Fail> {
+    let mut map = FlashMap::new(rt.alloc());
+    let rows = [
+        ("n", 0, 0, 2, Ok(())),
+        ("f", 0, 2, 2, Ok(())),
+        ("n", 0, 4, 2, Err(AddFault::Exists)),
+        ("x", 1, 0, 2, Err(AddFault::OutOfBank)),
+        ("x", 0, 4, 1, Err(AddFault::OutOfBank)),
+        ("x", 0, 4, 3, Err(AddFault::OutOfBank)),
+        ("x", 0, 3, 2, Err(AddFault::Overlaps)),
+        ("s", 0, 4, 2, Ok(())),
+    ];
+    for (label, bank, first, sectors, answer) in rows {
+        let added = map.add(&[BANK], area(label, bank, first, sectors)?);
+        assert_eq!(rt; added, answer);
+    }
+    assert_eq!(rt; map.len(), 3);
+    assert_eq!(rt; map.index_of("s"), Some(2));
+    assert_eq!(rt; map.index_of("x"), None);
+    let second = map.at(1).ok_or("three areas stand there")?;
+    assert_eq!(rt; second.first, 2);
+    assert_eq!(rt; second.value_limit(), 256);
+    assert!(rt; map.at(3).is_none());
+    Ok(())
+}
+
+const SMALL: Bank = Bank {
+    kind: Kind::Erasing,
+    unit: 4,
+    sector: 16,
+    count: 4,
+};
+
+fn load_blank<B: Bench>(alloc: Global, bench: &mut B) -> Result<(), Fail>
+    ensures { OnOk result (B.device bench.new ≡ loaded (B.device bench.old) (SMALL ∷ []) (replicate 64 255 ∷ [])) }
+{
+    let banks = vec![in alloc; SMALL]?;
+    let bytes = vec![in alloc; vec![in alloc; 255u8; 64]?]?;
+    bench.load(alloc, banks, bytes)?;
+    Ok(())
+}
+
+// Programs two units, looks at the end of them, and erases the sector.
+fn exercise<B: Bench, L: Ledger, R: Abort>(
+    rt: &R,
+    alloc: Global,
+    bench: &mut B,
+    blank: Blank,
+) -> Result<(), Fail>
+    requires name { blank.name ≡ L.name }
+    requires parts { blank.parts ≡ L.parts }
+    requires some { 0 < L.parts }
+{
+    let mut steps = Steps::<L>::new(blank);
+    let label = ArrayString::from("f")
+        .ok()
+        .ok_or("a label has 8 bytes at most")?;
+    let area = Area {
+        label,
+        role: Role::Fcb,
+        bank: 0,
+        first: 2,
+        sectors: 2,
+    };
+    load_blank(alloc, bench)?;
+    assert_eq!(rt;
+        geometry(bench, &area),
+        Geometry {
+            unit: 4,
+            sector: 16,
+            sectors: 2
+        }
+    );
+    assert_eq!(rt; padded(4, 409), 412);
+    let written = program_all(bench, &area, 1, 0, &[7; 8]);
+    assert_eq!(rt; written, Ok(()));
+    assert_eq!(rt;
+        area_view(bench, &area, 1, 6, 4, &mut steps),
+        [7, 7, 255, 255].as_slice()
+    );
+    let _erased = area_erase(bench, &area, 1);
+    assert_eq!(rt;
+        area_view(bench, &area, 1, 0, 2, &mut steps),
+        [255, 255].as_slice()
+    );
+    assert_eq!(rt; bench.spent(), 3);
+    Ok(())
+}
+
+#[test]
+fn sectors_of_an_area(rt: HostRuntime) -> Result<(), Fail> {
+    let alloc = rt.alloc();
+    let mut sim = FlatSim::new(alloc);
+    exercise::<FlatSim, Brand, HostRuntime>(&rt, alloc, &mut sim, Blank::new(1))
+}

@@ -1,0 +1,102 @@
+// Which banks and areas an image may have.
+ghost use Rattle.std.specs.Prelude.{◌≡◌, ◌<◌, ◌≤◌, ◌↔◌, IsTrue, length, map, count_by};
+ghost use Rattle.std.specs.List.{list_all};
+ghost use Rattle.image_file.specs.Format.{plain_area};
+ghost use Rattle.image_file.specs.Lawful.{IsImageBank, IsLabel, StandsOn, HasNeeded, is_label_byte, is_selector, area_at};
+ghost use Rattle.image_file.specs.Takes.{TakesArea};
+
+use flash_map::{AddFault, Area, FlashMap, Role};
+use flash_sim::{Bank, Kind, NoMemory};
+
+/// Whether an image may have this bank.
+pub fn is_lawful_bank(bank: &Bank) -> bool
+    ensures { IsTrue result ↔ IsImageBank bank.now }
+{
+    matches!(bank.unit, 4 | 8 | 16)
+        && (512..=32_768).contains(&bank.sector)
+        && bank.sector % 64 == 0
+        && (2..=64).contains(&bank.count)
+}
+
+/// Whether a label has 1 to 8 bytes of `a` to `z` and `0` to `9`.
+pub fn is_label(label: &[u8]) -> bool
+    ensures { IsTrue result ↔ IsLabel label.now }
+{
+    (1..=8).contains(&label.len()) && all_label_bytes(label)
+}
+
+fn all_label_bytes(label: &[u8]) -> bool
+    ensures { result ≡ list_all is_label_byte label.now }
+{
+    label.iter().all(|byte| is_label_byte(*byte))
+}
+
+fn is_label_byte(byte: u8) -> bool
+    ensures { result ≡ is_label_byte byte }
+{
+    byte.is_ascii_lowercase() || byte.is_ascii_digit()
+}
+
+fn stands_on(role: Role, bank: &Bank) -> bool
+    ensures { IsTrue result ↔ StandsOn role bank.now }
+{
+    match role {
+        Role::Zms => bank.kind == Kind::Rewritable && bank.unit == 16,
+        Role::Nvs | Role::Fcb | Role::Sel => bank.kind == Kind::Erasing,
+    }
+}
+
+/// Adds an area that may stand beside those of the map, and says whether it may. A refusal leaves the map as it was.
+pub fn take_area(areas: &mut FlashMap, banks: &[Bank], area: Area) -> Result<bool, NoMemory>
+    requires { IsLabel area.label.bytes }
+    ensures { TakesArea banks.now areas.old areas.new area result }
+{
+    let Some(bank) = banks.get(area.bank) else {
+        return Ok(false);
+    };
+    if !stands_on(area.role, bank) {
+        return Ok(false);
+    }
+    match areas.add(banks, area) {
+        Ok(()) => Ok(true),
+        Err(fault) => {
+            if fault == AddFault::NoMemory {
+                Err(NoMemory)
+            } else {
+                Ok(false)
+            }
+        }
+    }
+}
+
+/// Whether the areas that an image needs are there, and no selector too many.
+pub fn has_needed(areas: &FlashMap) -> bool
+    ensures { IsTrue result ↔ HasNeeded (map plain_area areas.now) }
+{
+    let selectors = count_selectors(areas);
+    let stores = areas.len() - selectors;
+    stores >= 1 && selectors <= 1 && (stores < 2 || selectors == 1)
+}
+
+fn count_selectors(areas: &FlashMap) -> usize
+    ensures value { result ≡ count_by is_selector (map plain_area areas.now) }
+    ensures at_most { result ≤ length areas.now }
+{
+    let mut count = 0;
+    for i in 0..areas.len() {
+        if is_selector_at(areas, i) {
+            count += 1;
+        }
+    }
+    count
+}
+
+fn is_selector_at(areas: &FlashMap, i: usize) -> bool
+    requires { i < length areas.now }
+    ensures { result ≡ is_selector (area_at (map plain_area areas.now) i) }
+{
+    match areas.at(i) {
+        Some(area) => area.role == Role::Sel,
+        None => false,
+    }
+}

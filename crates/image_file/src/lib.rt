@@ -1,0 +1,17 @@
+//! Image files: banks, areas and bytes of a flash as one file, and the word that describes a blank image.
+#![tactic(auto)]
+
+mod fields;
+mod image;
+mod lawful;
+mod laws;
+mod reading;
+mod writing;
+
+pub use image::{Image, ImageFault, ImageWhy, SpecFault};
+pub use laws::one_reading;
+pub use reading::read_image;
+pub use writing::write_image;
+
+#[cfg(test)]
+mod tests;

@@ -1,0 +1,206 @@
+// Reading an image's file.
+ghost use Rattle.std.specs.Prelude.{◌≡◌, ℕ, ◌+◌, ◌*◌, ◌<◌, ◌≤◌, ◌↔◌, length, map, slice_index, IsTrue};
+ghost use Rattle.flash_sim.specs.Bank.{bank_at, capacity};
+ghost use Rattle.flash_sim.specs.Contents.{contents};
+ghost use Rattle.image_file.specs.declared.image.ImageFault.TheVariants.{Bad};
+ghost use Rattle.image_file.specs.declared.image.ImageWhy.TheVariants.{Short};
+ghost use Rattle.image_file.specs.Format.{plain_area};
+ghost use Rattle.image_file.specs.Lawful.{IsImageBank};
+ghost use Rattle.image_file.specs.Said.{bank_said, field_at, bank_place, area_place, bank_count, area_count, banks_said, areas_said, all_banks, all_areas, contents_place, contents_said};
+ghost use Rattle.image_file.specs.Table.{BankAt, AreaAt, ContentsAt, Departs, FirstFault, Holds, AllHold, header_rows, rows_of, contents_rows};
+ghost use Rattle.image_file.specs.Reading.{Reads, ReadsImage};
+
+use crate::fields::{area_of, bank_of, field};
+use crate::image::{Image, ImageFault, ImageWhy};
+use crate::lawful::{has_needed, take_area};
+use flash_map::FlashMap;
+use flash_sim::Bank;
+use std::alloc::Global;
+
+// How many banks and areas a file has.
+#[derive(Clone, Copy)]
+struct Counts {
+    banks: usize,
+    areas: usize,
+}
+
+fn bad(at: usize, why: ImageWhy) -> ImageFault
+    ensures { result ≡ Bad at why }
+{
+    ImageFault::Bad { at: at as u64, why }
+}
+
+fn byte_at(bytes: &[u8], at: usize) -> Result<u8, ImageFault>
+    requires { at ≤ length bytes.now }
+    ensures { Reads (λ byte. (at + 1 ≤ length bytes.now) × (byte ≡ slice_index bytes.now at))
+        (λ place why. (length bytes.now < at + 1) × (place ≡ length bytes.now) × (why ≡ Short)) result }
+{
+    match field(bytes, at, 1) {
+        Ok(text) => Ok(text[0]),
+        Err(fault) => Err(fault),
+    }
+}
+
+// The first eight bytes.
+fn read_header(bytes: &[u8]) -> Result<Counts, ImageFault>
+    ensures { Reads (λ counts. AllHold bytes.now header_rows × (counts.banks ≡ bank_count bytes.now) × (counts.areas ≡ area_count bytes.now))
+        (FirstFault bytes.now header_rows) result }
+{
+    if field(bytes, 0, 4)? != b"ZSIM".as_slice() {
+        return Err(bad(0, ImageWhy::BadMagic));
+    }
+    if byte_at(bytes, 4)? != 1 {
+        return Err(bad(4, ImageWhy::BadVersion));
+    }
+    let banks = byte_at(bytes, 5)?;
+    if !(1..=2).contains(&banks) {
+        return Err(bad(5, ImageWhy::BadBank));
+    }
+    let areas = byte_at(bytes, 6)?;
+    if !(1..=8).contains(&areas) {
+        return Err(bad(6, ImageWhy::BadArea));
+    }
+    if byte_at(bytes, 7)? != 0 {
+        return Err(bad(7, ImageWhy::BadVersion));
+    }
+    Ok(Counts {
+        banks: usize::from(banks),
+        areas: usize::from(areas),
+    })
+}
+
+// The bank of this number.
+fn read_bank(bytes: &[u8], i: usize) -> Result<Bank, ImageFault>
+    requires few { i < 2 }
+    requires there { bank_place i ≤ length bytes.now }
+    ensures { Reads (λ bank. (bank ≡ bank_said (field_at bytes.now (bank_place i) 12)) × Holds bytes.now (BankAt i))
+        (Departs bytes.now (BankAt i)) result }
+{
+    let at = 8 + 12 * i;
+    let text = field(bytes, at, 12)?;
+    let Some(bank) = bank_of(text) else {
+        return Err(bad(at, ImageWhy::BadBank));
+    };
+    Ok(bank)
+}
+
+fn read_banks(alloc: Global, bytes: &[u8], count: usize) -> Result<Vec<Bank>, ImageFault>
+    requires few { count ≤ 2 }
+    requires there { 8 ≤ length bytes.now }
+    ensures { Reads (λ banks. (banks.items ≡ banks_said bytes.now count) × AllHold bytes.now (rows_of BankAt count))
+        (FirstFault bytes.now (rows_of BankAt count)) result }
+{
+    let mut banks = Vec::new(alloc);
+    for i in 0..count {
+        let bank = read_bank(bytes, i)?;
+        banks.push(bank)?;
+    }
+    Ok(banks)
+}
+
+// Reads the area of this number and adds it to those before it.
+fn read_area(bytes: &[u8], i: usize, banks: &[Bank], areas: &mut FlashMap) -> Result<(), ImageFault>
+    requires few { i < 8 }
+    requires few_banks { bank_count bytes.now ≤ 2 }
+    requires banks { banks.now ≡ all_banks bytes.now }
+    requires areas { map plain_area areas.old ≡ areas_said bytes.now i }
+    requires there { area_place bytes.now i ≤ length bytes.now }
+    ensures { Reads (λ _. (map plain_area areas.new ≡ areas_said bytes.now (i + 1)) × Holds bytes.now (AreaAt i))
+        (Departs bytes.now (AreaAt i)) result }
+{
+    let at = 8 + 12 * banks.len() + 16 * i;
+    let text = field(bytes, at, 16)?;
+    let Some(area) = area_of(text) else {
+        return Err(ImageFault::Bad {
+            at: at as u64,
+            why: ImageWhy::BadArea,
+        });
+    };
+    if !take_area(areas, banks, area)? {
+        return Err(ImageFault::Bad {
+            at: at as u64,
+            why: ImageWhy::BadArea,
+        });
+    }
+    Ok(())
+}
+
+fn read_areas(
+    alloc: Global,
+    bytes: &[u8],
+    banks: &[Bank],
+    count: usize,
+) -> Result<FlashMap, ImageFault>
+    requires few { count ≤ 8 }
+    requires few_banks { bank_count bytes.now ≤ 2 }
+    requires banks { banks.now ≡ all_banks bytes.now }
+    requires there { area_place bytes.now 0 ≤ length bytes.now }
+    ensures { Reads (λ areas. (map plain_area areas ≡ areas_said bytes.now count) × AllHold bytes.now (rows_of AreaAt count))
+        (FirstFault bytes.now (rows_of AreaAt count)) result }
+{
+    let mut areas = FlashMap::new(alloc);
+    for i in 0..count {
+        read_area(bytes, i, banks, &mut areas)?;
+    }
+    Ok(areas)
+}
+
+fn capacity(bank: &Bank) -> usize
+    requires { IsImageBank bank.now }
+    ensures { result ≡ capacity bank.now }
+{
+    bank.sector as usize * bank.count as usize
+}
+
+// The bytes of each bank, and nothing behind them.
+fn read_contents(
+    alloc: Global,
+    bytes: &[u8],
+    banks: &[Bank],
+    start: usize,
+) -> Result<Vec<Vec<u8>>, ImageFault>
+    requires banks { banks.now ≡ all_banks bytes.now }
+    requires lawful { (i : ℕ) → i < length banks.now → IsImageBank (bank_at banks.now i) }
+    requires start { start ≡ contents_place bytes.now 0 }
+    requires there { start ≤ length bytes.now }
+    ensures { Reads (λ copies. (contents copies.items ≡ contents_said bytes.now (bank_count bytes.now)) × AllHold bytes.now (contents_rows bytes.now))
+        (FirstFault bytes.now (contents_rows bytes.now)) result }
+{
+    let mut copies = Vec::new(alloc);
+    let mut at = start;
+    for bank in banks {
+        let text = field(bytes, at, capacity(bank))?;
+        let copy = Vec::from_slice(alloc, text)?;
+        copies.push(copy)?;
+        at += text.len();
+    }
+    if at < bytes.len() {
+        return Err(ImageFault::Bad {
+            at: at as u64,
+            why: ImageWhy::Long,
+        });
+    }
+    Ok(copies)
+}
+
+/// The image of a file, or the first place where the file departs from the format, and how.
+pub fn read_image(alloc: Global, bytes: &[u8]) -> Result<Image, ImageFault>
+    ensures { ReadsImage bytes.now result }
+{
+    let counts = read_header(bytes)?;
+    let banks = read_banks(alloc, bytes, counts.banks)?;
+    let map = read_areas(alloc, bytes, &banks, counts.areas)?;
+    if !has_needed(&map) {
+        return Err(ImageFault::Bad {
+            at: 6,
+            why: ImageWhy::BadArea,
+        });
+    }
+    let start = 8 + 12 * counts.banks + 16 * counts.areas;
+    let copies = read_contents(alloc, bytes, &banks, start)?;
+    Ok(Image {
+        banks,
+        map,
+        bytes: copies,
+    })
+}

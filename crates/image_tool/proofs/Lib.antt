@@ -1,0 +1,4 @@
+pub mod BlankLemmas
+pub mod EndLemmas
+pub mod HostLemmas
+pub mod WordLemmas

@@ -1,0 +1,53 @@
+//! Runs scripts on simulated flash that may lose power at any unit.
+#![tactic(auto)]
+
+mod blank_run;
+mod delivering;
+mod printing;
+mod reading;
+mod status;
+mod top;
+mod words;
+
+use flash_sim::FlatSim;
+pub use status::Status;
+use std::env;
+use std::io::ErrorKind;
+use std::process::ExitCode;
+pub use top::{no_words, tool};
+use zs_host::RealHost;
+
+impl Status {
+    // What the process ends with.
+    fn code(self) -> u8 {
+        match self {
+            Status::Done => 0,
+            Status::Usage => 2,
+            Status::BadScript => 3,
+            Status::BadImage => 4,
+            Status::HostFault => 5,
+            Status::NoMemory => 6,
+            Status::NoFile => 7,
+        }
+    }
+}
+
+fn main(rt: HostRuntime) -> ExitCode {
+    let alloc = rt.alloc();
+    let mut host = RealHost::new(&rt);
+    let mut bench = FlatSim::new(alloc);
+    let status = match env::args(&rt) {
+        Ok(words) => match words.skip(1).collect::<Vec<String>>(alloc) {
+            Ok(words) => tool(alloc, words.as_slice(), &mut host, &mut bench),
+            Err(_) => Status::NoMemory,
+        },
+        Err(error) => {
+            if error.kind() == ErrorKind::InvalidData {
+                no_words(alloc, &mut host)
+            } else {
+                Status::NoMemory
+            }
+        }
+    };
+    ExitCode::from(status.code())
+}

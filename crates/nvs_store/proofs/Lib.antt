@@ -1,0 +1,14 @@
+pub mod Appending
+pub mod Appends
+pub mod Blank
+pub mod Cuts
+pub mod EntryBytes
+pub mod FoundLemmas
+pub mod Lookups
+pub mod Marks
+pub mod Putting
+pub mod Room
+pub mod ScanLemmas
+pub mod SlotReads
+pub mod Sound
+pub mod Views

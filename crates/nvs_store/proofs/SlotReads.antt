@@ -1,0 +1,36 @@
+-- The slots of a sector of NVS, by index.
+use Rattle.std.proofs.Common.{◌≡◌, ℕ, ◌+◌, ◌-◌, ◌*◌, ◌%◌, ◌≤◌, List, length, refl, sym, ap, ◌∙◌, arith}
+use Rattle.std.specs.Prelude.{slice_range}
+use Rattle.flash_map.specs.Units.{IsUnit, padded}
+use Rattle.flash_map.proofs.Rounding.{by_unit}
+use Rattle.slot_list.specs.Slots as shared
+use Rattle.nvs_store.specs.Geometry.{slot_size}
+use Rattle.nvs_store.specs.Sector.{slot_at}
+
+pub record HasSlotWidth (unit : ℕ) : Type 0 where
+  pub aligned : slot_size unit % unit ≡ 0
+  pub no_less : 8 ≤ slot_size unit
+  pub no_more : slot_size unit ≤ 16
+
+pub slot_widths : (unit : ℕ) → IsUnit unit → HasSlotWidth unit
+unfolding slot_size padded
+slot_widths = by_unit HasSlotWidth
+    (record { aligned = refl; no_less = omega arith; no_more = omega arith })
+    (record { aligned = refl; no_less = omega arith; no_more = omega arith })
+    (record { aligned = refl; no_less = omega arith; no_more = omega arith })
+
+pub slot_size_bounds : (unit : ℕ) → IsUnit unit → (8 ≤ slot_size unit) × (slot_size unit ≤ 16)
+slot_size_bounds unit h = let widths = slot_widths unit h in (widths.no_less, widths.no_more)
+
+pub slot_at-same : (unit : ℕ) (old new : List ℕ) (k : ℕ) → length new ≡ length old
+    → slice_range new (length old - (k + 1) * slot_size unit) (length old - (k + 1) * slot_size unit + slot_size unit) ≡ slice_range old (length old - (k + 1) * slot_size unit) (length old - (k + 1) * slot_size unit + slot_size unit)
+    → slot_at unit new k ≡ slot_at unit old k
+unfolding shared.slot_at
+slot_at-same unit old new k long same =
+    ap (λ (n : ℕ). record { index = k; start = n - (k + 1) * slot_size unit; bytes = slice_range new (n - (k + 1) * slot_size unit) (n - (k + 1) * slot_size unit + slot_size unit) }) long
+    ∙ ap (λ (bytes : List ℕ). record { index = k; start = length old - (k + 1) * slot_size unit; bytes = bytes }) same
+
+pub slot_at-parts : (unit : ℕ) (b : List ℕ) (k : ℕ) → ((slot_at unit b k).start ≡ length b - (k + 1) * slot_size unit)
+    × ((slot_at unit b k).bytes ≡ slice_range b (length b - (k + 1) * slot_size unit) (length b - (k + 1) * slot_size unit + slot_size unit))
+unfolding shared.slot_at
+slot_at-parts unit b k = (refl, refl)

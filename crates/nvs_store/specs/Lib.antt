@@ -1,0 +1,4 @@
+pub mod Entries
+pub mod Geometry
+pub mod Scans
+pub mod Sector

@@ -1,0 +1,57 @@
+// What a scan of an area says, and entries at their places.
+
+ghost use Rattle.std.specs.Prelude.{◌≡◌};
+ghost use Rattle.nvs_store.specs.Scans.{found_at};
+
+use crate::entry::Entry;
+
+/// An entry that counts, and its slot. Slots of entries are numbered from 1, downward from the sector's end.
+#[derive(Clone, Copy, Debug, PartialEq, Eq)]
+pub struct Placed {
+    pub slot: u32,
+    pub entry: Entry,
+}
+
+impl Placed {
+    /// The entry in this sector of the area.
+    pub fn at(self, sector: u32) -> Found
+        ensures { result ≡ found_at sector self }
+    {
+        Found {
+            sector,
+            slot: self.slot,
+            entry: self.entry,
+        }
+    }
+}
+
+/// An entry that counts, and where it stands in the area.
+#[derive(Clone, Copy, Debug, PartialEq, Eq)]
+pub struct Found {
+    pub sector: u32,
+    pub slot: u32,
+    pub entry: Entry,
+}
+
+/// What a mount has to do before the area is at rest.
+#[derive(Clone, Copy, Debug, PartialEq, Eq)]
+pub enum Redo {
+    Nothing,
+    /// The next sector is the victim of a collection that is done but for its erase.
+    EraseNext,
+    /// The open sector is that of a collection that was cut.
+    CollectAgain,
+}
+
+/// How far the open sector is filled. Places are in bytes from the sector's start.
+#[derive(Clone, Copy, Debug, PartialEq, Eq)]
+pub struct Scan {
+    /// The open sector.
+    pub current: u32,
+    /// The start of its lowest used slot.
+    pub low: u32,
+    /// Where its next data goes.
+    pub data_end: u32,
+    pub gc_done: bool,
+    pub redo: Redo,
+}

@@ -1,0 +1,128 @@
+// How one sector reads, over its bytes.
+ghost use Rattle.std.specs.Prelude.{◌≡◌, ◌+◌, ◌^◌, ◌≤◌, ◌<◌, length, nat_lt, false};
+ghost use Rattle.std.specs.Option.{option_map, option_map_or};
+ghost use Rattle.flash_map.specs.Units.{IsUnit};
+ghost use Rattle.nvs_store.specs.Sector.{entries, last_placed, placed_cost, has_fence, is_overfull};
+ghost use Rattle.nvs_store.specs.Scans.{sector_scan, damage_in, found_at};
+
+use crate::geometry::{capacity, cost, slot_size};
+use crate::scan::{Found, Placed, Redo, Scan};
+use crate::slots::{
+    counting_entry, end_of, is_erased, is_gc_done, len_of, slot_start, trimmed_len, used_count,
+};
+use flash_map::{Why, padded};
+
+/// Reads how far a sector is filled.
+pub fn scan_sector(bytes: &[u8], unit: u32, place: u32) -> Scan
+    requires unit { IsUnit unit }
+    requires long { 16 ≤ length bytes.now }
+    requires short { length bytes.now ≤ 2 ^ 15 }
+    ensures { result ≡ sector_scan unit place bytes.now }
+{
+    let size = slot_size(unit);
+    let used = used_count(bytes, unit);
+    let low = slot_start(bytes.len(), unit, used);
+    let mut ends = 0;
+    let mut lens = 0;
+    let mut gc_done = false;
+    for index in 1..used + 1 {
+        let placed = counting_entry(bytes, unit, index);
+        ends = end_of(&placed, unit).max(ends);
+        lens += len_of(&placed, unit);
+        gc_done |= is_gc_done(bytes, unit, index);
+    }
+    let written = padded(
+        unit,
+        trimmed_len(&bytes[..low.saturating_sub(size) as usize]) as u32,
+    );
+    Scan {
+        current: place,
+        low,
+        data_end: written.max(ends.max(lens)),
+        gc_done,
+        redo: Redo::Nothing,
+    }
+}
+
+/// What an entry's data and the entry take up, if there is one that has data.
+fn data_cost(placed: &Option<Placed>, unit: u32) -> u64
+    requires { IsUnit unit }
+    ensures value { result ≡ option_map_or (placed_cost unit) placed.now 0 }
+    ensures small { result < 2 ^ 17 }
+{
+    match placed {
+        Some(placed) if placed.entry.len > 0 => cost(unit, u32::from(placed.entry.len)),
+        _ => 0,
+    }
+}
+
+/// Whether an entry's data ends above this place.
+fn ends_above(placed: &Option<Placed>, place: u32) -> bool
+    ensures { result ≡ option_map_or (λ f. nat_lt place (f.entry.offset + f.entry.len)) placed.now false }
+{
+    match placed {
+        Some(placed) => { place < u32::from(placed.entry.offset) + u32::from(placed.entry.len) }
+        None => false,
+    }
+}
+
+fn has_fence(bytes: &[u8], unit: u32) -> bool
+    requires unit { IsUnit unit }
+    requires short { length bytes.now ≤ 2 ^ 15 }
+    ensures { result ≡ has_fence unit bytes.now }
+{
+    used_count(bytes, unit) + 1 < bytes.len() as u32 / slot_size(unit)
+}
+
+fn is_overfull(bytes: &[u8], unit: u32) -> bool
+    requires unit { IsUnit unit }
+    requires long { 16 ≤ length bytes.now }
+    requires short { length bytes.now ≤ 2 ^ 15 }
+    ensures { result ≡ is_overfull unit bytes.now }
+{
+    let used = used_count(bytes, unit);
+    let fence = slot_start(bytes.len(), unit, used).saturating_sub(slot_size(unit));
+    let mut costs = 0;
+    let mut passes = false;
+    for index in 1..used + 1 {
+        let placed = counting_entry(bytes, unit, index);
+        passes |= ends_above(&placed, fence);
+        costs += data_cost(&placed, unit);
+    }
+    passes || u64::from(capacity(unit, bytes.len() as u32)) < costs
+}
+
+/// What is wrong with a sector. A blank one is in order.
+pub fn damage_in(bytes: &[u8], unit: u32) -> Option<Why>
+    requires unit { IsUnit unit }
+    requires long { 16 ≤ length bytes.now }
+    requires short { length bytes.now ≤ 2 ^ 15 }
+    ensures { result ≡ damage_in unit bytes.now }
+{
+    if is_erased(bytes) {
+        return None;
+    }
+    if !has_fence(bytes, unit) {
+        return Some(Why::NoFence);
+    }
+    is_overfull(bytes, unit).then_some(Why::Overfull)
+}
+
+/// The last entry of the id, a delete too. The sector has this number.
+pub fn find_in(bytes: &[u8], unit: u32, place: u32, id: u16) -> Option<Found>
+    requires unit { IsUnit unit }
+    requires long { 16 ≤ length bytes.now }
+    requires short { length bytes.now ≤ 2 ^ 15 }
+    ensures { result ≡ option_map (found_at place) (last_placed id (entries unit bytes.now)) }
+{
+    let mut index = used_count(bytes, unit);
+    while index > 0 {
+        if let Some(placed) = counting_entry(bytes, unit, index) {
+            if placed.entry.id == id {
+                return Some(placed.at(place));
+            }
+        }
+        index -= 1;
+    }
+    None
+}

@@ -1,0 +1,144 @@
+// The slots of one sector, over its bytes. Slot k starts k + 1 slots before the sector's end.
+ghost use Rattle.std.specs.Prelude.{◌≡◌, ◌+◌, ◌-◌, ◌*◌, ◌^◌, ◌≤◌, ◌<◌, length, ◌==◌};
+ghost use Rattle.std.specs.List.{suffix_len};
+ghost use Rattle.std.specs.Option.{option_map_or};
+ghost use Rattle.flash_map.specs.Units.{IsUnit, padded};
+ghost use Rattle.slot_list.specs.Slots.{is_erased};
+ghost use Rattle.nvs_store.specs.Geometry.{slot_size};
+ghost use Rattle.nvs_store.specs.Entries.{decoded};
+ghost use Rattle.nvs_store.specs.Sector.{slot_at, used_slots, counts, counting_entry, is_gc_done, entry_end};
+
+use crate::entry::{Entry, SPECIAL_ID, decode_entry};
+use crate::geometry::slot_size;
+use crate::scan::Placed;
+use flash_map::padded;
+
+pub fn is_erased(bytes: &[u8]) -> bool
+    ensures { result ≡ is_erased bytes.now }
+{
+    bytes.iter().all(|byte| *byte == 0xFF)
+}
+
+/// Where a slot starts in a sector of this length.
+pub fn slot_start(len: usize, unit: u32, index: u32) -> u32
+    requires unit { IsUnit unit }
+    requires short { len ≤ 2 ^ 15 }
+    requires inside { (index + 1) * slot_size unit ≤ len }
+    ensures { result ≡ len - (index + 1) * slot_size unit }
+{
+    len as u32 - (index + 1) * slot_size(unit)
+}
+
+/// The bytes of a slot.
+pub fn slot_of(bytes: &[u8], unit: u32, index: u32) -> &[u8]
+    requires unit { IsUnit unit }
+    requires short { length bytes.now ≤ 2 ^ 15 }
+    requires inside { (index + 1) * slot_size unit ≤ length bytes.now }
+    ensures bytes { result.now ≡ (slot_at unit bytes.now index).bytes }
+    ensures len { 8 ≤ length result.now }
+{
+    let size = slot_size(unit) as usize;
+    let start = slot_start(bytes.len(), unit, index) as usize;
+    &bytes[start..start + size]
+}
+
+/// How many slots under slot 0 are used.
+pub fn used_count(bytes: &[u8], unit: u32) -> u32
+    requires unit { IsUnit unit }
+    requires short { length bytes.now ≤ 2 ^ 15 }
+    ensures { result ≡ length (used_slots unit bytes.now) }
+{
+    let count = bytes.len() as u32 / slot_size(unit);
+    let mut used = 0;
+    for index in 1..count {
+        if is_erased(slot_of(bytes, unit, index)) {
+            return used;
+        }
+        used += 1;
+    }
+    used
+}
+
+/// The entry that a slot holds, if its CRC matches.
+fn entry_in(bytes: &[u8], unit: u32, index: u32) -> Option<Entry>
+    requires unit { IsUnit unit }
+    requires short { length bytes.now ≤ 2 ^ 15 }
+    requires inside { (index + 1) * slot_size unit ≤ length bytes.now }
+    ensures { result ≡ decoded (slot_at unit bytes.now index).bytes }
+{
+    decode_entry(slot_of(bytes, unit, index))
+}
+
+/// Whether the entry is an ordinary one whose data is aligned and ends under its slot.
+fn counts(entry: &Entry, unit: u32, start: u32) -> bool
+    requires { IsUnit unit }
+    ensures { result ≡ counts unit start entry.now }
+{
+    entry.id != SPECIAL_ID
+        && u32::from(entry.offset) % unit == 0
+        && u32::from(entry.offset) + u32::from(entry.len) <= start
+}
+
+/// The entry in a slot, if it counts.
+pub fn counting_entry(bytes: &[u8], unit: u32, index: u32) -> Option<Placed>
+    requires unit { IsUnit unit }
+    requires short { length bytes.now ≤ 2 ^ 15 }
+    requires inside { (index + 1) * slot_size unit ≤ length bytes.now }
+    ensures { result ≡ counting_entry unit (slot_at unit bytes.now index) }
+{
+    match entry_in(bytes, unit, index) {
+        Some(entry) if counts(&entry, unit, slot_start(bytes.len(), unit, index)) => Some(Placed {
+            slot: index,
+            entry,
+        }),
+        _ => None,
+    }
+}
+
+/// Whether a slot holds gc-done.
+pub fn is_gc_done(bytes: &[u8], unit: u32, index: u32) -> bool
+    requires unit { IsUnit unit }
+    requires short { length bytes.now ≤ 2 ^ 15 }
+    requires inside { (index + 1) * slot_size unit ≤ length bytes.now }
+    ensures { result ≡ is_gc_done (slot_at unit bytes.now index) }
+{
+    match entry_in(bytes, unit, index) {
+        Some(entry) => entry.id == SPECIAL_ID && entry.len == 0,
+        None => false,
+    }
+}
+
+/// The end of the data that an entry names, if there is one.
+pub fn end_of(placed: &Option<Placed>, unit: u32) -> u32
+    requires { IsUnit unit }
+    ensures value { result ≡ option_map_or (entry_end unit) placed.now 0 }
+    ensures small { result < 2 ^ 18 }
+{
+    match placed {
+        Some(placed) => u32::from(placed.entry.offset) + padded(unit, u32::from(placed.entry.len)),
+        None => 0,
+    }
+}
+
+/// The padded length of the data that an entry names, if there is one.
+pub fn len_of(placed: &Option<Placed>, unit: u32) -> u32
+    requires { IsUnit unit }
+    ensures value { result ≡ option_map_or (λ f. padded unit f.entry.len) placed.now 0 }
+    ensures small { result < 2 ^ 17 }
+{
+    match placed {
+        Some(placed) => padded(unit, u32::from(placed.entry.len)),
+        None => 0,
+    }
+}
+
+/// The length without the erased bytes at the end.
+pub fn trimmed_len(bytes: &[u8]) -> usize
+    ensures { result ≡ length bytes.now - suffix_len (λ byte. byte == 0xFF) bytes.now }
+{
+    let mut len = bytes.len();
+    while len > 0 && bytes[len - 1] == 0xFF {
+        len -= 1;
+    }
+    len
+}

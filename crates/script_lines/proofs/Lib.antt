@@ -1,0 +1,5 @@
+pub mod PartLemmas
+pub mod NumberLemmas
+pub mod ScriptLemmas
+pub mod LineLemmas
+pub mod ScriptLaws

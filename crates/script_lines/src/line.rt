@@ -1,0 +1,147 @@
+// One line of a script.
+ghost use Rattle.std.specs.Prelude.{◌≡◌, ◌^◌, ◌<◌, ◌∷◌, codes, MatchOption, IfOk};
+ghost use Rattle.std.specs.Fmt.{decimal};
+ghost use Rattle.script_lines.specs.Line.{IsPlain, name_of, IsValue, IsNoNumber, IsNoValue, ReadsLine, IsNoLine, Spells};
+ghost use Rattle.script_lines.specs.Parts.{parts, parts_of};
+
+use crate::bytes::Bytes;
+use crate::parts::{cut_at, one_word, two_words};
+use flash_sim::NoMemory;
+use std::alloc::Global;
+
+/// A line of a script.
+#[derive(Debug, Drop)]
+pub enum Line {
+    /// Stores 1 to 256 bytes under an id of at most 65,534.
+    Set { id: u16, value: Bytes },
+    Get { id: u16 },
+    /// Plans a loss of power after so many further units and erases, below 2^32.
+    Cut { units: u64 },
+    /// Drops that plan.
+    Uncut,
+    Mount,
+}
+
+/// The ids end here: 65,535 is no id.
+const ID_END: u64 = 65535;
+
+/// The units of a `cut` end here.
+const UNITS_END: u64 = 4_294_967_296;
+
+/// The number below the limit that the word is, in decimal without a sign or leading zeros; none where it is no such
+/// number.
+pub fn read_number(alloc: Global, word: &[u8], limit: u64) -> Result<Option<u64>, NoMemory>
+    ensures { IfOk result (λ found. MatchOption found (IsNoNumber limit word.now) (λ n. (word.now ≡ decimal n) × (n < limit))) }
+{
+    let Ok(text) = str::from_utf8(word) else {
+        return Ok(None);
+    };
+    let Ok(n) = text.parse::<u64>() else {
+        return Ok(None);
+    };
+    if n >= limit {
+        return Ok(None);
+    }
+    let Ok(written) = n.to_string(alloc) else {
+        return Err(NoMemory);
+    };
+    if written.as_bytes() == word {
+        Ok(Some(n))
+    } else {
+        Ok(None)
+    }
+}
+
+fn read_id(alloc: Global, word: &[u8]) -> Result<Option<u16>, NoMemory>
+    ensures { IfOk result (λ found. MatchOption found (IsNoNumber 65535 word.now) (λ id. (word.now ≡ decimal id) × (id < 65535))) }
+{
+    match read_number(alloc, word, ID_END)? {
+        Some(n) => Ok(Some(n as u16)),
+        None => Ok(None),
+    }
+}
+
+fn read_value(alloc: Global, word: &[u8]) -> Result<Option<Bytes>, NoMemory>
+    ensures { IfOk result (λ found. MatchOption found (IsNoValue word.now) (IsValue word.now)) }
+{
+    match hex::decode(alloc, word) {
+        Ok(value) => {
+            if value.is_empty() || value.len() > 256 {
+                Ok(None)
+            } else {
+                Ok(Some(Bytes::from_vec(value)))
+            }
+        }
+        Err(hex::FromHexError::OutOfMemory) => Err(NoMemory),
+        Err(_) => Ok(None),
+    }
+}
+
+fn set_line(alloc: Global, rest: Option<&[u8]>) -> Result<Option<Line>, NoMemory>
+    ensures { ReadsLine (codes "set" ∷ parts_of 32 rest.entry) result }
+{
+    let Some((id, hex)) = two_words(rest) else {
+        return Ok(None);
+    };
+    let Some(id) = read_id(alloc, id)? else {
+        return Ok(None);
+    };
+    match read_value(alloc, hex)? {
+        Some(value) => Ok(Some(Line::Set { id, value })),
+        None => Ok(None),
+    }
+}
+
+fn get_line(alloc: Global, rest: Option<&[u8]>) -> Result<Option<Line>, NoMemory>
+    ensures { ReadsLine (codes "get" ∷ parts_of 32 rest.entry) result }
+{
+    let Some(word) = one_word(rest) else {
+        return Ok(None);
+    };
+    match read_id(alloc, word)? {
+        Some(id) => Ok(Some(Line::Get { id })),
+        None => Ok(None),
+    }
+}
+
+fn cut_line(alloc: Global, rest: Option<&[u8]>) -> Result<Option<Line>, NoMemory>
+    ensures { ReadsLine (codes "cut" ∷ parts_of 32 rest.entry) result }
+{
+    let Some(word) = one_word(rest) else {
+        return Ok(None);
+    };
+    match read_number(alloc, word, UNITS_END)? {
+        Some(units) => Ok(Some(Line::Cut { units })),
+        None => Ok(None),
+    }
+}
+
+fn plain_line(line: Line, rest: Option<&[u8]>) -> Option<Line>
+    requires { IsPlain line }
+    ensures { MatchOption result (IsNoLine (name_of line ∷ parts_of 32 rest.entry)) (Spells (name_of line ∷ parts_of 32 rest.entry)) }
+{
+    match rest {
+        None => Some(line),
+        Some(_) => None,
+    }
+}
+
+/// The line that a text is, if it is one.
+pub fn read_line(alloc: Global, text: &[u8]) -> Result<Option<Line>, NoMemory>
+    ensures { ReadsLine (parts 32 text.now) result }
+{
+    let (command, rest) = cut_at(text, b' ');
+    if command == b"set".as_slice() {
+        set_line(alloc, rest)
+    } else if command == b"get".as_slice() {
+        get_line(alloc, rest)
+    } else if command == b"cut".as_slice() {
+        cut_line(alloc, rest)
+    } else if command == b"uncut".as_slice() {
+        Ok(plain_line(Line::Uncut, rest))
+    } else if command == b"mount".as_slice() {
+        Ok(plain_line(Line::Mount, rest))
+    } else {
+        Ok(None)
+    }
+}

@@ -1,0 +1,53 @@
+-- What all live pairs cost stays in a round.
+use Rattle.std.proofs.Common.{◌≡◌, ℕ, ◌+◌, Bool, cond, eqb, ◌||◌, List, [], ◌∷◌, ◌++◌, length, refl, sym, ap, ◌∙◌, inl, inr, append_assoc, arith}
+use Rattle.std.proofs.lemmas.Bool.{cases_Bool}
+use Rattle.std.proofs.lemmas.List.{append-nil}
+use Rattle.std.proofs.lemmas.List.Sums.{sum_by-append}
+use Rattle.slot_list.specs.Live.{names, live_pairs}
+use Rattle.sector_ring.specs.Rounds.{copies_cost, joined, live_cost, collect_oldest}
+use Rattle.slot_list.proofs.LivePairs.{names-append}
+use Rattle.sector_ring.proofs.RoundLemmas.{AreHidden, live-all, live-same, hidden, joined-push}
+
+live-split : (front back tail : List (ℕ × List ℕ)) → live_pairs (front ++ back) tail ≡ live_pairs front (back ++ tail) ++ live_pairs back tail
+unfolding live_pairs
+live-split [] back tail = refl
+live-split (pair ∷ rest) back tail =
+    let ih = live-split rest back tail in
+    let kept = names pair.0 (rest ++ (back ++ tail)) || (eqb (length pair.1) 0) in
+    let same : (names pair.0 ((rest ++ back) ++ tail) || (eqb (length pair.1) 0)) ≡ (names pair.0 (rest ++ (back ++ tail)) || (eqb (length pair.1) 0)) = ap (λ (ps : List (ℕ × List ℕ)). names pair.0 ps || (eqb (length pair.1) 0)) (append_assoc rest back tail) in
+    ap (λ (t : Bool). cond t (live_pairs (rest ++ back) tail) (pair ∷ live_pairs (rest ++ back) tail)) same
+    ∙ elim (cases_Bool (names pair.0 (rest ++ (back ++ tail)) || (eqb (length pair.1) 0))) [
+      | inl skip ↦
+          ap (λ (t : Bool). cond t (live_pairs (rest ++ back) tail) (pair ∷ live_pairs (rest ++ back) tail)) skip ∙ ih
+          ∙ sym (ap (λ (t : Bool). cond t (live_pairs rest (back ++ tail)) (pair ∷ live_pairs rest (back ++ tail)) ++ live_pairs back tail) skip)
+      | inr live ↦
+          ap (λ (t : Bool). cond t (live_pairs (rest ++ back) tail) (pair ∷ live_pairs (rest ++ back) tail)) live ∙ ap (λ ps. pair ∷ ps) ih
+          ∙ sym (ap (λ (t : Bool). cond t (live_pairs rest (back ++ tail)) (pair ∷ live_pairs rest (back ++ tail)) ++ live_pairs back tail) live)
+    ]
+
+live-ignores : (xs extra : List (ℕ × List ℕ)) → AreHidden xs extra → live_pairs xs extra ≡ live_pairs xs []
+unfolding live_pairs AreHidden
+live-ignores [] extra h = refl
+live-ignores (pair ∷ rest) extra (apart, more) =
+    let same : names pair.0 (rest ++ extra) ≡ names pair.0 (rest ++ []) = names-append pair.0 rest extra ∙ ap (λ (t : Bool). names pair.0 rest || t) apart ∙ sym (names-append pair.0 rest []) in
+    ap (λ (t : Bool). cond (t || (eqb (length pair.1) 0)) (live_pairs rest extra) (pair ∷ live_pairs rest extra)) same
+    ∙ ap (λ ps. cond (names pair.0 (rest ++ []) || (eqb (length pair.1) 0)) ps (pair ∷ ps)) (live-ignores rest extra more)
+
+live-round : (price : ℕ → ℕ) (victim others : List (ℕ × List ℕ)) → live_cost price (others ++ live_pairs victim others) ≡ live_cost price (victim ++ others)
+live-round price victim others =
+    let copies = live_pairs victim others in
+    let new : live_pairs (others ++ live_pairs victim others) [] ≡ live_pairs others [] ++ live_pairs victim others =
+    live-split others (live_pairs victim others) [] ∙ ap (λ ps. live_pairs others ps ++ live_pairs (live_pairs victim others) []) (append-nil (live_pairs victim others))
+    ∙ ap (λ ps. ps ++ live_pairs (live_pairs victim others) []) (live-ignores others (live_pairs victim others) (hidden [] others victim))
+    ∙ ap (λ ps. live_pairs others [] ++ ps) (live-same (live_pairs victim others) (live-all victim others)) in
+    let old : live_pairs (victim ++ others) [] ≡ live_pairs victim others ++ live_pairs others [] = live-split victim others [] ∙ ap (λ ps. live_pairs victim ps ++ live_pairs others []) (append-nil others) in
+    let a : live_cost price (others ++ live_pairs victim others) ≡ copies_cost price (live_pairs others []) + copies_cost price (live_pairs victim others) =
+    ap (copies_cost price) new ∙ sum_by-append (λ (p : ℕ × List ℕ). price (length p.1)) (live_pairs others []) (live_pairs victim others) in
+    let b : live_cost price (victim ++ others) ≡ copies_cost price (live_pairs victim others) + copies_cost price (live_pairs others []) =
+    ap (copies_cost price) old ∙ sum_by-append (λ (p : ℕ × List ℕ). price (length p.1)) (live_pairs victim others) (live_pairs others []) in
+    omega arith
+
+pub live-collect : (price : ℕ → ℕ) (parts : List (List (ℕ × List ℕ))) → live_cost price (joined (collect_oldest parts)) ≡ live_cost price (joined parts)
+unfolding collect_oldest
+live-collect price [] = refl
+live-collect price (victim ∷ others) = ap (live_cost price) (joined-push others (live_pairs victim (joined others))) ∙ live-round price victim (joined others)

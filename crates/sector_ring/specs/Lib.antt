@@ -1,0 +1,5 @@
+pub mod Area
+pub mod Forms
+pub mod Reading
+pub mod Rounds
+pub mod Steps

@@ -1,0 +1,36 @@
+-- Rounds of close and collect, on the parts of a list: one for each sector but the blank one before the oldest, the
+-- oldest first, the open one last. What a pair takes up is a price by the length of its bytes.
+use Rattle.std.specs.Prelude.{◌≡◌, ℕ, ◌+◌, ◌<◌, List, [], ◌∷◌, ◌++◌, length, map, sum_by}
+use Rattle.std.specs.List.{flat_map}
+use Rattle.slot_list.specs.Live.{live_pairs}
+use Rattle.sector_ring.specs.Forms.{rest, pairs_at}
+use Rattle.sector_ring.specs.Reading.{Reading}
+
+-- what these pairs cost, each with its bytes
+abbrev pub copies_cost : (ℕ → ℕ) → List (ℕ × List ℕ) → ℕ
+copies_cost price pairs = sum_by (λ pair. price (length pair.1)) pairs
+
+-- one list of all parts
+abbrev pub joined : List (List (ℕ × List ℕ)) → List (ℕ × List ℕ)
+joined parts = flat_map (λ part. part) parts
+
+-- what all live pairs of a list cost
+abbrev pub live_cost : (ℕ → ℕ) → List (ℕ × List ℕ) → ℕ
+live_cost price pairs = copies_cost price (live_pairs pairs [])
+
+-- From the old parts, oldest first, and the new ones behind them, rounds were made until no old part was left. After
+-- each round the new open part and what is needed cost more than a sector has for them.
+unfoldable pub NeverFits : (ℕ → ℕ) → ℕ → ℕ → List (List (ℕ × List ℕ)) → List (List (ℕ × List ℕ)) → List (List (ℕ × List ℕ)) → Type 0
+NeverFits price need capacity [] new last_parts = last_parts ≡ new
+NeverFits price need capacity (victim ∷ old) new last_parts =
+    let part = live_pairs victim (joined (old ++ new)) in
+    (capacity < copies_cost price part + need) × NeverFits price need capacity old (new ++ part ∷ []) last_parts
+
+-- the parts of an area at rest: of all sectors but the blank one after the open one
+abbrev pub parts : Reading → List (List ℕ) → ℕ → List (List (ℕ × List ℕ))
+parts reading sectors place = map (pairs_at reading sectors) (rest (length sectors) place) ++ pairs_at reading sectors place ∷ []
+
+-- The oldest part goes, and its live pairs are the new last one.
+unfoldable pub collect_oldest : List (List (ℕ × List ℕ)) → List (List (ℕ × List ℕ))
+collect_oldest [] = []
+collect_oldest (victim ∷ others) = others ++ live_pairs victim (joined others) ∷ []

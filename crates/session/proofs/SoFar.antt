@@ -1,0 +1,80 @@
+-- A run of lines, one line after another.
+use Rattle.std.proofs.Common.{◌≡◌, ℕ, ◌+◌, ◌-◌, ◌^◌, ◌<◌, ◌≤◌, Bool, true, false, cond, List, [], ◌∷◌, ◌++◌, refl, sym, ◌∙◌, ap, subst, append_assoc, append-nil, arith, min, length, get_or, drop, drop-cons, suc, add-one}
+use Rattle.std.specs.List.{sum_by, count_by}
+use Rattle.std.proofs.lemmas.List.Sums.{fold_push}
+use Rattle.std.proofs.lemmas.List.{drop_all}
+use Rattle.flash_sim.specs.Device.{Device, Plan, counted}
+use Rattle.flash_sim.specs.declared.flash.Bank.{Bank}
+use Rattle.flash_sim.specs.Bank.{bank_at}
+use Rattle.flash_map.specs.declared.area.Area.{Area}
+use Rattle.flash_map.proofs.Plans.{counted_counted, Lasts-zero, lowered_zero}
+use Rattle.script_lines.specs.declared.line.Line.{Line}
+use Rattle.script_lines.specs.declared.line.Line.TheVariants.{Mount}
+use Rattle.script_lines.specs.declared.answer.Answer.{Answer}
+use Rattle.script_lines.specs.declared.answer.Answer.TheVariants.{Done}
+use Rattle.flash_map.specs.declared.area.Geometry.{Geometry}
+use Rattle.flash_map.specs.Area.{geometry_of}
+use Rattle.session.specs.Counts.{units_of, is_lost, units_in, losses_in}
+use Rattle.session.specs.Planned.{Planned}
+use Rattle.session.specs.Session.{State, Step, Session, IsCounted}
+use Rattle.session.specs.LineDone.{state_of, Accounts, LineDone, Runs}
+
+-- after these answers `rest` is left of the lines
+pub record SoFar (area : Area) (lines rest : List Line) (answers : List Answer) (first now : Device) : Type 0 where
+  pub session : (last : ℕ) (more : List Answer) (end : State) → now.spent ≤ last → Session (geometry_of first area) last rest more (state_of area now) end → Session (geometry_of first area) last lines (answers ++ more) (state_of area first) end
+  pub planned : (more : List Answer) → IsCounted now.spent → Planned now.plan rest more → Planned first.plan lines (answers ++ more)
+  pub spent : first.spent + units_in answers ≡ now.spent
+  pub losses : now.losses ≡ counted first.losses (losses_in answers)
+  pub banks : now.banks ≡ first.banks
+  pub loads : now.loads ≡ first.loads
+
+module _ {area : Area} where
+  -- the opening mount
+  pub opened : (lines : List Line) (d : Device) → d.is_on ≡ true → SoFar area (Mount ∷ lines) lines (Done 0 ∷ []) d d
+  opened lines d on = record {
+    session = λ last more end within runs. (state_of area d, (refl, ap (λ (b : Bool). record (state_of area d) { is_on = b }) on), runs);
+    planned = λ more counts plans. (Lasts-zero d.plan, subst (λ (plan : Plan). Planned plan lines more) (sym (lowered_zero d.plan)) plans);
+    spent = omega arith;
+    losses = omega arith;
+    banks = refl;
+    loads = refl;
+  }
+
+  pub one_more : {lines rest : List Line} {answers : List Answer} {first mid new : Device} (line : Line) (answer : Answer) → SoFar area lines (line ∷ rest) answers first mid → LineDone area line answer mid new → SoFar area lines rest (answers ++ answer ∷ []) first new
+  one_more {lines} {rest} {answers} {first} {mid} {new} line answer so_far done =
+      let regroup : (more : List Answer) → (answers ++ answer ∷ []) ++ more ≡ answers ++ answer ∷ more = λ more. append_assoc answers (answer ∷ []) more in
+      let geometry_is : geometry_of mid area ≡ geometry_of first area = ap (λ (banks : List Bank). record { unit = (bank_at banks area.bank).unit; sector = (bank_at banks area.bank).sector; sectors = area.sectors }) so_far.banks in
+      record {
+        session = λ last more end within runs.
+            let step = subst (λ (g : Geometry). Step g last line answer (state_of area mid) (state_of area new)) geometry_is (done.step last within) in
+            let whole = so_far.session last (answer ∷ more) end (omega (arith, done.accounts.spent)) (state_of area new, step, runs) in
+            subst (λ (all : List Answer). Session (geometry_of first area) last lines all (state_of area first) end) (sym (regroup more)) whole;
+        planned = λ more counts plans.
+            let whole = so_far.planned (answer ∷ more) (omega (arith, done.accounts.spent)) (done.accounts.allows counts, subst (λ (plan : Plan). Planned plan rest more) (done.accounts.plan counts) plans) in
+            subst (λ (all : List Answer). Planned first.plan lines all) (sym (regroup more)) whole;
+        spent = omega (arith, done.accounts.spent, so_far.spent, fold_push (λ (n : ℕ) (a : Answer). n + units_of a) 0 answers answer);
+        losses = done.accounts.losses ∙ ap (λ (n : ℕ). counted n (cond (is_lost answer) 1 0)) so_far.losses
+            ∙ counted_counted first.losses (losses_in answers) (cond (is_lost answer) 1 0)
+            ∙ ap (counted first.losses) (sym (fold_push (λ (n : ℕ) (a : Answer). n + cond (is_lost a) 1 0) 0 answers answer));
+        banks = done.accounts.banks ∙ so_far.banks;
+        loads = done.accounts.loads ∙ so_far.loads;
+      }
+
+  -- nothing is left
+  pub whole : {lines : List Line} {answers : List Answer} {first now : Device} → SoFar area lines [] answers first now → Runs area lines answers first now
+  whole {lines} {answers} {first} {now} so_far = record {
+    session = subst (λ (all : List Answer). Session (geometry_of first area) now.spent lines all (state_of area first) (state_of area now)) (append-nil answers) (so_far.session now.spent [] (state_of area now) (omega arith) refl);
+    planned = λ counts. subst (λ (all : List Answer). Planned first.plan lines all) (append-nil answers) (so_far.planned [] counts tt);
+    spent = so_far.spent;
+    losses = so_far.losses;
+    banks = so_far.banks;
+    loads = so_far.loads;
+  }
+
+-- Lists.
+
+pub next_line : (lines : List Line) (i : ℕ) (line : Line) → i < length lines → line ≡ get_or lines i line → drop i lines ≡ line ∷ drop (i + 1) lines
+next_line lines i line below is = rw add-one (drop-cons lines i line below ∙ ap (λ (x : Line). x ∷ drop (suc i) lines) (sym is))
+
+pub no_line : (lines : List Line) (i : ℕ) → length lines ≤ i → drop i lines ≡ []
+no_line lines i end = drop_all i lines end

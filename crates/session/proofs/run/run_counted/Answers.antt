@@ -1,0 +1,29 @@
+use Rattle.std.proofs.Common.{◌≡◌, ◌∷◌, ◌+◌, drop, List, [], arith, subst, length, ℕ}
+use Rattle.script_lines.specs.declared.line.Line.{Line}
+use Rattle.script_lines.specs.declared.line.Line.TheVariants.{Mount}
+use Rattle.session.proofs.SoFar.{SoFar, opened, one_more, whole, next_line, no_line}
+use Rattle.session.proofs.run.run_counted.Goals as goal
+
+pub loop-line-init : goal.loop-line-init
+loop-line-init g c = record {
+  so_far = rw (c.in_ok-push.ensures.ok, c.new-answers.ensures) (opened c.args.lines.now (g.B.Flash.device c.args.bench.now) c.requires.on);
+  sound = c.requires.sound;
+  stands = λ on. c.in-Ok.ensures.scan;
+}
+
+pub loop-line-preserved : goal.loop-line-preserved
+loop-line-preserved g c =
+    let device = g.B.Flash.device in
+    let here = next_line c.args.lines.now c.loop-line.line-index c.line-item.result c.loop-line-test.true c.line-item.is in
+    let before = subst (λ (rest : List Line). SoFar c.args.area.now (Mount ∷ c.args.lines.now) rest c.loop-line.answers (device c.args.bench.now) (device c.loop-line.bench)) here c.loop-line.invariant.so_far in
+    record {
+      so_far = rw (c.in_ok-push-2.ensures.ok) (one_more c.line-item.result c.in_ok-answer.answer before c.in_ok-answer.ensures.done);
+      sound = c.run_line.ensures.sound;
+      stands = c.run_line.ensures.stands;
+    }
+
+pub returns-clause-runs : goal.returns-clause-runs
+returns-clause-runs g c =
+    let device = g.B.Flash.device in
+    let end = no_line c.args.lines.now c.loop-line.line-index c.loop-line-test.false in
+    whole (subst (λ (rest : List Line). SoFar c.args.area.now (Mount ∷ c.args.lines.now) rest c.loop-line.answers (device c.args.bench.now) (device c.loop-line.bench)) end c.loop-line.invariant.so_far)

@@ -1,0 +1,46 @@
+-- What a line makes of a flash.
+use Rattle.std.specs.Prelude.{◌≡◌, ℕ, ◌+◌, ◌<◌, ◌≤◌, ⊤, Bool, true, false, List, length, cond, if◌then◌else◌}
+use Rattle.flash_sim.specs.Device.{Device, counted}
+use Rattle.flash_map.specs.declared.area.Area.{Area}
+use Rattle.flash_map.specs.Area.{unit_of, sectors_of, geometry_of}
+use Rattle.script_lines.specs.declared.line.Line.{Line}
+use Rattle.script_lines.specs.declared.line.Line.TheVariants.{Set, Get, Cut, Uncut, Mount}
+use Rattle.script_lines.specs.declared.answer.Answer.{Answer}
+use Rattle.session.specs.Contents.{contents_of}
+use Rattle.session.specs.Counts.{units_of, is_lost, units_in, losses_in}
+use Rattle.session.specs.Planned.{Allows, plan_after, Planned}
+use Rattle.session.specs.Session.{State, Step, Session, IsCounted}
+
+-- the state that the flash's bytes and power are
+abbrev pub state_of : Area → Device → State
+state_of area d = record { contents = contents_of (unit_of d area) (sectors_of d area); is_on = d.is_on }
+
+-- the id and the value that a line of a script may have
+abbrev pub IsLawfulLine : Line → Type 0
+IsLawfulLine (Set id value) = (id < 65535) × (0 < length value) × (length value ≤ 256)
+IsLawfulLine (Get id) = id < 65535
+IsLawfulLine (Cut units) = ⊤
+IsLawfulLine Uncut = ⊤
+IsLawfulLine Mount = ⊤
+
+-- counts, banks and plan, whatever the line is
+pub record Accounts (line : Line) (answer : Answer) (old new : Device) : Type 0 where
+  pub banks : new.banks ≡ old.banks
+  pub loads : new.loads ≡ old.loads
+  pub spent : old.spent + units_of answer ≡ new.spent
+  pub losses : new.losses ≡ counted old.losses (if is_lost answer then 1 else 0)
+  pub allows : IsCounted new.spent → Allows old.plan answer
+  pub plan : IsCounted new.spent → new.plan ≡ plan_after old.plan line answer
+
+pub record LineDone (area : Area) (line : Line) (answer : Answer) (old new : Device) : Type 0 where
+  pub step : (last : ℕ) → new.spent ≤ last → Step (geometry_of old area) last line answer (state_of area old) (state_of area new)
+  pub accounts : Accounts line answer old new
+
+-- a whole run of lines
+pub record Runs (area : Area) (lines : List Line) (answers : List Answer) (old new : Device) : Type 0 where
+  pub session : Session (geometry_of old area) new.spent lines answers (state_of area old) (state_of area new)
+  pub spent : old.spent + units_in answers ≡ new.spent
+  pub losses : new.losses ≡ counted old.losses (losses_in answers)
+  pub planned : IsCounted new.spent → Planned old.plan lines answers
+  pub banks : new.banks ≡ old.banks
+  pub loads : new.loads ≡ old.loads

@@ -1,0 +1,5 @@
+pub mod Lacks
+pub mod Joins
+pub mod MatchLemmas
+pub mod Faults
+pub mod KeyLemmas

@@ -1,0 +1,10 @@
+//! Names of settings: parts with a slash between each two, as `bt/mesh/iv`, and how a name matches a subtree.
+#![tactic(auto)]
+
+pub mod laws;
+mod name;
+
+pub use name::{Name, NameFault};
+
+#[cfg(test)]
+mod tests;

@@ -2,7 +2,6 @@ pub mod Apart
 pub mod AreaCalls
 pub mod MapLemmas
 pub mod OneCall
-pub mod Padding
 pub mod PieceLemmas
 pub mod PaddedLemmas
 pub mod Places

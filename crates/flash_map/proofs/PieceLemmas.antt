@@ -16,8 +16,6 @@ use Rattle.flash_map.proofs.Places.{length-sector}
 use Rattle.flash_map.proofs.Sequence.{can_after, range_apart, sector_written, writes_twice, writes_then_part}
 use Rattle.flash_map.proofs.WholeUnits.{unit_below}
 use Rattle.flash_map.specs.Pieces.{CanProgramAll}
-use Rattle.flash_map.specs.Spending.{Spends}
-use Rattle.flash_map.proofs.Spending.{spends_then, spends_within, spends_program, spends_part}
 
 -- what holds, holds at an `Err`
 pub on_err : {T E P : Type 0} (r : Result T E) → P → OnErr r P
@@ -149,32 +147,3 @@ module _ (a b : Device) (area : Area) (lawful : IsLawful a.banks a.bytes) (is_ar
             ∙ overwritten_more (sector_bytes a area sector) offset bytes done (part.0 * unit_of a area) fits (omega arith)
             ∙ ap (λ (n : ℕ). overwritten (sector_bytes a area sector) offset (take n bytes)) sum),
       )
-
-  unit_is : unit_of b area ≡ unit_of a area
-  unit_is = ap (λ (l : List Bank). (bank_at l area.bank).unit) touches.banks
-
-  units_more : done / unit_of a area + length piece / unit_of b area ≡ end / unit_of a area
-  units_more =
-      let positive = (unit_below (unit_of a area) (lawful.each_bank area.bank is_area.has_bank).unit).0 in
-      let sum : done + (end - done) ≡ end = omega arith in
-      ap (λ (u : ℕ). done / unit_of a area + length piece / u) unit_is
-      ∙ ap (λ (n : ℕ). done / unit_of a area + n / unit_of a area) piece_len
-      ∙ sym (div_sum done (end - done) (unit_of a area) positive done_whole)
-      ∙ ap (λ (n : ℕ). n / unit_of a area) sum
-
-  pub spends_more : (c : Device) (at : At) → at.bank ≡ area.bank → Spends a b (done / unit_of a area) (done / unit_of a area) → Programs b c at (take (end - done) (drop done bytes)) → Spends a c (end / unit_of a area) (end / unit_of a area)
-  spends_more c at is before programs =
-      let all = spends_then before (spends_program b c at piece programs) in
-      let units : units_in b at.bank piece ≡ length piece / unit_of b area = ap (λ (n : ℕ). units_in b n piece) is in
-      let sum = units_more in
-      spends_within all (end / unit_of a area) (end / unit_of a area) (omega arith) (omega arith)
-
-  pub spends_part_more : (c : Device) (at : At) → at.bank ≡ area.bank → Spends a b (done / unit_of a area) (done / unit_of a area) → FailsToProgram b c at (take (end - done) (drop done bytes)) → Spends a c 0 (length bytes / unit_of a area)
-  spends_part_more c at is before fails =
-      let all = spends_then before (spends_part b c at piece fails) in
-      let units : units_in b at.bank piece ≡ length piece / unit_of b area = ap (λ (n : ℕ). units_in b n piece) is in
-      let sum = units_more in
-      let positive = (unit_below (unit_of a area) (lawful.each_bank area.bank is_area.has_bank).unit).0 in
-      let whole : end + (length bytes - end) ≡ length bytes = omega arith in
-      let more : length bytes / unit_of a area ≡ end / unit_of a area + (length bytes - end) / unit_of a area = ap (λ (n : ℕ). n / unit_of a area) (sym whole) ∙ div_sum end (length bytes - end) (unit_of a area) positive end_whole in
-      spends_within all 0 (length bytes / unit_of a area) (omega arith) (omega arith)

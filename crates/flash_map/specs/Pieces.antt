@@ -1,10 +1,9 @@
 -- Bytes that are programmed in several calls.
-use Rattle.std.specs.Prelude.{◌≡◌, ℕ, ◌+◌, ◌-◌, ◌%◌, ◌≤◌, ◌<◌, List, ◌++◌, length, replicate, slice_range}
+use Rattle.std.specs.Prelude.{◌≡◌, ℕ, ◌+◌, ◌%◌, ◌≤◌, ◌<◌, List, length, replicate, slice_range}
 use Rattle.flash_sim.specs.Device.{Device, bank_of}
 use Rattle.flash_sim.specs.declared.flash.Kind.TheVariants.{Erasing}
 use Rattle.flash_map.specs.declared.area.Area.{Area}
 use Rattle.flash_map.specs.Area.{unit_of, sector_size, sector_bytes}
-use Rattle.flash_map.specs.Units.{padded}
 
 -- whole units of a sector that may be programmed, in several calls if need be
 pub record CanProgramAll (d : Device) (area : Area) (sector offset : ℕ) (bytes : List ℕ) : Type 0 where
@@ -13,7 +12,3 @@ pub record CanProgramAll (d : Device) (area : Area) (sector offset : ℕ) (bytes
   pub aligned : offset % unit_of d area ≡ 0
   pub in_sector : offset + length bytes ≤ sector_size d area
   pub erased : (bank_of d area.bank).kind ≡ Erasing → slice_range (sector_bytes d area sector) offset (offset + length bytes) ≡ replicate (length bytes) 255
-
--- the bytes, and FF up to whole units
-abbrev pub padded_bytes : ℕ → List ℕ → List ℕ
-padded_bytes unit bytes = bytes ++ replicate (padded unit (length bytes) - length bytes) 255

@@ -8,10 +8,9 @@ use Rattle.std.proofs.lemmas.List.{places, same_lists, length-take-le, length-ta
 use Rattle.flash_sim.specs.Device.{Device, overwritten}
 use Rattle.flash_map.specs.declared.area.Area.{Area}
 use Rattle.flash_map.specs.Area.{sectors_of, sector_bytes}
-use Rattle.flash_map.specs.Pieces.{padded_bytes}
-use Rattle.flash_map.specs.Units.{padded}
+use Rattle.flash_map.specs.Units.{padded, padded_bytes}
 use Rattle.flash_map.proofs.Ranges.{put_twice}
-use Rattle.flash_map.proofs.Padding.{length-padded_bytes}
+use Rattle.flash_map.proofs.PaddedLemmas.{length-padded_bytes}
 use Rattle.flash_map.proofs.Sectors.{overwritten_nil}
 use Rattle.std.specs.Int.{w32, to_le_bytes}
 use Rattle.std.proofs.lemmas.List.FromFn.{get_or-map-range_with_len}

@@ -8,11 +8,11 @@ use Rattle.flash_sim.specs.Device.{Device, overwritten}
 use Rattle.flash_sim.specs.declared.flash.Bank.{Bank}
 use Rattle.flash_map.specs.declared.area.Area.{Area}
 use Rattle.flash_map.specs.Area.{unit_of, sector_size, sector_bytes, Writes, WritesPart}
-use Rattle.flash_map.specs.Pieces.{CanProgramAll, padded_bytes}
-use Rattle.flash_map.specs.Spending.{Spends}
-use Rattle.flash_map.specs.Units.{padded}
-use Rattle.flash_map.proofs.Padding.{length-padded_bytes}
-use Rattle.flash_map.proofs.Spending.{spends_none, spends_within}
+use Rattle.flash_map.specs.Pieces.{CanProgramAll}
+use Rattle.flash_map.specs.Spending.{SpendsBetween}
+use Rattle.flash_map.specs.Units.{padded, padded_bytes}
+use Rattle.flash_map.proofs.PaddedLemmas.{length-padded_bytes}
+use Rattle.flash_map.proofs.SpendingBounds.{between_none, between_within}
 use Rattle.zms_cycle.specs.declared.entry.ZEntry.{ZEntry}
 use Rattle.zms_cycle.specs.Areas.{IsZmsSector, HasSlot, OthersStay}
 use Rattle.zms_cycle.specs.Entries.{encoded, value_entry, done_entry}
@@ -61,11 +61,11 @@ module _ (old new : Device) (area : Area) (sector at : ℕ) (bytes : List ℕ) (
   units_are : padded (unit_of old area) (length bytes) / unit_of old area ≡ padded 16 (length bytes) / 16
   units_are = ap (λ (u : ℕ). padded u (length bytes) / u) (unit_is old area sector zms)
 
-  pub bytes_spend : Spends old new (padded (unit_of old area) (length bytes) / unit_of old area) (padded (unit_of old area) (length bytes) / unit_of old area) → Spends old new (padded 16 (length bytes) / 16) (padded 16 (length bytes) / 16)
-  bytes_spend spends = subst (λ (n : ℕ). Spends old new n n) units_are spends
+  pub bytes_spend : SpendsBetween old new (padded (unit_of old area) (length bytes) / unit_of old area) (padded (unit_of old area) (length bytes) / unit_of old area) → SpendsBetween old new (padded 16 (length bytes) / 16) (padded 16 (length bytes) / 16)
+  bytes_spend spends = subst (λ (n : ℕ). SpendsBetween old new n n) units_are spends
 
-  pub bytes_spend_lost : Spends old new 0 (padded (unit_of old area) (length bytes) / unit_of old area) → Spends old new 0 (padded 16 (length bytes) / 16)
-  bytes_spend_lost spends = subst (λ (n : ℕ). Spends old new 0 n) units_are spends
+  pub bytes_spend_lost : SpendsBetween old new 0 (padded (unit_of old area) (length bytes) / unit_of old area) → SpendsBetween old new 0 (padded 16 (length bytes) / 16)
+  bytes_spend_lost spends = subst (λ (n : ℕ). SpendsBetween old new 0 n) units_are spends
 
 -- A value of more than 8 bytes.
 pub long_len : (len : ℕ) → 8 < len → data_len len ≡ padded 16 len
@@ -74,8 +74,8 @@ long_len len long = data_len-long len (lt-leb len 8 long)
 pub long_value : (b : List ℕ) (at : ℕ) (bytes : List ℕ) → 8 < length bytes → overwritten b at (padded_bytes 16 bytes) ≡ with_value b at bytes
 long_value b at bytes long = sym (cond-false (leb (length bytes) 8) b (overwritten b at (padded_bytes 16 bytes)) (lt-leb (length bytes) 8 long))
 
-pub short_spends : (d : Device) (len : ℕ) → len ≤ 8 → Spends d d (data_len len / 16) (data_len len / 16)
-short_spends d len short = let none = data_len-short len short in spends_within (spends_none d) (data_len len / 16) (data_len len / 16) (omega arith) (omega arith)
+pub short_spends : (d : Device) (len : ℕ) → len ≤ 8 → SpendsBetween d d (data_len len / 16) (data_len len / 16)
+short_spends d len short = let none = data_len-short len short in between_within (between_none d) (data_len len / 16) (data_len len / 16) (omega arith) (omega arith)
 
 pub short_value : (b : List ℕ) (at : ℕ) (bytes : List ℕ) → length bytes ≤ 8 → b ≡ with_value b at bytes
 short_value b at bytes short = sym (cond-true (leb (length bytes) 8) b (overwritten b at (padded_bytes 16 bytes)) (le-leb (length bytes) 8 short))

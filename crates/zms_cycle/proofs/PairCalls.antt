@@ -4,10 +4,9 @@ use Rattle.std.specs.Prelude.{slice_range, replicate}
 use Rattle.std.proofs.lemmas.Bool.{cases_Bool, cond-true, cond-false, leb-true, eqb-true}
 use Rattle.std.proofs.lemmas.List.{take_at}
 use Rattle.flash_sim.specs.Device.{overwritten}
-use Rattle.flash_map.specs.Pieces.{padded_bytes}
-use Rattle.flash_map.specs.Units.{padded}
+use Rattle.flash_map.specs.Units.{padded, padded_bytes}
 use Rattle.flash_map.proofs.Ranges.{range_at}
-use Rattle.flash_map.proofs.Padding.{length-padded_bytes}
+use Rattle.flash_map.proofs.PaddedLemmas.{length-padded_bytes}
 use Rattle.zms_cycle.specs.declared.entry.ZEntry.{ZEntry}
 use Rattle.zms_cycle.specs.Entries.{encoded, value_entry, done_entry}
 use Rattle.zms_cycle.specs.Sector.{slot_of, is_valid, cycle_of, valid_slots, has_gc_done, data_len, cost, low, data_end, free, fits}

@@ -7,9 +7,9 @@ use Rattle.flash_sim.specs.Device.{Device, overwritten, Programs, FailsToProgram
 use Rattle.flash_sim.specs.declared.flash.At.{At}
 use Rattle.flash_map.specs.declared.area.Area.{Area}
 use Rattle.flash_map.specs.Area.{unit_of, sector_size, sectors_of, sector_bytes, CanProgramIn, Writes, WritesPart}
-use Rattle.flash_map.specs.Spending.{Spends}
+use Rattle.flash_map.specs.Spending.{SpendsBetween}
 use Rattle.flash_map.proofs.AreaCalls.{unwritten}
-use Rattle.flash_map.proofs.Spending.{spends_program, spends_within}
+use Rattle.flash_map.proofs.SpendingBounds.{between_program, between_within}
 use Rattle.zms_cycle.specs.declared.entry.ZEntry.{ZEntry}
 use Rattle.zms_cycle.specs.Entries.{decoded, fill}
 use Rattle.zms_cycle.specs.Areas.{IsZmsSector, HasSlot, OthersStay}
@@ -61,12 +61,12 @@ module _ (old new : Device) (area : Area) (sector slot start : ℕ) (bytes : Lis
       ∙ ap (λ (n : ℕ). set (sectors_of old area) sector (overwritten (sector_bytes old area sector) start (take n bytes))) nothing
       ∙ sym (unwritten old area sector start)
 
-  pub unit_spends : (place : At) → place.bank ≡ area.bank → Programs old new place bytes → Spends old new 1 1
+  pub unit_spends : (place : At) → place.bank ≡ area.bank → Programs old new place bytes → SpendsBetween old new 1 1
   unit_spends place here programs =
       let one : units_in old place.bank bytes ≡ 1 = ap (λ (bank : ℕ). units_in old bank bytes) here ∙ ap (λ (n : ℕ). n / unit_of old area) sixteen ∙ ap (λ (u : ℕ). 16 / u) (unit_is old area sector zms) in
-      spends_within (spends_program old new place bytes programs) 1 1 (omega arith) (omega arith)
+      between_within (between_program old new place bytes programs) 1 1 (omega arith) (omega arith)
 
-  pub unit_spends_lost : (place : At) → place.bank ≡ area.bank → FailsToProgram old new place bytes → Spends old new 0 0
+  pub unit_spends_lost : (place : At) → place.bank ≡ area.bank → FailsToProgram old new place bytes → SpendsBetween old new 0 0
   unit_spends_lost place here fails = elim fails [
     | inl off ↦ record { units = 0; at_least = omega arith; at_most = omega arith; spent = let same : new.spent ≡ old.spent = ap (λ (d : Device). d.spent) off.is in omega arith }
     | inr cuts ↦
@@ -85,8 +85,8 @@ guarded-valid cycle slot b valid = sym (cond-true (is_valid_under cycle (slot_of
 pub guarded-other : (cycle slot : ℕ) (b : List ℕ) → is_valid_under cycle (slot_of b slot) ≡ false → b ≡ guarded cycle slot b
 guarded-other cycle slot b other = sym (cond-false (is_valid_under cycle (slot_of b slot)) (with_slot b slot fill) b other)
 
-pub spends_chosen : (old new : Device) (t : Bool) (n : ℕ) → cond t 1 0 ≡ n → Spends old new n n → Spends old new (cond t 1 0) (cond t 1 0)
-spends_chosen old new t n is spends = subst (λ (k : ℕ). Spends old new k k) (sym is) spends
+pub spends_chosen : (old new : Device) (t : Bool) (n : ℕ) → cond t 1 0 ≡ n → SpendsBetween old new n n → SpendsBetween old new (cond t 1 0) (cond t 1 0)
+spends_chosen old new t n is spends = subst (λ (k : ℕ). SpendsBetween old new k k) (sym is) spends
 
 pub zero_or_one : (t : Bool) → cond t 1 0 ≤ 1
 zero_or_one true = omega arith

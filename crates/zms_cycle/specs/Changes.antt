@@ -2,7 +2,7 @@
 use Rattle.std.specs.Prelude.{◌≡◌, ℕ, ◌+◌, ◌-◌, ◌*◌, ◌%◌, ◌≤◌, nat_le, true, false, List, [], ◌∷◌, ◌++◌, length, Option, Some, if◌then◌else◌}
 use Rattle.std.specs.Option.{option_map_or}
 use Rattle.flash_sim.specs.Device.{overwritten}
-use Rattle.flash_map.specs.Pieces.{padded_bytes}
+use Rattle.flash_map.specs.Units.{padded_bytes}
 use Rattle.zms_cycle.specs.Entries.{fill}
 use Rattle.zms_cycle.specs.declared.reading.Found.{Found}
 use Rattle.zms_cycle.specs.Sector.{slot_of, is_valid_under, cycle_of, valid_slots, is_closed, entries, has_gc_done, data_len, low, data_end, is_sound, pairs}

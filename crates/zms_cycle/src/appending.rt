@@ -3,9 +3,8 @@ ghost use Rattle.std.specs.Prelude.{◌≡◌, ◌+◌, ◌-◌, ◌*◌, ◌/�
 ghost use Rattle.std.specs.Int.{w32, to_le_bytes};
 ghost use Rattle.flash_sim.specs.Device.{overwritten};
 ghost use Rattle.flash_map.specs.Area.{sector_size, sector_bytes};
-ghost use Rattle.flash_map.specs.Pieces.{padded_bytes};
-ghost use Rattle.flash_map.specs.Units.{padded};
-ghost use Rattle.flash_map.specs.Spending.{Spends};
+ghost use Rattle.flash_map.specs.Units.{padded, padded_bytes};
+ghost use Rattle.flash_map.specs.Spending.{SpendsBetween};
 ghost use Rattle.flash_map.specs.Touches.{Touches};
 ghost use Rattle.zms_cycle.specs.Areas.{IsZmsSector, HasSlot, OthersStay};
 ghost use Rattle.zms_cycle.specs.Changes.{with_value, HasPart, KeepsList, AddsPair, MarksDone};
@@ -82,8 +81,8 @@ pub fn put_bytes<F: Flash>(
     ensures ok { OnOk result (sector_bytes (F.device flash.new) area.now sector ≡ overwritten (sector_bytes (F.device flash.old) area.now sector) at (padded_bytes 16 bytes.now)) }
     ensures lost { OnErr result (HasPart (sector_bytes (F.device flash.old) area.now sector) (sector_bytes (F.device flash.new) area.now sector) at (padded 16 (length bytes.now))) }
     ensures spends { let units = padded 16 (length bytes.now) / 16 in
-        OnOk result (Spends (F.device flash.old) (F.device flash.new) units units) }
-    ensures spends_lost { OnErr result (Spends (F.device flash.old) (F.device flash.new) 0 (padded 16 (length bytes.now) / 16)) }
+        OnOk result (SpendsBetween (F.device flash.old) (F.device flash.new) units units) }
+    ensures spends_lost { OnErr result (SpendsBetween (F.device flash.old) (F.device flash.new) 0 (padded 16 (length bytes.now) / 16)) }
 {
     program_padded(flash, area, sector, at, bytes)
 }
@@ -105,8 +104,8 @@ fn put_value<F: Flash>(
     ensures ok { OnOk result (sector_bytes (F.device flash.new) area.now sector ≡ with_value (sector_bytes (F.device flash.old) area.now sector) at bytes.now) }
     ensures lost { OnErr result (HasPart (sector_bytes (F.device flash.old) area.now sector) (sector_bytes (F.device flash.new) area.now sector) at (data_len (length bytes.now))) }
     ensures spends { let units = data_len (length bytes.now) / 16 in
-        OnOk result (Spends (F.device flash.old) (F.device flash.new) units units) }
-    ensures spends_lost { OnErr result (Spends (F.device flash.old) (F.device flash.new) 0 (data_len (length bytes.now) / 16)) }
+        OnOk result (SpendsBetween (F.device flash.old) (F.device flash.new) units units) }
+    ensures spends_lost { OnErr result (SpendsBetween (F.device flash.old) (F.device flash.new) 0 (data_len (length bytes.now) / 16)) }
 {
     if bytes.len() <= INLINE {
         return Ok(());
@@ -135,8 +134,8 @@ pub fn put_entry<F: Flash, L: Ledger>(
     ensures ok { OnOk result (AddsPair (sector_bytes (F.device flash.old) area.now sector) (sector_bytes (F.device flash.new) area.now sector) id bytes.now) }
     ensures lost { OnErr result (KeepsList (sector_bytes (F.device flash.old) area.now sector) (sector_bytes (F.device flash.new) area.now sector)) }
     ensures spends { let units = cost (length bytes.now) / 16 in
-        OnOk result (Spends (F.device flash.old) (F.device flash.new) units (units + 1)) }
-    ensures spends_lost { OnErr result (Spends (F.device flash.old) (F.device flash.new) 0 (cost (length bytes.now) / 16 + 1)) }
+        OnOk result (SpendsBetween (F.device flash.old) (F.device flash.new) units (units + 1)) }
+    ensures spends_lost { OnErr result (SpendsBetween (F.device flash.old) (F.device flash.new) 0 (cost (length bytes.now) / 16 + 1)) }
 {
     let opened = opened_sector(flash, area, sector, steps);
     let entry = value_entry(opened.cycle, id, bytes, opened.data_end);
@@ -181,8 +180,8 @@ pub fn put_done<F: Flash, L: Ledger>(
     ensures others { OthersStay (F.device flash.old) (F.device flash.new) area.now sector }
     ensures ok { OnOk result (MarksDone (sector_bytes (F.device flash.old) area.now sector) (sector_bytes (F.device flash.new) area.now sector)) }
     ensures lost { OnErr result (KeepsList (sector_bytes (F.device flash.old) area.now sector) (sector_bytes (F.device flash.new) area.now sector)) }
-    ensures spends { OnOk result (Spends (F.device flash.old) (F.device flash.new) 1 2) }
-    ensures spends_lost { OnErr result (Spends (F.device flash.old) (F.device flash.new) 0 2) }
+    ensures spends { OnOk result (SpendsBetween (F.device flash.old) (F.device flash.new) 1 2) }
+    ensures spends_lost { OnErr result (SpendsBetween (F.device flash.old) (F.device flash.new) 0 2) }
 {
     let opened = opened_sector(flash, area, sector, steps);
     let entry = done_entry(opened.cycle, opened.data_end);

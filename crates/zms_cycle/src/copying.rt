@@ -2,10 +2,9 @@
 ghost use Rattle.std.specs.Prelude.{◌≡◌, ◌≢◌, ◌+◌, ◌*◌, ◌/◌, ◌%◌, ◌<◌, ◌≤◌, ◌∷◌, [], length, is_err, slice_range, Some, IsTrue, IsSome, OnOk, OnErr};
 ghost use Rattle.flash_sim.specs.Device.{overwritten};
 ghost use Rattle.flash_map.specs.Area.{sector_size, sector_bytes};
-ghost use Rattle.flash_map.specs.Pieces.{padded_bytes};
-ghost use Rattle.flash_map.specs.Spending.{Spends};
+ghost use Rattle.flash_map.specs.Spending.{SpendsBetween};
 ghost use Rattle.flash_map.specs.Touches.{Touches};
-ghost use Rattle.flash_map.specs.Units.{padded};
+ghost use Rattle.flash_map.specs.Units.{padded, padded_bytes};
 ghost use Rattle.zms_cycle.specs.Areas.{IsZmsSector, HasSlot, OthersStay};
 ghost use Rattle.zms_cycle.specs.Changes.{with_value, HasPart, KeepsList, AddsPair};
 ghost use Rattle.zms_cycle.specs.Entries.{moved_entry};
@@ -82,8 +81,8 @@ fn copy_piece<F: Flash, L: Ledger>(
     ensures others { OthersStay (F.device flash.old) (F.device flash.new) area.now sector }
     ensures ok { OnOk result (sector_bytes (F.device flash.new) area.now sector ≡ overwritten (sector_bytes (F.device flash.old) area.now sector) to (padded_bytes 16 (slice_range (sector_bytes (F.device flash.old) area.now from_sector) from (from + len)))) }
     ensures lost { OnErr result (HasPart (sector_bytes (F.device flash.old) area.now sector) (sector_bytes (F.device flash.new) area.now sector) to (padded 16 len)) }
-    ensures spends { OnOk result (Spends (F.device flash.old) (F.device flash.new) (padded 16 len / 16) (padded 16 len / 16)) }
-    ensures spends_lost { OnErr result (Spends (F.device flash.old) (F.device flash.new) 0 (padded 16 len / 16)) }
+    ensures spends { OnOk result (SpendsBetween (F.device flash.old) (F.device flash.new) (padded 16 len / 16) (padded 16 len / 16)) }
+    ensures spends_lost { OnErr result (SpendsBetween (F.device flash.old) (F.device flash.new) 0 (padded 16 len / 16)) }
 {
     let mut buffer = [0; PIECE as usize];
     let count = len as usize;
@@ -113,8 +112,8 @@ fn copy_bytes<F: Flash, L: Ledger>(
     ensures others { OthersStay (F.device flash.old) (F.device flash.new) area.now sector }
     ensures ok { OnOk result (sector_bytes (F.device flash.new) area.now sector ≡ overwritten (sector_bytes (F.device flash.old) area.now sector) to (padded_bytes 16 (slice_range (sector_bytes (F.device flash.old) area.now from_sector) from (from + len)))) }
     ensures lost { OnErr result (HasPart (sector_bytes (F.device flash.old) area.now sector) (sector_bytes (F.device flash.new) area.now sector) to (padded 16 len)) }
-    ensures spends { OnOk result (Spends (F.device flash.old) (F.device flash.new) (padded 16 len / 16) (padded 16 len / 16)) }
-    ensures spends_lost { OnErr result (Spends (F.device flash.old) (F.device flash.new) 0 (padded 16 len / 16)) }
+    ensures spends { OnOk result (SpendsBetween (F.device flash.old) (F.device flash.new) (padded 16 len / 16) (padded 16 len / 16)) }
+    ensures spends_lost { OnErr result (SpendsBetween (F.device flash.old) (F.device flash.new) 0 (padded 16 len / 16)) }
 {
     let mut done = 0;
     while done < len {
@@ -155,8 +154,8 @@ fn copy_value<F: Flash, L: Ledger>(
     ensures others { OthersStay (F.device flash.old) (F.device flash.new) area.now sector }
     ensures ok { OnOk result (sector_bytes (F.device flash.new) area.now sector ≡ with_value (sector_bytes (F.device flash.old) area.now sector) to (value_of (sector_bytes (F.device flash.old) area.now from_sector) from.now)) }
     ensures lost { OnErr result (HasPart (sector_bytes (F.device flash.old) area.now sector) (sector_bytes (F.device flash.new) area.now sector) to (data_len from.now.len)) }
-    ensures spends { OnOk result (Spends (F.device flash.old) (F.device flash.new) (data_len from.now.len / 16) (data_len from.now.len / 16)) }
-    ensures spends_lost { OnErr result (Spends (F.device flash.old) (F.device flash.new) 0 (data_len from.now.len / 16)) }
+    ensures spends { OnOk result (SpendsBetween (F.device flash.old) (F.device flash.new) (data_len from.now.len / 16) (data_len from.now.len / 16)) }
+    ensures spends_lost { OnErr result (SpendsBetween (F.device flash.old) (F.device flash.new) 0 (data_len from.now.len / 16)) }
 {
     if from.len as usize <= INLINE {
         return Ok(());
@@ -200,8 +199,8 @@ pub fn copy_entry<F: Flash, L: Ledger>(
         OnOk result (AddsPair (sector_bytes (F.device flash.old) area.now sector) (sector_bytes (F.device flash.new) area.now sector) pair.0 pair.1) }
     ensures lost { OnErr result (KeepsList (sector_bytes (F.device flash.old) area.now sector) (sector_bytes (F.device flash.new) area.now sector)) }
     ensures spends { let units = cost (entry_len (sector_bytes (F.device flash.old) area.now from_sector) from_slot) / 16 in
-        OnOk result (Spends (F.device flash.old) (F.device flash.new) units (units + 1)) }
-    ensures spends_lost { OnErr result (Spends (F.device flash.old) (F.device flash.new) 0 (cost (entry_len (sector_bytes (F.device flash.old) area.now from_sector) from_slot) / 16 + 1)) }
+        OnOk result (SpendsBetween (F.device flash.old) (F.device flash.new) units (units + 1)) }
+    ensures spends_lost { OnErr result (SpendsBetween (F.device flash.old) (F.device flash.new) 0 (cost (entry_len (sector_bytes (F.device flash.old) area.now from_sector) from_slot) / 16 + 1)) }
 {
     let opened = opened_sector(flash, area, sector, steps);
     let from = ordinary_entry(flash, area, from_sector, from_slot, steps);

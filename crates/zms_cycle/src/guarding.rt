@@ -1,7 +1,7 @@
 // Single units of a sector: the guard, and an entry above its guard.
 ghost use Rattle.std.specs.Prelude.{◌≡◌, ◌⊎◌, ◌+◌, ◌-◌, ◌*◌, ◌<◌, ◌≤◌, ◌∷◌, [], false, length, is_err, OnOk, OnErr, if◌then◌else◌};
 ghost use Rattle.flash_map.specs.Area.{IsLawfulArea, sector_size, sectors_of, sector_bytes};
-ghost use Rattle.flash_map.specs.Spending.{Spends};
+ghost use Rattle.flash_map.specs.Spending.{SpendsBetween};
 ghost use Rattle.flash_map.specs.Touches.{Touches};
 ghost use Rattle.zms_cycle.specs.Areas.{IsZmsSector, HasSlot, OthersStay};
 ghost use Rattle.zms_cycle.specs.Changes.{with_slot, guarded};
@@ -39,8 +39,8 @@ pub fn put_unit<F: Flash>(
     ensures others { OthersStay (F.device flash.old) (F.device flash.new) area.now sector }
     ensures ok { OnOk result (sector_bytes (F.device flash.new) area.now sector ≡ with_slot (sector_bytes (F.device flash.old) area.now sector) slot bytes.now) }
     ensures lost { OnErr result (sectors_of (F.device flash.new) area.now ≡ sectors_of (F.device flash.old) area.now) }
-    ensures spends { OnOk result (Spends (F.device flash.old) (F.device flash.new) 1 1) }
-    ensures spends_lost { OnErr result (Spends (F.device flash.old) (F.device flash.new) 0 0) }
+    ensures spends { OnOk result (SpendsBetween (F.device flash.old) (F.device flash.new) 1 1) }
+    ensures spends_lost { OnErr result (SpendsBetween (F.device flash.old) (F.device flash.new) 0 0) }
 {
     let start = slot_start(flash, area, slot);
     area_program(flash, area, sector, start, bytes)
@@ -64,8 +64,8 @@ pub fn guard<F: Flash, L: Ledger>(
     ensures not_valid { OnOk result (is_valid_under cycle (slot_of (sector_bytes (F.device flash.new) area.now sector) slot) ≡ false) }
     ensures lost { OnErr result (sectors_of (F.device flash.new) area.now ≡ sectors_of (F.device flash.old) area.now) }
     ensures spends { let units = (if is_valid_under cycle (slot_of (sector_bytes (F.device flash.old) area.now sector) slot) then 1 else 0) in
-        OnOk result (Spends (F.device flash.old) (F.device flash.new) units units) }
-    ensures spends_lost { OnErr result (Spends (F.device flash.old) (F.device flash.new) 0 0) }
+        OnOk result (SpendsBetween (F.device flash.old) (F.device flash.new) units units) }
+    ensures spends_lost { OnErr result (SpendsBetween (F.device flash.old) (F.device flash.new) 0 0) }
     ensures step { steps.new ≡ steps.old + 1 }
 {
     let start = slot_start(flash, area, slot);
@@ -93,8 +93,8 @@ pub fn put_slot<F: Flash, L: Ledger>(
     ensures ok { OnOk result (sector_bytes (F.device flash.new) area.now sector ≡ with_slot (guarded entry.now.cycle (slot + 1) (sector_bytes (F.device flash.old) area.now sector)) slot (encoded entry.now)) }
     ensures lost { OnErr result ((sector_bytes (F.device flash.new) area.now sector ≡ sector_bytes (F.device flash.old) area.now sector)
         ⊎ (sector_bytes (F.device flash.new) area.now sector ≡ guarded entry.now.cycle (slot + 1) (sector_bytes (F.device flash.old) area.now sector))) }
-    ensures spends { OnOk result (Spends (F.device flash.old) (F.device flash.new) 1 2) }
-    ensures spends_lost { OnErr result (Spends (F.device flash.old) (F.device flash.new) 0 1) }
+    ensures spends { OnOk result (SpendsBetween (F.device flash.old) (F.device flash.new) 1 2) }
+    ensures spends_lost { OnErr result (SpendsBetween (F.device flash.old) (F.device flash.new) 0 1) }
 {
     guard(flash, area, sector, slot + 1, entry.cycle, steps)?;
     put_unit(flash, area, sector, slot, &encode_zentry(entry))

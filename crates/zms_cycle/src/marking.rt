@@ -1,7 +1,7 @@
 // Closing and emptying a sector.
 ghost use Rattle.std.specs.Prelude.{◌≡◌, ◌+◌, ◌-◌, ◌*◌, ◌/◌, ◌<◌, ◌≤◌, ◌∷◌, [], length, is_err, IsTrue, IsSome, OnOk, OnErr};
 ghost use Rattle.flash_map.specs.Area.{sector_size, sectors_of, sector_bytes};
-ghost use Rattle.flash_map.specs.Spending.{Spends};
+ghost use Rattle.flash_map.specs.Spending.{SpendsBetween};
 ghost use Rattle.flash_map.specs.Touches.{Touches};
 ghost use Rattle.zms_cycle.specs.Areas.{IsZmsSector, HasSlot, OthersStay};
 ghost use Rattle.zms_cycle.specs.Changes.{with_slot, KeepsList, KeepsState, Closes, Empties, next_cycle};
@@ -62,8 +62,8 @@ pub fn empty_sector<F: Flash, L: Ledger>(
     ensures others { OthersStay (F.device flash.old) (F.device flash.new) area.now sector }
     ensures ok { OnOk result (Empties (sector_bytes (F.device flash.old) area.now sector) (sector_bytes (F.device flash.new) area.now sector)) }
     ensures lost { OnErr result (KeepsState (sector_bytes (F.device flash.old) area.now sector) (sector_bytes (F.device flash.new) area.now sector)) }
-    ensures spends { OnOk result (Spends (F.device flash.old) (F.device flash.new) 1 3) }
-    ensures spends_lost { OnErr result (Spends (F.device flash.old) (F.device flash.new) 0 3) }
+    ensures spends { OnOk result (SpendsBetween (F.device flash.old) (F.device flash.new) 1 3) }
+    ensures spends_lost { OnErr result (SpendsBetween (F.device flash.old) (F.device flash.new) 0 3) }
 {
     let cycle = next_cycle(sector_cycle(flash, area, sector, steps));
     guard(flash, area, sector, 1, cycle, steps)?;
@@ -86,8 +86,8 @@ fn fill_slot<F: Flash, L: Ledger>(
     ensures others { OthersStay (F.device flash.old) (F.device flash.new) area.now sector }
     ensures ok { OnOk result (sector_bytes (F.device flash.new) area.now sector ≡ with_slot (sector_bytes (F.device flash.old) area.now sector) slot fill) }
     ensures lost { OnErr result (sectors_of (F.device flash.new) area.now ≡ sectors_of (F.device flash.old) area.now) }
-    ensures spends { OnOk result (Spends (F.device flash.old) (F.device flash.new) 0 1) }
-    ensures spends_lost { OnErr result (Spends (F.device flash.old) (F.device flash.new) 0 0) }
+    ensures spends { OnOk result (SpendsBetween (F.device flash.old) (F.device flash.new) 0 1) }
+    ensures spends_lost { OnErr result (SpendsBetween (F.device flash.old) (F.device flash.new) 0 0) }
 {
     let start = slot_start(flash, area, slot);
     let unit = fill_unit();
@@ -115,7 +115,7 @@ fn fill_slots<F: Flash, L: Ledger>(
     ensures touches { Touches (area.now ∷ []) (F.device flash.old) (F.device flash.new) (is_err result) }
     ensures others { OthersStay (F.device flash.old) (F.device flash.new) area.now sector }
     ensures keeps { KeepsList (sector_bytes (F.device flash.old) area.now sector) (sector_bytes (F.device flash.new) area.now sector) }
-    ensures spends { Spends (F.device flash.old) (F.device flash.new) 0 (top - bottom) }
+    ensures spends { SpendsBetween (F.device flash.old) (F.device flash.new) 0 (top - bottom) }
 {
     let mut slot = top;
     while slot > bottom {
@@ -141,8 +141,8 @@ pub fn close<F: Flash, L: Ledger>(
     ensures others { OthersStay (F.device flash.old) (F.device flash.new) area.now sector }
     ensures ok { OnOk result (Closes (sector_bytes (F.device flash.old) area.now sector) (sector_bytes (F.device flash.new) area.now sector)) }
     ensures lost { OnErr result (KeepsList (sector_bytes (F.device flash.old) area.now sector) (sector_bytes (F.device flash.new) area.now sector)) }
-    ensures spends { OnOk result (Spends (F.device flash.old) (F.device flash.new) 1 (free (sector_bytes (F.device flash.old) area.now sector) / 16 + 1)) }
-    ensures spends_lost { OnErr result (Spends (F.device flash.old) (F.device flash.new) 0 (free (sector_bytes (F.device flash.old) area.now sector) / 16 + 1)) }
+    ensures spends { OnOk result (SpendsBetween (F.device flash.old) (F.device flash.new) 1 (free (sector_bytes (F.device flash.old) area.now sector) / 16 + 1)) }
+    ensures spends_lost { OnErr result (SpendsBetween (F.device flash.old) (F.device flash.new) 0 (free (sector_bytes (F.device flash.old) area.now sector) / 16 + 1)) }
 {
     let opened = opened_sector(flash, area, sector, steps);
     let size = geometry(flash, area).sector;

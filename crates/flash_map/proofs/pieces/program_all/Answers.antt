@@ -33,7 +33,6 @@ loop-done-preserved g c =
       in_range = omega arith;
       whole_units = whole;
       touches = then kept.touches c.in_ok-area_program.ensures.touches;
-      spends = spends_more a (g.F.Flash.device c.loop-done.flash) c.args.area.now (g.met.F.Flash.is_lawful c.args.flash.now) c.requires.lawful c.args.sector c.args.offset c.args.bytes.now c.requires.can c.loop-done.done c.min-end.result (omega arith) (omega arith) kept.whole_units whole kept.touches kept.written (g.F.Flash.device c.area_program.new.flash) (place_of (g.F.Flash.device c.loop-done.flash) c.args.area.now c.args.sector (c.args.offset + c.loop-done.done)) refl kept.spends c.in_ok-area_program.ensures.ok;
       written = written_more a (g.F.Flash.device c.loop-done.flash) c.args.area.now (g.met.F.Flash.is_lawful c.args.flash.now) c.requires.lawful c.args.sector c.args.offset c.args.bytes.now c.requires.can c.loop-done.done c.min-end.result (omega arith) (omega arith) kept.whole_units whole kept.touches kept.written (g.F.Flash.device c.area_program.new.flash) c.in_ok-area_program.ensures.written;
       spent = piece_spends a b next c.args.area.now (is_unit (unit_of a c.args.area.now) (lawful.each_bank c.args.area.now.bank c.requires.lawful.has_bank).unit) c.loop-done.done c.min-end.result piece (piece_len-is c.args.bytes.now c.loop-done.done c.min-end.result (omega arith)) kept.whole_units (omega arith) kept.touches.banks kept.spent
           (spends-programs b next (place_of b c.args.area.now c.args.sector (c.args.offset + c.loop-done.done)) piece c.in_ok-area_program.ensures.ok);

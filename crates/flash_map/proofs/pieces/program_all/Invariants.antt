@@ -9,7 +9,6 @@ invariant-loop-done g l = record {
   in_range : l.done ≤ length l.bytes;
   whole_units : l.done % unit_of (g.F.Flash.device l.initial.flash) l.area ≡ 0;
   touches : Touches (l.area ∷ []) (g.F.Flash.device l.initial.flash) (g.F.Flash.device l.flash) false;
-  spends : Spends (g.F.Flash.device l.initial.flash) (g.F.Flash.device l.flash) (l.done / unit_of (g.F.Flash.device l.initial.flash) l.area) (l.done / unit_of (g.F.Flash.device l.initial.flash) l.area);
   written : Writes (g.F.Flash.device l.initial.flash) (g.F.Flash.device l.flash) l.area l.sector l.offset (take l.done l.bytes);
   spent : Spends (g.F.Flash.device l.initial.flash) (g.F.Flash.device l.flash) (l.done / unit_of (g.F.Flash.device l.initial.flash) l.area);
 }

@@ -1,7 +1,7 @@
 use Rattle.std.proofs.Common.{refl, ap, arith}
 use Rattle.std.proofs.lemmas.Result.{on_ok_weaker, on_err_weaker}
 use Rattle.flash_map.specs.Area.{sector_bytes}
-use Rattle.flash_map.proofs.Spending.{spends_within}
+use Rattle.flash_map.proofs.SpendingBounds.{between_within}
 use Rattle.zms_cycle.specs.declared.entry.ZEntry.{ZEntry}
 use Rattle.zms_cycle.proofs.Frames.{keeps_same}
 use Rattle.zms_cycle.proofs.EntryCalls.{ready, ready_slots, ready_slot, ready_cut, ready_done}
@@ -28,4 +28,4 @@ returns-clause-lost g c =
     on_err_weaker c.put_slot.result (ready_cut (g.F.Flash.device c.args.flash.now) c.args.area.now c.args.sector c.opened_sector-opened.result.cycle c.opened_sector-opened.result.slots c.opened_sector-opened.result.data_end 0 r (sector_bytes (g.F.Flash.device c.args.flash.now) c.args.area.now c.args.sector) (sector_bytes (g.F.Flash.device c.put_slot.new.flash) c.args.area.now c.args.sector) c.done_entry-entry.result (ap (λ (e : ZEntry). e.cycle) c.done_entry-entry.ensures) (keeps_same (sector_bytes (g.F.Flash.device c.args.flash.now) c.args.area.now c.args.sector))) c.put_slot.ensures.lost
 
 pub returns-clause-spends_lost : goal.returns-clause-spends_lost
-returns-clause-spends_lost g c = on_err_weaker c.put_slot.result (λ spends. spends_within spends 0 2 (omega arith) (omega arith)) c.put_slot.ensures.spends_lost
+returns-clause-spends_lost g c = on_err_weaker c.put_slot.result (λ spends. between_within spends 0 2 (omega arith) (omega arith)) c.put_slot.ensures.spends_lost

@@ -2,7 +2,7 @@ use Rattle.std.proofs.Common.{◌+◌, ◌/◌, length, ap, arith}
 use Rattle.std.proofs.lemmas.Result.{on_ok_weaker, on_err_weaker}
 use Rattle.flash_map.specs.Area.{sector_bytes}
 use Rattle.flash_map.proofs.PieceLemmas.{on_err}
-use Rattle.flash_map.proofs.Spending.{spends_then, spends_within}
+use Rattle.flash_map.proofs.SpendingBounds.{between_then, between_within}
 use Rattle.zms_cycle.specs.declared.entry.ZEntry.{ZEntry}
 use Rattle.zms_cycle.specs.Sector.{data_len, cost}
 use Rattle.zms_cycle.proofs.AreaFacts.{still_zms, others_then}
@@ -31,7 +31,7 @@ returns-in_err-put_value-clause-lost g c =
     on_err c.from_residual.result (ready_part (g.F.Flash.device c.args.flash.now) c.args.area.now c.args.sector c.opened_sector-opened.result.cycle c.opened_sector-opened.result.slots c.opened_sector-opened.result.data_end (data_len (length c.args.bytes.now)) r (sector_bytes (g.F.Flash.device c.put_value.new.flash) c.args.area.now c.args.sector) c.in_err-put_value.ensures.lost)
 
 pub returns-in_err-put_value-clause-spends_lost : goal.returns-in_err-put_value-clause-spends_lost
-returns-in_err-put_value-clause-spends_lost g c = on_err c.from_residual.result (spends_within c.in_err-put_value.ensures.spends_lost 0 (cost (length c.args.bytes.now) / 16 + 1) (omega arith) (omega arith))
+returns-in_err-put_value-clause-spends_lost g c = on_err c.from_residual.result (between_within c.in_err-put_value.ensures.spends_lost 0 (cost (length c.args.bytes.now) / 16 + 1) (omega arith) (omega arith))
 
 pub overflow_add-opened : goal.overflow_add-opened
 overflow_add-opened g c =
@@ -60,7 +60,7 @@ returns-clause-lost g c =
     on_err_weaker c.put_slot.result (ready_cut (g.F.Flash.device c.args.flash.now) c.args.area.now c.args.sector c.opened_sector-opened.result.cycle c.opened_sector-opened.result.slots c.opened_sector-opened.result.data_end (data_len (length c.args.bytes.now)) r (sector_bytes (g.F.Flash.device c.put_value.new.flash) c.args.area.now c.args.sector) (sector_bytes (g.F.Flash.device c.put_slot.new.flash) c.args.area.now c.args.sector) c.value_entry-entry.result (ap (λ (e : ZEntry). e.cycle) c.value_entry-entry.ensures) (ready_value (g.F.Flash.device c.args.flash.now) c.args.area.now c.args.sector c.opened_sector-opened.result.cycle c.opened_sector-opened.result.slots c.opened_sector-opened.result.data_end c.args.bytes.now (sector_bytes (g.F.Flash.device c.put_value.new.flash) c.args.area.now c.args.sector) r c.in_ok-put_value.ensures.ok)) c.put_slot.ensures.lost
 
 pub returns-clause-spends : goal.returns-clause-spends
-returns-clause-spends g c = on_ok_weaker c.put_slot.result (λ spends. spends_within (spends_then c.in_ok-put_value.ensures.spends spends) (cost (length c.args.bytes.now) / 16) (cost (length c.args.bytes.now) / 16 + 1) (omega arith) (omega arith)) c.put_slot.ensures.spends
+returns-clause-spends g c = on_ok_weaker c.put_slot.result (λ spends. between_within (between_then c.in_ok-put_value.ensures.spends spends) (cost (length c.args.bytes.now) / 16) (cost (length c.args.bytes.now) / 16 + 1) (omega arith) (omega arith)) c.put_slot.ensures.spends
 
 pub returns-clause-spends_lost : goal.returns-clause-spends_lost
-returns-clause-spends_lost g c = on_err_weaker c.put_slot.result (λ spends. spends_within (spends_then c.in_ok-put_value.ensures.spends spends) 0 (cost (length c.args.bytes.now) / 16 + 1) (omega arith) (omega arith)) c.put_slot.ensures.spends_lost
+returns-clause-spends_lost g c = on_err_weaker c.put_slot.result (λ spends. between_within (between_then c.in_ok-put_value.ensures.spends spends) 0 (cost (length c.args.bytes.now) / 16 + 1) (omega arith) (omega arith)) c.put_slot.ensures.spends_lost

@@ -1,7 +1,7 @@
 use Rattle.std.proofs.Common.{ℕ, ◌/◌, length, sym, subst, ◌∙◌, arith}
 use Rattle.std.proofs.lemmas.Result.{on_ok_weaker, on_err_weaker}
 use Rattle.flash_map.specs.Area.{sector_bytes}
-use Rattle.flash_map.specs.Spending.{Spends}
+use Rattle.flash_map.specs.Spending.{SpendsBetween}
 use Rattle.zms_cycle.specs.Changes.{HasPart}
 use Rattle.zms_cycle.proofs.EntryCalls.{long_len, long_value, short_spends, short_value}
 use Rattle.zms_cycle.proofs.appending.put_value.Goals as goal
@@ -22,7 +22,7 @@ pub returns-clause-lost : goal.returns-clause-lost
 returns-clause-lost g c = on_err_weaker c.put_bytes.result (λ part. subst (λ (n : ℕ). HasPart (sector_bytes (g.F.Flash.device c.args.flash.now) c.args.area.now c.args.sector) (sector_bytes (g.F.Flash.device c.put_bytes.new.flash) c.args.area.now c.args.sector) c.args.at n) (sym (long_len (length c.args.bytes.now) (omega arith))) part) c.put_bytes.ensures.lost
 
 pub returns-clause-spends : goal.returns-clause-spends
-returns-clause-spends g c = on_ok_weaker c.put_bytes.result (λ spends. subst (λ (n : ℕ). Spends (g.F.Flash.device c.args.flash.now) (g.F.Flash.device c.put_bytes.new.flash) (n / 16) (n / 16)) (sym (long_len (length c.args.bytes.now) (omega arith))) spends) c.put_bytes.ensures.spends
+returns-clause-spends g c = on_ok_weaker c.put_bytes.result (λ spends. subst (λ (n : ℕ). SpendsBetween (g.F.Flash.device c.args.flash.now) (g.F.Flash.device c.put_bytes.new.flash) (n / 16) (n / 16)) (sym (long_len (length c.args.bytes.now) (omega arith))) spends) c.put_bytes.ensures.spends
 
 pub returns-clause-spends_lost : goal.returns-clause-spends_lost
-returns-clause-spends_lost g c = on_err_weaker c.put_bytes.result (λ spends. subst (λ (n : ℕ). Spends (g.F.Flash.device c.args.flash.now) (g.F.Flash.device c.put_bytes.new.flash) 0 (n / 16)) (sym (long_len (length c.args.bytes.now) (omega arith))) spends) c.put_bytes.ensures.spends_lost
+returns-clause-spends_lost g c = on_err_weaker c.put_bytes.result (λ spends. subst (λ (n : ℕ). SpendsBetween (g.F.Flash.device c.args.flash.now) (g.F.Flash.device c.put_bytes.new.flash) 0 (n / 16)) (sym (long_len (length c.args.bytes.now) (omega arith))) spends) c.put_bytes.ensures.spends_lost

@@ -5,11 +5,10 @@ use Rattle.flash_sim.specs.Bank.{bank_at}
 use Rattle.flash_sim.specs.Device.{overwritten}
 use Rattle.flash_sim.specs.declared.flash.Bank.{Bank}
 use Rattle.flash_map.specs.Area.{sector_bytes, sector_size}
-use Rattle.flash_map.specs.Pieces.{padded_bytes}
-use Rattle.flash_map.specs.Spending.{Spends}
-use Rattle.flash_map.specs.Units.{padded}
+use Rattle.flash_map.specs.Spending.{SpendsBetween}
+use Rattle.flash_map.specs.Units.{padded, padded_bytes}
 use Rattle.flash_map.proofs.PieceLemmas.{on_err}
-use Rattle.flash_map.proofs.Spending.{spends_none, spends_then, spends_within}
+use Rattle.flash_map.proofs.SpendingBounds.{between_none, between_then, between_within}
 use Rattle.flash_map.proofs.Touches.{then, untouched}
 use Rattle.zms_cycle.specs.Changes.{HasPart}
 use Rattle.zms_cycle.proofs.AreaFacts.{size_is, still_zms, others_same, others_then}
@@ -25,7 +24,7 @@ loop-done-init g c =
       touches = untouched (c.args.area.now ∷ []) (g.F.Flash.device c.args.flash.now);
       others = others_same (g.F.Flash.device c.args.flash.now) (g.F.Flash.device c.args.flash.now) c.args.area.now c.args.sector refl;
       here = nothing_yet (sector_bytes (g.F.Flash.device c.args.flash.now) c.args.area.now c.args.sector) (slice_range (sector_bytes (g.F.Flash.device c.args.flash.now) c.args.area.now c.args.from_sector) c.args.from (c.args.from + c.args.len)) c.args.to;
-      spends = spends_within (spends_none (g.F.Flash.device c.args.flash.now)) (padded 16 0 / 16) (padded 16 0 / 16) (omega arith) (omega arith);
+      spends = between_within (between_none (g.F.Flash.device c.args.flash.now)) (padded 16 0 / 16) (padded 16 0 / 16) (omega arith) (omega arith);
     }
 
 pub copy_piece-requires-clause-zms : goal.copy_piece-requires-clause-zms
@@ -75,7 +74,7 @@ loop-done-preserved g c =
           ∙ ap (λ (b : List ℕ). overwritten b (c.args.to + c.loop-done.done) (padded_bytes 16 (slice_range (sector_bytes (g.F.Flash.device c.loop-done.flash) c.args.area.now c.args.from_sector) (c.args.from + c.loop-done.done) (c.args.from + c.loop-done.done + c.min-count.result)))) kept.here
           ∙ ap (λ (p : List ℕ). overwritten (overwritten (sector_bytes (g.F.Flash.device c.args.flash.now) c.args.area.now c.args.sector) c.args.to (padded_bytes 16 (take c.loop-done.done (slice_range (sector_bytes (g.F.Flash.device c.args.flash.now) c.args.area.now c.args.from_sector) c.args.from (c.args.from + c.args.len))))) (c.args.to + c.loop-done.done) (padded_bytes 16 p)) piece
           ∙ piece_more (sector_bytes (g.F.Flash.device c.args.flash.now) c.args.area.now c.args.sector) (slice_range (sector_bytes (g.F.Flash.device c.args.flash.now) c.args.area.now c.args.from_sector) c.args.from (c.args.from + c.args.len)) c.args.to c.loop-done.done c.min-count.result (omega (arith, long)) whole (padded_fits c.loop-done.done c.min-count.result c.args.len c.args.to (length (sector_bytes (g.F.Flash.device c.args.flash.now) c.args.area.now c.args.sector)) (omega arith) (omega (arith, size)));
-      spends = subst (λ (k : ℕ). Spends (g.F.Flash.device c.args.flash.now) (g.F.Flash.device c.copy_piece.new.flash) k k) (padded_units c.loop-done.done c.min-count.result whole) (spends_then kept.spends c.in_ok-copy_piece.ensures.spends);
+      spends = subst (λ (k : ℕ). SpendsBetween (g.F.Flash.device c.args.flash.now) (g.F.Flash.device c.copy_piece.new.flash) k k) (padded_units c.loop-done.done c.min-count.result whole) (between_then kept.spends c.in_ok-copy_piece.ensures.spends);
     }
 
 pub returns-in_err-copy_piece-clause-others : goal.returns-in_err-copy_piece-clause-others
@@ -100,7 +99,7 @@ returns-in_err-copy_piece-clause-spends_lost g c =
     let within = padded_within c.loop-done.done c.min-count.result c.args.len whole (omega arith) in
     let units = padded_units c.loop-done.done c.min-count.result whole in
     let sum = padded_sum c.loop-done.done c.min-count.result whole in
-    on_err c.from_residual.result (spends_within (spends_then kept.spends c.in_err-copy_piece.ensures.spends_lost) 0 (padded 16 c.args.len / 16) (omega arith) (omega arith))
+    on_err c.from_residual.result (between_within (between_then kept.spends c.in_err-copy_piece.ensures.spends_lost) 0 (padded 16 c.args.len / 16) (omega arith) (omega arith))
 
 pub returns-clause-ok : goal.returns-clause-ok
 returns-clause-ok g c =
@@ -109,4 +108,4 @@ returns-clause-ok g c =
     c.loop-done.invariant.here ∙ ap (λ (p : List ℕ). overwritten (sector_bytes (g.F.Flash.device c.args.flash.now) c.args.area.now c.args.sector) c.args.to (padded_bytes 16 p)) (take_all c.loop-done.done (slice_range (sector_bytes (g.F.Flash.device c.args.flash.now) c.args.area.now c.args.from_sector) c.args.from (c.args.from + c.args.len)) (omega (arith, long)))
 
 pub returns-clause-spends : goal.returns-clause-spends
-returns-clause-spends g c = let all : c.loop-done.done ≡ c.args.len = omega arith in subst (λ (k : ℕ). Spends (g.F.Flash.device c.args.flash.now) (g.F.Flash.device c.loop-done.flash) (padded 16 k / 16) (padded 16 k / 16)) all c.loop-done.invariant.spends
+returns-clause-spends g c = let all : c.loop-done.done ≡ c.args.len = omega arith in subst (λ (k : ℕ). SpendsBetween (g.F.Flash.device c.args.flash.now) (g.F.Flash.device c.loop-done.flash) (padded 16 k / 16) (padded 16 k / 16)) all c.loop-done.invariant.spends

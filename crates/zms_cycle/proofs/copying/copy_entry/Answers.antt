@@ -2,7 +2,7 @@ use Rattle.std.proofs.Common.{ℕ, ◌+◌, ◌/◌, List, length, sym, ap, subs
 use Rattle.std.proofs.lemmas.Result.{on_ok_weaker, on_err_weaker}
 use Rattle.flash_map.specs.Area.{sector_bytes}
 use Rattle.flash_map.proofs.PieceLemmas.{on_err}
-use Rattle.flash_map.proofs.Spending.{spends_then, spends_within}
+use Rattle.flash_map.proofs.SpendingBounds.{between_then, between_within}
 use Rattle.zms_cycle.specs.declared.entry.ZEntry.{ZEntry}
 use Rattle.zms_cycle.specs.Changes.{HasPart, AddsPair}
 use Rattle.zms_cycle.specs.Sector.{data_len, cost, value_of, slot_of, entry_len}
@@ -52,7 +52,7 @@ pub returns-in_err-copy_value-clause-spends_lost : goal.returns-in_err-copy_valu
 returns-in_err-copy_value-clause-spends_lost g c =
     let copy = copied (sector_bytes (g.F.Flash.device c.args.flash.now) c.args.area.now c.args.from_sector) c.args.from_slot c.ordinary_entry-from.result c.requires.from_sound c.requires.from c.requires.listed (omega arith) c.ordinary_entry-from.ensures in
     let same = ap data_len copy.listed_len in
-    on_err c.from_residual.result (spends_within c.in_err-copy_value.ensures.spends_lost 0 (cost (entry_len (sector_bytes (g.F.Flash.device c.args.flash.now) c.args.area.now c.args.from_sector) c.args.from_slot) / 16 + 1) (omega arith) (omega arith))
+    on_err c.from_residual.result (between_within c.in_err-copy_value.ensures.spends_lost 0 (cost (entry_len (sector_bytes (g.F.Flash.device c.args.flash.now) c.args.area.now c.args.from_sector) c.args.from_slot) / 16 + 1) (omega arith) (omega arith))
 
 pub overflow_add-opened : goal.overflow_add-opened
 overflow_add-opened g c =
@@ -97,10 +97,10 @@ pub returns-clause-spends : goal.returns-clause-spends
 returns-clause-spends g c =
     let copy = copied (sector_bytes (g.F.Flash.device c.args.flash.now) c.args.area.now c.args.from_sector) c.args.from_slot c.ordinary_entry-from.result c.requires.from_sound c.requires.from c.requires.listed (omega arith) c.ordinary_entry-from.ensures in
     let same = ap data_len copy.listed_len in
-    on_ok_weaker c.put_slot.result (λ spends. spends_within (spends_then c.in_ok-copy_value.ensures.spends spends) (cost (entry_len (sector_bytes (g.F.Flash.device c.args.flash.now) c.args.area.now c.args.from_sector) c.args.from_slot) / 16) (cost (entry_len (sector_bytes (g.F.Flash.device c.args.flash.now) c.args.area.now c.args.from_sector) c.args.from_slot) / 16 + 1) (omega arith) (omega arith)) c.put_slot.ensures.spends
+    on_ok_weaker c.put_slot.result (λ spends. between_within (between_then c.in_ok-copy_value.ensures.spends spends) (cost (entry_len (sector_bytes (g.F.Flash.device c.args.flash.now) c.args.area.now c.args.from_sector) c.args.from_slot) / 16) (cost (entry_len (sector_bytes (g.F.Flash.device c.args.flash.now) c.args.area.now c.args.from_sector) c.args.from_slot) / 16 + 1) (omega arith) (omega arith)) c.put_slot.ensures.spends
 
 pub returns-clause-spends_lost : goal.returns-clause-spends_lost
 returns-clause-spends_lost g c =
     let copy = copied (sector_bytes (g.F.Flash.device c.args.flash.now) c.args.area.now c.args.from_sector) c.args.from_slot c.ordinary_entry-from.result c.requires.from_sound c.requires.from c.requires.listed (omega arith) c.ordinary_entry-from.ensures in
     let same = ap data_len copy.listed_len in
-    on_err_weaker c.put_slot.result (λ spends. spends_within (spends_then c.in_ok-copy_value.ensures.spends spends) 0 (cost (entry_len (sector_bytes (g.F.Flash.device c.args.flash.now) c.args.area.now c.args.from_sector) c.args.from_slot) / 16 + 1) (omega arith) (omega arith)) c.put_slot.ensures.spends_lost
+    on_err_weaker c.put_slot.result (λ spends. between_within (between_then c.in_ok-copy_value.ensures.spends spends) 0 (cost (entry_len (sector_bytes (g.F.Flash.device c.args.flash.now) c.args.area.now c.args.from_sector) c.args.from_slot) / 16 + 1) (omega arith) (omega arith)) c.put_slot.ensures.spends_lost

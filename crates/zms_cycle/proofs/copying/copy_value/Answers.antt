@@ -2,9 +2,9 @@ use Rattle.std.proofs.Common.{ℕ, ◌/◌, sym, subst, ◌∙◌, arith, length
 use Rattle.std.proofs.lemmas.Result.{on_ok_weaker, on_err_weaker}
 use Rattle.std.specs.Prelude.{◌+◌, slice_range}
 use Rattle.flash_sim.specs.Device.{overwritten}
-use Rattle.flash_map.specs.Pieces.{padded_bytes}
+use Rattle.flash_map.specs.Units.{padded_bytes}
 use Rattle.flash_map.specs.Area.{sector_bytes}
-use Rattle.flash_map.specs.Spending.{Spends}
+use Rattle.flash_map.specs.Spending.{SpendsBetween}
 use Rattle.zms_cycle.specs.Changes.{HasPart}
 use Rattle.zms_cycle.specs.Entries.{offset_of}
 use Rattle.zms_cycle.specs.Sector.{value_of}
@@ -37,7 +37,7 @@ pub returns-clause-lost : goal.returns-clause-lost
 returns-clause-lost g c = on_err_weaker c.copy_bytes.result (λ part. subst (λ (n : ℕ). HasPart (sector_bytes (g.F.Flash.device c.args.flash.now) c.args.area.now c.args.sector) (sector_bytes (g.F.Flash.device c.copy_bytes.new.flash) c.args.area.now c.args.sector) c.args.to n) (sym (long_len c.args.from.now.len (omega arith))) part) c.copy_bytes.ensures.lost
 
 pub returns-clause-spends : goal.returns-clause-spends
-returns-clause-spends g c = on_ok_weaker c.copy_bytes.result (λ spends. subst (λ (n : ℕ). Spends (g.F.Flash.device c.args.flash.now) (g.F.Flash.device c.copy_bytes.new.flash) (n / 16) (n / 16)) (sym (long_len c.args.from.now.len (omega arith))) spends) c.copy_bytes.ensures.spends
+returns-clause-spends g c = on_ok_weaker c.copy_bytes.result (λ spends. subst (λ (n : ℕ). SpendsBetween (g.F.Flash.device c.args.flash.now) (g.F.Flash.device c.copy_bytes.new.flash) (n / 16) (n / 16)) (sym (long_len c.args.from.now.len (omega arith))) spends) c.copy_bytes.ensures.spends
 
 pub returns-clause-spends_lost : goal.returns-clause-spends_lost
-returns-clause-spends_lost g c = on_err_weaker c.copy_bytes.result (λ spends. subst (λ (n : ℕ). Spends (g.F.Flash.device c.args.flash.now) (g.F.Flash.device c.copy_bytes.new.flash) 0 (n / 16)) (sym (long_len c.args.from.now.len (omega arith))) spends) c.copy_bytes.ensures.spends_lost
+returns-clause-spends_lost g c = on_err_weaker c.copy_bytes.result (λ spends. subst (λ (n : ℕ). SpendsBetween (g.F.Flash.device c.args.flash.now) (g.F.Flash.device c.copy_bytes.new.flash) 0 (n / 16)) (sym (long_len c.args.from.now.len (omega arith))) spends) c.copy_bytes.ensures.spends_lost

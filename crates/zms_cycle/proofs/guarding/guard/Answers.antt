@@ -2,7 +2,7 @@ use Rattle.std.proofs.Common.{ℕ, List, ap, ◌∙◌, arith}
 use Rattle.std.proofs.lemmas.Result.{on_ok_weaker}
 use Rattle.std.proofs.lemmas.Bool.{cond-true, cond-false}
 use Rattle.flash_map.specs.Area.{sector_bytes}
-use Rattle.flash_map.proofs.Spending.{spends_none}
+use Rattle.flash_map.proofs.SpendingBounds.{between_none}
 use Rattle.slot_list.proofs.SlotLemmas.{bytes-slot_at}
 use Rattle.zms_cycle.specs.Sector.{slot_of, is_valid_under}
 use Rattle.zms_cycle.specs.Changes.{with_slot}
@@ -44,4 +44,4 @@ pub returns-clause-spends : goal.returns-clause-spends
 returns-clause-spends g c =
     let size = size_is (g.F.Flash.device c.args.flash.now) c.args.area.now c.args.sector c.requires.zms (g.met.F.Flash.is_lawful c.args.flash.now) in
     let valid = valid_read c.args.cycle (sector_bytes (g.F.Flash.device c.args.flash.now) c.args.area.now c.args.sector) c.args.slot c.area_view.result.now c.decode_zentry-entry.result c.is_of_cycle.result c.decode_zentry-entry.ensures (c.area_view.ensures.bytes ∙ bytes-slot_at 16 (sector_bytes (g.F.Flash.device c.args.flash.now) c.args.area.now c.args.sector) c.args.slot c.slot_start-start.result (omega (arith, size, c.slot_start-start.ensures))) c.is_of_cycle.ensures in
-    spends_chosen (g.F.Flash.device c.args.flash.now) (g.F.Flash.device c.args.flash.now) (is_valid_under c.args.cycle (slot_of (sector_bytes (g.F.Flash.device c.args.flash.now) c.args.area.now c.args.sector) c.args.slot)) 0 (cond-false (is_valid_under c.args.cycle (slot_of (sector_bytes (g.F.Flash.device c.args.flash.now) c.args.area.now c.args.sector) c.args.slot)) 1 0 (valid ∙ c.if-is_of_cycle.false)) (spends_none (g.F.Flash.device c.args.flash.now))
+    spends_chosen (g.F.Flash.device c.args.flash.now) (g.F.Flash.device c.args.flash.now) (is_valid_under c.args.cycle (slot_of (sector_bytes (g.F.Flash.device c.args.flash.now) c.args.area.now c.args.sector) c.args.slot)) 0 (cond-false (is_valid_under c.args.cycle (slot_of (sector_bytes (g.F.Flash.device c.args.flash.now) c.args.area.now c.args.sector) c.args.slot)) 1 0 (valid ∙ c.if-is_of_cycle.false)) (between_none (g.F.Flash.device c.args.flash.now))

@@ -1,7 +1,7 @@
 use Rattle.std.proofs.Common.{◌+◌, arith}
 use Rattle.std.proofs.lemmas.Result.{on_ok_weaker, on_err_weaker}
 use Rattle.flash_map.specs.Area.{sector_bytes}
-use Rattle.flash_map.proofs.Spending.{spends_then, spends_within}
+use Rattle.flash_map.proofs.SpendingBounds.{between_then, between_within}
 use Rattle.zms_cycle.specs.Sector.{slot_of, is_valid_under}
 use Rattle.zms_cycle.proofs.AreaFacts.{still_zms, others_then}
 use Rattle.zms_cycle.proofs.UnitCalls.{zero_or_one}
@@ -16,9 +16,9 @@ returns-clause-others g c = others_then (g.F.Flash.device c.args.flash.now) (g.F
 pub returns-clause-spends : goal.returns-clause-spends
 returns-clause-spends g c =
     let few = zero_or_one (is_valid_under c.args.entry.now.cycle (slot_of (sector_bytes (g.F.Flash.device c.args.flash.now) c.args.area.now c.args.sector) (c.args.slot + 1))) in
-    on_ok_weaker c.put_unit.result (λ spends. spends_within (spends_then c.in_ok-guard.ensures.spends spends) 1 2 (omega arith) (omega arith)) c.put_unit.ensures.spends
+    on_ok_weaker c.put_unit.result (λ spends. between_within (between_then c.in_ok-guard.ensures.spends spends) 1 2 (omega arith) (omega arith)) c.put_unit.ensures.spends
 
 pub returns-clause-spends_lost : goal.returns-clause-spends_lost
 returns-clause-spends_lost g c =
     let few = zero_or_one (is_valid_under c.args.entry.now.cycle (slot_of (sector_bytes (g.F.Flash.device c.args.flash.now) c.args.area.now c.args.sector) (c.args.slot + 1))) in
-    on_err_weaker c.put_unit.result (λ spends. spends_within (spends_then c.in_ok-guard.ensures.spends spends) 0 1 (omega arith) (omega arith)) c.put_unit.ensures.spends_lost
+    on_err_weaker c.put_unit.result (λ spends. between_within (between_then c.in_ok-guard.ensures.spends spends) 0 1 (omega arith) (omega arith)) c.put_unit.ensures.spends_lost

@@ -5,7 +5,7 @@ use Rattle.flash_sim.specs.declared.flash.Bank.{Bank}
 use Rattle.flash_map.specs.Area.{sector_bytes, sector_size}
 use Rattle.flash_map.specs.declared.area.Geometry.{Geometry}
 use Rattle.flash_map.proofs.PieceLemmas.{on_err}
-use Rattle.flash_map.proofs.Spending.{spends_then, spends_within}
+use Rattle.flash_map.proofs.SpendingBounds.{between_then, between_within}
 use Rattle.zms_cycle.specs.Sector.{free}
 use Rattle.zms_cycle.proofs.AreaFacts.{size_is, still_zms, others_then}
 use Rattle.zms_cycle.proofs.EmptyCalls.{same_bytes}
@@ -64,7 +64,7 @@ returns-in_err-fill_slots-clause-spends_lost g c =
     let shape = ap (λ (shape : Geometry). shape.sector) c.geometry-size.ensures in
     let most = c.requires.zms.lawful.at_most in
     let nums = numbers (sector_bytes (g.F.Flash.device c.args.flash.now) c.args.area.now c.args.sector) c.geometry-size.result.sector c.opened_sector-opened.result.slots c.opened_sector-opened.result.data_end c.saturating_sub.result c.requires.sound (size ∙ sym shape) (omega (arith, shape, most)) c.opened_sector-opened.ensures.slots c.opened_sector-opened.ensures.data_end c.saturating_sub.ensures in
-    on_err c.from_residual.result (spends_within c.in_err-fill_slots.ensures.spends 0 (free (sector_bytes (g.F.Flash.device c.args.flash.now) c.args.area.now c.args.sector) / 16 + 1) (omega arith) (let few = nums.few in omega arith))
+    on_err c.from_residual.result (between_within c.in_err-fill_slots.ensures.spends 0 (free (sector_bytes (g.F.Flash.device c.args.flash.now) c.args.area.now c.args.sector) / 16 + 1) (omega arith) (let few = nums.few in omega arith))
 
 pub put_unit-requires-clause-zms : goal.put_unit-requires-clause-zms
 put_unit-requires-clause-zms g c = still_zms (g.F.Flash.device c.args.flash.now) (g.F.Flash.device c.fill_slots.new.flash) c.args.area.now c.args.sector c.in_ok-fill_slots.ensures.touches.banks c.requires.zms
@@ -91,7 +91,7 @@ returns-clause-spends g c =
     let most = c.requires.zms.lawful.at_most in
     let nums = numbers (sector_bytes (g.F.Flash.device c.args.flash.now) c.args.area.now c.args.sector) c.geometry-size.result.sector c.opened_sector-opened.result.slots c.opened_sector-opened.result.data_end c.saturating_sub.result c.requires.sound (size ∙ sym shape) (omega (arith, shape, most)) c.opened_sector-opened.ensures.slots c.opened_sector-opened.ensures.data_end c.saturating_sub.ensures in
     let few = nums.few in
-    on_ok_weaker c.put_unit.result (λ spends. spends_within (spends_then c.in_ok-fill_slots.ensures.spends spends) 1 (free (sector_bytes (g.F.Flash.device c.args.flash.now) c.args.area.now c.args.sector) / 16 + 1) (omega arith) (omega arith)) c.put_unit.ensures.spends
+    on_ok_weaker c.put_unit.result (λ spends. between_within (between_then c.in_ok-fill_slots.ensures.spends spends) 1 (free (sector_bytes (g.F.Flash.device c.args.flash.now) c.args.area.now c.args.sector) / 16 + 1) (omega arith) (omega arith)) c.put_unit.ensures.spends
 
 pub returns-clause-spends_lost : goal.returns-clause-spends_lost
 returns-clause-spends_lost g c =
@@ -100,4 +100,4 @@ returns-clause-spends_lost g c =
     let most = c.requires.zms.lawful.at_most in
     let nums = numbers (sector_bytes (g.F.Flash.device c.args.flash.now) c.args.area.now c.args.sector) c.geometry-size.result.sector c.opened_sector-opened.result.slots c.opened_sector-opened.result.data_end c.saturating_sub.result c.requires.sound (size ∙ sym shape) (omega (arith, shape, most)) c.opened_sector-opened.ensures.slots c.opened_sector-opened.ensures.data_end c.saturating_sub.ensures in
     let few = nums.few in
-    on_err_weaker c.put_unit.result (λ spends. spends_within (spends_then c.in_ok-fill_slots.ensures.spends spends) 0 (free (sector_bytes (g.F.Flash.device c.args.flash.now) c.args.area.now c.args.sector) / 16 + 1) (omega arith) (omega arith)) c.put_unit.ensures.spends_lost
+    on_err_weaker c.put_unit.result (λ spends. between_within (between_then c.in_ok-fill_slots.ensures.spends spends) 0 (free (sector_bytes (g.F.Flash.device c.args.flash.now) c.args.area.now c.args.sector) / 16 + 1) (omega arith) (omega arith)) c.put_unit.ensures.spends_lost

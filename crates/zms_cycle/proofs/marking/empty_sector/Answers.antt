@@ -2,7 +2,7 @@ use Rattle.std.proofs.Common.{ap, ◌∙◌, arith}
 use Rattle.std.proofs.lemmas.Result.{on_ok_weaker, on_err_weaker}
 use Rattle.flash_map.specs.Area.{sector_bytes}
 use Rattle.flash_map.proofs.PieceLemmas.{on_err}
-use Rattle.flash_map.proofs.Spending.{spends_then, spends_within}
+use Rattle.flash_map.proofs.SpendingBounds.{between_then, between_within}
 use Rattle.flash_map.proofs.Touches.{then}
 use Rattle.zms_cycle.specs.Sector.{slot_of, is_valid_under}
 use Rattle.zms_cycle.specs.Changes.{next_cycle}
@@ -21,7 +21,7 @@ pub returns-in_err-guard-clause-lost : goal.returns-in_err-guard-clause-lost
 returns-in_err-guard-clause-lost g c = on_err c.from_residual.result (kept_none (sector_bytes (g.F.Flash.device c.args.flash.now) c.args.area.now c.args.sector) (sector_bytes (g.F.Flash.device c.guard.new.flash) c.args.area.now c.args.sector) (same_bytes (g.F.Flash.device c.args.flash.now) (g.F.Flash.device c.guard.new.flash) c.args.area.now c.args.sector c.in_err-guard.ensures.lost))
 
 pub returns-in_err-guard-clause-spends_lost : goal.returns-in_err-guard-clause-spends_lost
-returns-in_err-guard-clause-spends_lost g c = on_err c.from_residual.result (spends_within c.in_err-guard.ensures.spends_lost 0 3 (omega arith) (omega arith))
+returns-in_err-guard-clause-spends_lost g c = on_err c.from_residual.result (between_within c.in_err-guard.ensures.spends_lost 0 3 (omega arith) (omega arith))
 
 pub returns-clause-others : goal.returns-clause-others
 returns-clause-others g c =
@@ -45,13 +45,13 @@ pub returns-clause-spends : goal.returns-clause-spends
 returns-clause-spends g c =
     let one = zero_or_one (is_valid_under c.next_cycle-cycle.result (slot_of (sector_bytes (g.F.Flash.device c.args.flash.now) c.args.area.now c.args.sector) 1)) in
     let two = zero_or_one (is_valid_under c.next_cycle-cycle.result (slot_of (sector_bytes (g.F.Flash.device c.guard.new.flash) c.args.area.now c.args.sector) 2)) in
-    on_ok_weaker c.put_unit.result (λ spends. spends_within (spends_then (spends_then c.in_ok-guard.ensures.spends c.in_ok-guard-2.ensures.spends) spends) 1 3 (omega arith) (omega arith)) c.put_unit.ensures.spends
+    on_ok_weaker c.put_unit.result (λ spends. between_within (between_then (between_then c.in_ok-guard.ensures.spends c.in_ok-guard-2.ensures.spends) spends) 1 3 (omega arith) (omega arith)) c.put_unit.ensures.spends
 
 pub returns-clause-spends_lost : goal.returns-clause-spends_lost
 returns-clause-spends_lost g c =
     let one = zero_or_one (is_valid_under c.next_cycle-cycle.result (slot_of (sector_bytes (g.F.Flash.device c.args.flash.now) c.args.area.now c.args.sector) 1)) in
     let two = zero_or_one (is_valid_under c.next_cycle-cycle.result (slot_of (sector_bytes (g.F.Flash.device c.guard.new.flash) c.args.area.now c.args.sector) 2)) in
-    on_err_weaker c.put_unit.result (λ spends. spends_within (spends_then (spends_then c.in_ok-guard.ensures.spends c.in_ok-guard-2.ensures.spends) spends) 0 3 (omega arith) (omega arith)) c.put_unit.ensures.spends_lost
+    on_err_weaker c.put_unit.result (λ spends. between_within (between_then (between_then c.in_ok-guard.ensures.spends c.in_ok-guard-2.ensures.spends) spends) 0 3 (omega arith) (omega arith)) c.put_unit.ensures.spends_lost
 
 pub returns-in_err-guard-2-clause-others : goal.returns-in_err-guard-2-clause-others
 returns-in_err-guard-2-clause-others g c = others_then (g.F.Flash.device c.args.flash.now) (g.F.Flash.device c.guard.new.flash) (g.F.Flash.device c.guard-2.new.flash) c.args.area.now c.args.sector c.in_ok-guard.ensures.others c.in_err-guard-2.ensures.others
@@ -66,7 +66,7 @@ returns-in_err-guard-2-clause-lost g c =
 pub returns-in_err-guard-2-clause-spends_lost : goal.returns-in_err-guard-2-clause-spends_lost
 returns-in_err-guard-2-clause-spends_lost g c =
     let one = zero_or_one (is_valid_under c.next_cycle-cycle.result (slot_of (sector_bytes (g.F.Flash.device c.args.flash.now) c.args.area.now c.args.sector) 1)) in
-    on_err c.from_residual-in_err-guard-2.result (spends_within (spends_then c.in_ok-guard.ensures.spends c.in_err-guard-2.ensures.spends_lost) 0 3 (omega arith) (omega arith))
+    on_err c.from_residual-in_err-guard-2.result (between_within (between_then c.in_ok-guard.ensures.spends c.in_err-guard-2.ensures.spends_lost) 0 3 (omega arith) (omega arith))
 
 pub returns-clause-touches : goal.returns-clause-touches
 returns-clause-touches g c = then (then c.in_ok-guard.ensures.touches c.in_ok-guard-2.ensures.touches) c.put_unit.ensures.touches

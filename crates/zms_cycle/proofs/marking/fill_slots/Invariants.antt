@@ -1,6 +1,6 @@
 use Rattle.std.proofs.Common.{◌-◌, ◌≤◌, ◌∷◌, [], false}
 use Rattle.flash_map.specs.Area.{sector_bytes}
-use Rattle.flash_map.specs.Spending.{Spends}
+use Rattle.flash_map.specs.Spending.{SpendsBetween}
 use Rattle.flash_map.specs.Touches.{Touches}
 use Rattle.zms_cycle.specs.Areas.{OthersStay}
 use Rattle.zms_cycle.specs.Changes.{KeepsList}
@@ -13,7 +13,7 @@ invariant-loop-slot g l = record {
   touches : Touches (l.area ∷ []) (g.F.Flash.device l.initial.flash) (g.F.Flash.device l.flash) false;
   others : OthersStay (g.F.Flash.device l.initial.flash) (g.F.Flash.device l.flash) l.area l.sector;
   keeps : KeepsList (sector_bytes (g.F.Flash.device l.initial.flash) l.area l.sector) (sector_bytes (g.F.Flash.device l.flash) l.area l.sector);
-  spends : Spends (g.F.Flash.device l.initial.flash) (g.F.Flash.device l.flash) 0 (l.top - l.slot);
+  spends : SpendsBetween (g.F.Flash.device l.initial.flash) (g.F.Flash.device l.flash) 0 (l.top - l.slot);
 }
 
 abbrev pub decreases-loop-slot : goal.decreases-loop-slot

@@ -1,5 +1,5 @@
 -- The sectors of an area that is erased, one after the other.
-use Rattle.std.proofs.Common.{◌≡◌, ℕ, ◌+◌, ◌-◌, ◌<◌, ◌≤◌, Bool, true, false, not, cond, List, [], ◌∷◌, ◌++◌, length, map, get_or, set, take, drop, replicate, inl, inr, sym, ap, ◌∙◌, append_assoc, arith}
+use Rattle.std.proofs.Common.{◌≡◌, ℕ, ◌+◌, ◌-◌, ◌<◌, ◌≤◌, Bool, true, not, cond, List, [], ◌∷◌, ◌++◌, length, map, set, take, drop, replicate, inl, inr, sym, ap, ◌∙◌, append_assoc, arith}
 use Rattle.std.proofs.lemmas.Bool.{cases_Bool, cond-true, cond-false, not_from_true, not_from_false}
 use Rattle.std.proofs.lemmas.List.{set-get_or, take_all, drop_all, append-nil, length-map, length-take-le, get_or-append_right, get_or-drop, set-append_right, drop_more, map_more}
 use Rattle.fcb_ring.specs.SectorStates.{is_erased, blanked, blanked_up_to}

@@ -1,16 +1,15 @@
 -- The ring once its newest sector is another, or one more is used.
-use Rattle.std.proofs.Common.{◌≡◌, ◌⊎◌, ℕ, zero, suc, ◌+◌, ◌-◌, ◌%◌, ◌<◌, ◌≤◌, min, Bool, true, false, List, [], ◌∷◌, ◌++◌, length, map, set, inl, inr, refl, sym, ap, subst, ◌∙◌, arith, None}
+use Rattle.std.proofs.Common.{◌≡◌, ℕ, ◌+◌, ◌-◌, ◌%◌, ◌<◌, ◌≤◌, min, true, false, List, [], ◌++◌, length, set, inl, inr, sym, ap, ◌∙◌, arith, None}
 use Rattle.std.specs.List.{range_with_len, flat_map}
-use Rattle.std.proofs.lemmas.Bool.{cases_eq, cases_lt}
+use Rattle.std.proofs.lemmas.Bool.{cases_eq}
 use Rattle.std.proofs.lemmas.List.{length-set, append-nil}
 use Rattle.std.proofs.lemmas.Grind.{flat_map-append}
-use Rattle.fcb_ring.specs.declared.record.RecordAt.{RecordAt}
 use Rattle.fcb_ring.specs.declared.sector.SectorState.{SectorState}
 use Rattle.fcb_ring.specs.SectorStates.{state_of}
 use Rattle.fcb_ring.specs.Rings.{state_at, turned, first_damage, IsRing, AreClean}
 use Rattle.fcb_ring.specs.Entries.{sector_at, states, sector_entries, entries}
 use Rattle.fcb_ring.proofs.PlaceLemmas.{All-range, range-append, flat_map-agree}
-use Rattle.fcb_ring.proofs.RingLemmas.{turned-within, turned-zero, undamaged}
+use Rattle.fcb_ring.proofs.RingLemmas.{turned-within, undamaged}
 use Rattle.fcb_ring.proofs.AreaLemmas.{state-at, length-states}
 use Rattle.fcb_ring.proofs.StandLemmas.{part, entries-are, set-there, set-elsewhere}
 

@@ -1,15 +1,13 @@
 -- A sector that is opened by its header, and one whose header was cut.
-use Rattle.std.proofs.Common.{◌≡◌, ℕ, zero, suc, ◌+◌, ◌-◌, ◌*◌, ◌/◌, ◌%◌, ◌<◌, ◌≤◌, ◌⊎◌, Bool, true, false, List, [], ◌∷◌, ◌++◌, length, get_or, map, take, drop, replicate, None, inl, inr, refl, sym, ap, subst, ◌∙◌, append_assoc, arith}
+use Rattle.std.proofs.Common.{◌≡◌, ℕ, ◌+◌, ◌-◌, ◌*◌, ◌/◌, ◌%◌, ◌<◌, ◌≤◌, ◌⊎◌, true, false, List, [], ◌∷◌, ◌++◌, length, map, take, drop, replicate, None, inl, inr, refl, sym, ap, ◌∙◌, append_assoc, arith}
 use Rattle.std.specs.List.{filter}
 use Rattle.std.proofs.lemmas.Bool.{cases_eq, or_left, or_right, not_from_true}
 use Rattle.std.proofs.lemmas.List.{length-append, length-replicate, drop-drop, drop-replicate, replicate-append-replicate}
 use Rattle.flash_sim.specs.Device.{overwritten}
 use Rattle.flash_map.specs.Units.{IsUnit, padded}
-use Rattle.flash_map.proofs.Rounding.{by_unit, padding}
-use Rattle.fcb_ring.specs.declared.record.RecordAt.{RecordAt}
-use Rattle.fcb_ring.specs.declared.sector.SectorState.{SectorState}
-use Rattle.fcb_ring.specs.Records.{has_record, record_at, records, records_end, walk, walk_end}
-use Rattle.fcb_ring.specs.SectorStates.{is_erased, is_torn, id_of, state_of, lead, magic}
+use Rattle.flash_map.proofs.Rounding.{by_unit}
+use Rattle.fcb_ring.specs.Records.{has_record, record_at, records, records_end}
+use Rattle.fcb_ring.specs.SectorStates.{is_erased, is_torn, id_of, state_of}
 use Rattle.fcb_ring.specs.Entries.{entry_of, sector_entries}
 use Rattle.fcb_ring.specs.Writing.{filled, header_image}
 use Rattle.fcb_ring.proofs.RecordLemmas.{header_fits, reads_none}

@@ -1,17 +1,15 @@
 -- The bytes of a record and of a header, whole and cut.
-use Rattle.std.proofs.Common.{◌≡◌, ◌⊎◌, ℕ, zero, suc, ◌+◌, ◌-◌, ◌*◌, ◌/◌, ◌%◌, ◌<◌, ◌≤◌, Bool, true, false, cond, not, ◌&&◌, eqb, ltb, List, [], ◌∷◌, ◌++◌, length, get_or, take, drop, replicate, inl, inr, refl, sym, ap, subst, ◌∙◌, append_assoc, arith, rules}
+use Rattle.std.proofs.Common.{◌≡◌, ℕ, ◌+◌, ◌-◌, ◌*◌, ◌/◌, ◌%◌, ◌<◌, ◌≤◌, true, false, ◌&&◌, eqb, ltb, List, [], ◌∷◌, ◌++◌, length, get_or, take, drop, replicate, inl, inr, refl, sym, ap, ◌∙◌, append_assoc, arith}
 use Rattle.std.specs.Prelude.{slice_range}
 use Rattle.std.proofs.Math.Nat.{mul-le-mul_right}
-use Rattle.std.proofs.lemmas.Bool.{cases_lt, cases_eq, cond-true, cond-false, and_left, and_right, lt-ltb, le-ltb, eq-eqb, ne_eqb}
-use Rattle.std.proofs.lemmas.List.{places, same_lists, length-append, length-replicate, length-take-le, take_at, drop_at, get_or_append_left, get_or-append_right, take-append-le, drop-drop, take_all, get_or-take, get_or-drop, drop-replicate, replicate-append-replicate}
+use Rattle.std.proofs.lemmas.Bool.{cases_lt, and_left, and_right, lt-ltb, le-ltb, eq-eqb, ne_eqb}
+use Rattle.std.proofs.lemmas.List.{length-append, length-replicate, length-take-le, take_at, drop_at, get_or_append_left, take-append-le, drop-drop, get_or-take, get_or-drop, drop-replicate, replicate-append-replicate}
 use Rattle.crc8_entry.specs.Crc.{crc}
 use Rattle.flash_sim.specs.Device.{overwritten}
 use Rattle.flash_map.specs.Units.{IsUnit, padded}
 use Rattle.flash_map.proofs.Rounding.{by_unit, padding}
-use Rattle.fcb_ring.specs.Records.{body_len, field_width, checks_at, records_end}
-use Rattle.fcb_ring.specs.SectorStates.{IsSector}
+use Rattle.fcb_ring.specs.Records.{body_len, field_width, checks_at}
 use Rattle.fcb_ring.specs.Writing.{filled, length_field, record_image, record_cost, cut_record}
-use Rattle.fcb_ring.proofs.LayLemmas.{CanLay}
 
 -- a length is written in one or two bytes, which read as that length and are no erased field
 pub record IsField (len : ℕ) (field : List ℕ) : Type 0 where

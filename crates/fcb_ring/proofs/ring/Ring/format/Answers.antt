@@ -1,4 +1,4 @@
-use Rattle.std.proofs.Common.{◌≡◌, ◌<◌, ◌∙◌, ℕ, List, Bool, not, length, sym, ap, arith}
+use Rattle.std.proofs.Common.{◌≡◌, ◌<◌, ◌∙◌, Bool, not, length, sym, ap, arith}
 use Rattle.flash_map.specs.Area.{sectors_of, sector_size}
 use Rattle.flash_map.proofs.Touches.{then}
 use Rattle.fcb_ring.specs.SectorStates.{is_erased}

@@ -267,6 +267,43 @@ fn exercise_last<F: Flash, L: Ledger, R: Abort>(
     Ok(())
 }
 
+// A value of nine bytes in the first sector, and the second sector emptied and given its copy.
+fn copy_first<F: Flash, L: Ledger>(
+    flash: &mut F,
+    area: &Area,
+    steps: &mut Steps<L>,
+) -> Result<(), Fail>
+    requires { IsZmsSector (F.device flash.old) area.now 1 }
+    ensures { OnOk result (IsZmsSector (F.device flash.new) area.now 1) }
+{
+    empty_sector(flash, area, 0, steps)?;
+    put_entry(flash, area, 0, 7, &[1, 2, 3, 4, 5, 6, 7, 8, 9], steps)?;
+    empty_sector(flash, area, 1, steps)?;
+    copy_entry(flash, area, 1, 0, 2, steps)?;
+    Ok(())
+}
+
+fn exercise_copy<F: Flash, L: Ledger, R: Abort>(
+    rt: &R,
+    flash: &mut F,
+    area: &Area,
+    steps: &mut Steps<L>,
+) -> Result<(), Fail>
+    requires { IsZmsSector (F.device flash.old) area.now 1 }
+    ensures { OnOk result (IsZmsSector (F.device flash.new) area.now 1) }
+{
+    copy_first(flash, area, steps)?;
+    let value = [
+        1, 2, 3, 4, 5, 6, 7, 8, 9, 0xFF, 0xFF, 0xFF, 0xFF, 0xFF, 0xFF, 0xFF,
+    ];
+    let entry = [0xB1, 2, 9, 0, 7, 0, 0, 0, 0, 0, 0, 0, 0, 0, 0, 0];
+    assert_eq!(rt; area_view(flash, area, 1, 0, 16, steps), value.as_slice());
+    assert_eq!(rt; area_view(flash, area, 1, 464, 16, steps), entry.as_slice());
+    // a value and its entry, twice, and two empty entries
+    assert_eq!(rt; flash.spent(), 6 + 1 + 2 + 1 + 2);
+    Ok(())
+}
+
 fn exercise_two<B: Bench, L: Ledger, R: Abort>(
     rt: &R,
     alloc: Global,
@@ -289,6 +326,7 @@ fn exercise_two<B: Bench, L: Ledger, R: Abort>(
     exercise_value(rt, bench, &area, &mut steps)?;
     exercise_guard(rt, bench, &area, &mut steps)?;
     exercise_last(rt, bench, &area, &mut steps)?;
+    exercise_copy(rt, bench, &area, &mut steps)?;
     Ok(())
 }
 

@@ -1,6 +1,6 @@
-use Rattle.std.proofs.Common.{◌≡◌, ◌+◌, ◌%◌, refl, ap, sym, ◌∙◌, arith, [], ◌∷◌, length}
+use Rattle.std.proofs.Common.{refl, ◌∙◌, arith}
 use Rattle.flash_map.specs.Area.{sector_bytes}
-use Rattle.zms_cycle.specs.Sector.{data_len, cycle_of}
+use Rattle.zms_cycle.specs.Sector.{cycle_of}
 use Rattle.zms_cycle.specs.Changes.{next_cycle}
 use Rattle.zms_cycle.proofs.AreaFacts.{still_zms, size_is}
 use Rattle.zms_cycle.proofs.Frames.{pad, data_len-short, data_len-long}

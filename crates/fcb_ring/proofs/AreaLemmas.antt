@@ -1,18 +1,17 @@
 -- The sectors of an area on which a ring may stand.
-use Rattle.std.proofs.Common.{◌≡◌, ℕ, ◌+◌, ◌-◌, ◌%◌, ◌<◌, ◌≤◌, List, [], ◌∷◌, ◌++◌, length, get_or, set, take, drop, map, inl, inr, refl, sym, ap, subst, ◌∙◌, arith}
+use Rattle.std.proofs.Common.{◌≡◌, ℕ, ◌+◌, ◌-◌, ◌%◌, ◌<◌, ◌≤◌, List, [], length, inl, inr, sym, ap, subst, ◌∙◌, arith}
 use Rattle.std.specs.Prelude.{slice_range}
-use Rattle.std.proofs.lemmas.List.{take_all, get_or-map, get_or_past, length-map, map-set, get_or-set_same, get_or-set_other}
+use Rattle.std.proofs.lemmas.List.{take_all, get_or-map, length-map}
 use Rattle.flash_sim.specs.Bank.{IsLawful}
-use Rattle.flash_sim.specs.Device.{Device, bytes_of}
+use Rattle.flash_sim.specs.Device.{Device}
 use Rattle.flash_sim.specs.declared.flash.Bank.{Bank}
 use Rattle.flash_map.specs.declared.area.Area.{Area}
 use Rattle.flash_map.specs.declared.area.Role.{Role}
-use Rattle.flash_map.specs.Area.{IsLawfulArea, unit_of, sector_size, sectors_of}
+use Rattle.flash_map.specs.Area.{unit_of, sector_size, sectors_of}
 use Rattle.flash_map.specs.Lawful.{HasUnit}
 use Rattle.flash_map.specs.Units.{IsUnit}
 use Rattle.flash_map.proofs.Places.{length-sector}
 use Rattle.flash_map.proofs.Sectors.{length-sectors_from}
-use Rattle.fcb_ring.specs.declared.sector.SectorState.{SectorState}
 use Rattle.fcb_ring.specs.SectorStates.{IsSector, state_of}
 use Rattle.fcb_ring.specs.Rings.{no_state, state_at}
 use Rattle.fcb_ring.specs.Entries.{sector_at, states}

@@ -1,16 +1,14 @@
 -- The ring before and after the erases of mounting.
-use Rattle.std.proofs.Common.{◌≡◌, ◌⊎◌, ℕ, ◌+◌, ◌-◌, ◌<◌, ◌≤◌, min, Bool, true, false, cond, List, [], ◌∷◌, length, map, set, replicate, inl, inr, refl, sym, ap, subst, ◌∙◌, arith}
+use Rattle.std.proofs.Common.{◌≡◌, ℕ, ◌+◌, ◌-◌, ◌<◌, ◌≤◌, min, Bool, true, false, cond, List, [], length, map, set, replicate, inl, inr, refl, sym, ap, subst, ◌∙◌, arith}
 use Rattle.std.specs.Prelude.{count_by}
 use Rattle.std.proofs.lemmas.Bool.{cases_eq, cases_Bool}
 use Rattle.std.proofs.lemmas.List.{get_or-set_same, get_or-set_other}
 use Rattle.std.proofs.lemmas.List.Folds.{fold-map}
 use Rattle.flash_sim.specs.Bank.{bank_at}
-use Rattle.flash_sim.specs.Device.{Device, counted}
+use Rattle.flash_sim.specs.Device.{Device}
 use Rattle.flash_sim.specs.declared.flash.Bank.{Bank}
 use Rattle.flash_map.specs.declared.area.Area.{Area}
 use Rattle.flash_map.specs.Area.{unit_of, sector_size, sectors_of}
-use Rattle.flash_map.proofs.Plans.{counted_counted}
-use Rattle.fcb_ring.specs.declared.record.RecordAt.{RecordAt}
 use Rattle.fcb_ring.specs.declared.ring.Ring.{Ring}
 use Rattle.fcb_ring.specs.declared.ring.Stage.{Stage}
 use Rattle.fcb_ring.specs.declared.ring.Stage.TheVariants.{Inspected, Ready, Collecting, Down}
@@ -18,10 +16,10 @@ use Rattle.fcb_ring.specs.declared.sector.SectorState.{SectorState}
 use Rattle.fcb_ring.specs.SectorStates.{is_torn, mended, mended_up_to, state_of}
 use Rattle.fcb_ring.specs.Rings.{state_at, turned, is_full, IsRing, AreClean}
 use Rattle.fcb_ring.specs.Entries.{sector_at, states, entries, HasEntries}
-use Rattle.fcb_ring.specs.Standing.{Stands, FitsStage, IsWritten, is_finished, is_uncounted, uncounted, erases_due, SpendsAtMost}
+use Rattle.fcb_ring.specs.Standing.{Stands, FitsStage, IsWritten, is_finished, is_uncounted, uncounted, erases_due}
 use Rattle.fcb_ring.proofs.RingLemmas.{turned-within, full-yes, full-no}
 use Rattle.fcb_ring.proofs.AreaLemmas.{HasSize, count-sectors, state-at, length-states}
-use Rattle.fcb_ring.proofs.StandLemmas.{KeepsRun, kept-form, kept-clean, kept-has, same-state, mended-run, mended-at, length-mended, mended-untorn, erased-run, set-there, set-elsewhere, blank-untorn, torn-state}
+use Rattle.fcb_ring.proofs.StandLemmas.{KeepsRun, kept-form, kept-clean, kept-has, same-state, mended-run, mended-at, length-mended, mended-untorn, erased-run, blank-untorn}
 use Rattle.fcb_ring.proofs.MountLemmas.{mends_all}
 
 -- a fact of the unit holds after a call that leaves the banks

@@ -1,16 +1,15 @@
 -- The bytes of a record and of a header, whole and cut.
-use Rattle.std.proofs.Common.{◌≡◌, ◌⊎◌, ℕ, zero, suc, ◌+◌, ◌-◌, ◌*◌, ◌/◌, ◌%◌, ◌<◌, ◌≤◌, Bool, true, false, cond, not, ◌&&◌, eqb, ltb, List, [], ◌∷◌, ◌++◌, length, get_or, take, drop, replicate, inl, inr, refl, sym, ap, subst, ◌∙◌, append_assoc, arith, rules}
+use Rattle.std.proofs.Common.{◌≡◌, ℕ, ◌+◌, ◌-◌, ◌*◌, ◌/◌, ◌%◌, ◌<◌, ◌≤◌, true, false, ◌&&◌, eqb, ltb, List, [], ◌∷◌, ◌++◌, length, get_or, take, drop, replicate, inl, inr, refl, sym, ap, ◌∙◌, append_assoc, arith}
 use Rattle.std.specs.Prelude.{slice_range}
-use Rattle.std.proofs.lemmas.Bool.{cases_lt, cases_eq, cond-true, cond-false, and_left, and_right, lt-ltb, le-ltb, eq-eqb, ne_eqb}
-use Rattle.std.proofs.lemmas.List.{places, same_lists, length-append, length-replicate, length-take-le, take_at, drop_at, get_or_append_left, get_or-append_right, take-append-le, drop-drop, take_all}
+use Rattle.std.proofs.Math.Nat.{mul-le-mul_right}
+use Rattle.std.proofs.lemmas.Bool.{cases_lt, and_left, and_right, lt-ltb, le-ltb, eq-eqb, ne_eqb}
+use Rattle.std.proofs.lemmas.List.{length-append, length-replicate, length-take-le, take_at, drop_at, get_or_append_left, take-append-le, drop-drop, get_or-take, get_or-drop, drop-replicate, replicate-append-replicate}
 use Rattle.crc8_entry.specs.Crc.{crc}
 use Rattle.flash_sim.specs.Device.{overwritten}
 use Rattle.flash_map.specs.Units.{IsUnit, padded}
 use Rattle.flash_map.proofs.Rounding.{by_unit, padding}
-use Rattle.fcb_ring.specs.Records.{body_len, field_width, checks_at, records_end}
-use Rattle.fcb_ring.specs.SectorStates.{IsSector}
+use Rattle.fcb_ring.specs.Records.{body_len, field_width, checks_at}
 use Rattle.fcb_ring.specs.Writing.{filled, length_field, record_image, record_cost, cut_record}
-use Rattle.fcb_ring.proofs.LayLemmas.{CanLay}
 
 -- a length is written in one or two bytes, which read as that length and are no erased field
 pub record IsField (len : ℕ) (field : List ℕ) : Type 0 where
@@ -92,3 +91,86 @@ module _ (unit : ℕ) (is_unit : IsUnit unit) (body : List ℕ) (short : length 
 
   image-last : drop (unit + padded unit (length body)) (record_image unit body) ≡ tail
   image-last = sym (drop-drop (padded unit (length body)) unit (record_image unit body)) ∙ ap (drop (padded unit (length body))) image-rest ∙ drop_at (filled unit body) tail (padded unit (length body)) body-long
+
+  -- ---- what the whole record reads as
+
+  get-first : (i : ℕ) → i < unit → get_or (record_image unit body) i 0 ≡ get_or (filled unit field) i 0
+  get-first i lt = sym (get_or-take unit (record_image unit body) i 0 lt) ∙ ap (λ (l : List ℕ). get_or l i 0) image-first
+
+  four : 4 ≤ unit
+  four = by_unit (λ u. 4 ≤ u) (omega arith) (omega arith) (omega arith) unit is_unit
+
+  first-byte : get_or (record_image unit body) 0 0 ≡ get_or field 0 0
+  first-byte = get-first 0 (omega (arith, four)) ∙ get-filled unit field 0 f.short.0
+
+  second-byte : length field ≡ 2 → get_or (record_image unit body) 1 0 ≡ get_or field 1 0
+  second-byte two = get-first 1 (omega (arith, four)) ∙ get-filled unit field 1 (omega arith)
+
+  pub image-says : body_len (get_or (record_image unit body) 0 0) (get_or (record_image unit body) 1 0) ≡ length body
+  image-says = ap (λ (n : ℕ). body_len n (get_or (record_image unit body) 1 0)) first-byte ∙ f.says (get_or (record_image unit body) 1 0) second-byte
+
+  pub image-there : (eqb (get_or (record_image unit body) 0 0) 255 && eqb (get_or (record_image unit body) 1 0) 255) ≡ false
+  image-there = ap (λ (n : ℕ). eqb n 255 && eqb (get_or (record_image unit body) 1 0) 255) first-byte ∙ f.there (get_or (record_image unit body) 1 0) second-byte
+
+  pub image-body : slice_range (record_image unit body) unit (unit + length body) ≡ body
+  image-body =
+      let n : unit + length body - unit ≡ length body = omega arith in
+      ap (λ (k : ℕ). take k (drop unit (record_image unit body))) n ∙ ap (take (length body)) image-rest
+      ∙ take-append-le (length body) (filled unit body) tail (omega (arith, body-long, (padding unit is_unit).no_less (length body))) ∙ take-filled unit body
+
+  image-field : slice_range (record_image unit body) 0 (0 + field_width (get_or (record_image unit body) 0 0)) ≡ field
+  image-field =
+      let w : 0 + field_width (get_or (record_image unit body) 0 0) - 0 ≡ length field = omega (arith, ap field_width first-byte, f.width) in
+      ap (λ (k : ℕ). take k (record_image unit body)) w ∙ ap (take (length field)) opened
+      ∙ take-append-le (length field) (filled unit field) (filled unit body ++ tail) (omega (arith, field-long, f.short.1, four)) ∙ take-filled unit field
+
+  image-crc : get_or (record_image unit body) (unit + padded unit (length body)) 0 ≡ crc 255 (field ++ body)
+  image-crc =
+      let none : unit + padded unit (length body) + 0 ≡ unit + padded unit (length body) = omega arith in
+      sym (get_or-drop (unit + padded unit (length body)) (record_image unit body) 0 0 ∙ ap (λ (n : ℕ). get_or (record_image unit body) n 0) none)
+      ∙ ap (λ (l : List ℕ). get_or l 0 0) image-last ∙ get-filled unit (crc 255 (field ++ body) ∷ []) 0 (omega arith)
+
+  pub image-checks : checks_at (record_image unit body) 0 unit (length body) (unit + padded unit (length body)) ≡ true
+  unfolding checks_at
+  image-checks = rw (image-field, image-body, image-crc) (eq-eqb (crc 255 (field ++ body)) (crc 255 (field ++ body)) refl)
+
+  -- ---- and a record that is cut behind some of its units
+
+  module _ (done : ℕ) (some : 0 < done) (part : done * unit ≤ record_cost unit (length body)) where
+    abbrev cut : List ℕ
+    cut = cut_record unit body done
+
+    unit-part : unit ≤ done * unit
+    unit-part = let le : 1 * unit ≤ done * unit = mul-le-mul_right unit some in omega arith
+
+    front-long : length (take (done * unit) (record_image unit body)) ≡ done * unit
+    front-long = length-take-le (done * unit) (record_image unit body) (omega (arith, image-long))
+
+    pub cut-long : length (cut_record unit body done) ≡ record_cost unit (length body)
+    cut-long = length-append (take (done * unit) (record_image unit body)) (replicate (record_cost unit (length body) - done * unit) 255)
+        ∙ ap (λ (n : ℕ). length (take (done * unit) (record_image unit body)) + n) (length-replicate {A = ℕ} (record_cost unit (length body) - done * unit) 255) ∙ omega (arith, front-long)
+
+    cut-get : (i : ℕ) → i < unit → get_or cut i 0 ≡ get_or (record_image unit body) i 0
+    cut-get i lt = get_or_append_left (take (done * unit) (record_image unit body)) (replicate (record_cost unit (length body) - done * unit) 255) 0 i (omega (arith, front-long, unit-part))
+        ∙ get_or-take (done * unit) (record_image unit body) i 0 (omega (arith, unit-part))
+
+    pub cut-says : body_len (get_or (cut_record unit body done) 0 0) (get_or (cut_record unit body done) 1 0) ≡ length body
+    cut-says = rw (cut-get 0 (omega (arith, four)), cut-get 1 (omega (arith, four))) image-says
+
+    pub cut-there : (eqb (get_or (cut_record unit body done) 0 0) 255 && eqb (get_or (cut_record unit body done) 1 0) 255) ≡ false
+    cut-there = rw (cut-get 0 (omega (arith, four)), cut-get 1 (omega (arith, four))) image-there
+
+    -- to put the units is to lay the cut record, where all was erased
+    pub cut-laid : (s : List ℕ) (e : ℕ) → e + record_cost unit (length body) ≤ length s → drop e s ≡ replicate (length s - e) 255
+        → overwritten s e (take (done * unit) (record_image unit body)) ≡ overwritten s e (cut_record unit body done)
+    cut-laid s e fits blank =
+        let p = take (done * unit) (record_image unit body) in
+        let rest : List ℕ = replicate (record_cost unit (length body) - done * unit) 255 in
+        let m : ℕ = length s - (e + record_cost unit (length body)) in
+        let erased : (n : ℕ) → n ≤ length s - e → drop (e + n) s ≡ replicate (length s - e - n) 255 = λ n le. sym (drop-drop n e s) ∙ ap (drop n) blank ∙ drop-replicate n (length s - e) 255 in
+        let behind : drop (e + length p) s ≡ rest ++ drop (e + length cut) s =
+        erased (length p) (omega (arith, front-long))
+        ∙ ap (λ (n : ℕ). replicate n 255) (omega (arith, front-long, cut-long))
+        ∙ sym (replicate-append-replicate (record_cost unit (length body) - done * unit) (length s - e - length cut) 255)
+        ∙ ap (λ (l : List ℕ). rest ++ l) (sym (erased (length cut) (omega (arith, cut-long)))) in
+        ap (λ (l : List ℕ). take e s ++ (p ++ l)) behind ∙ ap (λ (l : List ℕ). take e s ++ l) (sym (append_assoc p rest (drop (e + length cut) s)))

@@ -1,9 +1,9 @@
 -- A record that is laid behind the records of a sector, whole or cut.
-use Rattle.std.proofs.Common.{◌≡◌, ℕ, zero, suc, ◌+◌, ◌-◌, ◌*◌, ◌%◌, ◌<◌, ◌≤◌, Bool, true, false, cond, not, ◌&&◌, eqb, ltb, leb, ◌||◌, List, [], ◌∷◌, ◌++◌, length, map, get_or, take, drop, replicate, Option, Some, None, inl, inr, refl, sym, ap, subst, ◌∙◌, arith, rules}
+use Rattle.std.proofs.Common.{◌≡◌, ℕ, zero, suc, ◌+◌, ◌-◌, ◌%◌, ◌<◌, ◌≤◌, Bool, true, false, cond, not, ◌&&◌, eqb, ltb, ◌||◌, List, [], ◌∷◌, ◌++◌, length, map, get_or, take, drop, replicate, Some, None, inl, inr, refl, sym, ap, subst, ◌∙◌, arith, rules}
 use Rattle.std.specs.Prelude.{slice_range, nat_eq}
-use Rattle.std.specs.List.{filter, list_all, starts_with}
-use Rattle.std.proofs.lemmas.Bool.{cases_lt, cases_Bool, and_from, and_left, and_right, lt-ltb, le-ltb, eq-eqb, not_from_false, not_from_true, both_ways, and_parts, eqb-true, ne_eqb, or_from}
-use Rattle.std.proofs.lemmas.List.{places, same_lists, take-take, get_or-drop, get_or-replicate, drop-drop, drop-replicate, map-append, get_or_past}
+use Rattle.std.specs.List.{filter, starts_with}
+use Rattle.std.proofs.lemmas.Bool.{cases_lt, and_from, and_left, and_right, lt-ltb, le-ltb, eq-eqb, not_from_false, not_from_true, and_parts, eqb-true, ne_eqb, or_from}
+use Rattle.std.proofs.lemmas.List.{places, same_lists, take-take, get_or-drop, get_or-replicate, drop-drop, drop-replicate, map-append}
 use Rattle.std.proofs.lemmas.List.Elements.{filter-append}
 use Rattle.flash_sim.specs.Device.{overwritten}
 use Rattle.flash_map.specs.Units.{IsUnit, padded}
@@ -12,12 +12,11 @@ use Rattle.flash_map.proofs.Rounding.{by_unit, padding}
 use Rattle.flash_map.proofs.Sectors.{length-overwritten}
 use Rattle.fcb_ring.specs.declared.record.Record.{Record}
 use Rattle.fcb_ring.specs.declared.record.RecordAt.{RecordAt}
-use Rattle.fcb_ring.specs.declared.sector.SectorState.{SectorState}
 use Rattle.fcb_ring.specs.Records.{body_len, field_width, has_record, checks_at, record_of, record_at, records, records_end, walk, walk_end}
 use Rattle.fcb_ring.specs.SectorStates.{IsSector, is_erased, is_torn, id_of, state_of, lead, magic}
 use Rattle.fcb_ring.specs.Entries.{placed, entry_of, sector_entries}
 use Rattle.fcb_ring.proofs.Walks.{Advances, walk-none, walk-next, walk_end-none, walk_end-next, walk_end-within, walk_end-keeps, walk-more, walk_end-more, walk-agree}
-use Rattle.fcb_ring.proofs.RecordLemmas.{IsRead, read, reads, reads_none, advances, aligned_after, end-of, end-fields, body-of, offset-of, unit_there, header_fits}
+use Rattle.fcb_ring.proofs.RecordLemmas.{read, reads, reads_none, advances, aligned_after, end-of, end-fields, unit_there, header_fits}
 
 -- the records of two sectors agree where their bytes do
 pub same_record : (unit : ℕ) (s t : List ℕ) (at : ℕ) → get_or t at 0 ≡ get_or s at 0 → get_or t (at + 1) 0 ≡ get_or s (at + 1) 0

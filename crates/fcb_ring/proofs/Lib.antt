@@ -12,3 +12,7 @@ pub mod ReadLemmas
 pub mod LayLemmas
 pub mod TestBank
 pub mod ImageLemmas
+pub mod GrowLemmas
+pub mod HeaderLemmas
+pub mod FormatLemmas
+pub mod OpenLemmas

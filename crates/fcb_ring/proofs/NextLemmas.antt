@@ -1,15 +1,15 @@
 -- The record after a record, in the order of the area's list.
-use Rattle.std.proofs.Common.{◌≡◌, ℕ, zero, suc, ◌+◌, ◌-◌, ◌%◌, ◌<◌, ◌≤◌, min, Bool, true, false, cond, ltb, List, [], ◌∷◌, ◌++◌, length, map, get_or, take, drop, Option, Some, None, inl, inr, refl, sym, ap, subst, ◌∙◌, append_assoc, arith}
+use Rattle.std.proofs.Common.{◌≡◌, ℕ, zero, suc, ◌+◌, ◌-◌, ◌%◌, ◌<◌, ◌≤◌, min, Bool, true, false, cond, ltb, List, [], ◌∷◌, ◌++◌, length, map, drop, Option, Some, None, inl, inr, refl, sym, ap, subst, ◌∙◌, arith}
 use Rattle.std.specs.Prelude.{slice_range, find, Contains}
-use Rattle.std.specs.List.{range_with_len, filter, flat_map, slice_get, All}
-use Rattle.std.specs.Option.{option_map, option_map_or}
+use Rattle.std.specs.List.{range_with_len, filter, flat_map, slice_get}
+use Rattle.std.specs.Option.{option_map}
 use Rattle.std.proofs.lemmas.Bool.{cases_lt, cases_Bool, cond-true, cond-false, lt-ltb, le-ltb}
-use Rattle.std.proofs.lemmas.List.{map-append, drop-append-le, length-append, drop-drop, drop_all, drop_at}
+use Rattle.std.proofs.lemmas.List.{map-append, drop-append-le}
 use Rattle.std.proofs.lemmas.Option.{none-some, slice_get-map, slice_get-get_or, slice_get_within, get_or_from_slice_get}
 use Rattle.flash_map.specs.Units.{IsUnit, padded}
 use Rattle.fcb_ring.specs.declared.record.Record.{Record}
 use Rattle.fcb_ring.specs.declared.record.RecordAt.{RecordAt}
-use Rattle.fcb_ring.specs.Records.{record_at, record_of, records, walk}
+use Rattle.fcb_ring.specs.Records.{record_at, records, walk}
 use Rattle.fcb_ring.specs.Rings.{turned, IsRing}
 use Rattle.fcb_ring.specs.Entries.{sector_at, states, placed, entry_of, sector_entries, entries, records_from, following}
 use Rattle.fcb_ring.specs.Standing.{record_places}

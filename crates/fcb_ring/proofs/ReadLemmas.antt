@@ -1,5 +1,5 @@
 -- How the calls that read a ring meet the area's list.
-use Rattle.std.proofs.Common.{◌≡◌, ℕ, ◌+◌, ◌-◌, ◌%◌, ◌<◌, ◌≤◌, min, true, false, List, [], ◌∷◌, ◌++◌, length, Option, Some, None, refl, sym, ap, subst, ◌∙◌, arith}
+use Rattle.std.proofs.Common.{◌≡◌, ℕ, ◌+◌, ◌-◌, ◌%◌, ◌<◌, ◌≤◌, min, true, false, List, [], ◌∷◌, ◌++◌, length, Option, Some, None, refl, sym, ap, ◌∙◌, arith}
 use Rattle.std.specs.Prelude.{slice_range, Contains, is_some}
 use Rattle.std.specs.List.{slice_get}
 use Rattle.std.proofs.lemmas.Option.{none-some}
@@ -8,11 +8,9 @@ use Rattle.fcb_ring.specs.declared.record.RecordAt.{RecordAt}
 use Rattle.fcb_ring.specs.declared.ring.Ring.{Ring}
 use Rattle.fcb_ring.specs.declared.ring.Stage.{Stage}
 use Rattle.fcb_ring.specs.declared.ring.Stage.TheVariants.{Inspected, Ready, Collecting, Down}
-use Rattle.fcb_ring.specs.declared.sector.SectorState.{SectorState}
-use Rattle.fcb_ring.specs.Rings.{turned, distance, IsRing}
+use Rattle.fcb_ring.specs.Rings.{turned, distance}
 use Rattle.fcb_ring.specs.Entries.{sector_at, states, entries, following, records_from}
 use Rattle.fcb_ring.specs.Standing.{Stands, FitsStage, uncounted, record_places, IsNext}
-use Rattle.fcb_ring.proofs.RecordLemmas.{header_fits}
 use Rattle.fcb_ring.proofs.RingLemmas.{turned-within, distance-turned}
 use Rattle.fcb_ring.proofs.AreaLemmas.{HasSize, length-states}
 use Rattle.fcb_ring.proofs.NextLemmas.{IsAcross, after_of, following-all, following-is, following-end, following-next, behind, next-is, contained_at, entry_at, body_is}

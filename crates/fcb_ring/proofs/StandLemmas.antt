@@ -1,17 +1,17 @@
 -- When a ring stands on its sectors, and what the area's list is then.
-use Rattle.std.proofs.Common.{◌≡◌, ℕ, zero, suc, ◌+◌, ◌-◌, ◌%◌, ◌<◌, ◌≤◌, min, Bool, true, false, eqb, cond, List, [], ◌∷◌, ◌++◌, length, map, get_or, set, take, drop, replicate, append_assoc, ◌⊎◌, inl, inr, refl, sym, ap, subst, ◌∙◌, arith, None}
+use Rattle.std.proofs.Common.{◌≡◌, ℕ, zero, suc, ◌+◌, ◌-◌, ◌%◌, ◌<◌, ◌≤◌, min, true, false, eqb, List, [], ◌∷◌, ◌++◌, length, map, set, take, drop, replicate, append_assoc, inl, inr, refl, sym, ap, subst, ◌∙◌, arith, None}
 use Rattle.std.specs.List.{range_with_len, flat_map}
 use Rattle.std.proofs.lemmas.Bool.{cases_eq, cases_lt, cases_Bool, cond-true, cond-false, eq-eqb, ne_eqb, both_ways, or_left, or_right}
 use Rattle.std.proofs.lemmas.List.{length-append, length-map, length-take, length-drop, length-set, length-take-le, get_or_append_left, get_or-append_right, get_or-map, get_or-take, get_or-drop, get_or-set_same, get_or-set_other, set-append_right, drop_more, map_more}
 use Rattle.fcb_ring.specs.declared.record.RecordAt.{RecordAt}
 use Rattle.fcb_ring.specs.declared.ring.Ring.{Ring}
 use Rattle.fcb_ring.specs.declared.ring.Stage.{Stage}
-use Rattle.fcb_ring.specs.declared.ring.Stage.TheVariants.{Inspected, Ready, Collecting, Down}
+use Rattle.fcb_ring.specs.declared.ring.Stage.TheVariants.{Inspected}
 use Rattle.fcb_ring.specs.declared.sector.SectorState.{SectorState}
 use Rattle.fcb_ring.specs.SectorStates.{is_erased, is_torn, mended, mended_up_to, state_of}
-use Rattle.fcb_ring.specs.Rings.{state_at, turned, oldest_place, first_damage, counting, IsRing, AreClean}
+use Rattle.fcb_ring.specs.Rings.{state_at, turned, oldest_place, first_damage, IsRing, AreClean}
 use Rattle.fcb_ring.specs.Entries.{sector_at, states, sector_entries, entries, HasEntries}
-use Rattle.fcb_ring.specs.Standing.{Stands, FitsStage, uncounted, IsWritten}
+use Rattle.fcb_ring.specs.Standing.{Stands, FitsStage, uncounted}
 use Rattle.fcb_ring.proofs.PlaceLemmas.{All-range, flat_map-agree, flat_map-map}
 use Rattle.fcb_ring.proofs.RingLemmas.{turned-within, turned-same, ring-form, clean-form, counting-is, undamaged}
 use Rattle.fcb_ring.proofs.AreaLemmas.{state-at, length-states}

@@ -1,5 +1,5 @@
 -- The ring of an area's sectors, by the state of each. A place is the number of a sector.
-use Rattle.std.specs.Prelude.{◌≡◌, ℕ, ◌+◌, ◌-◌, ◌%◌, ◌<◌, ◌≤◌, Bool, true, false, not, ◌&&◌, List, length, map, filter, find, slice_index_or, Option, Some, None, unwrap_or, ◌==◌, nat_lt, if◌then◌else◌}
+use Rattle.std.specs.Prelude.{◌≡◌, ℕ, ◌+◌, ◌-◌, ◌%◌, ◌<◌, ◌≤◌, Bool, true, false, not, ◌&&◌, List, length, map, filter, find, slice_index_or, Option, unwrap_or, ◌==◌, nat_lt, if◌then◌else◌}
 use Rattle.std.specs.List.{range_with_len, list_all}
 use Rattle.std.specs.Option.{option_map, option_or}
 use Rattle.flash_map.specs.declared.faults.Damaged.{Damaged}

@@ -50,3 +50,10 @@ mended sector = if is_torn sector then replicate (length sector) 0xFF else secto
 -- the first so many sectors are
 abbrev pub mended_up_to : ℕ → List (List ℕ) → List (List ℕ)
 mended_up_to n sectors = map mended (take n sectors) ++ drop n sectors
+
+-- a sector all of which is erased
+abbrev pub blanked : List ℕ → List ℕ
+blanked sector = replicate (length sector) 0xFF
+
+abbrev pub blanked_up_to : ℕ → List (List ℕ) → List (List ℕ)
+blanked_up_to n sectors = map blanked (take n sectors) ++ drop n sectors

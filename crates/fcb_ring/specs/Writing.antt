@@ -1,5 +1,5 @@
 -- What the ring programs: headers and records.
-use Rattle.std.specs.Prelude.{◌≡◌, ◌≢◌, ◌⊎◌, ℕ, ◌+◌, ◌-◌, ◌*◌, ◌/◌, ◌%◌, ◌<◌, List, [], ◌∷◌, ◌++◌, length, take, replicate, slice_range, Bool, true, nat_lt, if◌then◌else◌}
+use Rattle.std.specs.Prelude.{◌≡◌, ◌≢◌, ℕ, ◌+◌, ◌-◌, ◌*◌, ◌/◌, ◌%◌, ◌<◌, List, [], ◌∷◌, ◌++◌, length, take, replicate, slice_range, true, nat_lt, if◌then◌else◌}
 use Rattle.crc8_entry.specs.Crc.{crc}
 use Rattle.flash_map.specs.Units.{padded}
 use Rattle.fcb_ring.specs.Records.{record_of}

@@ -3,12 +3,12 @@ ghost use Rattle.std.specs.Prelude.{◌≡◌, ◌+◌, ◌*◌, ◌<◌, ◌≤
 ghost use Rattle.flash_sim.specs.Device.{counted};
 ghost use Rattle.flash_map.specs.Area.{unit_of, sectors_of, sector_size};
 ghost use Rattle.flash_map.specs.Touches.{Touches};
-ghost use Rattle.fcb_ring.specs.SectorStates.{is_torn, mended, mended_up_to};
+ghost use Rattle.fcb_ring.specs.SectorStates.{is_torn, mended, mended_up_to, blanked, blanked_up_to};
 ghost use Rattle.fcb_ring.specs.Entries.{sector_at};
 ghost use Rattle.fcb_ring.specs.Standing.{IsRingArea, SpendsAtMost};
 
-use crate::ring::sector_view;
-use crate::sector::is_torn;
+use crate::ring::{Ring, sector_view};
+use crate::sector::{is_erased, is_torn};
 use flash_map::{Area, area_erase};
 use flash_sim::{Flash, PowerLost, Steps};
 use std::sync::ledger::Ledger;
@@ -56,4 +56,28 @@ pub(crate) fn erase_torn<F: Flash, L: Ledger>(
         erase_if(flash, area, sector, is_due)?;
     }
     Ok(())
+}
+
+impl Ring {
+    /// Erases each sector of the area that is not all FF.
+    ///
+    /// # Errors
+    /// `PowerLost`. The first sectors are then erased, and the others as before.
+    pub fn format<F: Flash, L: Ledger>(
+        flash: &mut F,
+        area: &Area,
+        steps: &mut Steps<L>,
+    ) -> Result<(), PowerLost>
+        requires { IsRingArea (F.device flash.old).banks area.now }
+
+        ensures touches { Touches (area.now ∷ []) (F.device flash.old) (F.device flash.new) (is_err result) }
+        ensures blank { OnOk result (sectors_of (F.device flash.new) area.now ≡ map blanked (sectors_of (F.device flash.old) area.now)) }
+        ensures part { OnErr result ((n : ℕ) × (sectors_of (F.device flash.new) area.now ≡ blanked_up_to n (sectors_of (F.device flash.old) area.now))) }
+    {
+        for sector in 0..area.sectors {
+            let is_used = !is_erased(sector_view(flash, area, sector, steps));
+            erase_if(flash, area, sector, is_used)?;
+        }
+        Ok(())
+    }
 }

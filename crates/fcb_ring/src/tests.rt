@@ -173,3 +173,31 @@ fn reads_records(rt: HostRuntime) -> Result<(), Fail> {
     let mut sim = FlatSim::new(alloc);
     reads::<FlatSim, Brand, HostRuntime>(&rt, alloc, &mut sim, Blank::new(1))
 }
+
+fn formats<B: Bench, L: Ledger, R: Abort>(
+    rt: &R,
+    alloc: Global,
+    bench: &mut B,
+    blank: Blank,
+) -> Result<(), Fail>
+    requires name { blank.name ≡ L.name }
+    requires parts { blank.parts ≡ L.parts }
+    requires some { 0 < L.parts }
+{
+    let mut steps = Steps::<L>::new(blank);
+    load(alloc, bench, image(alloc, &[0], &[], &[1, 2, 3])?)?;
+    let formatted = Ring::format(bench, &area(3), &mut steps);
+    assert_eq!(rt; formatted, Ok(()));
+    // only the sectors that hold something are erased
+    assert_eq!(rt; bench.spent(), 2);
+    let ring = Ring::inspect(bench, area(3), 0, &mut steps).ok();
+    assert_eq!(rt; ring.is_some(), true);
+    Ok(())
+}
+
+#[test]
+fn formats_an_area(rt: HostRuntime) -> Result<(), Fail> {
+    let alloc = rt.alloc();
+    let mut sim = FlatSim::new(alloc);
+    formats::<FlatSim, Brand, HostRuntime>(&rt, alloc, &mut sim, Blank::new(1))
+}

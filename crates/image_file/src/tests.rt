@@ -1,4 +1,8 @@
+ghost use Rattle.image_file.specs.Format.{plain};
+ghost use Rattle.image_file.specs.Lawful.{IsImage};
+
 use super::*;
+use flash_sim::NoMemory;
 use std::alloc::Global;
 use std::test::Fail;
 
@@ -15,17 +19,23 @@ fn blank_file(alloc: Global) -> Result<Vec<u8>, Fail> {
     Ok(file)
 }
 
+fn written(alloc: Global, image: &Image) -> Result<Vec<u8>, NoMemory>
+    requires { IsImage (plain image.now) }
+{
+    write_image(alloc, &image.banks, &image.map, &image.bytes)
+}
+
 #[test]
 fn reads_and_writes(rt: HostRuntime) -> Result<(), Fail> {
     let alloc = rt.alloc();
     let file = blank_file(alloc)?;
-    let image = read_image(alloc, &file)
-        .ok()
-        .ok_or("the bytes are an image")?;
+    let Ok(image) = read_image(alloc, &file) else {
+        panic!(rt; "the bytes are an image");
+    };
     assert_eq!(rt; image.banks.len(), 1);
     assert_eq!(rt; image.map.index_of("main"), Some(0));
     assert_eq!(rt; image.bytes.len(), 1);
-    let again = write_image(alloc, &image.banks, &image.map, &image.bytes)?;
+    let again = written(alloc, &image)?;
     assert_eq!(rt; again.as_slice(), file.as_slice());
     Ok(())
 }
@@ -100,17 +110,18 @@ fn first_faults(rt: HostRuntime) -> Result<(), Fail> {
 #[test]
 fn blank_image(rt: HostRuntime) -> Result<(), Fail> {
     let alloc = rt.alloc();
-    let image = read_spec(alloc, "bank=erasing/4/512/2,area=nvs/main/0/0/2")
-        .ok()
-        .ok_or("the word is lawful")?;
+    let Ok(image) = read_spec(alloc, "bank=erasing/4/512/2,area=nvs/main/0/0/2") else {
+        panic!(rt; "the word is lawful");
+    };
     assert_eq!(rt; image.map.len(), 1);
-    let file = write_image(alloc, &image.banks, &image.map, &image.bytes)?;
+    let file = written(alloc, &image)?;
     assert_eq!(rt; file.len(), 1060);
     let header = [
         0x5A, 0x53, 0x49, 0x4D, 1, 1, 1, 0, 0, 4, 0, 0, 0, 2, 0, 0, 2, 0, 0, 0, 1, 0, 0, 0, 2, 0,
         4, 0, 0x6D, 0x61, 0x69, 0x6E, 0, 0, 0, 0, 255,
     ];
-    assert_eq!(rt; &file[..37], header.as_slice());
+    let (front, _) = file.as_slice().split_at(37);
+    assert_eq!(rt; front, header.as_slice());
     assert_eq!(rt; file[1059], 255);
     Ok(())
 }

@@ -1,0 +1,52 @@
+-- Closing a sector of an area.
+use Rattle.std.proofs.Common.{◌≡◌, ℕ, ◌+◌, ◌-◌, ◌*◌, ◌/◌, ◌^◌, ◌<◌, ◌≤◌, min, true, List, length, take, drop, Some, sym, ap, subst, ◌∙◌, arith, rules}
+use Rattle.std.specs.Prelude.{slice_range}
+use Rattle.std.proofs.lemmas.List.{places, same_lists}
+use Rattle.flash_sim.specs.Device.{overwritten}
+use Rattle.zms_cycle.specs.declared.entry.ZEntry.{ZEntry}
+use Rattle.zms_cycle.specs.Entries.{encoded, fill, close_entry}
+use Rattle.zms_cycle.specs.Sector.{cycle_of, valid_slots, low, data_end, free, is_sound}
+use Rattle.zms_cycle.specs.Changes.{with_slot, KeepsList, Closes}
+use Rattle.zms_cycle.proofs.Slots16.{covers-fill}
+use Rattle.zms_cycle.proofs.Frames.{sound-parts, keeps_then, keeps-covered}
+use Rattle.zms_cycle.proofs.Marks.{closes}
+
+-- bytes that stand there already
+put_again : (b : List ℕ) (at n : ℕ) → at + n ≤ length b → overwritten b at (take n (drop at b)) ≡ b
+put_again b at n fits = same_lists _ _ (search (rules, places)) (λ k d h. grind (arith, places))
+
+pub unit_again : (b : List ℕ) (slot start : ℕ) (p : List ℕ) → start ≡ length b - (slot + 1) * 16 → (slot + 1) * 16 ≤ length b → slice_range b start (start + 16) ≡ p → b ≡ with_slot b slot p
+unit_again b slot start p at inside is =
+    let width : start + 16 - start ≡ 16 = omega arith in
+    let there : take 16 (drop start b) ≡ p = ap (λ (n : ℕ). take n (drop start b)) (sym width) ∙ is in
+    sym (put_again b start 16 (omega arith)) ∙ ap (λ (xs : List ℕ). overwritten b start xs) there ∙ ap (λ (n : ℕ). overwritten b n p) at
+
+-- one more fill unit under the slots
+pub fill_keeps : (a now new : List ℕ) (k : ℕ) → KeepsList a now → 16 ≤ low a → length (valid_slots a) + 2 ≤ k → data_end a + (k + 1) * 16 ≤ length a → new ≡ with_slot now k fill → KeepsList a new
+fill_keeps a now new k keeps guard under fits is =
+    let long = keeps.kept.long in
+    let lower = keeps.kept.lower in
+    let end = keeps.kept.same_end in
+    let count = ap length keeps.kept.slots in
+    subst (λ (c : List ℕ). KeepsList a c) (sym is)
+    (keeps_then keeps (keeps-covered now (with_slot now k fill) k (omega arith) (omega arith) (omega arith) (omega arith) (covers-fill k now (omega arith))))
+
+pub keeps_equal : (a now new : List ℕ) → KeepsList a now → new ≡ now → KeepsList a new
+keeps_equal a now new keeps is = subst (λ (c : List ℕ). KeepsList a c) (sym is) keeps
+
+pub close_ok : (a mid new : List ℕ) (cycle place : ℕ) (entry : ZEntry) (bytes : List ℕ) → is_sound a ≡ true → KeepsList a mid → cycle_of a ≡ Some cycle → entry ≡ close_entry cycle place → bytes ≡ encoded entry → new ≡ with_slot mid 1 bytes → Closes a new
+close_ok a mid new cycle place entry bytes sound keeps of_cycle entry_is bytes_is is =
+    subst (λ (c : List ℕ). Closes a c) (sym (is ∙ ap (λ (p : List ℕ). with_slot mid 1 p) (bytes_is ∙ ap encoded entry_is))) (closes a mid cycle place (sound-parts a sound) keeps of_cycle)
+
+-- the numbers of a closing
+pub record HasNumbers (a : List ℕ) (size n end top : ℕ) : Type 0 where
+  pub guard : 16 ≤ low a
+  pub slots : (n + 2) * 16 + 16 ≤ size
+  pub top_fits : 0 < top → data_end a + top * 16 ≤ size
+  pub few : top - (n + 2) ≤ free a / 16
+
+pub numbers : (a : List ℕ) (size n end sub : ℕ) → is_sound a ≡ true → length a ≡ size → size ≤ 32768 → n ≡ length (valid_slots a) → end ≡ min (data_end a) (2 ^ 32 - 1) → sub ≡ size - end → HasNumbers a size n end (sub / 16)
+numbers a size n end sub sound long small count at is =
+    let parts = sound-parts a sound in
+    let guard = parts.guard in
+    record { guard = guard; slots = omega arith; top_fits = λ some. omega arith; few = omega arith }

@@ -1,0 +1,259 @@
+-- Copying a value, and its entry.
+use Rattle.std.proofs.Common.{◌≡◌, ℕ, zero, suc, ◌+◌, ◌-◌, ◌/◌, ◌%◌, ◌^◌, ◌<◌, ◌≤◌, min, Bool, true, false, cond, leb, List, [], ◌∷◌, ◌++◌, length, map, get_or, take, drop, replicate, Option, Some, None, refl, sym, ap, ◌∙◌, inl, inr, arith, rules}
+use Rattle.std.specs.Prelude.{slice_range}
+use Rattle.std.specs.List.{filter_map, cons_option, list_all, range_with_len}
+use Rattle.std.specs.Option.{option_and_then, option_map_or}
+use Rattle.std.proofs.lemmas.Bool.{cases_Bool, cases_eq, false≢true, eq-eqb, cond-true, cond-false, leb-true, and_parts, lt-leb}
+use Rattle.std.proofs.lemmas.List.{places, same_lists, length-take-le, length-take, length-drop, length-append, append-nil, get_or-set_other}
+use Rattle.flash_sim.specs.Device.{Device, overwritten}
+use Rattle.flash_map.specs.declared.area.Area.{Area}
+use Rattle.flash_map.specs.Area.{sectors_of, sector_bytes}
+use Rattle.flash_map.specs.Units.{padded, padded_bytes}
+use Rattle.flash_map.proofs.Ranges.{put_twice}
+use Rattle.flash_map.proofs.PaddedLemmas.{length-padded_bytes}
+use Rattle.flash_map.proofs.Sectors.{overwritten_nil}
+use Rattle.std.specs.Int.{w32, to_le_bytes}
+use Rattle.std.proofs.lemmas.List.FromFn.{get_or-map-range_with_len}
+use Rattle.slot_list.specs.Slots.{Slot, slot_at}
+use Rattle.slot_list.proofs.SlotLemmas.{index-slot_at, used_slots-from}
+use Rattle.zms_cycle.specs.declared.entry.ZEntry.{ZEntry}
+use Rattle.zms_cycle.specs.declared.reading.Found.{Found}
+use Rattle.zms_cycle.specs.Areas.{OthersStay}
+use Rattle.zms_cycle.specs.Changes.{with_value, HasPart}
+use Rattle.zms_cycle.specs.Entries.{decoded, offset_of, is_special, value_entry, moved_entry}
+use Rattle.zms_cycle.specs.Sector.{slot_of, is_valid, cycle_of, entry_in, entry_len, pair_at, pair_of, value_of, low, is_under, is_sound, valid_slots}
+use Rattle.zms_cycle.proofs.Slots16.{entry_in-is}
+use Rattle.zms_cycle.proofs.Frames.{IsSound, sound-parts, pad, padded-aligned, under-parts, value_end-long, fence_of}
+
+-- The entry that is read.
+
+found_some : (slot : Slot) (e : ZEntry) (index : ℕ) → slot.index ≡ index → decoded slot.bytes ≡ Some e → 0 < option_map_or (λ f. f.entry.len) (entry_in slot) 0 → entry_in slot ≡ Some (record { slot = index; entry = e })
+found_some slot e index at read some =
+    let is = entry_in-is slot (Some e) read in
+    elim (cases_Bool (is_special e)) [
+      | inl special ↦
+          let none : entry_in slot ≡ None = is ∙ cond-true (is_special e) None (Some (record { slot = slot.index; entry = e })) special in
+          let zero : option_map_or (λ f. f.entry.len) (entry_in slot) 0 ≡ 0 = ap (λ (o : Option Found). option_map_or (λ f. f.entry.len) o 0) none in
+          absurd (omega arith)
+      | inr ordinary ↦ is ∙ cond-false (is_special e) None (Some (record { slot = slot.index; entry = e })) ordinary ∙ ap (λ (k : ℕ). Some (record { slot = k; entry = e })) at
+    ]
+
+pub ordinary_is : (b : List ℕ) (slot : ℕ) (e : ZEntry) → decoded (slot_of b slot).bytes ≡ Some e → 0 < entry_len b slot → entry_in (slot_of b slot) ≡ Some (record { slot = slot; entry = e })
+ordinary_is b slot e read some = found_some (slot_of b slot) e slot (index-slot_at 16 b slot) read some
+
+pub ordinary_none : (b : List ℕ) (slot : ℕ) → decoded (slot_of b slot).bytes ≡ None → 0 < entry_len b slot → ⊥
+ordinary_none b slot read some =
+    let none : entry_in (slot_of b slot) ≡ None = entry_in-is (slot_of b slot) None read in
+    let zero : entry_len b slot ≡ 0 = ap (λ (o : Option Found). option_map_or (λ f. f.entry.len) o 0) none in
+    omega arith
+
+-- Pieces.
+
+joined : (v : List ℕ) (done n k : ℕ) → done + n ≤ length v → take done v ++ (take n (drop done v) ++ replicate k 255) ≡ take (done + n) v ++ replicate k 255
+joined v done n k fits = same_lists _ _ (search (rules, places)) (λ i d h. grind (arith, places))
+
+padded_more : (done n : ℕ) → done % 16 ≡ 0 → padded 16 (done + n) ≡ done + padded 16 n
+unfolding padded
+padded_more done n whole = omega arith
+
+padded_le : (n m : ℕ) → n ≤ m → padded 16 n ≤ padded 16 m
+unfolding padded
+padded_le n m le = omega arith
+
+padded_whole : (done : ℕ) → done % 16 ≡ 0 → padded 16 done ≡ done
+unfolding padded
+padded_whole done whole = omega arith
+
+-- whole units have no padding
+pub padded_none : (v : List ℕ) (done : ℕ) → done ≤ length v → done % 16 ≡ 0 → padded_bytes 16 (take done v) ≡ take done v
+padded_none v done le whole =
+    let long : length (take done v) ≡ done = length-take-le done v le in
+    let even = padded_whole done whole in
+    let none : padded 16 (length (take done v)) - length (take done v) ≡ 0 = ap (λ (n : ℕ). padded 16 n - n) long ∙ omega arith in
+    ap (λ (n : ℕ). take done v ++ replicate n 255) none ∙ append-nil (take done v)
+
+-- what a piece more leaves
+pub piece_more : (b v : List ℕ) (to done n : ℕ) → done + n ≤ length v → done % 16 ≡ 0 → to + padded 16 (done + n) ≤ length b
+    → overwritten (overwritten b to (padded_bytes 16 (take done v))) (to + done) (padded_bytes 16 (take n (drop done v))) ≡ overwritten b to (padded_bytes 16 (take (done + n) v))
+piece_more b v to done n fits whole inside =
+    let front : length (take done v) ≡ done = length-take-le done v (omega arith) in
+    let count : length (take n (drop done v)) ≡ n = length-take-le n (drop done v) (omega (arith, length-drop done v)) in
+    let total : length (take (done + n) v) ≡ done + n = length-take-le (done + n) v fits in
+    let sum = padded_more done n whole in
+    let rounded = pad n in
+    let tail : length (padded_bytes 16 (take n (drop done v))) ≡ padded 16 n = length-padded_bytes 16 (take n (drop done v)) (inr (inr refl)) ∙ ap (padded 16) count in
+    let rest : padded 16 (length (take n (drop done v))) - length (take n (drop done v)) ≡ padded 16 (length (take (done + n) v)) - length (take (done + n) v) =
+    ap (λ (k : ℕ). padded 16 k - k) count ∙ (let e : padded 16 n - n ≡ padded 16 (done + n) - (done + n) = omega arith in e) ∙ ap (λ (k : ℕ). padded 16 k - k) (sym total) in
+    ap (λ (x : List ℕ). overwritten (overwritten b to x) (to + done) (padded_bytes 16 (take n (drop done v)))) (padded_none v done (omega arith) whole)
+    ∙ ap (λ (k : ℕ). overwritten (overwritten b to (take done v)) (to + k) (padded_bytes 16 (take n (drop done v)))) (sym front)
+    ∙ put_twice b to (take done v) (padded_bytes 16 (take n (drop done v))) (omega arith)
+    ∙ ap (λ (x : List ℕ). overwritten b to x) (joined v done n (padded 16 (length (take n (drop done v))) - length (take n (drop done v))) fits ∙ ap (λ (k : ℕ). take (done + n) v ++ replicate k 255) rest)
+
+-- what a part of a piece more leaves
+pub piece_part : (b v now new : List ℕ) (to done n : ℕ) → done + n ≤ length v → done % 16 ≡ 0 → to + padded 16 (length v) ≤ length b
+    → now ≡ overwritten b to (padded_bytes 16 (take done v)) → HasPart now new (to + done) (padded 16 n) → HasPart b new to (padded 16 (length v))
+piece_part b v now new to done n fits whole inside is part =
+    let front : length (take done v) ≡ done = length-take-le done v (omega arith) in
+    let more = padded_more done n whole in
+    let most : padded 16 (done + n) ≤ padded 16 (length v) = padded_le (done + n) (length v) fits in
+    let le = part.1 in (
+      take done v ++ part.0,
+      omega (arith, length-append (take done v) part.0),
+      part.2
+          ∙ ap (λ (x : List ℕ). overwritten x (to + done) part.0) (is ∙ ap (λ (x : List ℕ). overwritten b to x) (padded_none v done (omega arith) whole))
+          ∙ ap (λ (k : ℕ). overwritten (overwritten b to (take done v)) (to + k) part.0) (sym front)
+          ∙ put_twice b to (take done v) part.0 (omega arith),
+    )
+
+-- a part of a range
+pub range_part : (b : List ℕ) (from len done n : ℕ) → from + len ≤ length b → done + n ≤ len → slice_range b (from + done) (from + done + n) ≡ take n (drop done (slice_range b from (from + len)))
+range_part b from len done n fits inside = same_lists _ _ (search (rules, places)) (λ i d h. grind (arith, places))
+
+pub length-range : (b : List ℕ) (from len : ℕ) → from + len ≤ length b → length (slice_range b from (from + len)) ≡ len
+length-range b from len fits =
+    let width : from + len - from ≡ len = omega arith in
+    ap (λ (n : ℕ). length (take n (drop from b))) width ∙ length-take-le len (drop from b) (omega (arith, length-drop from b))
+
+-- the other sector stays
+pub other_stays : (old new : Device) (area : Area) (sector other : ℕ) → (other ≡ sector → ⊥) → OthersStay old new area sector → sector_bytes new area other ≡ sector_bytes old area other
+other_stays old new area sector other apart others = ap (λ (l : List (List ℕ)). get_or l other []) others ∙ get_or-set_other (sectors_of old area) sector other (sector_bytes new area sector) [] apart
+
+-- The value of an entry.
+
+all_found : (p : Found → Bool) (xs : List Slot) (k : ℕ) (slot : Slot) (f : Found) → list_all p (filter_map entry_in xs) ≡ true → k < length xs → get_or xs k slot ≡ slot → entry_in slot ≡ Some f → p f ≡ true
+all_found p [] k slot f all below here is = absurd (omega arith)
+all_found p (x ∷ xs) zero slot f all below here is =
+    let this : entry_in x ≡ Some f = ap entry_in here ∙ is in
+    let parts = and_parts (p f) (list_all p (filter_map entry_in xs)) (sym (ap (λ (o : Option Found). list_all p (cons_option o (filter_map entry_in xs))) this) ∙ all) in
+    parts.0
+all_found p (x ∷ xs) (suc k) slot f all below here is = all_found p xs k slot f (later (entry_in x) all) (omega arith) here is
+  where
+    later : (o : Option Found) → list_all p (cons_option o (filter_map entry_in xs)) ≡ true → list_all p (filter_map entry_in xs) ≡ true
+    later None h = h
+    later (Some g) h = (and_parts (p g) (list_all p (filter_map entry_in xs)) h).1
+
+-- an entry of a sound sector's list stands under the guard slot
+pub listed_under : (b : List ℕ) (slot : ℕ) (f : Found) → IsSound b → 2 ≤ slot → slot < length (valid_slots b) + 2 → entry_in (slot_of b slot) ≡ Some f → is_under (low b - 16) f ≡ true
+listed_under b slot f sound from below is =
+    let n = length (valid_slots b) in
+    let slots : valid_slots b ≡ map (slot_at 16 b) (range_with_len 2 (length (valid_slots b))) = used_slots-from (is_valid (cycle_of b)) 2 16 b (length (valid_slots b)) (omega arith) (fence_of b sound.guard) in
+    let back : 2 + (slot - 2) ≡ slot = omega arith in
+    let at : get_or (valid_slots b) (slot - 2) (slot_of b slot) ≡ slot_of b slot =
+    ap (λ (xs : List Slot). get_or xs (slot - 2) (slot_of b slot)) slots ∙ get_or-map-range_with_len (slot_at 16 b) 2 (length (valid_slots b)) (slot - 2) slot (slot_of b slot) (omega arith) back in
+    all_found (is_under (low b - 16)) (valid_slots b) (slot - 2) (slot_of b slot) f sound.under (omega arith) at is
+
+pub value_len : (b : List ℕ) (f : Found) (limit : ℕ) → length f.entry.tail ≡ 8 → is_under limit f ≡ true → limit ≤ length b → length (value_of b f.entry) ≡ f.entry.len
+value_len b f limit eight under inside = elim (cases_Bool (leb f.entry.len 8)) [
+  | inl short ↦
+      ap length (cond-true (leb f.entry.len 8) (take f.entry.len f.entry.tail) (slice_range b (offset_of f.entry) (offset_of f.entry + f.entry.len)) short)
+      ∙ length-take-le f.entry.len f.entry.tail (let le = leb-true f.entry.len 8 short in omega arith)
+  | inr long ↦
+      let end = value_end-long f long in
+      let below = (under-parts limit f under).0 in
+      let rounded = pad f.entry.len in
+      ap length (cond-false (leb f.entry.len 8) (take f.entry.len f.entry.tail) (slice_range b (offset_of f.entry) (offset_of f.entry + f.entry.len)) long)
+      ∙ length-range b (offset_of f.entry) f.entry.len (omega arith)
+]
+
+-- where a value of more than 8 bytes ends
+pub long_value_is : (b : List ℕ) (e : ZEntry) → 8 < e.len → value_of b e ≡ slice_range b (offset_of e) (offset_of e + e.len)
+long_value_is b e long = cond-false (leb e.len 8) (take e.len e.tail) (slice_range b (offset_of e) (offset_of e + e.len)) (lt-leb e.len 8 long)
+
+-- the entry in the other sector is that of the value
+pub moved_is : (b : List ℕ) (e : ZEntry) (cycle offset : ℕ) → length (value_of b e) ≡ e.len → moved_entry cycle e offset ≡ value_entry cycle e.id (value_of b e) offset
+moved_is b e cycle offset len =
+    let v = value_of b e in
+    let tail : (moved_entry cycle e offset).tail ≡ cond (leb e.len 8) (value_of b e ++ replicate (8 - e.len) 0) (to_le_bytes w32 offset ++ replicate 4 0) =
+    elim (cases_Bool (leb e.len 8)) [
+      | inl short ↦
+          cond-true (leb e.len 8) (take e.len e.tail ++ replicate (8 - e.len) 0) (to_le_bytes w32 offset ++ replicate 4 0) short
+          ∙ ap (λ (x : List ℕ). x ++ replicate (8 - e.len) 0) (sym (cond-true (leb e.len 8) (take e.len e.tail) (slice_range b (offset_of e) (offset_of e + e.len)) short))
+          ∙ sym (cond-true (leb e.len 8) (value_of b e ++ replicate (8 - e.len) 0) (to_le_bytes w32 offset ++ replicate 4 0) short)
+      | inr long ↦
+          cond-false (leb e.len 8) (take e.len e.tail ++ replicate (8 - e.len) 0) (to_le_bytes w32 offset ++ replicate 4 0) long
+          ∙ sym (cond-false (leb e.len 8) (value_of b e ++ replicate (8 - e.len) 0) (to_le_bytes w32 offset ++ replicate 4 0) long)
+    ] in
+    ap (λ (t : List ℕ). record { cycle = cycle; len = e.len; id = e.id; tail = t }) tail
+    ∙ ap (λ (n : ℕ). record { cycle = cycle; len = n; id = e.id; tail = cond (leb n 8) (value_of b e ++ replicate (8 - n) 0) (to_le_bytes w32 offset ++ replicate 4 0) }) (sym len)
+
+pub pair_is : (b : List ℕ) (slot : ℕ) (e : ZEntry) → entry_in (slot_of b slot) ≡ Some (record { slot = slot; entry = e }) → pair_at b slot ≡ (e.id, value_of b e)
+pair_is b slot e is = ap (λ (o : Option Found). option_map_or (pair_of b) o (0, [])) is
+
+pub entry_len_is : (b : List ℕ) (slot : ℕ) (e : ZEntry) → entry_in (slot_of b slot) ≡ Some (record { slot = slot; entry = e }) → entry_len b slot ≡ e.len
+entry_len_is b slot e is = ap (λ (o : Option Found). option_map_or (λ f. f.entry.len) o 0) is
+
+-- a copy so far
+pub nothing_yet : (b v : List ℕ) (to : ℕ) → b ≡ overwritten b to (padded_bytes 16 (take 0 v))
+nothing_yet b v to = sym (ap (λ (x : List ℕ). overwritten b to x) (padded_none v 0 (omega arith) refl) ∙ overwritten_nil b to)
+
+pub padded_units : (done n : ℕ) → done % 16 ≡ 0 → padded 16 done / 16 + padded 16 n / 16 ≡ padded 16 (done + n) / 16
+padded_units done n whole =
+    let sum = padded_more done n whole in
+    let even = padded_whole done whole in
+    let rest = padded-aligned n in
+    omega arith
+
+pub padded_within : (done n len : ℕ) → done % 16 ≡ 0 → done + n ≤ len → done + padded 16 n ≤ padded 16 len
+padded_within done n len whole le = let sum = padded_more done n whole in let most = padded_le (done + n) len le in omega arith
+
+pub padded_nothing : padded 16 0 / 16 ≡ 0
+padded_nothing = ap (λ (n : ℕ). n / 16) (padded_whole 0 refl)
+
+-- whole units are done before each piece
+pub padded_next : (done len n : ℕ) → n ≡ min (len - done) 32 → done % 16 ≡ 0 → done + n < len → (done + n) % 16 ≡ 0
+padded_next done len n count whole more = let full : n ≡ 32 = omega arith in omega arith
+
+pub padded_fits : (done n len to size : ℕ) → done + n ≤ len → to + padded 16 len ≤ size → to + padded 16 (done + n) ≤ size
+padded_fits done n len to size le fits = let most = padded_le (done + n) len le in omega arith
+
+pub padded_at : (len count to size : ℕ) → count ≡ len → to + padded 16 len ≤ size → to + padded 16 count ≤ size
+padded_at len count to size same fits = let e : padded 16 count ≡ padded 16 len = ap (padded 16) same in omega arith
+
+pub padded_sum : (done n : ℕ) → done % 16 ≡ 0 → padded 16 (done + n) ≡ done + padded 16 n
+padded_sum done n whole = padded_more done n whole
+
+-- a value that has its length stands in the sector
+pub range_fits : (b : List ℕ) (from len : ℕ) → 0 < len → length (slice_range b from (from + len)) ≡ len → from + len ≤ length b
+range_fits b from len some long =
+    let width : from + len - from ≡ len = omega arith in
+    let cut : length (take len (drop from b)) ≡ len = ap (λ (n : ℕ). length (take n (drop from b))) (sym width) ∙ long in
+    omega (arith, length-take len (drop from b), length-drop from b, cut)
+
+pub with_copy : (b c : List ℕ) (e : ZEntry) (to : ℕ) → 8 < e.len → length (value_of c e) ≡ e.len → overwritten b to (padded_bytes 16 (slice_range c (offset_of e) (offset_of e + e.len))) ≡ with_value b to (value_of c e)
+with_copy b c e to long len =
+    ap (λ (p : List ℕ). overwritten b to (padded_bytes 16 p)) (sym (long_value_is c e long)) ∙ sym (cond-false (leb (length (value_of c e)) 8) b (overwritten b to (padded_bytes 16 (value_of c e))) (lt-leb (length (value_of c e)) 8 (omega (arith, len))))
+
+-- everything that is known of the entry that is copied
+pub record IsCopied (b : List ℕ) (slot : ℕ) (e : ZEntry) : Type 0 where
+  pub len : length (value_of b e) ≡ e.len
+  pub listed_len : entry_len b slot ≡ e.len
+  pub pair : pair_at b slot ≡ (e.id, value_of b e)
+
+pub copied : (b : List ℕ) (slot : ℕ) (e : ZEntry) → is_sound b ≡ true → 2 ≤ slot → slot < length (valid_slots b) + 2 → length e.tail ≡ 8 → entry_in (slot_of b slot) ≡ Some (record { slot = slot; entry = e }) → IsCopied b slot e
+copied b slot e sound from below eight is =
+    let parts = sound-parts b sound in
+    let f : Found = record { slot = slot; entry = e } in
+    record {
+      len = value_len b f (low b - 16) eight (listed_under b slot f parts from below is) (omega arith);
+      listed_len = entry_len_is b slot e is;
+      pair = pair_is b slot e is;
+    }
+
+-- an ordinary entry is not special
+pub ordinary_id : (slot : Slot) (e : ZEntry) (index : ℕ) → e.id < 2 ^ 32 → entry_in slot ≡ Some (record { slot = index; entry = e }) → e.id < 0xFFFFFFFF
+ordinary_id slot e index small is = elim (cases_eq e.id 0xFFFFFFFF) [
+  | inl special ↦ absurd (never (decoded slot.bytes) (sym (entry_in-is slot (decoded slot.bytes) refl) ∙ is) special)
+  | inr other ↦ omega (arith, other)
+]
+  where
+    from_cond : (t : Bool) (x y : Found) → cond t None (Some x) ≡ Some y → (t ≡ false) × (x ≡ y)
+    from_cond true x y h = cc
+    from_cond false x y h = (refl, cc)
+
+    never : (o : Option ZEntry) → option_and_then {U = Found} (λ e. cond (is_special e) None (Some (record { slot = slot.index; entry = e }))) o ≡ Some (record { slot = index; entry = e }) → e.id ≡ 0xFFFFFFFF → ⊥
+    never None h special = cc
+    never (Some x) h special =
+        let parts = from_cond (is_special x) (record { slot = slot.index; entry = x }) (record { slot = index; entry = e }) h in
+        let same : x ≡ e = ap (λ (f : Found). f.entry) parts.1 in
+        let id : x.id ≡ 0xFFFFFFFF = ap (λ (z : ZEntry). z.id) same ∙ special in
+        false≢true (sym parts.0 ∙ eq-eqb x.id 0xFFFFFFFF id)

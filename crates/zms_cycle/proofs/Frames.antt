@@ -1,0 +1,227 @@
+-- What stays of a sector where its slots and its values are not touched.
+use Rattle.std.proofs.Common.{◌≡◌, ℕ, ◌+◌, ◌-◌, ◌*◌, ◌%◌, ◌≤◌, max, true, false, ◌&&◌, eqb, leb, List, [], ◌∷◌, length, map, take, Option, refl, sym, ap, subst, ◌∙◌, inl, inr, arith}
+use Rattle.std.specs.Prelude.{slice_range, fold, sum_by}
+use Rattle.std.specs.List.{filter_map, list_any, list_all}
+use Rattle.std.proofs.lemmas.Bool.{cases_Bool, cases_lt, cond-true, cond-false, and_parts, leb-true, eqb-true, le-leb}
+use Rattle.flash_map.specs.Units.{padded}
+use Rattle.flash_map.proofs.Rounding.{padding}
+use Rattle.flash_sim.specs.Device.{overwritten}
+use Rattle.flash_map.proofs.Ranges.{range_above, range_below}
+use Rattle.flash_map.proofs.Sectors.{length-overwritten}
+use Rattle.slot_list.specs.Slots.{Slot, used_slots}
+use Rattle.slot_list.proofs.SlotLemmas.{HasFence, HasFence-from_low}
+use Rattle.slot_list.proofs.SlotChanges.{SameFrom, slot_at-from, used_slots-kept}
+use Rattle.zms_cycle.specs.Entries.{offset_of, decoded}
+use Rattle.zms_cycle.specs.declared.reading.Found.{Found}
+use Rattle.zms_cycle.specs.Sector.{slot_of, is_valid, cycle_of, valid_slots, holds_close, is_closed, entry_in, entries, holds_done, data_len, low, value_end, end_of, data_end, is_under, has_guard, is_sound, value_of, pair_of}
+use Rattle.zms_cycle.specs.Changes.{KeepsSlots, KeepsList}
+use Rattle.zms_cycle.proofs.Slots16.{Covers, covers-not_valid, covers-higher, cycle_of-is}
+
+pub pad : (n : ℕ) → (n ≤ padded 16 n) × (padded 16 n ≤ n + 15)
+pad n = let facts = padding 16 (inr (inr refl)) in (facts.no_less n, facts.no_more n)
+
+pub padded-aligned : (n : ℕ) → padded 16 n % 16 ≡ 0
+padded-aligned n = (padding 16 (inr (inr refl))).aligned n
+
+-- Room.
+
+pub data_len-short : (len : ℕ) → len ≤ 8 → data_len len ≡ 0
+unfolding data_len
+data_len-short len short = cond-true (leb len 8) 0 (padded 16 len) (le-leb len 8 short)
+
+pub data_len-long : (len : ℕ) → leb len 8 ≡ false → data_len len ≡ padded 16 len
+unfolding data_len
+data_len-long len long = cond-false (leb len 8) 0 (padded 16 len) long
+
+pub value_end-long : (f : Found) → leb f.entry.len 8 ≡ false → value_end f ≡ offset_of f.entry + padded 16 f.entry.len
+unfolding value_end
+value_end-long f long = cond-false (leb f.entry.len 8) 0 (offset_of f.entry + padded 16 f.entry.len) long
+
+pub value_end-short : (f : Found) → leb f.entry.len 8 ≡ true → value_end f ≡ 0
+unfolding value_end
+value_end-short f short = cond-true (leb f.entry.len 8) 0 (offset_of f.entry + padded 16 f.entry.len) short
+
+pub record IsEndOf (found : List Found) (limit : ℕ) : Type 0 where
+  pub ends : fold max 0 (map value_end found) ≤ limit
+  pub sums : sum_by (λ f. data_len f.entry.len) found ≤ limit
+
+pub end_of-above : (found : List Found) → IsEndOf found (end_of found)
+unfolding end_of
+end_of-above found = record { ends = omega arith; sums = omega arith }
+
+pub fold_max-ge : (a : ℕ) (xs : List ℕ) → a ≤ fold max a xs
+fold_max-ge a [] = omega arith
+fold_max-ge a (x ∷ xs) = let rest = fold_max-ge (max a x) xs in omega arith
+
+-- Values that stay.
+
+pub value-same : (limit : ℕ) (old new : List ℕ) → ((i j : ℕ) → j ≤ limit → slice_range new i j ≡ slice_range old i j) → (f : Found) → value_end f ≤ limit → value_of new f.entry ≡ value_of old f.entry
+value-same limit old new same f le = elim (cases_Bool (leb f.entry.len 8)) [
+  | inl short ↦
+      cond-true (leb f.entry.len 8) (take f.entry.len f.entry.tail) (slice_range new (offset_of f.entry) (offset_of f.entry + f.entry.len)) short
+      ∙ sym (cond-true (leb f.entry.len 8) (take f.entry.len f.entry.tail) (slice_range old (offset_of f.entry) (offset_of f.entry + f.entry.len)) short)
+  | inr long ↦
+      let end = value_end-long f long in
+      let rounded = pad f.entry.len in
+      cond-false (leb f.entry.len 8) (take f.entry.len f.entry.tail) (slice_range new (offset_of f.entry) (offset_of f.entry + f.entry.len)) long
+      ∙ same (offset_of f.entry) (offset_of f.entry + f.entry.len) (omega arith)
+      ∙ sym (cond-false (leb f.entry.len 8) (take f.entry.len f.entry.tail) (slice_range old (offset_of f.entry) (offset_of f.entry + f.entry.len)) long)
+]
+
+pub pairs-same : (limit : ℕ) (old new : List ℕ) → ((i j : ℕ) → j ≤ limit → slice_range new i j ≡ slice_range old i j) → (fs : List Found) (a : ℕ) → fold max a (map value_end fs) ≤ limit → map (pair_of new) fs ≡ map (pair_of old) fs
+pairs-same limit old new same [] a le = refl
+pairs-same limit old new same (f ∷ fs) a le =
+    let least = fold_max-ge (max a (value_end f)) (map value_end fs) in
+    ap (λ (bytes : List ℕ). (f.entry.id, bytes) ∷ map (pair_of new) fs) (value-same limit old new same f (omega arith))
+    ∙ ap (λ ps. pair_of old f ∷ ps) (pairs-same limit old new same fs (max a (value_end f)) le)
+
+-- Sound sectors.
+
+pub record IsSound (b : List ℕ) : Type 0 where
+  pub guard : 16 ≤ low b
+  pub under : list_all (is_under (low b - 16)) (entries b) ≡ true
+
+pub sound-parts : (b : List ℕ) → is_sound b ≡ true → IsSound b
+sound-parts b is =
+    let parts = and_parts (has_guard b) (list_all (is_under (low b - 16)) (entries b)) is in
+    record { guard = leb-true 16 (low b) parts.0; under = parts.1 }
+
+pub under-parts : (limit : ℕ) (f : Found) → is_under limit f ≡ true → (value_end f ≤ limit) × (value_end f % 16 ≡ 0)
+unfolding is_under
+under-parts limit f is = elim (cases_Bool (leb f.entry.len 8)) [
+  | inl short ↦ let end = value_end-short f short in (omega arith, ap (λ (n : ℕ). n % 16) end)
+  | inr long ↦
+      let end = value_end-long f long in
+      let parts = and_parts (eqb (offset_of f.entry % 16) 0) (leb (offset_of f.entry + padded 16 f.entry.len) limit) (sym (cond-false (leb f.entry.len 8) true (eqb (offset_of f.entry % 16) 0 && leb (offset_of f.entry + padded 16 f.entry.len) limit) long) ∙ is) in
+      let aligned = eqb-true (offset_of f.entry % 16) 0 parts.0 in
+      let under = leb-true (offset_of f.entry + padded 16 f.entry.len) limit parts.1 in
+      let whole = padded-aligned f.entry.len in
+      (omega arith, omega arith)
+]
+
+ends-aligned : (limit : ℕ) (fs : List Found) (a : ℕ) → list_all (is_under limit) fs ≡ true → a % 16 ≡ 0 → fold max a (map value_end fs) % 16 ≡ 0
+ends-aligned limit [] a all aligned = aligned
+ends-aligned limit (f ∷ fs) a all aligned =
+    let parts = and_parts (is_under limit f) (list_all (is_under limit) fs) all in
+    let here = under-parts limit f parts.0 in
+    let both : max a (value_end f) % 16 ≡ 0 = elim (cases_lt a (value_end f)) [
+      | inl lt ↦ let is : max a (value_end f) ≡ value_end f = omega arith in ap (λ (n : ℕ). n % 16) is ∙ here.1
+      | inr ge ↦ let is : max a (value_end f) ≡ a = omega arith in ap (λ (n : ℕ). n % 16) is ∙ aligned
+    ] in
+    ends-aligned limit fs (max a (value_end f)) parts.1 both
+
+data_len-aligned : (len : ℕ) → data_len len % 16 ≡ 0
+data_len-aligned len = elim (cases_Bool (leb len 8)) [
+  | inl short ↦ ap (λ (n : ℕ). n % 16) (data_len-short len (leb-true len 8 short))
+  | inr long ↦ ap (λ (n : ℕ). n % 16) (data_len-long len long) ∙ padded-aligned len
+]
+
+sum-aligned : (fs : List Found) (a : ℕ) → a % 16 ≡ 0 → fold (λ a f. a + data_len f.entry.len) a fs % 16 ≡ 0
+sum-aligned [] a aligned = aligned
+sum-aligned (f ∷ fs) a aligned = let here = data_len-aligned f.entry.len in sum-aligned fs (a + data_len f.entry.len) (omega arith)
+
+pub data_end-aligned : (b : List ℕ) → IsSound b → data_end b % 16 ≡ 0
+unfolding end_of
+data_end-aligned b sound =
+    let ends = ends-aligned (low b - 16) (entries b) 0 sound.under refl in
+    let sums : sum_by (λ f. data_len f.entry.len) (entries b) % 16 ≡ 0 = sum-aligned (entries b) 0 refl in
+    elim (cases_lt (fold max 0 (map value_end (entries b))) (sum_by (λ f. data_len f.entry.len) (entries b))) [
+      | inl lt ↦ let is : max (fold max 0 (map value_end (entries b))) (sum_by (λ f. data_len f.entry.len) (entries b)) ≡ sum_by (λ f. data_len f.entry.len) (entries b) = omega arith in ap (λ (n : ℕ). n % 16) is ∙ sums
+      | inr ge ↦ let is : max (fold max 0 (map value_end (entries b))) (sum_by (λ f. data_len f.entry.len) (entries b)) ≡ fold max 0 (map value_end (entries b)) = omega arith in ap (λ (n : ℕ). n % 16) is ∙ ends
+    ]
+
+-- every value of a sound sector stands under its guard slot
+ends-under : (limit : ℕ) (fs : List Found) (a : ℕ) → list_all (is_under limit) fs ≡ true → a ≤ limit → fold max a (map value_end fs) ≤ limit
+ends-under limit [] a all le = le
+ends-under limit (f ∷ fs) a all le =
+    let parts = and_parts (is_under limit f) (list_all (is_under limit) fs) all in
+    let here = under-parts limit f parts.0 in
+    ends-under limit fs (max a (value_end f)) parts.1 (let below = here.0 in omega arith)
+
+pub sound-ends : (b : List ℕ) → IsSound b → fold max 0 (map value_end (entries b)) ≤ low b - 16
+sound-ends b sound = ends-under (low b - 16) (entries b) 0 sound.under (omega arith)
+
+-- Slots and marks that stay.
+
+pub cycle_of-same : (old new : List ℕ) → slot_of new 0 ≡ slot_of old 0 → cycle_of new ≡ cycle_of old
+cycle_of-same old new same =
+    cycle_of-is new (decoded (slot_of old 0).bytes) (ap (λ (slot : Slot). decoded slot.bytes) same) ∙ sym (cycle_of-is old (decoded (slot_of old 0).bytes) refl)
+
+pub closed-same : (old new : List ℕ) → cycle_of new ≡ cycle_of old → slot_of new 1 ≡ slot_of old 1 → is_closed new ≡ is_closed old
+closed-same old new cycle same =
+    ap (λ (c : Option ℕ). is_valid c (slot_of new 1) && holds_close (slot_of new 1)) cycle ∙ ap (λ (slot : Slot). is_valid (cycle_of old) slot && holds_close slot) same
+
+pub fence_of : (b : List ℕ) → 16 ≤ low b → HasFence (is_valid (cycle_of b)) 2 16 b (length (valid_slots b))
+fence_of b guard = HasFence-from_low (is_valid (cycle_of b)) 2 16 b (omega arith) guard
+
+-- the same slots under the same marks
+pub slots-keep : (old new : List ℕ) → length new ≡ length old → cycle_of new ≡ cycle_of old → is_closed new ≡ is_closed old → valid_slots new ≡ valid_slots old → KeepsSlots old new
+slots-keep old new long cycle closed slots = record {
+  long = long;
+  cycle = cycle;
+  closed = closed;
+  slots = slots;
+  same_entries = ap (filter_map entry_in) slots;
+  gc_done = ap (list_any holds_done) slots;
+  lower = let count = ap length slots in omega arith;
+  same_end = ap (λ (ss : List Slot). end_of (filter_map entry_in ss)) slots;
+}
+
+pub keeps_slots : (b new : List ℕ) → 16 ≤ low b → SameFrom (low b) b new → is_valid (cycle_of b) (slot_of new (length (valid_slots b) + 2)) ≡ false → KeepsSlots b new
+keeps_slots b new guard same stop =
+    let cycle : cycle_of new ≡ cycle_of b = cycle_of-same b new (slot_at-from 16 (low b) b new same 0 (omega arith)) in
+    slots-keep b new same.long cycle
+    (closed-same b new cycle (slot_at-from 16 (low b) b new same 1 (omega arith)))
+    (ap (λ (c : Option ℕ). used_slots (is_valid c) 2 16 new) cycle
+    ∙ used_slots-kept (is_valid (cycle_of b)) 2 16 (low b) b new (length (valid_slots b)) (omega arith) same (fence_of b guard) (omega arith) stop)
+
+-- and the values stay where nothing under the data end changes
+pub keeps_list : (b new : List ℕ) → KeepsSlots b new → ((i j : ℕ) → j ≤ data_end b → slice_range new i j ≡ slice_range b i j) → KeepsList b new
+keeps_list b new kept below = record {
+  kept = kept;
+  list = ap (map (pair_of new)) kept.same_entries ∙ pairs-same (data_end b) b new below (entries b) 0 (end_of-above (entries b)).ends;
+}
+
+pub keeps_then : {a b c : List ℕ} → KeepsList a b → KeepsList b c → KeepsList a c
+keeps_then first second = record {
+  kept = record {
+    long = second.kept.long ∙ first.kept.long;
+    cycle = second.kept.cycle ∙ first.kept.cycle;
+    closed = second.kept.closed ∙ first.kept.closed;
+    slots = second.kept.slots ∙ first.kept.slots;
+    same_entries = second.kept.same_entries ∙ first.kept.same_entries;
+    gc_done = second.kept.gc_done ∙ first.kept.gc_done;
+    lower = second.kept.lower ∙ first.kept.lower;
+    same_end = second.kept.same_end ∙ first.kept.same_end;
+  };
+  list = second.list ∙ first.list;
+}
+
+pub keeps_same : (b : List ℕ) → KeepsList b b
+keeps_same b = record { kept = slots-keep b b refl refl refl refl; list = refl }
+
+pub sound-same : (old new : List ℕ) → KeepsSlots old new → is_sound new ≡ is_sound old
+sound-same old new kept = ap (λ (n : ℕ). leb 16 n && list_all (is_under (n - 16)) (entries new)) kept.lower ∙ ap (λ (fs : List Found). leb 16 (low old) && list_all (is_under (low old - 16)) fs) kept.same_entries
+
+-- a write between the data end and the guard slot
+pub keeps-data : (b p : List ℕ) → 16 ≤ low b → data_end b + length p ≤ low b - 16 → KeepsList b (overwritten b (data_end b) p)
+keeps-data b p guard fits =
+    let inside : data_end b + length p ≤ length b = omega arith in
+    let same : SameFrom (low b - 16) b (overwritten b (data_end b) p) = record { long = length-overwritten b (data_end b) p inside; bytes = λ i j le. range_above b (data_end b) p i j inside (omega arith) } in
+    let from_low : SameFrom (low b) b (overwritten b (data_end b) p) = record { long = same.long; bytes = λ i j le. same.bytes i j (omega arith) } in
+    let guard_same = slot_at-from 16 (low b - 16) b (overwritten b (data_end b) p) same (length (valid_slots b) + 2) (omega arith) in
+    keeps_list b (overwritten b (data_end b) p)
+    (keeps_slots b (overwritten b (data_end b) p) guard from_low (ap (λ (slot : Slot). is_valid (cycle_of b) slot) guard_same ∙ (fence_of b guard).fence))
+    (λ i j le. range_below b (data_end b) p i j (omega arith) le)
+
+-- the guard slot or one under it is overwritten
+pub keeps-covered : (b new : List ℕ) (k : ℕ) → 16 ≤ low b → length (valid_slots b) + 2 ≤ k → (k + 1) * 16 ≤ length b → data_end b ≤ length b - (k + 1) * 16 → Covers k b new → KeepsList b new
+keeps-covered b new k guard lower inside above covers =
+    let same : SameFrom (low b) b new = record { long = covers.above.long; bytes = λ i j le. covers.above.bytes i j (omega arith) } in
+    let stop : is_valid (cycle_of b) (slot_of new (length (valid_slots b) + 2)) ≡ false = elim (cases_lt (length (valid_slots b) + 2) k) [
+      | inl lt ↦ ap (λ (slot : Slot). is_valid (cycle_of b) slot) (covers-higher k (length (valid_slots b) + 2) b new covers lt) ∙ (fence_of b guard).fence
+      | inr ge ↦
+          let is : k ≡ length (valid_slots b) + 2 = omega arith in
+          subst (λ (j : ℕ). is_valid (cycle_of b) (slot_of new j) ≡ false) is (covers-not_valid (cycle_of b) k b new covers (subst (λ (j : ℕ). is_valid (cycle_of b) (slot_of b j) ≡ false) (sym is) (fence_of b guard).fence))
+    ] in
+    keeps_list b new (keeps_slots b new guard same stop) (λ i j le. covers.below i j (omega arith))

@@ -1,0 +1,14 @@
+pub mod Appends
+pub mod AreaFacts
+pub mod Bytes
+pub mod CloseCalls
+pub mod CopyCalls
+pub mod EmptyCalls
+pub mod EntryCalls
+pub mod Frames
+pub mod Marks
+pub mod PairCalls
+pub mod Rooms
+pub mod Scanning
+pub mod Slots16
+pub mod UnitCalls

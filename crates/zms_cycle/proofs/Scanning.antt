@@ -1,0 +1,99 @@
+-- Going over the entries of a sector.
+use Rattle.std.proofs.Common.{◌≡◌, ℕ, ◌+◌, ◌-◌, ◌^◌, min, max, Bool, true, false, ◌&&◌, ◌||◌, cond, List, [], ◌∷◌, ◌++◌, length, map, Option, Some, None, refl, sym, ap, ◌∙◌, arith}
+use Rattle.std.specs.Prelude.{fold, sum_by, IsSome}
+use Rattle.std.specs.List.{filter_map, cons_option, list_any}
+use Rattle.std.specs.Option.{option_and_then, option_map_or}
+use Rattle.std.proofs.lemmas.List.{map-append, append-nil}
+use Rattle.std.proofs.lemmas.List.Sums.{fold_push}
+use Rattle.std.proofs.lemmas.List.Folds.{list_any-append}
+use Rattle.std.proofs.lemmas.List.Elements.{filter_map-append}
+use Rattle.slot_list.specs.Slots.{Slot, slot_at, used_slots}
+use Rattle.slot_list.proofs.SlotLemmas.{index-slot_at}
+use Rattle.slot_list.proofs.SlotCounts.{slots_to, slots_to_used, slots_to_more}
+use Rattle.zms_cycle.specs.declared.entry.ZEntry.{ZEntry}
+use Rattle.zms_cycle.specs.declared.reading.Found.{Found}
+use Rattle.zms_cycle.specs.declared.reading.SectorState.{SectorState}
+use Rattle.zms_cycle.specs.declared.reading.SectorState.TheVariants.{Blank, Used}
+use Rattle.zms_cycle.specs.Entries.{decoded, is_special, is_done}
+use Rattle.zms_cycle.specs.Sector.{slot_of, is_valid, is_valid_under, cycle_of, holds_close, entry_in, holds_done, value_end, data_len, end_of}
+use Rattle.zms_cycle.specs.States.{state_of}
+use Rattle.zms_cycle.proofs.Slots16.{entry_in-is, done-is}
+
+-- the entries of so many slots
+abbrev pub entries_to : List ℕ → ℕ → List Found
+entries_to b n = filter_map entry_in (slots_to 2 16 b n)
+
+-- what the code reads of a slot
+pub found_is : (b : List ℕ) (k : ℕ) (entry : Option ZEntry) (found : Option Found) → entry ≡ decoded (slot_of b k).bytes → found ≡ option_and_then (λ e. cond (is_special e) None (Some (record { slot = k; entry = e }))) entry → found ≡ entry_in (slot_of b k)
+found_is b k entry found read is =
+    is ∙ ap (λ (i : ℕ). option_and_then (λ e. cond (is_special e) None (Some (record { slot = i; entry = e }))) entry) (sym (index-slot_at 16 b k)) ∙ sym (entry_in-is (slot_of b k) entry (sym read))
+
+entries_more : (b : List ℕ) (n k : ℕ) (found : Option Found) → k ≡ 2 + n → found ≡ entry_in (slot_of b k) → entries_to b (n + 1) ≡ entries_to b n ++ cons_option found []
+entries_more b n k found at is =
+    ap (filter_map entry_in) (slots_to_more 2 16 b n k at) ∙ filter_map-append entry_in (slots_to 2 16 b n) (slot_at 16 b k ∷ []) ∙ ap (λ (o : Option Found). entries_to b n ++ cons_option o []) (sym is)
+
+ends_more : (fs : List Found) (o : Option Found) → max (option_map_or value_end o 0) (fold max 0 (map value_end fs)) ≡ fold max 0 (map value_end (fs ++ cons_option o []))
+ends_more fs None = let same = ap (λ xs. fold max 0 (map value_end xs)) (append-nil fs) in omega arith
+ends_more fs (Some f) = let all : fold max 0 (map value_end (fs ++ f ∷ [])) ≡ max (fold max 0 (map value_end fs)) (value_end f) = ap (fold max 0) (map-append value_end fs (f ∷ [])) ∙ fold_push max 0 (map value_end fs) (value_end f) in omega arith
+
+lens_more : (fs : List Found) (o : Option Found) → sum_by (λ f. data_len f.entry.len) fs + option_map_or (λ f. data_len f.entry.len) o 0 ≡ sum_by (λ f. data_len f.entry.len) (fs ++ cons_option o [])
+lens_more fs None = let same = ap (sum_by (λ f. data_len f.entry.len)) (append-nil fs) in omega arith
+lens_more fs (Some f) = sym (fold_push (λ a f. a + data_len f.entry.len) 0 fs f)
+
+pub ends_step : (b : List ℕ) (n k : ℕ) (found : Option Found) (ends : ℕ) → k ≡ 2 + n → found ≡ entry_in (slot_of b k) → ends ≡ fold max 0 (map value_end (entries_to b n)) → max (option_map_or value_end found 0) ends ≡ fold max 0 (map value_end (entries_to b (n + 1)))
+ends_step b n k found ends at is so_far =
+    ap (λ (x : ℕ). max (option_map_or value_end found 0) x) so_far ∙ ends_more (entries_to b n) found ∙ ap (λ (fs : List Found). fold max 0 (map value_end fs)) (sym (entries_more b n k found at is))
+
+pub lens_step : (b : List ℕ) (n k : ℕ) (found : Option Found) (lens : ℕ) → k ≡ 2 + n → found ≡ entry_in (slot_of b k) → lens ≡ sum_by (λ f. data_len f.entry.len) (entries_to b n) → lens + option_map_or (λ f. data_len f.entry.len) found 0 ≡ sum_by (λ f. data_len f.entry.len) (entries_to b (n + 1))
+lens_step b n k found lens at is so_far =
+    ap (λ (x : ℕ). x + option_map_or (λ f. data_len f.entry.len) found 0) so_far ∙ lens_more (entries_to b n) found ∙ ap (sum_by (λ f. data_len f.entry.len)) (sym (entries_more b n k found at is))
+
+or_none : (x y : Bool) → (x || (y || false)) ≡ (x || y)
+or_none true y = refl
+or_none false true = refl
+or_none false false = refl
+
+pub done_step : (b : List ℕ) (n k : ℕ) (entry : Option ZEntry) (done : Bool) → k ≡ 2 + n → entry ≡ decoded (slot_of b k).bytes → done ≡ list_any holds_done (slots_to 2 16 b n) → (done || option_map_or is_done entry false) ≡ list_any holds_done (slots_to 2 16 b (n + 1))
+done_step b n k entry done at read so_far =
+    ap (λ (x : Bool). x || option_map_or is_done entry false) so_far
+    ∙ ap (λ (x : Bool). list_any holds_done (slots_to 2 16 b n) || x) (sym (done-is (slot_of b k) entry (sym read)))
+    ∙ sym (or_none (list_any holds_done (slots_to 2 16 b n)) (holds_done (slot_of b k)))
+    ∙ sym (list_any-append holds_done (slots_to 2 16 b n) (slot_of b k ∷ [])) ∙ ap (list_any holds_done) (sym (slots_to_more 2 16 b n k at))
+
+-- the state of a sector of this cycle
+abbrev state_with : Option ℕ → List ℕ → SectorState
+state_with cycle b = option_map_or (λ c. Used c (is_valid cycle (slot_of b 1) && holds_close (slot_of b 1)) (length (used_slots (is_valid cycle) 2 16 b)) (min (end_of (filter_map entry_in (used_slots (is_valid cycle) 2 16 b))) (2 ^ 32 - 1)) (list_any holds_done (used_slots (is_valid cycle) 2 16 b))) cycle Blank
+
+end_of-is : (fs : List Found) (ends lens : ℕ) → ends ≡ fold max 0 (map value_end fs) → lens ≡ sum_by (λ f. data_len f.entry.len) fs → max ends lens ≡ end_of fs
+unfolding end_of
+end_of-is fs ends lens ends-is lens-is = omega arith
+
+pub state_is : (b : List ℕ) (cycle n ends lens : ℕ) (closed done : Bool) → cycle_of b ≡ Some cycle → closed ≡ (is_valid_under cycle (slot_of b 1) && holds_close (slot_of b 1)) → n ≡ length (used_slots (is_valid (Some cycle)) 2 16 b)
+    → ends ≡ fold max 0 (map value_end (entries_to b n)) → lens ≡ sum_by (λ f. data_len f.entry.len) (entries_to b n) → done ≡ list_any holds_done (slots_to 2 16 b n)
+    → Used cycle closed n (min (max ends lens) (2 ^ 32 - 1)) done ≡ state_of b
+state_is b cycle n ends lens closed done of_cycle closed-is n-is ends-is lens-is done-is =
+    let slots : slots_to 2 16 b n ≡ used_slots (is_valid (Some cycle)) 2 16 b = slots_to_used (is_valid (Some cycle)) 2 16 b n n-is in
+    ap (λ (t : Bool). Used cycle t n (min (max ends lens) (2 ^ 32 - 1)) done) closed-is
+    ∙ ap (λ (k : ℕ). Used cycle (is_valid_under cycle (slot_of b 1) && holds_close (slot_of b 1)) k (min (max ends lens) (2 ^ 32 - 1)) done) n-is
+    ∙ ap (λ (k : ℕ). Used cycle (is_valid_under cycle (slot_of b 1) && holds_close (slot_of b 1)) (length (used_slots (is_valid (Some cycle)) 2 16 b)) (min k (2 ^ 32 - 1)) done) (end_of-is (entries_to b n) ends lens ends-is lens-is ∙ ap (λ (ss : List Slot). end_of (filter_map entry_in ss)) slots)
+    ∙ ap (λ (t : Bool). Used cycle (is_valid_under cycle (slot_of b 1) && holds_close (slot_of b 1)) (length (used_slots (is_valid (Some cycle)) 2 16 b)) (min (end_of (filter_map entry_in (used_slots (is_valid (Some cycle)) 2 16 b))) (2 ^ 32 - 1)) t) (done-is ∙ ap (list_any holds_done) slots)
+    ∙ ap (λ (o : Option ℕ). state_with o b) (sym of_cycle)
+
+pub blank_is : (b : List ℕ) → cycle_of b ≡ None → Blank ≡ state_of b
+blank_is b none = ap (λ (o : Option ℕ). state_with o b) (sym none)
+
+-- what a used state says, whatever the cycle is
+used_with : (o : Option ℕ) (b : List ℕ) (cycle n end : ℕ) (closed done : Bool) → Used cycle closed n end done ≡ state_with o b → (o ≡ Some cycle) × (n ≡ length (used_slots (is_valid o) 2 16 b)) × (end ≡ min (end_of (filter_map entry_in (used_slots (is_valid o) 2 16 b))) (2 ^ 32 - 1))
+used_with None b cycle n end closed done is = cc
+used_with (Some c) b cycle n end closed done is = (cc, cc, cc)
+
+pub used_parts : (b : List ℕ) (cycle n end : ℕ) (closed done : Bool) → Used cycle closed n end done ≡ state_of b → (cycle_of b ≡ Some cycle) × (n ≡ length (used_slots (is_valid (cycle_of b)) 2 16 b)) × (end ≡ min (end_of (filter_map entry_in (used_slots (is_valid (cycle_of b)) 2 16 b))) (2 ^ 32 - 1))
+used_parts b = used_with (cycle_of b) b
+
+-- a used sector has no blank state
+not_blank_with : (o : Option ℕ) (b : List ℕ) → IsSome o → Blank ≡ state_with o b → ⊥
+not_blank_with None b some is = cc
+not_blank_with (Some c) b some is = cc
+
+pub not_blank : (b : List ℕ) → IsSome (cycle_of b) → Blank ≡ state_of b → ⊥
+not_blank b = not_blank_with (cycle_of b) b

@@ -1,0 +1,28 @@
+use Rattle.std.proofs.Common.{ℕ, ◌/◌, length, sym, subst, ◌∙◌, arith}
+use Rattle.std.proofs.lemmas.Result.{on_ok_weaker, on_err_weaker}
+use Rattle.flash_map.specs.Area.{sector_bytes}
+use Rattle.flash_map.specs.Spending.{SpendsBetween}
+use Rattle.zms_cycle.specs.Changes.{HasPart}
+use Rattle.zms_cycle.proofs.EntryCalls.{long_len, long_value, short_spends, short_value}
+use Rattle.zms_cycle.proofs.appending.put_value.Goals as goal
+
+pub returns-then-bytes-le-INLINE-clause-ok : goal.returns-then-bytes-le-INLINE-clause-ok
+returns-then-bytes-le-INLINE-clause-ok g c = short_value (sector_bytes (g.F.Flash.device c.args.flash.now) c.args.area.now c.args.sector) c.args.at c.args.bytes.now (omega arith)
+
+pub returns-then-bytes-le-INLINE-clause-spends : goal.returns-then-bytes-le-INLINE-clause-spends
+returns-then-bytes-le-INLINE-clause-spends g c = short_spends (g.F.Flash.device c.args.flash.now) (length c.args.bytes.now) (omega arith)
+
+pub put_bytes-requires-clause-fits : goal.put_bytes-requires-clause-fits
+put_bytes-requires-clause-fits g c = let fits = c.requires.fits in let len = long_len (length c.args.bytes.now) (omega arith) in omega arith
+
+pub returns-clause-ok : goal.returns-clause-ok
+returns-clause-ok g c = on_ok_weaker c.put_bytes.result (λ is. is ∙ long_value (sector_bytes (g.F.Flash.device c.args.flash.now) c.args.area.now c.args.sector) c.args.at c.args.bytes.now (omega arith)) c.put_bytes.ensures.ok
+
+pub returns-clause-lost : goal.returns-clause-lost
+returns-clause-lost g c = on_err_weaker c.put_bytes.result (λ part. subst (λ (n : ℕ). HasPart (sector_bytes (g.F.Flash.device c.args.flash.now) c.args.area.now c.args.sector) (sector_bytes (g.F.Flash.device c.put_bytes.new.flash) c.args.area.now c.args.sector) c.args.at n) (sym (long_len (length c.args.bytes.now) (omega arith))) part) c.put_bytes.ensures.lost
+
+pub returns-clause-spends : goal.returns-clause-spends
+returns-clause-spends g c = on_ok_weaker c.put_bytes.result (λ spends. subst (λ (n : ℕ). SpendsBetween (g.F.Flash.device c.args.flash.now) (g.F.Flash.device c.put_bytes.new.flash) (n / 16) (n / 16)) (sym (long_len (length c.args.bytes.now) (omega arith))) spends) c.put_bytes.ensures.spends
+
+pub returns-clause-spends_lost : goal.returns-clause-spends_lost
+returns-clause-spends_lost g c = on_err_weaker c.put_bytes.result (λ spends. subst (λ (n : ℕ). SpendsBetween (g.F.Flash.device c.args.flash.now) (g.F.Flash.device c.put_bytes.new.flash) 0 (n / 16)) (sym (long_len (length c.args.bytes.now) (omega arith))) spends) c.put_bytes.ensures.spends_lost

@@ -1,0 +1,102 @@
+-- What a step leaves of a sector.
+use Rattle.std.specs.Prelude.{◌≡◌, ℕ, ◌+◌, ◌-◌, ◌*◌, ◌%◌, ◌≤◌, nat_le, true, false, List, [], ◌∷◌, ◌++◌, length, Option, Some, if◌then◌else◌}
+use Rattle.std.specs.Option.{option_map_or}
+use Rattle.flash_sim.specs.Device.{overwritten}
+use Rattle.flash_map.specs.Units.{padded_bytes}
+use Rattle.zms_cycle.specs.Entries.{fill}
+use Rattle.zms_cycle.specs.declared.reading.Found.{Found}
+use Rattle.zms_cycle.specs.Sector.{slot_of, is_valid_under, cycle_of, valid_slots, is_closed, entries, has_gc_done, data_len, low, data_end, is_sound, pairs}
+
+-- the sector with these bytes in a slot
+abbrev pub with_slot : List ℕ → ℕ → List ℕ → List ℕ
+with_slot sector slot bytes = overwritten sector (length sector - (slot + 1) * 16) bytes
+
+-- the sector with the fill unit in a slot that was valid under the cycle
+abbrev pub guarded : ℕ → ℕ → List ℕ → List ℕ
+guarded cycle slot sector = if is_valid_under cycle (slot_of sector slot) then with_slot sector slot fill else sector
+
+-- the sector with a value there, where it has more than 8 bytes
+abbrev pub with_value : List ℕ → ℕ → List ℕ → List ℕ
+with_value sector at bytes = if nat_le (length bytes) 8 then sector else overwritten sector at (padded_bytes 16 bytes)
+
+-- at most so many bytes were put there
+abbrev pub HasPart : List ℕ → List ℕ → ℕ → ℕ → Type 0
+HasPart old new at most = (part : List ℕ) × (length part ≤ most) × (new ≡ overwritten old at part)
+
+-- the cycle, the slots and the marks stay
+pub record KeepsSlots (old new : List ℕ) : Type 0 where
+  pub long : length new ≡ length old
+  pub cycle : cycle_of new ≡ cycle_of old
+  pub closed : is_closed new ≡ is_closed old
+  pub slots : valid_slots new ≡ valid_slots old
+  pub same_entries : entries new ≡ entries old
+  pub gc_done : has_gc_done new ≡ has_gc_done old
+  pub lower : low new ≡ low old
+  pub same_end : data_end new ≡ data_end old
+
+-- and so does the sector's part of the list
+pub record KeepsList (old new : List ℕ) : Type 0 where
+  pub kept : KeepsSlots old new
+  pub list : pairs new ≡ pairs old
+
+-- and so does the sector's part of the list where its values stand under the guard slot
+pub record KeepsState (old new : List ℕ) : Type 0 where
+  pub kept : KeepsSlots old new
+  pub list : is_sound old ≡ true → pairs new ≡ pairs old
+
+-- the sector's part of the list has one pair more
+pub record AddsPair (old new : List ℕ) (id : ℕ) (bytes : List ℕ) : Type 0 where
+  pub list : pairs new ≡ pairs old ++ (id, bytes) ∷ []
+  pub long : length new ≡ length old
+  pub cycle : cycle_of new ≡ cycle_of old
+  pub closed : is_closed new ≡ is_closed old
+  pub gc_done : has_gc_done new ≡ has_gc_done old
+  -- the entry that was put
+  pub found : Found
+  pub more : entries new ≡ entries old ++ found ∷ []
+  pub entry_id : found.entry.id ≡ id
+  pub entry_len : found.entry.len ≡ length bytes
+  pub lower : low new + 16 ≡ low old
+  pub grown : data_end new ≡ data_end old + data_len (length bytes)
+  pub sound : is_sound new ≡ true
+
+-- gc-done stands in the sector, and its list stays
+pub record MarksDone (old new : List ℕ) : Type 0 where
+  pub list : pairs new ≡ pairs old
+  pub long : length new ≡ length old
+  pub cycle : cycle_of new ≡ cycle_of old
+  pub closed : is_closed new ≡ is_closed old
+  pub gc_done : has_gc_done new ≡ true
+  pub same_entries : entries new ≡ entries old
+  pub lower : low new + 16 ≡ low old
+  pub same_end : data_end new ≡ data_end old
+  pub sound : is_sound new ≡ true
+
+-- the sector is closed, and its list stays
+pub record Closes (old new : List ℕ) : Type 0 where
+  pub list : pairs new ≡ pairs old
+  pub long : length new ≡ length old
+  pub cycle : cycle_of new ≡ cycle_of old
+  pub closed : is_closed new ≡ true
+  pub slots : valid_slots new ≡ valid_slots old
+  pub gc_done : has_gc_done new ≡ has_gc_done old
+  pub same_entries : entries new ≡ entries old
+  pub lower : low new ≡ low old
+  pub same_end : data_end new ≡ data_end old
+
+-- a blank sector begins with cycle 1; after 255 comes 0
+abbrev pub next_cycle : Option ℕ → ℕ
+next_cycle cycle = option_map_or (λ c. (c + 1) % 256) cycle 1
+
+-- the sector is used in the next cycle, not closed, and slot 2 is not valid
+pub record Empties (old new : List ℕ) : Type 0 where
+  pub long : length new ≡ length old
+  pub cycle : cycle_of new ≡ Some (next_cycle (cycle_of old))
+  pub closed : is_closed new ≡ false
+  pub second : is_valid_under (next_cycle (cycle_of old)) (slot_of new 2) ≡ false
+  pub slots : valid_slots new ≡ []
+  pub gc_done : has_gc_done new ≡ false
+  pub list : pairs new ≡ []
+  pub lower : low new ≡ length new - 32
+  pub same_end : data_end new ≡ 0
+  pub sound : is_sound new ≡ true

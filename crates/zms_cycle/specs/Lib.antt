@@ -1,0 +1,5 @@
+pub mod Areas
+pub mod Entries
+pub mod Sector
+pub mod States
+pub mod Changes

@@ -1,0 +1,196 @@
+// Entries with their values.
+ghost use Rattle.std.specs.Prelude.{◌≡◌, ◌+◌, ◌-◌, ◌*◌, ◌/◌, ◌%◌, ◌^◌, ◌<◌, ◌≤◌, ◌∷◌, [], ◌++◌, nat_le, length, replicate, is_err, IsTrue, IsSome, OnOk, OnErr, if◌then◌else◌};
+ghost use Rattle.std.specs.Int.{w32, to_le_bytes};
+ghost use Rattle.flash_sim.specs.Device.{overwritten};
+ghost use Rattle.flash_map.specs.Area.{sector_size, sector_bytes};
+ghost use Rattle.flash_map.specs.Units.{padded, padded_bytes};
+ghost use Rattle.flash_map.specs.Spending.{SpendsBetween};
+ghost use Rattle.flash_map.specs.Touches.{Touches};
+ghost use Rattle.zms_cycle.specs.Areas.{IsZmsSector, HasSlot, OthersStay};
+ghost use Rattle.zms_cycle.specs.Changes.{with_value, HasPart, KeepsList, AddsPair, MarksDone};
+ghost use Rattle.zms_cycle.specs.Entries.{value_entry, done_entry};
+ghost use Rattle.zms_cycle.specs.Sector.{cycle_of, data_len, cost, free, is_sound, fits};
+
+use crate::ZEntry;
+use crate::guarding::put_slot;
+use crate::reading::{FIRST, SPECIAL_ID, opened_sector};
+use flash_map::{Area, program_padded};
+use flash_sim::{Flash, PowerLost, Steps};
+use std::sync::ledger::Ledger;
+
+// The longest value that its entry holds.
+pub const INLINE: usize = 8;
+
+// The tail that holds a value of at most 8 bytes.
+pub fn short_tail(bytes: &[u8]) -> [u8; 8]
+    requires { length bytes.now ≤ 8 }
+    ensures { result ≡ bytes.now ++ replicate (8 - length bytes.now) 0 }
+{
+    let mut tail = [0; 8];
+    tail[..bytes.len()].copy_from_slice(bytes);
+    tail
+}
+
+// The tail that holds the offset of a value.
+pub fn long_tail(offset: u32) -> [u8; 8]
+    ensures { result ≡ to_le_bytes w32 offset ++ replicate 4 0 }
+{
+    let mut tail = [0; 8];
+    tail[..4].copy_from_slice(&offset.to_le_bytes());
+    tail
+}
+
+// The tail of a value's entry.
+fn tail_of(bytes: &[u8], offset: u32) -> [u8; 8]
+    ensures { result ≡ (if nat_le (length bytes.now) 8 then bytes.now ++ replicate (8 - length bytes.now) 0 else to_le_bytes w32 offset ++ replicate 4 0) }
+{
+    if bytes.len() <= INLINE {
+        short_tail(bytes)
+    } else {
+        long_tail(offset)
+    }
+}
+
+// The entry of a value.
+fn value_entry(cycle: u8, id: u32, bytes: &[u8], offset: u32) -> ZEntry
+    requires { length bytes.now < 2 ^ 16 }
+    ensures { result ≡ value_entry cycle id bytes.now offset }
+{
+    ZEntry {
+        cycle,
+        len: bytes.len() as u16,
+        id,
+        tail: tail_of(bytes, offset),
+    }
+}
+
+// Programs bytes, padded to whole units.
+pub fn put_bytes<F: Flash>(
+    flash: &mut F,
+    area: &Area,
+    sector: u32,
+    at: u32,
+    bytes: &[u8],
+) -> Result<(), PowerLost>
+    requires zms { IsZmsSector (F.device flash.old) area.now sector }
+    requires fits { at + padded 16 (length bytes.now) ≤ sector_size (F.device flash.old) area.now }
+    requires aligned { at % 16 ≡ 0 }
+
+    ensures touches { Touches (area.now ∷ []) (F.device flash.old) (F.device flash.new) (is_err result) }
+    ensures others { OthersStay (F.device flash.old) (F.device flash.new) area.now sector }
+    ensures ok { OnOk result (sector_bytes (F.device flash.new) area.now sector ≡ overwritten (sector_bytes (F.device flash.old) area.now sector) at (padded_bytes 16 bytes.now)) }
+    ensures lost { OnErr result (HasPart (sector_bytes (F.device flash.old) area.now sector) (sector_bytes (F.device flash.new) area.now sector) at (padded 16 (length bytes.now))) }
+    ensures spends { let units = padded 16 (length bytes.now) / 16 in
+        OnOk result (SpendsBetween (F.device flash.old) (F.device flash.new) units units) }
+    ensures spends_lost { OnErr result (SpendsBetween (F.device flash.old) (F.device flash.new) 0 (padded 16 (length bytes.now) / 16)) }
+{
+    program_padded(flash, area, sector, at, bytes)
+}
+
+// Programs a value, where its entry does not hold it.
+fn put_value<F: Flash>(
+    flash: &mut F,
+    area: &Area,
+    sector: u32,
+    at: u32,
+    bytes: &[u8],
+) -> Result<(), PowerLost>
+    requires zms { IsZmsSector (F.device flash.old) area.now sector }
+    requires fits { at + data_len (length bytes.now) ≤ sector_size (F.device flash.old) area.now }
+    requires aligned { at % 16 ≡ 0 }
+
+    ensures touches { Touches (area.now ∷ []) (F.device flash.old) (F.device flash.new) (is_err result) }
+    ensures others { OthersStay (F.device flash.old) (F.device flash.new) area.now sector }
+    ensures ok { OnOk result (sector_bytes (F.device flash.new) area.now sector ≡ with_value (sector_bytes (F.device flash.old) area.now sector) at bytes.now) }
+    ensures lost { OnErr result (HasPart (sector_bytes (F.device flash.old) area.now sector) (sector_bytes (F.device flash.new) area.now sector) at (data_len (length bytes.now))) }
+    ensures spends { let units = data_len (length bytes.now) / 16 in
+        OnOk result (SpendsBetween (F.device flash.old) (F.device flash.new) units units) }
+    ensures spends_lost { OnErr result (SpendsBetween (F.device flash.old) (F.device flash.new) 0 (data_len (length bytes.now) / 16)) }
+{
+    if bytes.len() <= INLINE {
+        return Ok(());
+    }
+    put_bytes(flash, area, sector, at, bytes)
+}
+
+/// Puts a value, in calls of at most 400 bytes, and then its entry, under which the guard is set first. No bytes are a
+/// delete. A cut leaves the sector's list as it was.
+pub fn put_entry<F: Flash, L: Ledger>(
+    flash: &mut F,
+    area: &Area,
+    sector: u32,
+    id: u32,
+    bytes: &[u8],
+    steps: &mut Steps<L>,
+) -> Result<(), PowerLost>
+    requires zms { IsZmsSector (F.device flash.old) area.now sector }
+    requires used { IsSome (cycle_of (sector_bytes (F.device flash.old) area.now sector)) }
+    requires sound { IsTrue (is_sound (sector_bytes (F.device flash.old) area.now sector)) }
+    requires ordinary { id < 0xFFFFFFFF }
+    requires room { IsTrue (fits (sector_bytes (F.device flash.old) area.now sector) (length bytes.now)) }
+
+    ensures touches { Touches (area.now ∷ []) (F.device flash.old) (F.device flash.new) (is_err result) }
+    ensures others { OthersStay (F.device flash.old) (F.device flash.new) area.now sector }
+    ensures ok { OnOk result (AddsPair (sector_bytes (F.device flash.old) area.now sector) (sector_bytes (F.device flash.new) area.now sector) id bytes.now) }
+    ensures lost { OnErr result (KeepsList (sector_bytes (F.device flash.old) area.now sector) (sector_bytes (F.device flash.new) area.now sector)) }
+    ensures spends { let units = cost (length bytes.now) / 16 in
+        OnOk result (SpendsBetween (F.device flash.old) (F.device flash.new) units (units + 1)) }
+    ensures spends_lost { OnErr result (SpendsBetween (F.device flash.old) (F.device flash.new) 0 (cost (length bytes.now) / 16 + 1)) }
+{
+    let opened = opened_sector(flash, area, sector, steps);
+    let entry = value_entry(opened.cycle, id, bytes, opened.data_end);
+    put_value(flash, area, sector, opened.data_end, bytes)?;
+    put_slot(
+        flash,
+        area,
+        sector,
+        opened.slots + FIRST as u32,
+        &entry,
+        steps,
+    )
+}
+
+// The entry of gc-done.
+fn done_entry(cycle: u8, data_end: u32) -> ZEntry
+    ensures { result ≡ done_entry cycle data_end }
+{
+    let [end_0, end_1, end_2, end_3] = data_end.to_le_bytes();
+    ZEntry {
+        cycle,
+        len: 0,
+        id: SPECIAL_ID,
+        tail: [end_0, end_1, end_2, end_3, 2, 0, 0, 0],
+    }
+}
+
+/// Marks a sector into which a collection has copied all that it keeps: gc-done in the guard slot, under which the guard
+/// is set first. A cut leaves the sector without the mark.
+pub fn put_done<F: Flash, L: Ledger>(
+    flash: &mut F,
+    area: &Area,
+    sector: u32,
+    steps: &mut Steps<L>,
+) -> Result<(), PowerLost>
+    requires zms { IsZmsSector (F.device flash.old) area.now sector }
+    requires used { IsSome (cycle_of (sector_bytes (F.device flash.old) area.now sector)) }
+    requires sound { IsTrue (is_sound (sector_bytes (F.device flash.old) area.now sector)) }
+    requires room { 32 ≤ free (sector_bytes (F.device flash.old) area.now sector) }
+
+    ensures touches { Touches (area.now ∷ []) (F.device flash.old) (F.device flash.new) (is_err result) }
+    ensures others { OthersStay (F.device flash.old) (F.device flash.new) area.now sector }
+    ensures ok { OnOk result (MarksDone (sector_bytes (F.device flash.old) area.now sector) (sector_bytes (F.device flash.new) area.now sector)) }
+    ensures lost { OnErr result (KeepsList (sector_bytes (F.device flash.old) area.now sector) (sector_bytes (F.device flash.new) area.now sector)) }
+    ensures spends { OnOk result (SpendsBetween (F.device flash.old) (F.device flash.new) 1 2) }
+    ensures spends_lost { OnErr result (SpendsBetween (F.device flash.old) (F.device flash.new) 0 2) }
+{
+    let opened = opened_sector(flash, area, sector, steps);
+    let entry = done_entry(opened.cycle, opened.data_end);
+    put_slot(
+        flash,
+        area,
+        sector,
+        opened.slots + FIRST as u32,
+        &entry,
+        steps,
+    )
+}

@@ -1,0 +1,101 @@
+// Single units of a sector: the guard, and an entry above its guard.
+ghost use Rattle.std.specs.Prelude.{◌≡◌, ◌⊎◌, ◌+◌, ◌-◌, ◌*◌, ◌<◌, ◌≤◌, ◌∷◌, [], false, length, is_err, OnOk, OnErr, if◌then◌else◌};
+ghost use Rattle.flash_map.specs.Area.{IsLawfulArea, sector_size, sectors_of, sector_bytes};
+ghost use Rattle.flash_map.specs.Spending.{SpendsBetween};
+ghost use Rattle.flash_map.specs.Touches.{Touches};
+ghost use Rattle.zms_cycle.specs.Areas.{IsZmsSector, HasSlot, OthersStay};
+ghost use Rattle.zms_cycle.specs.Changes.{with_slot, guarded};
+ghost use Rattle.zms_cycle.specs.Entries.{encoded};
+ghost use Rattle.zms_cycle.specs.Sector.{slot_of, is_valid_under};
+
+use crate::reading::{SLOT, is_of_cycle};
+use crate::{ZEntry, decode_zentry, encode_zentry, fill_unit};
+use flash_map::{Area, area_program, area_view, geometry};
+use flash_sim::{Flash, PowerLost, Steps};
+use std::sync::ledger::Ledger;
+
+// Where a slot starts in a sector.
+pub fn slot_start<F: Flash>(flash: &F, area: &Area, slot: u32) -> u32
+    requires lawful { IsLawfulArea (F.device flash.now).banks area.now }
+    requires slot { HasSlot (F.device flash.now) area.now slot }
+    ensures { result ≡ sector_size (F.device flash.now) area.now - (slot + 1) * 16 }
+{
+    geometry(flash, area).sector - (slot + 1) * SLOT as u32
+}
+
+// Programs one slot. A cut changes no byte.
+pub fn put_unit<F: Flash>(
+    flash: &mut F,
+    area: &Area,
+    sector: u32,
+    slot: u32,
+    bytes: &[u8],
+) -> Result<(), PowerLost>
+    requires zms { IsZmsSector (F.device flash.old) area.now sector }
+    requires slot { HasSlot (F.device flash.old) area.now slot }
+    requires unit { length bytes.now ≡ 16 }
+
+    ensures touches { Touches (area.now ∷ []) (F.device flash.old) (F.device flash.new) (is_err result) }
+    ensures others { OthersStay (F.device flash.old) (F.device flash.new) area.now sector }
+    ensures ok { OnOk result (sector_bytes (F.device flash.new) area.now sector ≡ with_slot (sector_bytes (F.device flash.old) area.now sector) slot bytes.now) }
+    ensures lost { OnErr result (sectors_of (F.device flash.new) area.now ≡ sectors_of (F.device flash.old) area.now) }
+    ensures spends { OnOk result (SpendsBetween (F.device flash.old) (F.device flash.new) 1 1) }
+    ensures spends_lost { OnErr result (SpendsBetween (F.device flash.old) (F.device flash.new) 0 0) }
+{
+    let start = slot_start(flash, area, slot);
+    area_program(flash, area, sector, start, bytes)
+}
+
+/// Programs the fill unit exactly where the slot is valid under the cycle. A cut changes no byte.
+pub fn guard<F: Flash, L: Ledger>(
+    flash: &mut F,
+    area: &Area,
+    sector: u32,
+    slot: u32,
+    cycle: u8,
+    steps: &mut Steps<L>,
+) -> Result<(), PowerLost>
+    requires zms { IsZmsSector (F.device flash.old) area.now sector }
+    requires slot { HasSlot (F.device flash.old) area.now slot }
+
+    ensures touches { Touches (area.now ∷ []) (F.device flash.old) (F.device flash.new) (is_err result) }
+    ensures others { OthersStay (F.device flash.old) (F.device flash.new) area.now sector }
+    ensures ok { OnOk result (sector_bytes (F.device flash.new) area.now sector ≡ guarded cycle slot (sector_bytes (F.device flash.old) area.now sector)) }
+    ensures not_valid { OnOk result (is_valid_under cycle (slot_of (sector_bytes (F.device flash.new) area.now sector) slot) ≡ false) }
+    ensures lost { OnErr result (sectors_of (F.device flash.new) area.now ≡ sectors_of (F.device flash.old) area.now) }
+    ensures spends { let units = (if is_valid_under cycle (slot_of (sector_bytes (F.device flash.old) area.now sector) slot) then 1 else 0) in
+        OnOk result (SpendsBetween (F.device flash.old) (F.device flash.new) units units) }
+    ensures spends_lost { OnErr result (SpendsBetween (F.device flash.old) (F.device flash.new) 0 0) }
+    ensures step { steps.new ≡ steps.old + 1 }
+{
+    let start = slot_start(flash, area, slot);
+    let entry = decode_zentry(area_view(flash, area, sector, start, SLOT as u32, steps));
+    if is_of_cycle(&entry, cycle) {
+        return put_unit(flash, area, sector, slot, &fill_unit());
+    }
+    Ok(())
+}
+
+// Programs an entry, once the slot under it is not valid under the entry's cycle. A cut puts no entry.
+pub fn put_slot<F: Flash, L: Ledger>(
+    flash: &mut F,
+    area: &Area,
+    sector: u32,
+    slot: u32,
+    entry: &ZEntry,
+    steps: &mut Steps<L>,
+) -> Result<(), PowerLost>
+    requires zms { IsZmsSector (F.device flash.old) area.now sector }
+    requires slot { HasSlot (F.device flash.old) area.now (slot + 1) }
+
+    ensures touches { Touches (area.now ∷ []) (F.device flash.old) (F.device flash.new) (is_err result) }
+    ensures others { OthersStay (F.device flash.old) (F.device flash.new) area.now sector }
+    ensures ok { OnOk result (sector_bytes (F.device flash.new) area.now sector ≡ with_slot (guarded entry.now.cycle (slot + 1) (sector_bytes (F.device flash.old) area.now sector)) slot (encoded entry.now)) }
+    ensures lost { OnErr result ((sector_bytes (F.device flash.new) area.now sector ≡ sector_bytes (F.device flash.old) area.now sector)
+        ⊎ (sector_bytes (F.device flash.new) area.now sector ≡ guarded entry.now.cycle (slot + 1) (sector_bytes (F.device flash.old) area.now sector))) }
+    ensures spends { OnOk result (SpendsBetween (F.device flash.old) (F.device flash.new) 1 2) }
+    ensures spends_lost { OnErr result (SpendsBetween (F.device flash.old) (F.device flash.new) 0 1) }
+{
+    guard(flash, area, sector, slot + 1, entry.cycle, steps)?;
+    put_unit(flash, area, sector, slot, &encode_zentry(entry))
+}

@@ -1,0 +1,19 @@
+//! One sector of a ZMS store: entries of sixteen bytes that hold under the sector's cycle, and the steps that change them.
+#![tactic(auto, using(flash_map::proofs::Touches::then))]
+
+mod appending;
+mod copying;
+mod entry;
+mod guarding;
+mod marking;
+mod reading;
+
+pub use appending::{put_done, put_entry};
+pub use copying::copy_entry;
+pub use entry::{ZEntry, decode_zentry, encode_zentry, fill_unit};
+pub use guarding::guard;
+pub use marking::{close, empty_sector};
+pub use reading::{Found, SectorState, state};
+
+#[cfg(test)]
+mod tests;

@@ -1,0 +1,333 @@
+// How a sector reads.
+ghost use Rattle.std.specs.Prelude.{◌≡◌, ◌+◌, ◌*◌, ◌^◌, ◌<◌, ◌≤◌, ◌&&◌, ◌==◌, ◌-◌, min, max, length, false, Some, None, IsSome, if◌then◌else◌};
+ghost use Rattle.std.specs.List.{list_all};
+ghost use Rattle.std.specs.Option.{option_and_then, option_map_or};
+ghost use Rattle.flash_map.specs.Area.{sector_bytes};
+ghost use Rattle.slot_list.specs.Slots.{used_slots};
+ghost use Rattle.zms_cycle.specs.Areas.{IsZmsSector};
+ghost use Rattle.zms_cycle.specs.Entries.{decoded, offset_of, is_special, mark_of, is_empty, is_close, is_done};
+ghost use Rattle.zms_cycle.specs.Sector.{slot_of, is_valid_under, is_valid, cycle_of, valid_slots, holds_close, is_closed, value_end, data_len, data_end};
+ghost use Rattle.zms_cycle.specs.States.{state_of};
+
+use crate::{ZEntry, decode_zentry};
+use flash_map::{Area, area_view, geometry, padded};
+use flash_sim::{Flash, Steps};
+use std::sync::ledger::Ledger;
+
+/// The bytes of a slot, which are one unit.
+pub const SLOT: usize = 16;
+
+/// The id of entries that hold no value.
+pub const SPECIAL_ID: u32 = 0xFFFF_FFFF;
+
+/// The slot in which entries begin.
+pub const FIRST: usize = 2;
+
+/// A sector: blank, or used in a cycle, with the number of valid slots from slot 2 on and the end of the values in bytes.
+#[derive(Clone, Copy, Debug, PartialEq, Eq)]
+pub enum SectorState {
+    Blank,
+    Used {
+        cycle: u8,
+        closed: bool,
+        slots: u32,
+        data_end: u32,
+        gc_done: bool,
+    },
+}
+
+/// An ordinary entry, and its slot.
+#[derive(Clone, Copy, Debug, PartialEq, Eq)]
+pub struct Found {
+    pub slot: u32,
+    pub entry: ZEntry,
+}
+
+// The last four bytes of a special entry's tail.
+fn mark_of(entry: &ZEntry) -> u32
+    ensures { result ≡ mark_of entry.now }
+{
+    u32::from_le_bytes([entry.tail[4], entry.tail[5], entry.tail[6], entry.tail[7]])
+}
+
+fn is_zero(bytes: &[u8]) -> bool
+    ensures { result ≡ list_all (λ byte. byte == 0) bytes.now }
+{
+    bytes.iter().all(|byte| *byte == 0)
+}
+
+#[tactic(auto, unfolding(crate::specs::Entries::is_empty))]
+fn is_empty(entry: &ZEntry) -> bool
+    ensures { result ≡ is_empty entry.now }
+{
+    entry.id == SPECIAL_ID && entry.len == 0xFFFF && is_zero(&entry.tail)
+}
+
+#[tactic(auto, unfolding(crate::specs::Entries::is_close))]
+fn is_close(entry: &ZEntry) -> bool
+    ensures { result ≡ is_close entry.now }
+{
+    entry.id == SPECIAL_ID && entry.len == 0 && mark_of(entry) == 1
+}
+
+#[tactic(auto, unfolding(crate::specs::Entries::is_done))]
+fn is_done(entry: &ZEntry) -> bool
+    ensures { result ≡ is_done entry.now }
+{
+    entry.id == SPECIAL_ID && entry.len == 0 && mark_of(entry) == 2
+}
+
+// The bytes of a slot.
+fn slot_of(sector: &[u8], slot: usize) -> &[u8]
+    requires { (slot + 1) * 16 ≤ length sector.now }
+    ensures bytes { result.now ≡ (slot_of sector.now slot).bytes }
+    ensures len { length result.now ≡ 16 }
+{
+    let start = sector.len() - (slot + 1) * SLOT;
+    &sector[start..start + SLOT]
+}
+
+// The entry in a slot, if it checks.
+fn entry_at(sector: &[u8], slot: usize) -> Option<ZEntry>
+    requires { (slot + 1) * 16 ≤ length sector.now }
+    ensures { result ≡ decoded (slot_of sector.now slot).bytes }
+{
+    decode_zentry(slot_of(sector, slot))
+}
+
+// Whether the entry was put in this cycle.
+pub fn is_of_cycle(entry: &Option<ZEntry>, cycle: u8) -> bool
+    ensures { result ≡ option_map_or (λ e. e.cycle == cycle) entry.now false }
+{
+    match entry {
+        Some(entry) => entry.cycle == cycle,
+        None => false,
+    }
+}
+
+// The cycle of the empty entry in slot 0.
+fn cycle_of(sector: &[u8]) -> Option<u8>
+    requires { 16 ≤ length sector.now }
+    ensures { result ≡ cycle_of sector.now }
+{
+    match entry_at(sector, 0) {
+        Some(entry) if is_empty(&entry) => Some(entry.cycle),
+        _ => None,
+    }
+}
+
+fn is_valid(sector: &[u8], slot: usize, cycle: u8) -> bool
+    requires { (slot + 1) * 16 ≤ length sector.now }
+    ensures { result ≡ is_valid_under cycle (slot_of sector.now slot) }
+{
+    is_of_cycle(&entry_at(sector, slot), cycle)
+}
+
+// Whether slot 1 closes a sector of this cycle.
+fn is_closed(sector: &[u8], cycle: u8) -> bool
+    requires { 32 ≤ length sector.now }
+    ensures { result ≡ (is_valid_under cycle (slot_of sector.now 1) && holds_close (slot_of sector.now 1)) }
+{
+    match entry_at(sector, 1) {
+        Some(entry) => entry.cycle == cycle && is_close(&entry),
+        None => false,
+    }
+}
+
+// How many slots from slot 2 on are valid under the cycle.
+fn valid_count(sector: &[u8], cycle: u8) -> usize
+    requires { 48 ≤ length sector.now }
+    ensures count { result ≡ length (used_slots (is_valid (Some cycle)) 2 16 sector.now) }
+    ensures fits { (result + 2) * 16 ≤ length sector.now }
+{
+    let count = sector.len() / SLOT;
+    let mut valid = 0;
+    for slot in FIRST..count {
+        if !is_valid(sector, slot, cycle) {
+            return valid;
+        }
+        valid += 1;
+    }
+    valid
+}
+
+// The entry of a slot, where it is no special one.
+fn ordinary(entry: Option<ZEntry>, slot: usize) -> Option<Found>
+    requires { slot < 2 ^ 32 }
+    ensures { result ≡ option_and_then (λ e. if is_special e then None else Some (record { slot = slot; entry = e })) entry }
+{
+    match entry {
+        Some(entry) if entry.id != SPECIAL_ID => Some(Found {
+            slot: slot as u32,
+            entry,
+        }),
+        _ => None,
+    }
+}
+
+fn holds_done(entry: &Option<ZEntry>) -> bool
+    ensures { result ≡ option_map_or is_done entry.now false }
+{
+    match entry {
+        Some(entry) => is_done(entry),
+        None => false,
+    }
+}
+
+// Where a value of more than 8 bytes stands in the sector.
+pub fn offset_of(entry: &ZEntry) -> u32
+    ensures { result ≡ offset_of entry.now }
+{
+    u32::from_le_bytes([entry.tail[0], entry.tail[1], entry.tail[2], entry.tail[3]])
+}
+
+/// The bytes that a value of this length takes up besides its entry.
+#[tactic(auto, unfolding(crate::specs::Sector::data_len))]
+pub fn data_len(len: u16) -> u32
+    ensures value { result ≡ data_len len }
+    ensures small { result < 2 ^ 17 }
+{
+    if len <= 8 {
+        0
+    } else {
+        padded(SLOT as u32, u32::from(len))
+    }
+}
+
+// The end of the value that an entry names.
+#[tactic(auto, unfolding(crate::specs::Sector::value_end))]
+fn value_end(found: &Found) -> u64
+    ensures value { result ≡ value_end found.now }
+    ensures small { result < 2 ^ 33 }
+{
+    let len = found.entry.len;
+    if len <= 8 {
+        0
+    } else {
+        u64::from(offset_of(&found.entry)) + u64::from(padded(SLOT as u32, u32::from(len)))
+    }
+}
+
+// The same of an entry, if there is one.
+fn end_of(found: &Option<Found>) -> u64
+    ensures value { result ≡ option_map_or value_end found.now 0 }
+    ensures small { result < 2 ^ 33 }
+{
+    match found {
+        Some(found) => value_end(found),
+        None => 0,
+    }
+}
+
+fn len_of(found: &Option<Found>) -> u64
+    ensures value { result ≡ option_map_or (λ f. data_len f.entry.len) found.now 0 }
+    ensures small { result < 2 ^ 17 }
+{
+    match found {
+        Some(found) => u64::from(data_len(found.entry.len)),
+        None => 0,
+    }
+}
+
+// How far a sector of this cycle is filled.
+fn used_state(sector: &[u8], cycle: u8) -> SectorState
+    requires long { 48 ≤ length sector.now }
+    requires short { length sector.now ≤ 2 ^ 15 }
+    requires cycle { cycle_of sector.now ≡ Some cycle }
+    ensures { result ≡ state_of sector.now }
+{
+    let slots = valid_count(sector, cycle);
+    let mut ends = 0;
+    let mut lens = 0;
+    let mut gc_done = false;
+    for slot in FIRST..FIRST + slots {
+        let entry = entry_at(sector, slot);
+        let found = ordinary(entry, slot);
+        ends = end_of(&found).max(ends);
+        lens += len_of(&found);
+        gc_done |= holds_done(&entry);
+    }
+    SectorState::Used {
+        cycle,
+        closed: is_closed(sector, cycle),
+        slots: slots as u32,
+        data_end: ends.max(lens).min(u64::from(u32::MAX)) as u32,
+        gc_done,
+    }
+}
+
+fn read(sector: &[u8]) -> SectorState
+    requires long { 48 ≤ length sector.now }
+    requires short { length sector.now ≤ 2 ^ 15 }
+    ensures { result ≡ state_of sector.now }
+{
+    match cycle_of(sector) {
+        Some(cycle) => used_state(sector, cycle),
+        None => SectorState::Blank,
+    }
+}
+
+/// How a sector reads. It is one step.
+pub fn state<F: Flash, L: Ledger>(
+    flash: &F,
+    area: &Area,
+    sector: u32,
+    steps: &mut Steps<L>,
+) -> SectorState
+    requires { IsZmsSector (F.device flash.now) area.now sector }
+    ensures state { result ≡ state_of (sector_bytes (F.device flash.now) area.now sector) }
+    ensures step { steps.new ≡ steps.old + 1 }
+{
+    let size = geometry(flash, area).sector;
+    read(area_view(flash, area, sector, 0, size, steps))
+}
+
+// The cycle of a sector, or none where it is blank.
+pub fn sector_cycle<F: Flash, L: Ledger>(
+    flash: &F,
+    area: &Area,
+    sector: u32,
+    steps: &mut Steps<L>,
+) -> Option<u8>
+    requires { IsZmsSector (F.device flash.now) area.now sector }
+    ensures { result ≡ cycle_of (sector_bytes (F.device flash.now) area.now sector) }
+{
+    let size = geometry(flash, area).sector;
+    cycle_of(area_view(flash, area, sector, 0, size, steps))
+}
+
+/// A used sector: its cycle, the number of its valid slots, and the end of its values, in bytes.
+#[derive(Clone, Copy, Debug, PartialEq, Eq)]
+pub struct Opened {
+    pub cycle: u8,
+    pub slots: u32,
+    pub data_end: u32,
+}
+
+// What a step has to know of a used sector.
+pub fn opened_sector<F: Flash, L: Ledger>(
+    flash: &F,
+    area: &Area,
+    sector: u32,
+    steps: &mut Steps<L>,
+) -> Opened
+    requires zms { IsZmsSector (F.device flash.now) area.now sector }
+    requires used { IsSome (cycle_of (sector_bytes (F.device flash.now) area.now sector)) }
+    ensures cycle { cycle_of (sector_bytes (F.device flash.now) area.now sector) ≡ Some result.cycle }
+    ensures slots { result.slots ≡ length (valid_slots (sector_bytes (F.device flash.now) area.now sector)) }
+    ensures data_end { result.data_end ≡ min (data_end (sector_bytes (F.device flash.now) area.now sector)) (2 ^ 32 - 1) }
+{
+    match state(flash, area, sector, steps) {
+        SectorState::Used {
+            cycle,
+            slots,
+            data_end,
+            ..
+        } => Opened {
+            cycle,
+            slots,
+            data_end,
+        },
+        SectorState::Blank => unreachable!(),
+    }
+}

@@ -8,3 +8,4 @@ pub mod WritingLemmas
 pub mod NumberLemmas
 pub mod PartLemmas
 pub mod SpecLemmas
+pub mod ServingLemmas

@@ -8,3 +8,4 @@ pub mod Laws
 pub mod Parts
 pub mod Spec
 pub mod Items
+pub mod Serving

@@ -1,0 +1,67 @@
+-- A lawful image, as the layers below take it.
+use Rattle.std.proofs.Common.{◌≡◌, ℕ, ◌*◌, ◌%◌, inl, inr, refl, sym, subst, arith}
+use Rattle.std.proofs.Math.Nat.{mul-le-mul_left}
+use Rattle.std.specs.Prelude.{IsTrue, ◌==◌, ◌||◌}
+use Rattle.flash_sim.specs.Bank.{IsLawfulBank, bank_at}
+use Rattle.flash_sim.specs.declared.flash.Bank.{Bank}
+use Rattle.flash_map.specs.declared.area.Role.{Role}
+use Rattle.flash_map.specs.declared.area.Role.TheVariants.{Nvs, Zms, Fcb, Sel}
+use Rattle.flash_map.specs.Lawful.{kind_of, HasUnit}
+use Rattle.flash_map.specs.Units.{IsUnit}
+use Rattle.image_file.specs.Lawful.{IsImageBank, StandsOn, area_at}
+use Rattle.image_file.specs.Serving.{MayBeLoaded, MayBeServed}
+
+unit_is : (unit : ℕ) → IsUnit unit → IsTrue (unit == 4 || unit == 8 || unit == 16)
+unit_is unit (inl is) = subst (λ (n : ℕ). IsTrue (n == 4 || n == 8 || n == 16)) (sym is) refl
+unit_is unit (inr (inl is)) = subst (λ (n : ℕ). IsTrue (n == 4 || n == 8 || n == 16)) (sym is) refl
+unit_is unit (inr (inr is)) = subst (λ (n : ℕ). IsTrue (n == 4 || n == 8 || n == 16)) (sym is) refl
+
+whole_units : (unit sector : ℕ) → IsUnit unit → sector % 64 ≡ 0 → sector % unit ≡ 0
+whole_units unit sector (inl is) whole = subst (λ (n : ℕ). sector % n ≡ 0) (sym is) (omega arith)
+whole_units unit sector (inr (inl is)) whole = subst (λ (n : ℕ). sector % n ≡ 0) (sym is) (omega arith)
+whole_units unit sector (inr (inr is)) whole = subst (λ (n : ℕ). sector % n ≡ 0) (sym is) (omega arith)
+
+lawful_bank : (bank : Bank) → IsImageBank bank → IsLawfulBank bank
+lawful_bank bank is =
+    let most = mul-le-mul_left bank.sector is.few in
+    record {
+      unit = unit_is bank.unit is.unit;
+      whole_units = whole_units bank.unit bank.sector is.unit is.whole;
+      sector = omega (arith, is.at_least);
+      addressable = omega (arith, most, is.at_most);
+    }
+
+kind_is : (role : Role) (bank : Bank) → StandsOn role bank → bank.kind ≡ kind_of role
+kind_is Nvs bank stands = stands
+kind_is Zms bank stands = stands.0
+kind_is Fcb bank stands = stands
+kind_is Sel bank stands = stands
+
+unit_for : (role : Role) (bank : Bank) → StandsOn role bank → IsUnit bank.unit → HasUnit role bank.unit
+unit_for Nvs bank stands unit = unit
+unit_for Zms bank stands unit = stands.1
+unit_for Fcb bank stands unit = unit
+unit_for Sel bank stands unit = unit
+
+pub may_be_loaded : MayBeLoaded
+may_be_loaded image is = record {
+  each_bank = λ i below. lawful_bank (bank_at image.banks i) (is.each_bank i below);
+  count = is.count;
+  lengths = is.lengths;
+}
+
+pub may_be_served : MayBeServed
+may_be_served image i is below =
+    let area = area_at image.areas i in
+    let beside = is.each_area i below in
+    let bank = is.each_bank area.bank beside.in_bank.has_bank in
+    record {
+      in_bank = record { has_bank = beside.in_bank.has_bank; in_bank = beside.in_bank.in_bank };
+      kind = kind_is area.role (bank_at image.banks area.bank) beside.stands;
+      unit = unit_for area.role (bank_at image.banks area.bank) beside.stands bank.unit;
+      at_least = bank.at_least;
+      at_most = bank.at_most;
+      whole = bank.whole;
+      some = omega (arith, beside.in_bank.some);
+      few = omega (arith, beside.in_bank.in_bank, bank.few);
+    }

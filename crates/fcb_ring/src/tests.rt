@@ -1,5 +1,6 @@
-ghost use Rattle.std.specs.Prelude.{◌≡◌, ◌+◌, ◌*◌, ◌<◌, ◌≤◌, ◌∷◌, [], IfOk, OnOk, length, vec_len};
-ghost use Rattle.fcb_ring.specs.Standing.{IsRingArea, StandsOn};
+ghost use Rattle.std.specs.Prelude.{◌≡◌, ◌+◌, ◌*◌, ◌<◌, ◌≤◌, ◌∷◌, [], Contains, IfOk, OnOk, length, vec_len};
+ghost use Rattle.std.specs.Option.{ForSome};
+ghost use Rattle.fcb_ring.specs.Standing.{IsRingArea, StandsOn, entries_on, record_places};
 
 use super::*;
 use arrayvec::ArrayString;
@@ -124,6 +125,26 @@ fn mounted<B: Bench, L: Ledger>(
     }
 }
 
+// The record after the given one, whose body is compared.
+fn next_with<F: Flash, L: Ledger, R: Abort>(
+    rt: &R,
+    ring: &Ring,
+    flash: &F,
+    after: Option<RecordAt>,
+    body: &[u8],
+    steps: &mut Steps<L>,
+) -> Option<RecordAt>
+    requires stands { StandsOn (F.device flash.now) ring.now }
+    requires after { ForSome after (λ r. Contains (record_places (entries_on (F.device flash.now) ring.now.area)) r) }
+    ensures { ForSome result (λ r. Contains (record_places (entries_on (F.device flash.now) ring.now.area)) r) }
+{
+    let found = ring.next(flash, after, steps);
+    if let Some(record) = &found {
+        assert_eq!(rt; ring.body(flash, record, steps), body);
+    }
+    found
+}
+
 fn reads<B: Bench, L: Ledger, R: Abort>(
     rt: &R,
     alloc: Global,
@@ -140,7 +161,8 @@ fn reads<B: Bench, L: Ledger, R: Abort>(
     let older = [
         0xEE, 0xEE, 0xFF, 0xC0, 0x01, 0xFF, 0xFF, 0xFF, 0x03, 0xFF, 0xFF, 0xFF, 0x61, 0x3D, 0x01,
         0xFF, 0x52, 0xFF, 0xFF, 0xFF, 0x02, 0xFF, 0xFF, 0xFF, 0x61, 0x3D, 0xFF, 0xFF, 0xAE, 0xFF,
-        0xFF, 0xFF,
+        0xFF, 0xFF, 0x08, 0xFF, 0xFF, 0xFF, 0x61, 0x3D, 0x00, 0xA4, 0x01, 0x02, 0x03, 0x04, 0xC2,
+        0xFF, 0xFF, 0xFF,
     ];
     let newer = [0xEE, 0xEE, 0xFF, 0xC0, 0x01, 0xFF, 0x00, 0x00];
     let torn = [0xEE, 0xEE, 0xFF, 0xC0];
@@ -148,7 +170,7 @@ fn reads<B: Bench, L: Ledger, R: Abort>(
     assert!(rt; ring.is_up() && ring.is_finished() && !ring.is_collecting());
     assert_eq!(rt; bench.spent(), 1);
     assert_eq!(rt; ring.oldest(), Some(0));
-    let first = ring.next(bench, None, steps);
+    let first = next_with(rt, &ring, bench, None, &[0x61, 0x3D, 0x01], steps);
     let place = RecordAt {
         sector: 0,
         offset: 8,
@@ -156,14 +178,18 @@ fn reads<B: Bench, L: Ledger, R: Abort>(
         len: 3,
     };
     assert_eq!(rt; first, Some(place));
-    if let Some(record) = first {
-        assert_eq!(rt;
-            ring.body(bench, &record, steps),
-            [0x61, 0x3D, 0x01].as_slice()
-        );
-        let second = ring.next(bench, Some(record), steps);
-        assert_eq!(rt; second.is_some(), true);
-    }
+    let second = next_with(rt, &ring, bench, first, &[0x61, 0x3D], steps);
+    assert_eq!(rt; second.is_some(), true);
+    let third = next_with(
+        rt,
+        &ring,
+        bench,
+        second,
+        &[0x61, 0x3D, 0, 0xA4, 1, 2, 3, 4],
+        steps,
+    );
+    assert_eq!(rt; third.is_some(), true);
+    assert_eq!(rt; ring.next(bench, third, steps), None);
     Ok(())
 }
 

@@ -11,7 +11,8 @@ use Rattle.slot_list.specs.Slots.{Slot, is_erased}
 use Rattle.nvs_store.specs.declared.scan.Placed.{Placed}
 use Rattle.nvs_store.specs.Sector.{used_slots, slot_at, counting_entry, entries, pair_of, pairs, last_placed, has_fence, is_overfull, is_sound}
 use Rattle.nvs_store.specs.Geometry.{slot_size}
-use Rattle.nvs_store.specs.Scans.{sector_at, damage_in, found_at, found_bytes}
+use Rattle.sector_ring.specs.Area.{sector_at}
+use Rattle.nvs_store.specs.Scans.{found_at, found_bytes}
 use Rattle.slot_list.proofs.SlotLemmas.{start-slot_at}
 use Rattle.nvs_store.proofs.Lookups.{slots_to_used}
 use Rattle.nvs_store.proofs.Marks.{counting_entry_under}
@@ -34,26 +35,6 @@ from_found b id (f ∷ fs) o =
 pub last-is : (unit : ℕ) (b : List ℕ) (id : ℕ) → last (pairs unit b) id ≡ value_in b (last_placed id (entries unit b))
 unfolding last
 last-is unit b id = from_found b id (entries unit b) None
-
--- ---- undamaged sectors
-
-damage_by : (blank fence full : Bool) → (blank || (fence && not full)) ≡ true → cond blank None (cond (not fence) (Some NoFence) (cond full (Some Overfull) None)) ≡ None
-damage_by true fence full h = refl
-damage_by false true false h = refl
-damage_by false true true h = absurd (cc)
-damage_by false false full h = absurd (cc)
-
-sound_by : (blank fence full : Bool) → cond blank None (cond (not fence) (Some NoFence) (cond full (Some Overfull) None)) ≡ None → (blank || (fence && not full)) ≡ true
-sound_by true fence full h = refl
-sound_by false true false h = refl
-sound_by false true true h = absurd (cc)
-sound_by false false full h = absurd (cc)
-
-pub undamaged-from : (unit : ℕ) (b : List ℕ) → is_sound unit b ≡ true → damage_in unit b ≡ None
-undamaged-from unit b sound = damage_by (is_erased b) (has_fence unit b) (is_overfull unit b) sound
-
-pub sound-from_undamaged : (unit : ℕ) (b : List ℕ) → damage_in unit b ≡ None → is_sound unit b ≡ true
-sound-from_undamaged unit b none = sound_by (is_erased b) (has_fence unit b) (is_overfull unit b) none
 
 -- ---- the found entry
 

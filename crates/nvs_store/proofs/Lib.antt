@@ -1,4 +1,3 @@
-pub mod Appending
 pub mod Appends
 pub mod Blank
 pub mod Cuts
@@ -6,6 +5,7 @@ pub mod EntryBytes
 pub mod FoundLemmas
 pub mod Lookups
 pub mod Marks
+pub mod MountLemmas
 pub mod Putting
 pub mod Room
 pub mod ScanLemmas

@@ -13,7 +13,7 @@ use Rattle.sector_ring.specs.Reading.{Reading}
 
 -- ---- which sectors count
 
-counts-next : (reading : Reading) (sectors : List (List ℕ)) (place k : ℕ) (closed done : Bool) → is_closed_at reading sectors (next sectors place) ≡ closed → reading.has_gc_done (sector_at sectors place) ≡ done
+pub counts-next : (reading : Reading) (sectors : List (List ℕ)) (place k : ℕ) (closed done : Bool) → is_closed_at reading sectors (next sectors place) ≡ closed → reading.has_gc_done (sector_at sectors place) ≡ done
     → counts_at reading sectors place k ≡ not (closed && eqb k (cond done (next sectors place) place))
 counts-next reading sectors place k closed done c d =
     ap (λ (t : Bool). not (t && eqb k (cond (reading.has_gc_done (sector_at sectors place)) (next sectors place) place))) c ∙ ap (λ (t : Bool). not (closed && eqb k (cond t (next sectors place) place))) d

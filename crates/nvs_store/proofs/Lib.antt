@@ -1,3 +1,4 @@
+pub mod Appending
 pub mod Appends
 pub mod Blank
 pub mod Cuts

@@ -1,6 +1,7 @@
 //! The entries of an NVS store in the sectors of an area.
 #![tactic(auto, using(flash_map::proofs::Touches::then))]
 
+mod calls;
 mod entry;
 mod geometry;
 mod mounting;
@@ -9,6 +10,7 @@ mod scan;
 mod sector;
 mod slots;
 
+pub use calls::{append, put_done};
 pub use entry::{Entry, SPECIAL_ID, decode_entry, encode_entry};
 pub use geometry::{blank_scan, capacity, cost, fits};
 pub use mounting::mount_scan;

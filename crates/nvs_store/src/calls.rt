@@ -1,0 +1,117 @@
+// The calls that program the open sector of an area.
+ghost use Rattle.std.specs.Prelude.{◌≡◌, ◌⊎◌, ◌+◌, ◌/◌, ◌*◌, ◌^◌, ◌<◌, ◌≤◌, ◌∷◌, [], ◌++◌, length, is_err, true, false, None, IsTrue, OnOk, OnErr};
+ghost use Rattle.flash_map.specs.declared.area.Role.TheVariants.{Nvs};
+ghost use Rattle.flash_map.specs.Area.{unit_of, sector_size, sectors_of};
+ghost use Rattle.flash_map.specs.Lawful.{IsLawfulFor};
+ghost use Rattle.flash_map.specs.Spending.{Spends, SpendsAtMost};
+ghost use Rattle.flash_map.specs.Touches.{Touches};
+ghost use Rattle.sector_ring.specs.Area.{sector_at, is_blank_at};
+ghost use Rattle.nvs_store.specs.declared.scan.Redo.TheVariants.{Nothing};
+ghost use Rattle.nvs_store.specs.Geometry.{slot_size, cost, capacity};
+ghost use Rattle.nvs_store.specs.Sector.{special_entry, is_sound, pairs, pairs_cost};
+ghost use Rattle.nvs_store.specs.Scans.{reading, scan_of, fits, free, damage_of, list_of, AddsPairAt, StopsAddingAt, MarksDoneAt, StopsMarkingAt, ClosesAt};
+
+use crate::entry::{Entry, SPECIAL_ID, encode_entry};
+use crate::geometry::slot_size;
+use crate::scan::{Redo, Scan};
+use flash_map::{Area, geometry, padded, program_padded};
+use flash_sim::{Flash, PowerLost};
+
+/// Appends a pair to the list: the data is programmed, and then its entry. No bytes are a delete.
+pub fn append<F: Flash>(
+    flash: &mut F,
+    area: &Area,
+    scan: &mut Scan,
+    id: u16,
+    bytes: &[u8],
+) -> Result<(), PowerLost>
+    requires lawful { IsLawfulFor (F.device flash.old).banks area.now }
+    requires role { area.now.role ≡ Nvs }
+    requires scan { let d = F.device flash.old in scan.old ≡ scan_of (unit_of d area.now) (sectors_of d area.now) }
+    requires redo { scan.old.redo ≡ Nothing }
+    requires ordinary { id < 0xFFFF }
+    requires fits { IsTrue (fits (unit_of (F.device flash.old) area.now) scan.old (length bytes.now)) }
+
+    ensures touches { Touches (area.now ∷ []) (F.device flash.old) (F.device flash.new) (is_err result) }
+    ensures ok { let d = F.device flash.old in
+        OnOk result (AddsPairAt (unit_of d area.now) (sectors_of d area.now) (sectors_of (F.device flash.new) area.now) scan.old.current id bytes.now) }
+    ensures list { let d = F.device flash.old in
+        OnOk result (list_of (unit_of d area.now) (sectors_of (F.device flash.new) area.now) ≡ list_of (unit_of d area.now) (sectors_of d area.now) ++ (id, bytes.now) ∷ []) }
+    ensures scan { let d = F.device flash.new in OnOk result (scan.new ≡ scan_of (unit_of d area.now) (sectors_of d area.now)) }
+    ensures spent { let unit = unit_of (F.device flash.old) area.now in
+        OnOk result (Spends (F.device flash.old) (F.device flash.new) (cost unit (length bytes.now) / unit)) }
+
+    ensures lost { let d = F.device flash.old in
+        OnErr result (StopsAddingAt (unit_of d area.now) (sectors_of d area.now) (sectors_of (F.device flash.new) area.now) scan.old.current id bytes.now) }
+    ensures list_lost { let d = F.device flash.old in
+        OnErr result ((list_of (unit_of d area.now) (sectors_of (F.device flash.new) area.now) ≡ list_of (unit_of d area.now) (sectors_of d area.now))
+            ⊎ (list_of (unit_of d area.now) (sectors_of (F.device flash.new) area.now) ≡ list_of (unit_of d area.now) (sectors_of d area.now) ++ (id, bytes.now) ∷ [])) }
+    ensures spent_at_most { let unit = unit_of (F.device flash.old) area.now in
+        OnErr result (SpendsAtMost (F.device flash.old) (F.device flash.new) (cost unit (length bytes.now) / unit)) }
+    ensures sound { let unit = unit_of (F.device flash.old) area.now in
+        is_sound unit (sector_at (sectors_of (F.device flash.old) area.now) scan.old.current) ≡ true → is_sound unit (sector_at (sectors_of (F.device flash.new) area.now) scan.old.current) ≡ true }
+    ensures undamaged { let unit = unit_of (F.device flash.old) area.now in
+        damage_of unit (sectors_of (F.device flash.old) area.now) ≡ None → damage_of unit (sectors_of (F.device flash.new) area.now) ≡ None }
+{
+    let unit = geometry(flash, area).unit;
+    let entry = Entry {
+        id,
+        offset: scan.data_end as u16,
+        len: bytes.len() as u16,
+        part: 0xFF,
+    };
+    let slot = scan.low - slot_size(unit);
+    program_padded(flash, area, scan.current, scan.data_end, bytes)?;
+    program_padded(flash, area, scan.current, slot, &encode_entry(&entry))?;
+    scan.low = slot;
+    scan.data_end += padded(unit, bytes.len() as u32);
+    Ok(())
+}
+
+// The entry of close and of gc-done.
+fn special(place: u32) -> Entry
+    requires { place < 2 ^ 16 }
+    ensures { result ≡ special_entry place }
+{
+    Entry {
+        id: SPECIAL_ID,
+        offset: place as u16,
+        len: 0,
+        part: 0xFF,
+    }
+}
+
+/// Programs gc-done: from it on the open sector counts, and the next one, where that is closed, does not.
+pub fn put_done<F: Flash>(flash: &mut F, area: &Area, scan: &mut Scan) -> Result<(), PowerLost>
+    requires lawful { IsLawfulFor (F.device flash.old).banks area.now }
+    requires role { area.now.role ≡ Nvs }
+    requires scan { let d = F.device flash.old in scan.old ≡ scan_of (unit_of d area.now) (sectors_of d area.now) }
+    requires free { 2 * slot_size (unit_of (F.device flash.old) area.now) ≤ free scan.old }
+
+    ensures touches { Touches (area.now ∷ []) (F.device flash.old) (F.device flash.new) (is_err result) }
+    ensures ok { let d = F.device flash.old in
+        OnOk result (MarksDoneAt (unit_of d area.now) (sectors_of d area.now) (sectors_of (F.device flash.new) area.now) scan.old.current) }
+    ensures scan { let d = F.device flash.new in OnOk result (scan.new ≡ scan_of (unit_of d area.now) (sectors_of d area.now)) }
+    ensures spent { let unit = unit_of (F.device flash.old) area.now in
+        OnOk result (Spends (F.device flash.old) (F.device flash.new) (slot_size unit / unit)) }
+    ensures sound { let unit = unit_of (F.device flash.old) area.now in
+        OnOk result (pairs_cost unit (pairs unit (sector_at (sectors_of (F.device flash.old) area.now) scan.old.current)) ≤ capacity unit (sector_size (F.device flash.old) area.now)
+            → is_sound unit (sector_at (sectors_of (F.device flash.new) area.now) scan.old.current) ≡ true) }
+
+    ensures lost { let d = F.device flash.old in
+        OnErr result (StopsMarkingAt (unit_of d area.now) (sectors_of d area.now) (sectors_of (F.device flash.new) area.now) scan.old.current) }
+    ensures spent_at_most { let unit = unit_of (F.device flash.old) area.now in
+        OnErr result (SpendsAtMost (F.device flash.old) (F.device flash.new) (slot_size unit / unit)) }
+{
+    let unit = geometry(flash, area).unit;
+    let slot = scan.low - slot_size(unit);
+    let bytes = encode_entry(&special(scan.data_end));
+    program_padded(flash, area, scan.current, slot, &bytes)?;
+    scan.low = slot;
+    scan.gc_done = true;
+    scan.redo = match scan.redo {
+        Redo::Nothing => Redo::Nothing,
+        Redo::EraseNext | Redo::CollectAgain => Redo::EraseNext,
+    };
+    Ok(())
+}

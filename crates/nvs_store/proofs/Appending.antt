@@ -19,7 +19,8 @@ use Rattle.nvs_store.specs.declared.scan.Redo.TheVariants.{Nothing, EraseNext, C
 use Rattle.nvs_store.specs.declared.scan.Scan.{Scan}
 use Rattle.nvs_store.specs.Geometry.{slot_size, cost, capacity}
 use Rattle.nvs_store.specs.Sector.{HasRoom, KeepsList, AddsPair, StopsAdding, IsFurther, is_sound, is_closed, has_gc_done, low, data_end, pairs, pairs_cost}
-use Rattle.nvs_store.specs.Scans.{reading, sector_scan, scan_at, scan_of, redo_of, fits, damage_of, list_of, ChangesOnly, AddsPairAt, StopsAddingAt}
+use Rattle.nvs_store.specs.Scans.{reading, sector_scan, scan_at, scan_of, redo_of, fits, damage_of, list_of, marked_redo, ChangesOnly, AddsPairAt, StopsAddingAt, MarksDoneAt}
+use Rattle.nvs_store.proofs.Blank.{done-not_blank}
 use Rattle.nvs_store.proofs.Sound.{sound-costs, keeps-further, adds-further, adds-used, fits-costs}
 
 -- the sector that the scan names is the open one, and the scan is its own
@@ -145,3 +146,28 @@ scan_added unit old new id bytes scan size len within scanned put full size-is l
     (ap (λ (s : Scan). s.gc_done) at ∙ sym adds.gc_done)
     (ap (λ (s : Scan). s.redo) at ∙ sym (redo_after unit old new scan.current within is put.only adds.closed (λ _. full) adds.gc_done))
     ∙ ap (scan_at unit new) (sym (open_after unit old new scan.current within is put.only adds.closed (λ _. full)))
+
+-- ---- gc-done
+
+marked : (closed done : Bool) → marked_redo (cond closed (cond done EraseNext CollectAgain) Nothing) ≡ cond closed (cond true EraseNext CollectAgain) Nothing
+marked false done = refl
+marked true true = refl
+marked true false = refl
+
+-- the scan goes on with gc-done
+pub scan_marked : (unit : ℕ) (old new : List (List ℕ)) (scan : Scan) (size : ℕ) → scan.current < length old → scan ≡ scan_of unit old → MarksDoneAt unit old new scan.current → size ≡ slot_size unit
+    → record scan { low = scan.low - size; gc_done = true; redo = marked_redo scan.redo } ≡ scan_of unit new
+scan_marked unit old new scan size within scanned put size-is =
+    let place = scan.current in
+    let marks = put.marks in
+    let at = scan_there unit old scan scanned in
+    let is = open_is unit old scan scanned in
+    let full : is_erased (sector_at old scan.current) ≡ false → is_erased (sector_at new scan.current) ≡ false = λ _. done-not_blank unit (sector_at new scan.current) marks.gc_done in
+    let low-is : scan.low ≡ low unit (sector_at old scan.current) = ap (λ (s : Scan). s.low) at in
+    let end-is : scan.data_end ≡ data_end unit (sector_at old scan.current) = ap (λ (s : Scan). s.data_end) at in
+    scan_parts unit scan.current new (scan.low - size) scan.data_end true (marked_redo scan.redo) (omega (arith, marks.lower)) (omega (arith, marks.same_end)) (sym marks.gc_done)
+    (ap (λ (s : Scan). marked_redo s.redo) at
+    ∙ marked (is_closed_at (reading unit) old (next old scan.current)) (has_gc_done unit (sector_at old scan.current))
+    ∙ sym (ap (λ (t : Bool). cond t (cond (has_gc_done unit (sector_at new scan.current)) EraseNext CollectAgain) Nothing) (next_after unit old new scan.current within is put.only marks.closed full)
+    ∙ ap (λ (t : Bool). cond (is_closed_at (reading unit) old (next old scan.current)) (cond t EraseNext CollectAgain) Nothing) marks.gc_done))
+    ∙ ap (scan_at unit new) (sym (open_after unit old new scan.current within is put.only marks.closed full))

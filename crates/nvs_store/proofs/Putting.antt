@@ -72,7 +72,7 @@ module _ (a : Device) (area : Area) (lawful : IsLawful a.banks a.bytes) (is_area
   long : length (sector_bytes a area place) ≡ sector_size a area
   long = length-sector a area lawful is_area place has_sector
 
-  inside : place < length (sectors_of a area)
+  pub inside : place < length (sectors_of a area)
   inside = omega (arith, length-sectors_from area.sectors (sector_size a area) (drop (area.first * sector_size a area) (bytes_of a area.bank)))
 
   low-aligned : low (unit_of a area) (sector_bytes a area place) % unit_of a area ≡ 0

@@ -41,6 +41,12 @@ sector_scan unit place sector = record {
 abbrev pub redo_of : ℕ → List (List ℕ) → ℕ → Redo
 redo_of unit sectors place = if is_closed_at (reading unit) sectors (next sectors place) then (if has_gc_done unit (sector_at sectors place) then EraseNext else CollectAgain) else Nothing
 
+-- what it has to do once gc-done stands
+abbrev pub marked_redo : Redo → Redo
+marked_redo Nothing = Nothing
+marked_redo EraseNext = EraseNext
+marked_redo CollectAgain = EraseNext
+
 -- the scan with this sector open
 abbrev pub scan_at : ℕ → List (List ℕ) → ℕ → Scan
 scan_at unit sectors place = record (sector_scan unit place (sector_at sectors place)) { redo = redo_of unit sectors place }

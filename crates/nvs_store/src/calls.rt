@@ -5,15 +5,15 @@ ghost use Rattle.flash_map.specs.Area.{unit_of, sector_size, sectors_of};
 ghost use Rattle.flash_map.specs.Lawful.{IsLawfulFor};
 ghost use Rattle.flash_map.specs.Spending.{Spends, SpendsAtMost};
 ghost use Rattle.flash_map.specs.Touches.{Touches};
-ghost use Rattle.sector_ring.specs.Area.{sector_at, is_blank_at};
+ghost use Rattle.sector_ring.specs.Area.{sector_at};
 ghost use Rattle.nvs_store.specs.declared.scan.Redo.TheVariants.{Nothing};
 ghost use Rattle.nvs_store.specs.Geometry.{slot_size, cost, capacity};
-ghost use Rattle.nvs_store.specs.Sector.{special_entry, is_sound, pairs, pairs_cost};
-ghost use Rattle.nvs_store.specs.Scans.{reading, scan_of, fits, free, damage_of, list_of, AddsPairAt, StopsAddingAt, MarksDoneAt, StopsMarkingAt, ClosesAt};
+ghost use Rattle.nvs_store.specs.Sector.{special_entry, is_closed, is_sound, pairs, pairs_cost};
+ghost use Rattle.nvs_store.specs.Scans.{scan_of, fits, free, damage_of, list_of, AddsPairAt, StopsAddingAt, MarksDoneAt, StopsMarkingAt, ClosesAt};
 
 use crate::entry::{Entry, SPECIAL_ID, encode_entry};
 use crate::geometry::slot_size;
-use crate::scan::{Redo, Scan};
+use crate::scan::Scan;
 use flash_map::{Area, geometry, padded, program_padded};
 use flash_sim::{Flash, PowerLost};
 
@@ -109,9 +109,31 @@ pub fn put_done<F: Flash>(flash: &mut F, area: &Area, scan: &mut Scan) -> Result
     program_padded(flash, area, scan.current, slot, &bytes)?;
     scan.low = slot;
     scan.gc_done = true;
-    scan.redo = match scan.redo {
-        Redo::Nothing => Redo::Nothing,
-        Redo::EraseNext | Redo::CollectAgain => Redo::EraseNext,
-    };
+    scan.redo = scan.redo.marked();
     Ok(())
+}
+
+/// Programs the close entry. The sector is closed from its first unit on.
+pub fn put_close<F: Flash>(flash: &mut F, area: &Area, scan: &Scan) -> Result<(), PowerLost>
+    requires lawful { IsLawfulFor (F.device flash.old).banks area.now }
+    requires role { area.now.role ≡ Nvs }
+    requires scan { let d = F.device flash.old in scan.now ≡ scan_of (unit_of d area.now) (sectors_of d area.now) }
+    requires free { let d = F.device flash.old in is_closed (unit_of d area.now) (sector_at (sectors_of d area.now) scan.now.current) ≡ false }
+
+    ensures touches { Touches (area.now ∷ []) (F.device flash.old) (F.device flash.new) (is_err result) }
+    ensures ok { let d = F.device flash.old in
+        OnOk result (ClosesAt (unit_of d area.now) (sectors_of d area.now) (sectors_of (F.device flash.new) area.now) scan.now.current) }
+    ensures spent { let unit = unit_of (F.device flash.old) area.now in
+        OnOk result (Spends (F.device flash.old) (F.device flash.new) (slot_size unit / unit)) }
+
+    ensures lost { let d = F.device flash.old in
+        OnErr result ((sectors_of (F.device flash.new) area.now ≡ sectors_of d area.now)
+            ⊎ ClosesAt (unit_of d area.now) (sectors_of d area.now) (sectors_of (F.device flash.new) area.now) scan.now.current) }
+    ensures spent_at_most { let unit = unit_of (F.device flash.old) area.now in
+        OnErr result (SpendsAtMost (F.device flash.old) (F.device flash.new) (slot_size unit / unit)) }
+{
+    let g = geometry(flash, area);
+    let top = g.sector - slot_size(g.unit);
+    let bytes = encode_entry(&special(scan.low));
+    program_padded(flash, area, scan.current, top, &bytes)
 }

@@ -10,7 +10,7 @@ mod scan;
 mod sector;
 mod slots;
 
-pub use calls::{append, put_done};
+pub use calls::{append, put_close, put_done};
 pub use entry::{Entry, SPECIAL_ID, decode_entry, encode_entry};
 pub use geometry::{blank_scan, capacity, cost, fits};
 pub use mounting::mount_scan;

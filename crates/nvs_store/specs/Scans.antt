@@ -75,15 +75,15 @@ list_of unit sectors = area_pairs (reading unit) sectors (open_sector (reading u
 abbrev pub found_at : ℕ → Placed → Found
 found_at place placed = record { sector = place; slot = placed.slot; entry = placed.entry }
 
--- the entries of a sector, with their places
-abbrev pub found_in : ℕ → List (List ℕ) → ℕ → List Found
-found_in unit sectors place = map (found_at place) (entries unit (sector_at sectors place))
+-- the entries of a sector with their places, where it counts with this one open
+abbrev pub counted_in : ℕ → List (List ℕ) → ℕ → ℕ → List Found
+counted_in unit sectors current place = if counts_at (reading unit) sectors current place then map (found_at place) (entries unit (sector_at sectors place)) else []
 
 -- the entries of the list, with their places
 abbrev pub all_found : ℕ → List (List ℕ) → List Found
 all_found unit sectors =
-    let place = open_sector (reading unit) sectors in
-    flat_map (found_in unit sectors) (filter (counts_at (reading unit) sectors place) (round (length sectors) place))
+    let current = open_sector (reading unit) sectors in
+    flat_map (counted_in unit sectors current) (round (length sectors) current)
 
 abbrev pub last_of : ℕ → List Found → Option Found
 last_of id found = fold (λ last f. if f.entry.id == id then Some f else last) None found

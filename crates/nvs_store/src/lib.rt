@@ -4,6 +4,7 @@
 mod calls;
 mod entry;
 mod geometry;
+mod lookup;
 mod mounting;
 mod places;
 mod scan;
@@ -13,5 +14,6 @@ mod slots;
 pub use calls::{append, put_close, put_done};
 pub use entry::{Entry, SPECIAL_ID, decode_entry, encode_entry};
 pub use geometry::{blank_scan, capacity, cost, fits};
+pub use lookup::find;
 pub use mounting::mount_scan;
 pub use scan::{Found, Placed, Redo, Scan};

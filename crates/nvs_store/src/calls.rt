@@ -45,7 +45,7 @@ pub fn append<F: Flash>(
         OnErr result (StopsAddingAt (unit_of d area.now) (sectors_of d area.now) (sectors_of (F.device flash.new) area.now) scan.old.current id bytes.now) }
     ensures list_lost { let d = F.device flash.old in
         OnErr result ((list_of (unit_of d area.now) (sectors_of (F.device flash.new) area.now) ≡ list_of (unit_of d area.now) (sectors_of d area.now))
-            ⊎ (list_of (unit_of d area.now) (sectors_of (F.device flash.new) area.now) ≡ list_of (unit_of d area.now) (sectors_of d area.now) ++ (id, bytes.now) ∷ [])) }
+        ⊎ (list_of (unit_of d area.now) (sectors_of (F.device flash.new) area.now) ≡ list_of (unit_of d area.now) (sectors_of d area.now) ++ (id, bytes.now) ∷ [])) }
     ensures spent_at_most { let unit = unit_of (F.device flash.old) area.now in
         OnErr result (SpendsAtMost (F.device flash.old) (F.device flash.new) (cost unit (length bytes.now) / unit)) }
     ensures sound { let unit = unit_of (F.device flash.old) area.now in
@@ -96,7 +96,7 @@ pub fn put_done<F: Flash>(flash: &mut F, area: &Area, scan: &mut Scan) -> Result
         OnOk result (Spends (F.device flash.old) (F.device flash.new) (slot_size unit / unit)) }
     ensures sound { let unit = unit_of (F.device flash.old) area.now in
         OnOk result (pairs_cost unit (pairs unit (sector_at (sectors_of (F.device flash.old) area.now) scan.old.current)) ≤ capacity unit (sector_size (F.device flash.old) area.now)
-            → is_sound unit (sector_at (sectors_of (F.device flash.new) area.now) scan.old.current) ≡ true) }
+        → is_sound unit (sector_at (sectors_of (F.device flash.new) area.now) scan.old.current) ≡ true) }
 
     ensures lost { let d = F.device flash.old in
         OnErr result (StopsMarkingAt (unit_of d area.now) (sectors_of d area.now) (sectors_of (F.device flash.new) area.now) scan.old.current) }
@@ -128,7 +128,7 @@ pub fn put_close<F: Flash>(flash: &mut F, area: &Area, scan: &Scan) -> Result<()
 
     ensures lost { let d = F.device flash.old in
         OnErr result ((sectors_of (F.device flash.new) area.now ≡ sectors_of d area.now)
-            ⊎ ClosesAt (unit_of d area.now) (sectors_of d area.now) (sectors_of (F.device flash.new) area.now) scan.now.current) }
+        ⊎ ClosesAt (unit_of d area.now) (sectors_of d area.now) (sectors_of (F.device flash.new) area.now) scan.now.current) }
     ensures spent_at_most { let unit = unit_of (F.device flash.old) area.now in
         OnErr result (SpendsAtMost (F.device flash.old) (F.device flash.new) (slot_size unit / unit)) }
 {

@@ -146,8 +146,7 @@ fn is_sought<F: Flash, L: Ledger>(
     match sought {
         Sought::NotClosed => !sector::is_closed(bytes, unit),
         Sought::Opening => {
-            !sector::is_closed(bytes, unit)
-                && is_closed(flash, area, previous(area, place), steps)
+            !sector::is_closed(bytes, unit) && is_closed(flash, area, previous(area, place), steps)
         }
         Sought::NotBlank => !is_erased(bytes),
         Sought::Dirty(current) => {

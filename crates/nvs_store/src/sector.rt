@@ -8,7 +8,8 @@ ghost use Rattle.nvs_store.specs.Scans.{sector_scan, found_at};
 use crate::geometry::{capacity, cost, slot_size};
 use crate::scan::{Found, Placed, Redo, Scan};
 use crate::slots::{
-    counting_entry, end_of, is_erased, is_gc_done, len_of, slot_of, slot_start, trimmed_len, used_count,
+    counting_entry, end_of, is_erased, is_gc_done, len_of, slot_of, slot_start, trimmed_len,
+    used_count,
 };
 use flash_map::padded;
 

@@ -110,6 +110,7 @@ module _ (reading : Reading) (sectors : List (List ℕ)) (place : ℕ) (new : Li
                         ]))) ∙ zero_place
                   ]
             ]
+
 -- ---- the list, where the next sector is not closed
 
 pub list-all : (reading : Reading) (sectors : List (List ℕ)) (place : ℕ) → place < length sectors → is_closed_at reading sectors (next sectors place) ≡ false

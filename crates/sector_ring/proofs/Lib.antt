@@ -5,4 +5,5 @@ pub mod Places
 pub mod RingSteps
 pub mod Rings
 pub mod RoundLemmas
+pub mod Stays
 pub mod Undamaged

@@ -13,7 +13,7 @@ use Rattle.sector_ring.specs.Reading.{Reading}
 
 -- ---- which sectors count
 
-counts-next : (reading : Reading) (sectors : List (List ℕ)) (place k : ℕ) (closed done : Bool) → is_closed_at reading sectors (next sectors place) ≡ closed → reading.has_gc_done (sector_at sectors place) ≡ done
+pub counts-next : (reading : Reading) (sectors : List (List ℕ)) (place k : ℕ) (closed done : Bool) → is_closed_at reading sectors (next sectors place) ≡ closed → reading.has_gc_done (sector_at sectors place) ≡ done
     → counts_at reading sectors place k ≡ not (closed && eqb k (cond done (next sectors place) place))
 counts-next reading sectors place k closed done c d =
     ap (λ (t : Bool). not (t && eqb k (cond (reading.has_gc_done (sector_at sectors place)) (next sectors place) place))) c ∙ ap (λ (t : Bool). not (closed && eqb k (cond t (next sectors place) place))) d
@@ -30,14 +30,14 @@ counts-collected reading sectors place k ring done = counts-next reading sectors
 
 -- ---- the list
 
-list-split : (reading : Reading) (sectors : List (List ℕ)) (place : ℕ) → area_pairs reading sectors place ≡ flat_map (pairs_at reading sectors) (filter (counts_at reading sectors place) (others (length sectors) place)) ++ flat_map (pairs_at reading sectors) (filter (counts_at reading sectors place) (place ∷ []))
+pub list-split : (reading : Reading) (sectors : List (List ℕ)) (place : ℕ) → area_pairs reading sectors place ≡ flat_map (pairs_at reading sectors) (filter (counts_at reading sectors place) (others (length sectors) place)) ++ flat_map (pairs_at reading sectors) (filter (counts_at reading sectors place) (place ∷ []))
 unfolding area_pairs
 list-split reading sectors place =
     ap (λ ks. flat_map (pairs_at reading sectors) (filter (counts_at reading sectors place) ks)) (round-is (length sectors) place)
     ∙ ap (flat_map (pairs_at reading sectors)) (filter-append (counts_at reading sectors place) (others (length sectors) place) (place ∷ []))
     ∙ flat_map-append (pairs_at reading sectors) (filter (counts_at reading sectors place) (others (length sectors) place)) (filter (counts_at reading sectors place) (place ∷ []))
 
-one-counts : (reading : Reading) (sectors : List (List ℕ)) (place : ℕ) (counts : Bool) → counts_at reading sectors place place ≡ counts → flat_map (pairs_at reading sectors) (filter (counts_at reading sectors place) (place ∷ [])) ≡ cond counts (pairs_at reading sectors place) []
+pub one-counts : (reading : Reading) (sectors : List (List ℕ)) (place : ℕ) (counts : Bool) → counts_at reading sectors place place ≡ counts → flat_map (pairs_at reading sectors) (filter (counts_at reading sectors place) (place ∷ [])) ≡ cond counts (pairs_at reading sectors place) []
 one-counts reading sectors place true c = ap (λ (t : Bool). flat_map (pairs_at reading sectors) (cond t (place ∷ []) [])) c ∙ append-nil (pairs_at reading sectors place)
 one-counts reading sectors place false c = ap (λ (t : Bool). flat_map (pairs_at reading sectors) (cond t (place ∷ []) [])) c
 

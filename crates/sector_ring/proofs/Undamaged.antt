@@ -31,11 +31,11 @@ map_none : {X Y : Type 0} (f : X → Y) (o : Option X) → option_map f o ≡ No
 map_none f None e = refl
 map_none f (Some x) e = absurd (some_none (f x) e)
 
-find_none_all : (p : ℕ → Bool) (xs : List ℕ) → find p xs ≡ None → All (λ k. p k ≡ false) xs
+pub find_none_all : (p : ℕ → Bool) (xs : List ℕ) → find p xs ≡ None → All (λ k. p k ≡ false) xs
 find_none_all p [] e = All-nil (λ k. p k ≡ false)
 find_none_all p (x ∷ xs) e = let parts = cond_none (p x) x (find p xs) e in All-cons (λ k. p k ≡ false) x xs parts.0 (find_none_all p xs parts.1)
 
-at_range : (P : ℕ → Type 0) (n k : ℕ) → All P (range_with_len 0 n) → k < n → P k
+pub at_range : (P : ℕ → Type 0) (n k : ℕ) → All P (range_with_len 0 n) → k < n → P k
 at_range P n k all lt =
     let long = length-range_with_len 0 n in
     let e : 0 + k ≡ k = omega arith in
@@ -45,7 +45,7 @@ no_kind : (why : Why) (p : ℕ → Bool) (sectors : List (List ℕ)) → first_o
 no_kind why p sectors e k lt = at_range (λ k. p k ≡ false) (length sectors) k (find_none_all p (places sectors) (map_none (λ (place : ℕ). record { sector = place; why = why }) (find p (places sectors)) e)) lt
 
 -- the first that passes
-find-filter : (p : ℕ → Bool) (xs : List ℕ) → slice_get (filter p xs) 0 ≡ find p xs
+pub find-filter : (p : ℕ → Bool) (xs : List ℕ) → slice_get (filter p xs) 0 ≡ find p xs
 find-filter p [] = refl
 find-filter p (x ∷ xs) =
     elim (cases_Bool (p x)) [
@@ -56,7 +56,7 @@ find-filter p (x ∷ xs) =
 same_some : (x y : ℕ) → Some x ≡ Some y → x ≡ y
 same_some x y e = cc
 
-found : (p : ℕ → Bool) (a n k : ℕ) → find p (range_with_len a n) ≡ Some k → (k < a + n) × (p k ≡ true)
+pub found : (p : ℕ → Bool) (a n k : ℕ) → find p (range_with_len a n) ≡ Some k → (k < a + n) × (p k ≡ true)
 found p a zero k e = absurd (some_none k (sym e))
 found p a (suc n) k e =
     elim (cases_Bool (p a)) [
@@ -229,7 +229,7 @@ goes_back reading sectors k none free =
       | inr open_before ↦ open_before
     ]
 
-option_cases : (o : Option ℕ) → (o ≡ None) ⊎ ((k : ℕ) × (o ≡ Some k))
+pub option_cases : (o : Option ℕ) → (o ≡ None) ⊎ ((k : ℕ) × (o ≡ Some k))
 option_cases None = inl refl
 option_cases (Some k) = inr (k, refl)
 

@@ -3,12 +3,14 @@
 
 mod area;
 mod calls;
+mod copies;
 mod faults;
 mod pieces;
 mod units;
 
 pub use area::{Area, Geometry, Role};
 pub use calls::{area_erase, area_program, area_view, geometry};
+pub use copies::{Source, copy_padded};
 pub use faults::{Damaged, MountFault, Why, WriteFault};
 pub use pieces::{program_all, program_padded};
 pub use units::padded;

@@ -9,13 +9,14 @@ ghost use Rattle.sector_ring.specs.Area.{sector_at};
 ghost use Rattle.nvs_store.specs.declared.scan.Redo.TheVariants.{Nothing};
 ghost use Rattle.nvs_store.specs.Geometry.{slot_size, cost, capacity};
 ghost use Rattle.nvs_store.specs.Sector.{special_entry, is_closed, is_sound, pairs, pairs_cost};
-ghost use Rattle.nvs_store.specs.Scans.{scan_of, fits, free, damage_of, list_of, AddsPairAt, StopsAddingAt, MarksDoneAt, StopsMarkingAt, ClosesAt};
+ghost use Rattle.nvs_store.specs.Scans.{scan_of, fits, free, damage_of, list_of, found_bytes, AddsPairAt, StopsAddingAt, MarksDoneAt, StopsMarkingAt, ClosesAt};
 
 use crate::entry::{Entry, SPECIAL_ID, encode_entry};
 use crate::geometry::slot_size;
-use crate::scan::Scan;
-use flash_map::{Area, geometry, padded, program_padded};
-use flash_sim::{Flash, PowerLost};
+use crate::scan::{Found, Scan};
+use flash_map::{Area, Source, copy_padded, geometry, padded, program_padded};
+use flash_sim::{Flash, PowerLost, Steps};
+use std::sync::ledger::Ledger;
 
 /// Appends a pair to the list: the data is programmed, and then its entry. No bytes are a delete.
 pub fn append<F: Flash>(
@@ -65,6 +66,57 @@ pub fn append<F: Flash>(
     program_padded(flash, area, scan.current, slot, &encode_entry(&entry))?;
     scan.low = slot;
     scan.data_end += padded(unit, bytes.len() as u32);
+    Ok(())
+}
+
+/// Appends the pair of an entry of another sector to the open sector's part of the list: the data is copied, and then
+/// its entry is programmed.
+pub fn copy_entry<F: Flash, L: Ledger>(
+    flash: &mut F,
+    area: &Area,
+    scan: &mut Scan,
+    from: &Found,
+    steps: &mut Steps<L>,
+) -> Result<(), PowerLost>
+    requires lawful { IsLawfulFor (F.device flash.old).banks area.now }
+    requires role { area.now.role ≡ Nvs }
+    requires scan { let d = F.device flash.old in scan.old ≡ scan_of (unit_of d area.now) (sectors_of d area.now) }
+    requires has_source { from.now.sector < area.now.sectors }
+    requires other { from.now.sector ≡ scan.old.current → ⊥ }
+    requires ordinary { from.now.entry.id < 0xFFFF }
+    requires inside { from.now.entry.offset + from.now.entry.len ≤ sector_size (F.device flash.old) area.now }
+    requires free { let unit = unit_of (F.device flash.old) area.now in cost unit from.now.entry.len + 3 * slot_size unit ≤ free scan.old }
+
+    ensures touches { Touches (area.now ∷ []) (F.device flash.old) (F.device flash.new) (is_err result) }
+    ensures ok { let d = F.device flash.old in
+        OnOk result (AddsPairAt (unit_of d area.now) (sectors_of d area.now) (sectors_of (F.device flash.new) area.now) scan.old.current from.now.entry.id (found_bytes (sectors_of d area.now) from.now)) }
+    ensures scan { let d = F.device flash.new in OnOk result (scan.new ≡ scan_of (unit_of d area.now) (sectors_of d area.now)) }
+    ensures spent { let unit = unit_of (F.device flash.old) area.now in
+        OnOk result (Spends (F.device flash.old) (F.device flash.new) (cost unit from.now.entry.len / unit)) }
+
+    ensures lost { let d = F.device flash.old in
+        OnErr result (StopsAddingAt (unit_of d area.now) (sectors_of d area.now) (sectors_of (F.device flash.new) area.now) scan.old.current from.now.entry.id (found_bytes (sectors_of d area.now) from.now)) }
+    ensures spent_at_most { let unit = unit_of (F.device flash.old) area.now in
+        OnErr result (SpendsAtMost (F.device flash.old) (F.device flash.new) (cost unit from.now.entry.len / unit)) }
+{
+    let unit = geometry(flash, area).unit;
+    let entry = Entry {
+        id: from.entry.id,
+        offset: scan.data_end as u16,
+        len: from.entry.len,
+        part: 0xFF,
+    };
+    let slot = scan.low - slot_size(unit);
+    let source = Source {
+        sector: from.sector,
+        offset: from.entry.offset as u32,
+        len: from.entry.len as u32,
+    };
+    copy_padded(flash, area, source, scan.current, scan.data_end, steps)?;
+    let bytes = encode_entry(&entry);
+    program_padded(flash, area, scan.current, slot, &bytes)?;
+    scan.low = slot;
+    scan.data_end += padded(unit, source.len);
     Ok(())
 }
 

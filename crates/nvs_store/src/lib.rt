@@ -13,7 +13,7 @@ mod slots;
 #[cfg(test)]
 mod tests;
 
-pub use calls::{append, put_close, put_done};
+pub use calls::{append, copy_entry, put_close, put_done};
 pub use entry::{Entry, SPECIAL_ID, decode_entry, encode_entry};
 pub use geometry::{blank_scan, capacity, cost, fits};
 pub use lookup::find;

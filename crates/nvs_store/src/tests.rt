@@ -128,6 +128,7 @@ fn exercise<B: Bench, L: Ledger, R: Abort>(
     let mut scan = mount_scan(bench, &area, &mut steps)?;
     assert_eq!(rt; scan.low, 496);
     assert_eq!(rt; scan.data_end, 4);
+    assert_eq!(rt; scan.redo, Redo::Nothing);
     assert_eq!(rt; find(bench, &area, &scan, 1, &mut steps), None);
     assert!(rt; fits(&g, &scan, 1));
     append(bench, &area, &mut scan, 1, &[2])?;

@@ -15,3 +15,4 @@ pub mod ImageLemmas
 pub mod GrowLemmas
 pub mod HeaderLemmas
 pub mod FormatLemmas
+pub mod OpenLemmas

@@ -113,3 +113,9 @@ MountEnds old new area reserve (Ok ring) =
 MountEnds old new area reserve (Err (HasDamage damaged)) = (first_damage (states_on old area) ≡ Some damaged) × (new ≡ old)
 MountEnds old new area reserve (Err PowerLost) = (first_damage (states_on old area) ≡ None) × SpendsAtMost old new (erases_due (states_on old area))
 MountEnds old new area reserve (Err NoMemory) = ⊥
+
+-- the stage of a ring of which so many sectors are used
+abbrev pub FitsOpened : Stage → ℕ → ℕ → Type 0
+FitsOpened Ready used count = used < count
+FitsOpened Collecting used count = used ≡ count
+FitsOpened stage used count = ⊥

@@ -9,6 +9,7 @@ mod record;
 mod ring;
 mod sector;
 mod sequence;
+mod writing;
 
 pub use record::{Record, RecordAt};
 pub use ring::{Ring, Stage};

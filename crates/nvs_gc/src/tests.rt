@@ -184,11 +184,25 @@ fn full<B: Bench, L: Ledger, R: Abort>(
     Ok(())
 }
 
+// With a counter of steps.
+fn exercise<B: Bench, L: Ledger, R: Abort>(
+    rt: &R,
+    alloc: Global,
+    bench: &mut B,
+    blank: Blank,
+) -> Result<(), Fail>
+    requires name { blank.name ≡ L.name }
+    requires parts { blank.parts ≡ L.parts }
+    requires some { 0 < L.parts }
+{
+    let mut steps = Steps::<L>::new(blank);
+    rounds(rt, alloc, bench, &mut steps)?;
+    full(rt, alloc, bench, &mut steps)
+}
+
 #[test]
 fn collections(rt: HostRuntime) -> Result<(), Fail> {
     let alloc = rt.alloc();
     let mut sim = FlatSim::new(alloc);
-    let mut steps = Steps::<Brand>::new(Blank::new(1));
-    rounds(&rt, alloc, &mut sim, &mut steps)?;
-    full(&rt, alloc, &mut sim, &mut steps)
+    exercise::<FlatSim, Brand, HostRuntime>(&rt, alloc, &mut sim, Blank::new(1))
 }

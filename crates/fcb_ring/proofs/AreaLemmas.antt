@@ -14,7 +14,8 @@ use Rattle.flash_map.proofs.Places.{length-sector}
 use Rattle.flash_map.proofs.Sectors.{length-sectors_from}
 use Rattle.fcb_ring.specs.SectorStates.{IsSector, state_of}
 use Rattle.fcb_ring.specs.Rings.{no_state, state_at}
-use Rattle.fcb_ring.specs.Entries.{sector_at, states}
+use Rattle.fcb_ring.specs.Entries.{states}
+use Rattle.flash_map.specs.Area.{sector_at}
 use Rattle.fcb_ring.specs.Standing.{IsRingArea}
 
 -- every sector has this size

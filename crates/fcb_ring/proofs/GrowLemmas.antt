@@ -7,7 +7,8 @@ use Rattle.std.proofs.lemmas.Grind.{flat_map-append}
 use Rattle.fcb_ring.specs.declared.sector.SectorState.{SectorState}
 use Rattle.fcb_ring.specs.SectorStates.{state_of}
 use Rattle.fcb_ring.specs.Rings.{state_at, turned, first_damage, IsRing, AreClean}
-use Rattle.fcb_ring.specs.Entries.{sector_at, states, sector_entries, entries}
+use Rattle.fcb_ring.specs.Entries.{states, sector_entries, entries}
+use Rattle.flash_map.specs.Area.{sector_at}
 use Rattle.fcb_ring.proofs.PlaceLemmas.{All-range, range-append, flat_map-agree}
 use Rattle.fcb_ring.proofs.RingLemmas.{turned-within, undamaged}
 use Rattle.fcb_ring.proofs.AreaLemmas.{state-at, length-states}

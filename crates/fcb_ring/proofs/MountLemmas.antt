@@ -7,7 +7,7 @@ use Rattle.std.proofs.lemmas.List.{take-append-drop, set-get_or, take_all, drop_
 use Rattle.flash_sim.specs.Device.{Device, counted}
 use Rattle.flash_map.proofs.Plans.{counted_counted}
 use Rattle.fcb_ring.specs.SectorStates.{is_torn, mended, mended_up_to}
-use Rattle.fcb_ring.specs.Entries.{sector_at}
+use Rattle.flash_map.specs.Area.{sector_at}
 use Rattle.fcb_ring.specs.Standing.{SpendsAtMost}
 use Rattle.fcb_ring.proofs.StandLemmas.{mended-yes, mended-not, mended-behind, mended-more}
 

@@ -11,7 +11,8 @@ use Rattle.fcb_ring.specs.declared.ring.Stage.TheVariants.{Ready}
 use Rattle.fcb_ring.specs.declared.sector.SectorState.{SectorState}
 use Rattle.fcb_ring.specs.SectorStates.{is_erased, is_torn, state_of}
 use Rattle.fcb_ring.specs.Rings.{state_at, turned, IsRing, AreClean}
-use Rattle.fcb_ring.specs.Entries.{sector_at, states, entries, HasEntries}
+use Rattle.fcb_ring.specs.Entries.{states, entries, HasEntries}
+use Rattle.flash_map.specs.Area.{sector_at}
 use Rattle.fcb_ring.specs.Standing.{Stands, FitsStage, uncounted}
 use Rattle.fcb_ring.specs.Writing.{header_image}
 use Rattle.fcb_ring.proofs.RingLemmas.{turned-within}

@@ -9,7 +9,8 @@ use Rattle.fcb_ring.specs.declared.ring.Ring.{Ring}
 use Rattle.fcb_ring.specs.declared.ring.Stage.{Stage}
 use Rattle.fcb_ring.specs.declared.ring.Stage.TheVariants.{Inspected, Ready, Collecting, Down}
 use Rattle.fcb_ring.specs.Rings.{turned, distance}
-use Rattle.fcb_ring.specs.Entries.{sector_at, states, entries, following, records_from}
+use Rattle.fcb_ring.specs.Entries.{states, entries, following, records_from}
+use Rattle.flash_map.specs.Area.{sector_at}
 use Rattle.fcb_ring.specs.Standing.{Stands, FitsStage, uncounted, record_places, IsNext}
 use Rattle.fcb_ring.proofs.RingLemmas.{turned-within, distance-turned}
 use Rattle.fcb_ring.proofs.AreaLemmas.{HasSize, length-states}

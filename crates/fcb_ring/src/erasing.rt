@@ -4,7 +4,7 @@ ghost use Rattle.flash_sim.specs.Device.{counted};
 ghost use Rattle.flash_map.specs.Area.{unit_of, sectors_of, sector_size};
 ghost use Rattle.flash_map.specs.Touches.{Touches};
 ghost use Rattle.fcb_ring.specs.SectorStates.{is_torn, mended, mended_up_to, blanked, blanked_up_to};
-ghost use Rattle.fcb_ring.specs.Entries.{sector_at};
+ghost use Rattle.flash_map.specs.Area.{sector_at};
 ghost use Rattle.fcb_ring.specs.Standing.{IsRingArea, SpendsAtMost};
 
 use crate::ring::{Ring, sector_view};

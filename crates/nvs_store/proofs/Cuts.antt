@@ -34,7 +34,7 @@ whole unit b e bytes units h next all =
     let long = length-entry_image unit e h.is_unit in
     adds-stops unit b (with_slot unit b (data_image unit bytes) (take (units * unit) (entry_image unit e))) e.id bytes (subst (λ (upper : List ℕ). AddsPair unit b (with_slot unit b (data_image unit bytes) upper) e.id bytes) (sym (take_all (units * unit) (entry_image unit e) (omega arith))) (put_entry unit b e bytes h next))
 
-sizes : (slot_size 4 ≡ 8) × (slot_size 8 ≡ 8) × (slot_size 16 ≡ 16)
+pub sizes : (slot_size 4 ≡ 8) × (slot_size 8 ≡ 8) × (slot_size 16 ≡ 16)
 unfolding slot_size padded
 sizes = (refl, refl, refl)
 

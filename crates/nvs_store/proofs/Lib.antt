@@ -5,7 +5,9 @@ pub mod Cuts
 pub mod EntryBytes
 pub mod FoundLemmas
 pub mod Lookups
+pub mod MarkPutting
 pub mod Marks
+pub mod MountLemmas
 pub mod Putting
 pub mod Room
 pub mod ScanLemmas

@@ -27,7 +27,8 @@ use Rattle.nvs_store.specs.declared.entry.Entry.{Entry}
 use Rattle.nvs_store.specs.Geometry.{slot_size, cost}
 use Rattle.nvs_store.specs.Entries.{encoded}
 use Rattle.nvs_store.specs.Sector.{used_slots, low, data_end, HasRoom, IsNext, AddsPair, StopsAdding, data_image, entry_image, with_slot}
-use Rattle.nvs_store.specs.Scans.{sector_at, ChangesOnly, AddsPairAt, StopsAddingAt}
+use Rattle.flash_map.specs.Area.{sector_at}
+use Rattle.nvs_store.specs.Scans.{ChangesOnly, AddsPairAt, StopsAddingAt}
 use Rattle.nvs_store.proofs.Appends.{fence_of, put_entry, length-entry_image}
 use Rattle.nvs_store.proofs.Cuts.{put_units, data-stops}
 use Rattle.nvs_store.proofs.EntryBytes.{length-encoded}
@@ -71,7 +72,7 @@ module _ (a : Device) (area : Area) (lawful : IsLawful a.banks a.bytes) (is_area
   long : length (sector_bytes a area place) ≡ sector_size a area
   long = length-sector a area lawful is_area place has_sector
 
-  inside : place < length (sectors_of a area)
+  pub inside : place < length (sectors_of a area)
   inside = omega (arith, length-sectors_from area.sectors (sector_size a area) (drop (area.first * sector_size a area) (bytes_of a area.bank)))
 
   low-aligned : low (unit_of a area) (sector_bytes a area place) % unit_of a area ≡ 0

@@ -6,7 +6,8 @@ use Rattle.std.proofs.lemmas.List.{append-nil, length-set}
 use Rattle.std.proofs.lemmas.List.Concat.{flat_map-append, flat_map-cons}
 use Rattle.slot_list.specs.Items.{last, SameItems}
 use Rattle.sector_ring.specs.Steps.{KeepsList, AddsPair, MarksDone, Closes}
-use Rattle.sector_ring.specs.Area.{sector_at, next, is_blank_at, area_pairs}
+use Rattle.sector_ring.specs.Area.{next, is_blank_at, area_pairs}
+use Rattle.flash_map.specs.Area.{sector_at}
 use Rattle.sector_ring.specs.Forms.{IsRing, AtRest, Collecting, Collected, others, rest, pairs_at, to_copy}
 use Rattle.sector_ring.specs.Steps.{IsFurther}
 use Rattle.slot_list.proofs.LivePairs.{collected}

@@ -6,7 +6,8 @@ use Rattle.std.specs.List.{range_with_len, filter, find, All, list_all, slice_ge
 use Rattle.std.proofs.lemmas.Bool.{false≢true, cases_Bool, cases_lt, cases_eq, ne_eqb, lt-ltb, le-ltb, and_parts, not-true, not_from_false}
 use Rattle.std.proofs.lemmas.List.Elements.{All-cons, All-nil, All-get_or, filter-append}
 use Rattle.std.proofs.lemmas.List.FromFn.{length-range_with_len, get_or-range_with_len}
-use Rattle.sector_ring.specs.Area.{sector_at, next, previous, places, is_closed_at, is_blank_at, follows_closed, openings, open_sector, counts_at, looked_at, first_of_kind, first_damage}
+use Rattle.sector_ring.specs.Area.{next, previous, places, is_closed_at, is_blank_at, follows_closed, openings, open_sector, counts_at, looked_at, first_of_kind, first_damage}
+use Rattle.flash_map.specs.Area.{sector_at}
 use Rattle.flash_map.specs.declared.faults.Why.{Why}
 use Rattle.flash_map.specs.declared.faults.Why.TheVariants.{TwoOpen, Dirty, NoFence, Overfull, AllClosed}
 use Rattle.sector_ring.specs.Forms.{distance, IsRing, IsForm}

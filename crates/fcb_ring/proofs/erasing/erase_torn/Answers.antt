@@ -5,7 +5,7 @@ use Rattle.flash_sim.specs.Device.{counted}
 use Rattle.flash_map.specs.Area.{sectors_of, sector_size}
 use Rattle.flash_map.proofs.Touches.{then}
 use Rattle.fcb_ring.specs.SectorStates.{is_torn}
-use Rattle.fcb_ring.specs.Entries.{sector_at}
+use Rattle.flash_map.specs.Area.{sector_at}
 use Rattle.fcb_ring.proofs.AreaLemmas.{count-sectors}
 use Rattle.fcb_ring.proofs.StandLemmas.{mended-behind}
 use Rattle.fcb_ring.proofs.MountLemmas.{on_err, mends_next, mends_all, spends_next, spends_part}

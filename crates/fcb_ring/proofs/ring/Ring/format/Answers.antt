@@ -2,7 +2,7 @@ use Rattle.std.proofs.Common.{◌≡◌, ◌<◌, ◌∙◌, Bool, not, length, 
 use Rattle.flash_map.specs.Area.{sectors_of, sector_size}
 use Rattle.flash_map.proofs.Touches.{then}
 use Rattle.fcb_ring.specs.SectorStates.{is_erased}
-use Rattle.fcb_ring.specs.Entries.{sector_at}
+use Rattle.flash_map.specs.Area.{sector_at}
 use Rattle.fcb_ring.proofs.AreaLemmas.{count-sectors}
 use Rattle.fcb_ring.proofs.FormatLemmas.{blanks_next, blanks_all}
 use Rattle.fcb_ring.proofs.ring.Ring.format.Goals as goal

@@ -1,4 +1,1 @@
-pub mod BlankLemmas
-pub mod EndLemmas
 pub mod HostLemmas
-pub mod WordLemmas

@@ -1,32 +1,33 @@
 // Printing and writing.
 ghost use Rattle.std.specs.Prelude.{◌≡◌};
-ghost use Rattle.zs_host.specs.Outside.{SameBut};
-ghost use Rattle.image_tool.specs.Delivers.{Delivers};
-ghost use Rattle.image_tool.specs.Report.{Reports};
+ghost use Rattle.image_tool.specs.Outcomes.{file_of};
+ghost use Rattle.image_tool.specs.Telling.{Delivers, OnlyFile, Reports};
 
-use crate::reading::Stop;
+use crate::outcome::Outcome;
 use crate::status::Status;
+use crate::stops::Stop;
 use std::alloc::Global;
 use zs_host::{Host, HostFault};
 
-/// Prints the text, and then writes the file.
-pub fn deliver<H: Host>(
+/// Prints the text, and then writes the file, if there is one.
+pub fn deliver<'a, H: Host>(
     alloc: Global,
     host: &mut H,
-    text: &[u8],
-    out: &str,
-    bytes: &[u8],
-) -> Result<(), Stop>
-    ensures delivers { Delivers (H.outside host.old) (H.outside host.new) text.now out.now bytes.now result }
-    ensures files { SameBut out.now (H.outside host.old).files (H.outside host.new).files }
+    outcome: &Outcome<'_>,
+) -> Result<(), Stop<'a>>
+    ensures delivers { Delivers (H.outside host.old) (H.outside host.new) outcome.now.text.items (file_of outcome.now.file) result }
+    ensures files { OnlyFile (file_of outcome.now.file) (H.outside host.old) (H.outside host.new) }
 {
-    match host.print(alloc, text) {
+    match host.print(alloc, outcome.text.as_slice()) {
         Ok(()) => {}
         Err(HostFault::NoMemory) => return Err(Stop::NoMemory),
         Err(HostFault::Failed) => return Err(Stop::HostFailed),
         Err(HostFault::Missing | HostFault::TooLong) => unreachable!(),
     }
-    match host.write_whole(alloc, out, bytes) {
+    let Some(file) = &outcome.file else {
+        return Ok(());
+    };
+    match host.write_whole(alloc, file.name, file.bytes.as_slice()) {
         Ok(()) => Ok(()),
         Err(HostFault::NoMemory) => Err(Stop::NoMemory),
         Err(HostFault::Failed) => Err(Stop::HostFailed),

@@ -19,3 +19,5 @@ pub use geometry::{blank_scan, capacity, cost, fits};
 pub use lookup::find;
 pub use mounting::mount_scan;
 pub use scan::{Found, Placed, Redo, Scan};
+pub use sector::is_closed;
+pub use slots::is_erased;

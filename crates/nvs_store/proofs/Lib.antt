@@ -4,6 +4,7 @@ pub mod Blank
 pub mod Cuts
 pub mod EntryBytes
 pub mod FoundLemmas
+pub mod InArea
 pub mod Lookups
 pub mod MarkPutting
 pub mod Marks

@@ -133,18 +133,26 @@ put_cut_done b h =
 abbrev entries_from : ℕ → List ℕ → ℕ → ℕ → List Placed
 entries_from unit b a n = filter_map (counting_entry unit) (map (slot_at unit b) (range_with_len a n))
 
--- the data of an entry that counts ends under its slot
-pub counting_entry_under : (unit : ℕ) (slot : Slot) → (counting_entry unit slot ≡ None) ⊎ ((f : Placed) × (counting_entry unit slot ≡ Some f) × (f.entry.offset + f.entry.len ≤ slot.start))
-counting_entry_under unit slot =
+-- a slot's entry, where there is one that counts
+pub counting_entry_counts : (unit : ℕ) (slot : Slot) → (counting_entry unit slot ≡ None) ⊎ ((f : Placed) × (counting_entry unit slot ≡ Some f) × (counts unit slot.start f.entry ≡ true) × (f.slot ≡ slot.index))
+counting_entry_counts unit slot =
     elim (decoded_cases slot.bytes) [
       | inl none ↦ inl (counting_entry-is unit slot None none)
       | inr some ↦
           let read = counting_entry-is unit slot (Some (entry_of slot.bytes)) some in
           elim (cases_Bool (counts unit slot.start (entry_of slot.bytes))) [
             | inl counted ↦
-                inr (record { slot = slot.index; entry = entry_of slot.bytes }, read ∙ ap (λ (b : Bool). cond b (Some (record { slot = slot.index; entry = entry_of slot.bytes })) None) counted, leb-true _ _ ((and_parts _ _ counted).1))
+                inr (record { slot = slot.index; entry = entry_of slot.bytes }, read ∙ ap (λ (b : Bool). cond b (Some (record { slot = slot.index; entry = entry_of slot.bytes })) None) counted, counted, refl)
             | inr passed ↦ inl (read ∙ ap (λ (b : Bool). cond b (Some (record { slot = slot.index; entry = entry_of slot.bytes })) None) passed)
           ]
+    ]
+
+-- its data ends under its own slot
+pub counting_entry_under : (unit : ℕ) (slot : Slot) → (counting_entry unit slot ≡ None) ⊎ ((f : Placed) × (counting_entry unit slot ≡ Some f) × (f.entry.offset + f.entry.len ≤ slot.start))
+counting_entry_under unit slot =
+    elim (counting_entry_counts unit slot) [
+      | inl none ↦ inl none
+      | inr (f, some, counted, at) ↦ inr (f, some, leb-true _ _ ((and_parts _ _ counted).1))
     ]
 
 pairs_kept_under : (unit : ℕ) (old new : List ℕ) → ((i j : ℕ) → j ≤ length old - slot_size unit → slice_range new i j ≡ slice_range old i j) → (a n : ℕ)

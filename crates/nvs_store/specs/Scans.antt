@@ -1,5 +1,5 @@
 -- What a scan says of an area, its list, and what is wrong with it.
-use Rattle.std.specs.Prelude.{◌≡◌, ℕ, ◌+◌, ◌-◌, ◌*◌, Bool, not, ◌&&◌, List, [], ◌∷◌, ◌++◌, length, map, fold, slice_range, slice_set, Option, Some, None, ◌==◌, nat_le, if◌then◌else◌}
+use Rattle.std.specs.Prelude.{◌≡◌, ℕ, ◌+◌, ◌-◌, ◌*◌, ◌<◌, ◌≤◌, Bool, not, ◌&&◌, List, [], ◌∷◌, ◌++◌, length, map, fold, slice_range, slice_set, Option, Some, None, ◌==◌, nat_le, if◌then◌else◌}
 use Rattle.std.specs.List.{filter, flat_map, slice_get, take_while}
 use Rattle.flash_map.specs.declared.faults.Damaged.{Damaged}
 use Rattle.slot_list.specs.Slots.{is_erased}
@@ -91,6 +91,12 @@ last_of id found = fold (λ last f. if f.entry.id == id then Some f else last) N
 -- the last entry of an id, a delete too
 abbrev pub last_found : ℕ → List (List ℕ) → ℕ → Option Found
 last_found unit sectors id = last_of id (all_found unit sectors)
+
+-- It is an ordinary entry of one of so many sectors of this size, and its data ends in its sector.
+pub record IsInArea (sectors size : ℕ) (f : Found) : Type 0 where
+  pub sector : f.sector < sectors
+  pub inside : f.entry.offset + f.entry.len ≤ size
+  pub ordinary : f.entry.id ≡ 0xFFFF → ⊥
 
 -- the data of an entry
 abbrev pub found_bytes : List (List ℕ) → Found → List ℕ

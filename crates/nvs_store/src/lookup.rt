@@ -1,12 +1,12 @@
 // Entries of the list of an area.
-ghost use Rattle.std.specs.Prelude.{◌≡◌, ◌+◌, ◌-◌, ◌<◌, ◌≤◌};
+ghost use Rattle.std.specs.Prelude.{◌≡◌, ◌+◌, ◌-◌, ◌<◌, ◌≤◌, IfSome};
 ghost use Rattle.std.specs.List.{flat_map, range_with_len};
 ghost use Rattle.std.specs.Option.{option_and_then};
 ghost use Rattle.flash_map.specs.declared.area.Role.TheVariants.{Nvs};
-ghost use Rattle.flash_map.specs.Area.{unit_of, sectors_of};
+ghost use Rattle.flash_map.specs.Area.{unit_of, sector_size, sectors_of};
 ghost use Rattle.flash_map.specs.Lawful.{IsLawfulFor};
 ghost use Rattle.slot_list.specs.Items.{last, value_of};
-ghost use Rattle.nvs_store.specs.Scans.{scan_of, counted_in, last_of, last_found, list_of, found_bytes};
+ghost use Rattle.nvs_store.specs.Scans.{scan_of, counted_in, last_of, last_found, list_of, found_bytes, IsInArea};
 
 use crate::places::{counts, sector_of};
 use crate::scan::{Found, Scan};
@@ -83,6 +83,7 @@ pub fn find<F: Flash, L: Ledger>(
     // the bytes that it names decide for the id
     ensures value { let d = F.device flash.now in
         last (list_of (unit_of d area.now) (sectors_of d area.now)) id ≡ option_and_then (λ f. value_of (found_bytes (sectors_of d area.now) f)) result }
+    ensures in_area { IfSome result (IsInArea area.now.sectors (sector_size (F.device flash.now) area.now)) }
 {
     let current = scan.current;
     let newest = find_among(flash, area, current, 0, current + 1, id, steps);

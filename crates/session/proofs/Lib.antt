@@ -1,3 +1,5 @@
 pub mod ListingLemmas
+pub mod LostLine
+pub mod Served
 pub mod SoFar
 pub mod StoreLemmas

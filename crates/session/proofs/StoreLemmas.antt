@@ -1,4 +1,4 @@
--- What a set makes of a sector's contents.
+-- What a set makes of an area's contents.
 use Rattle.std.proofs.Common.{◌≡◌, ◌⊎◌, ℕ, zero, suc, ◌+◌, ◌-◌, ◌*◌, ◌/◌, ◌^◌, ◌<◌, ◌≤◌, Bool, true, false, cond, eqb, leb, List, [], ◌∷◌, ◌++◌, length, take, drop, Some, None, refl, sym, ap, subst, ◌∙◌, inl, inr, arith}
 use Rattle.std.specs.Prelude.{slice_range}
 use Rattle.std.proofs.lemmas.Nat.{le-div}
@@ -10,7 +10,7 @@ use Rattle.flash_sim.specs.Device.{Device, counted}
 use Rattle.flash_sim.specs.Bank.{IsLawful}
 use Rattle.flash_map.specs.declared.area.Area.{Area}
 use Rattle.flash_map.specs.declared.area.Role.{Role}
-use Rattle.flash_map.specs.Area.{unit_of, sectors_of, geometry_of}
+use Rattle.flash_map.specs.Area.{unit_of, sectors_of, sector_at, geometry_of}
 use Rattle.flash_map.specs.Lawful.{HasUnit}
 use Rattle.flash_map.proofs.Places.{length-sector}
 use Rattle.nvs_store.specs.declared.scan.Scan.{Scan}
@@ -22,11 +22,12 @@ use Rattle.slot_list.specs.Slots.{Slot}
 use Rattle.slot_list.proofs.ItemLemmas.{items_of-push}
 use Rattle.nvs_store.specs.Geometry.{slot_size, cost, capacity}
 use Rattle.nvs_store.specs.Sector.{low, data_end, has_gc_done, used_slots, is_gc_done, pairs, AddsPair, StopsAdding}
-use Rattle.nvs_store.specs.Scans.{fits, sector_scan, scan_of, sector_at, AddsPairAt, StopsAddingAt}
+use Rattle.nvs_store.specs.Scans.{fits, sector_scan, list_of, AddsPairAt, StopsAddingAt}
 use Rattle.nvs_store.proofs.SlotReads.{slot_widths}
 use Rattle.session.specs.Contents.{contents_of, used_of, IsStored, Fits}
 use Rattle.session.specs.Sets.{Refuses, Stores, Loses}
 use Rattle.session.specs.Standing.{IsSound, Stands}
+use Rattle.session.proofs.Served.{stands_first}
 
 -- what is kept for the gc-done entry
 abbrev pub kept : ℕ → List ℕ → ℕ
@@ -149,7 +150,12 @@ pub record IsSectorOf (geometry : Geometry) (sector : List ℕ) : Type 0 where
 large_enough : (geometry : Geometry) (sector : List ℕ) → IsSectorOf geometry sector → 4 * slot_size geometry.unit ≤ length sector
 large_enough geometry sector is = let widths = slot_widths geometry.unit is.unit in omega (arith, is.long, is.large, widths.no_more)
 
-pub refuses : (geometry : Geometry) (sectors : List (List ℕ)) (id : ℕ) (bytes : List ℕ) (spent : ℕ) → IsSectorOf geometry (sector_at sectors 0) → 0 < length bytes → fits geometry.unit (scan_of geometry.unit sectors) (length bytes) ≡ false → ¬ IsStored (contents_of geometry.unit sectors) id bytes → Refuses geometry id bytes spent spent (contents_of geometry.unit sectors) (contents_of geometry.unit sectors)
+-- what the test for room says of a scan of the first sector
+abbrev pub FitsFirst : Geometry → List (List ℕ) → List ℕ → Bool → Type 0
+FitsFirst geometry sectors bytes answer = fits geometry.unit (sector_scan geometry.unit 0 (sector_at sectors 0)) (length bytes) ≡ answer
+
+pub refuses : (geometry : Geometry) (sectors : List (List ℕ)) (id : ℕ) (bytes : List ℕ) (spent : ℕ) → IsSectorOf geometry (sector_at sectors 0) → 0 < length bytes → FitsFirst geometry sectors bytes false → ¬ IsStored (contents_of geometry.unit sectors) id bytes
+    → Refuses geometry id bytes spent spent (contents_of geometry.unit sectors) (contents_of geometry.unit sectors)
 refuses geometry sectors id bytes spent is some full absent = record {
   not_stored = absent;
   too_much = subst (λ (size : ℕ). capacity geometry.unit size < used_of geometry.unit (sector_at sectors 0) + cost geometry.unit (length bytes)) is.long (full_beside geometry.unit (length bytes) (sector_at sectors 0) (large_enough geometry (sector_at sectors 0) is) some full);
@@ -157,17 +163,19 @@ refuses geometry sectors id bytes spent is some full absent = record {
   same = refl;
 }
 
-fits_geometry : (geometry : Geometry) (sectors : List (List ℕ)) (bytes : List ℕ) → IsSectorOf geometry (sector_at sectors 0) → 0 < length bytes → fits geometry.unit (scan_of geometry.unit sectors) (length bytes) ≡ true → Fits geometry (contents_of geometry.unit sectors) bytes
+fits_geometry : (geometry : Geometry) (sectors : List (List ℕ)) (bytes : List ℕ) → IsSectorOf geometry (sector_at sectors 0) → 0 < length bytes → FitsFirst geometry sectors bytes true → Fits geometry (contents_of geometry.unit sectors) bytes
 fits_geometry geometry sectors bytes is some fit = subst (λ (size : ℕ). used_of geometry.unit (sector_at sectors 0) + cost geometry.unit (length bytes) ≤ capacity geometry.unit size) is.long (fits_beside geometry.unit (length bytes) (sector_at sectors 0) (large_enough geometry (sector_at sectors 0) is) some fit)
 
 -- what fits has its cost free
-enough_free : (geometry : Geometry) (sectors : List (List ℕ)) (bytes : List ℕ) → 0 < length bytes → fits geometry.unit (scan_of geometry.unit sectors) (length bytes) ≡ true → cost geometry.unit (length bytes) ≤ low geometry.unit (sector_at sectors 0) - data_end geometry.unit (sector_at sectors 0)
+enough_free : (geometry : Geometry) (sectors : List (List ℕ)) (bytes : List ℕ) → 0 < length bytes → FitsFirst geometry sectors bytes true → cost geometry.unit (length bytes) ≤ low geometry.unit (sector_at sectors 0) - data_end geometry.unit (sector_at sectors 0)
 enough_free geometry sectors bytes some fit =
     let enough = leb-true (cost geometry.unit (length bytes) + reserve geometry.unit (sector_at sectors 0)) (low geometry.unit (sector_at sectors 0) - data_end geometry.unit (sector_at sectors 0)) (fits_is geometry.unit (length bytes) (sector_at sectors 0) true some fit) in
     omega arith
 
-pub stores : (geometry : Geometry) (sectors sectors' : List (List ℕ)) (unit' id : ℕ) (bytes : List ℕ) (spent spent' : ℕ) → IsSectorOf geometry (sector_at sectors 0) → 0 < length bytes → fits geometry.unit (scan_of geometry.unit sectors) (length bytes) ≡ true → ¬ IsStored (contents_of geometry.unit sectors) id bytes → unit' ≡ geometry.unit → AddsPairAt geometry.unit sectors sectors' 0 id bytes → spent' ≡ counted spent (cost geometry.unit (length bytes) / geometry.unit) → Stores geometry id bytes spent spent' (contents_of geometry.unit sectors) (contents_of unit' sectors')
-stores geometry sectors sectors' unit' id bytes spent spent' is some fit absent same adds spends =
+pub stores : (geometry : Geometry) (sectors sectors' : List (List ℕ)) (unit' id : ℕ) (bytes : List ℕ) (spent spent' : ℕ) → IsSectorOf geometry (sector_at sectors 0) → 0 < length bytes → FitsFirst geometry sectors bytes true → ¬ IsStored (contents_of geometry.unit sectors) id bytes → unit' ≡ geometry.unit
+    → AddsPairAt geometry.unit sectors sectors' 0 id bytes → list_of geometry.unit sectors' ≡ list_of geometry.unit sectors ++ (id, bytes) ∷ [] → spent' ≡ counted spent (cost geometry.unit (length bytes) / geometry.unit)
+    → Stores geometry id bytes spent spent' (contents_of geometry.unit sectors) (contents_of unit' sectors')
+stores geometry sectors sectors' unit' id bytes spent spent' is some fit absent same adds list spends =
     let old = sector_at sectors 0 in
     let new = sector_at sectors' 0 in
     record {
@@ -176,21 +184,23 @@ stores geometry sectors sectors' unit' id bytes spent spent' is some fit absent 
       some = spent_more spent spent' (cost geometry.unit (length bytes) / geometry.unit) (some_units geometry.unit (length bytes) is.unit) spends;
       is =
           ap (λ (unit : ℕ). contents_of unit sectors') same
-          ∙ ap (λ (items : Items). record { items = items; used = used_of geometry.unit new }) (items_grown (pairs geometry.unit old) (pairs geometry.unit new) id bytes some adds.adds.list)
-          ∙ ap (λ (used : ℕ). record { items = insert (items_of (pairs geometry.unit old)) id bytes; used = used }) (used_grown geometry.unit id old new bytes (large_enough geometry old is) (enough_free geometry sectors bytes some fit) adds.adds);
+          ∙ ap (λ (items : Items). record { items = items; used = used_of geometry.unit new }) (items_grown (list_of geometry.unit sectors) (list_of geometry.unit sectors') id bytes some list)
+          ∙ ap (λ (used : ℕ). record { items = insert (items_of (list_of geometry.unit sectors)) id bytes; used = used }) (used_grown geometry.unit id old new bytes (large_enough geometry old is) (enough_free geometry sectors bytes some fit) adds.adds);
     }
 
-pub loses : (geometry : Geometry) (sectors sectors' : List (List ℕ)) (unit' id : ℕ) (bytes : List ℕ) → IsSectorOf geometry (sector_at sectors 0) → 0 < length bytes → fits geometry.unit (scan_of geometry.unit sectors) (length bytes) ≡ true → ¬ IsStored (contents_of geometry.unit sectors) id bytes → unit' ≡ geometry.unit → StopsAddingAt geometry.unit sectors sectors' 0 id bytes → Loses geometry id bytes (contents_of geometry.unit sectors) (contents_of unit' sectors')
-loses geometry sectors sectors' unit' id bytes is some fit absent same stops =
+pub loses : (geometry : Geometry) (sectors sectors' : List (List ℕ)) (unit' id : ℕ) (bytes : List ℕ) → IsSectorOf geometry (sector_at sectors 0) → 0 < length bytes → FitsFirst geometry sectors bytes true → ¬ IsStored (contents_of geometry.unit sectors) id bytes → unit' ≡ geometry.unit
+    → StopsAddingAt geometry.unit sectors sectors' 0 id bytes → (list_of geometry.unit sectors' ≡ list_of geometry.unit sectors) ⊎ (list_of geometry.unit sectors' ≡ list_of geometry.unit sectors ++ (id, bytes) ∷ [])
+    → Loses geometry id bytes (contents_of geometry.unit sectors) (contents_of unit' sectors')
+loses geometry sectors sectors' unit' id bytes is some fit absent same stops list =
     let old = sector_at sectors 0 in
     let new = sector_at sectors' 0 in
     record {
       not_stored = absent;
       fits = fits_geometry geometry sectors bytes is some fit;
       may_hold = record {
-        items = elim stops.stops.list [
-          | inl keeps ↦ inl (ap (λ (unit : ℕ). items_of (pairs unit new)) same ∙ ap items_of keeps.list)
-          | inr adds ↦ inr (ap (λ (unit : ℕ). items_of (pairs unit new)) same ∙ items_grown (pairs geometry.unit old) (pairs geometry.unit new) id bytes some adds.list)
+        items = elim list [
+          | inl kept ↦ inl (ap (λ (unit : ℕ). items_of (list_of unit sectors')) same ∙ ap items_of kept)
+          | inr grown ↦ inr (ap (λ (unit : ℕ). items_of (list_of unit sectors')) same ∙ items_grown (list_of geometry.unit sectors) (list_of geometry.unit sectors') id bytes some grown)
         ];
         at_most = subst (λ (unit : ℕ). used_of unit new ≤ used_of geometry.unit old + cost geometry.unit (length bytes)) (sym same) (used_stopped geometry.unit id old new bytes (large_enough geometry old is) stops.stops);
       };
@@ -200,13 +210,13 @@ loses geometry sectors sectors' unit' id bytes is some fit absent same stops =
 pub sector_of : (d : Device) (area : Area) → IsLawful d.banks d.bytes → IsSound d area → IsSectorOf (geometry_of d area) (sector_at (sectors_of d area) 0)
 sector_of d area lawful sound = record {
   unit = subst (λ (r : Role). HasUnit r (unit_of d area)) sound.role sound.lawful.unit;
-  long = length-sector d area lawful sound.lawful.in_bank 0 sound.lawful.some;
+  long = length-sector d area lawful sound.lawful.in_bank 0 (omega (arith, sound.lawful.several));
   large = sound.lawful.at_least;
 }
 
 -- what the code's test says of the scan
-pub fits_scan : (d : Device) (area : Area) (geometry : Geometry) (scan : Scan) (len : ℕ) (answer told : Bool) → geometry ≡ geometry_of d area → Stands d area scan → answer ≡ fits geometry.unit scan len → answer ≡ told → fits (unit_of d area) (scan_of (unit_of d area) (sectors_of d area)) len ≡ told
-fits_scan d area geometry scan len answer told geometry_is stands tests is =
-    ap (λ (s : Scan). fits (unit_of d area) s len) (sym stands)
-    ∙ ap (λ (g : Geometry). fits g.unit scan len) (sym geometry_is)
+pub fits_scan : (d : Device) (area : Area) (geometry : Geometry) (scan : Scan) (bytes : List ℕ) (answer told : Bool) → geometry ≡ geometry_of d area → IsSound d area → Stands d area scan → answer ≡ fits geometry.unit scan (length bytes) → answer ≡ told → FitsFirst (geometry_of d area) (sectors_of d area) bytes told
+fits_scan d area geometry scan bytes answer told geometry_is sound stands tests is =
+    ap (λ (s : Scan). fits (unit_of d area) s (length bytes)) (sym (stands_first d area scan sound stands))
+    ∙ ap (λ (g : Geometry). fits g.unit scan (length bytes)) (sym geometry_is)
     ∙ sym tests ∙ is

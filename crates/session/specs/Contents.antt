@@ -1,7 +1,8 @@
--- What a sector holds, as a line of a script sees it: a finite map from numbers to bytes, and the room that is taken.
-use Rattle.std.specs.Prelude.{◌≡◌, ℕ, ◌+◌, ◌-◌, ◌≤◌, Some, List, [], length, slice_index_or, if◌then◌else◌}
+-- What an area holds, as a line of a script sees it: a finite map from numbers to bytes, and the room that is taken.
+use Rattle.std.specs.Prelude.{◌≡◌, ℕ, ◌+◌, ◌-◌, ◌≤◌, Some, List, [], length, if◌then◌else◌}
 use Rattle.std.specs.FinMap.{empty, get, insert}
 use Rattle.flash_map.specs.declared.area.Geometry.{Geometry}
+use Rattle.flash_map.specs.Area.{sector_at}
 use Rattle.slot_list.specs.Items.{Items, items_of}
 use Rattle.nvs_store.specs.Geometry.{slot_size, cost, capacity}
 use Rattle.nvs_store.specs.Sector.{low, data_end, has_gc_done}
@@ -16,9 +17,9 @@ pub record Contents : Type 0 where
 abbrev pub used_of : ℕ → List ℕ → ℕ
 used_of unit sector = length sector - slot_size unit - (if has_gc_done unit sector then slot_size unit else 0) - (low unit sector - data_end unit sector)
 
--- what the sectors of an area hold, of which the first is used
+-- what the sectors of an area hold, and what is taken of the first one
 abbrev pub contents_of : ℕ → List (List ℕ) → Contents
-contents_of unit sectors = record { items = items_of (list_of unit sectors); used = used_of unit (slice_index_or sectors 0 []) }
+contents_of unit sectors = record { items = items_of (list_of unit sectors); used = used_of unit (sector_at sectors 0) }
 
 abbrev pub blank : Contents
 blank = record { items = empty; used = 0 }

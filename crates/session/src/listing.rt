@@ -7,7 +7,7 @@ ghost use Rattle.flash_map.specs.declared.area.Role.TheVariants.{Nvs};
 ghost use Rattle.session.specs.Contents.{contents_of};
 ghost use Rattle.session.specs.Fault.{IsFault};
 ghost use Rattle.session.specs.Listing.{item_of, listed};
-ghost use Rattle.session.specs.Standing.{IsSound, Stands};
+ghost use Rattle.session.specs.Standing.{IsServed, IsSound, Stands};
 
 use crate::run::SessionFault;
 use crate::store::item;
@@ -73,6 +73,7 @@ fn list_counted<F: Flash, L: Ledger>(
     requires some { 0 < L.parts }
     requires lawful { IsLawfulFor (F.device flash.now).banks area.now }
     requires role { area.now.role ≡ Nvs }
+    requires served { let d = F.device flash.now in IsServed (unit_of d area.now) (sectors_of d area.now) }
     ensures items { let d = F.device flash.now in IfOk result (λ all. all.items ≡ listed (contents_of (unit_of d area.now) (sectors_of d area.now)).items) }
     ensures undamaged { OnOk result (IsSound (F.device flash.now) area.now) }
     ensures fault { IfErr result (IsFault area.now (F.device flash.now) (F.device flash.now)) }
@@ -95,6 +96,7 @@ pub fn list_items<F: Flash>(
 ) -> Result<Vec<Item>, SessionFault>
     requires lawful { IsLawfulFor (F.device flash.now).banks area.now }
     requires role { area.now.role ≡ Nvs }
+    requires served { let d = F.device flash.now in IsServed (unit_of d area.now) (sectors_of d area.now) }
     ensures items { let d = F.device flash.now in IfOk result (λ all. all.items ≡ listed (contents_of (unit_of d area.now) (sectors_of d area.now)).items) }
     ensures undamaged { OnOk result (IsSound (F.device flash.now) area.now) }
     ensures fault { IfErr result (IsFault area.now (F.device flash.now) (F.device flash.now)) }

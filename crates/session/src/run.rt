@@ -5,7 +5,7 @@ ghost use Rattle.flash_map.specs.Area.{unit_of, sectors_of};
 ghost use Rattle.flash_map.specs.declared.area.Role.TheVariants.{Nvs};
 ghost use Rattle.session.specs.LineDone.{LineDone, IsLawfulLine, Runs};
 ghost use Rattle.session.specs.Fault.{IsFault};
-ghost use Rattle.session.specs.Standing.{IsSound, Stands};
+ghost use Rattle.session.specs.Standing.{IsServed, IsSound, Stands};
 ghost use Rattle.session.specs.declared.run.SessionFault.TheVariants as session_fault;
 ghost use Rattle.script_lines.specs.declared.line.Line.TheVariants.{Set, Get, Cut, Uncut, Mount};
 
@@ -169,6 +169,7 @@ fn run_counted<B: Bench, L: Ledger>(
     requires some { 0 < L.parts }
     requires lawful { IsLawfulFor (B.device bench.old).banks area.now }
     requires role { area.now.role ≡ Nvs }
+    requires served { let d = B.device bench.old in IsServed (unit_of d area.now) (sectors_of d area.now) }
     requires on { (B.device bench.old).is_on ≡ true }
     requires lines { All IsLawfulLine lines.now }
     ensures runs { IfOk result (λ answers. Runs area.now (Mount ∷ lines.now) answers (B.device bench.old) (B.device bench.new)) }
@@ -199,6 +200,7 @@ pub fn run_lines<B: Bench>(
 ) -> Result<Answers, SessionFault>
     requires lawful { IsLawfulFor (B.device bench.old).banks area.now }
     requires role { area.now.role ≡ Nvs }
+    requires served { let d = B.device bench.old in IsServed (unit_of d area.now) (sectors_of d area.now) }
     requires on { (B.device bench.old).is_on ≡ true }
     requires lines { All IsLawfulLine lines.now }
     ensures runs { IfOk result (λ answers. Runs area.now (Mount ∷ lines.now) answers (B.device bench.old) (B.device bench.new)) }

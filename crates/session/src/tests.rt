@@ -13,31 +13,31 @@ const SMALL: Bank = Bank {
     kind: Kind::Erasing,
     unit: 4,
     sector: 512,
-    count: 1,
+    count: 2,
 };
 
 fn small_area() -> Area
     ensures role { result.role ≡ Nvs }
     ensures bank { result.bank ≡ 0 }
     ensures first { result.first ≡ 0 }
-    ensures sectors { result.sectors ≡ 1 }
+    ensures sectors { result.sectors ≡ 2 }
 {
     Area {
         label: ArrayString::new(),
         role: Role::Nvs,
         bank: 0,
         first: 0,
-        sectors: 1,
+        sectors: 2,
     }
 }
 
-fn load<B: Bench>(alloc: Global, bench: &mut B, sector: Vec<u8>) -> Result<(), Fail>
-    requires { length sector.items ≡ 512 }
+fn load<B: Bench>(alloc: Global, bench: &mut B, sectors: Vec<u8>) -> Result<(), Fail>
+    requires { length sectors.items ≡ 1024 }
     ensures banks { OnOk result ((B.device bench.new).banks ≡ SMALL ∷ []) }
     ensures on { OnOk result ((B.device bench.new).is_on ≡ true) }
 {
     let banks = vec![in alloc; SMALL]?;
-    let bytes = vec![in alloc; sector]?;
+    let bytes = vec![in alloc; sectors]?;
     bench.load(alloc, banks, bytes)?;
     Ok(())
 }

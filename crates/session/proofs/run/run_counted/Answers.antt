@@ -7,7 +7,7 @@ use Rattle.session.proofs.run.run_counted.Goals as goal
 pub loop-line-init : goal.loop-line-init
 loop-line-init g c = record {
   so_far = rw (c.in_ok-push.ensures.ok, c.new-answers.ensures) (opened c.args.lines.now (g.B.Flash.device c.args.bench.now) c.requires.on);
-  sound = record { lawful = c.requires.lawful; role = c.requires.role; undamaged = c.in-Ok.ensures.undamaged };
+  sound = record { lawful = c.requires.lawful; role = c.requires.role; served = c.requires.served; undamaged = c.in-Ok.ensures.undamaged };
   stands = λ on. c.in-Ok.ensures.scan;
 }
 

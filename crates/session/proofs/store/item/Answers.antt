@@ -24,9 +24,9 @@ returns g c =
     let d = g.F.Flash.device c.args.flash.now in
     let entry = c.in_ok-found.found.entry in
     let sector : List ℕ = sector_bytes d c.args.area.now c.in_ok-found.found.sector in
-    let long = length-sector d c.args.area.now (g.met.F.Flash.is_lawful c.args.flash.now) c.requires.sound.lawful.in_bank c.in_ok-found.found.sector c.in_ok-found.ensures.sector in
+    let long = length-sector d c.args.area.now (g.met.F.Flash.is_lawful c.args.flash.now) c.requires.sound.lawful.in_bank c.in_ok-found.found.sector c.in_ok-found.ensures.in_area.sector in
     let same : c.area_view.result.now ≡ slice_range sector entry.offset (entry.offset + entry.len) =
     c.area_view.ensures.bytes ∙ ap (λ (at : ℕ). slice_range sector at (at + c.from-len.result)) c.from-offset.ensures ∙ ap (λ (len : ℕ). slice_range sector entry.offset (entry.offset + len)) c.from-len.ensures in
     ap Some same
     ∙ sym (get-items_of (list_of (unit_of d c.args.area.now) (sectors_of d c.args.area.now)) c.args.id ∙ c.in_ok-found.ensures.value
-    ∙ value_some sector entry.offset entry.len (omega (arith, long, c.in_ok-found.ensures.inside)) c.if-found-eq0.false)
+    ∙ value_some sector entry.offset entry.len (omega (arith, long, c.in_ok-found.ensures.in_area.inside)) c.if-found-eq0.false)

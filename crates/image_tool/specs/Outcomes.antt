@@ -1,28 +1,26 @@
 -- What a command prints and writes when it is done.
-use Rattle.std.specs.Prelude.{◌≡◌, ℕ, ◌+◌, Option, Some, None, List, [], ◌∷◌, ◌++◌, flat_map, codes}
+use Rattle.std.specs.Prelude.{◌≡◌, ℕ, Option, Some, None, List, [], ◌∷◌, ◌++◌, map, flat_map, codes}
 use Rattle.std.specs.Fmt.{decimal}
 use Rattle.hex.specs.Hex.{encode_lower}
-use Rattle.flash_sim.specs.Device.{Device, counted, dropped}
+use Rattle.flash_sim.specs.Device.{Device}
 use Rattle.flash_map.specs.declared.area.Area.{Area}
 use Rattle.zs_host.specs.Outside.{Outside, written, printed_more}
 use Rattle.script_lines.specs.declared.line.Line.{Line}
 use Rattle.script_lines.specs.declared.line.Line.TheVariants.{Mount}
 use Rattle.script_lines.specs.declared.answer.Answer.{Answer}
 use Rattle.script_lines.specs.Answer.{text_of}
-use Rattle.image_file.specs.Format.{Plain}
+use Rattle.image_file.specs.Format.{Plain, plain_area}
 use Rattle.image_file.specs.Reading.{IsImageFile}
 use Rattle.image_file.specs.Spec.{IsSpec}
 use Rattle.command_words.specs.declared.commands.Command.{Command}
 use Rattle.command_words.specs.declared.commands.Command.TheVariants.{Build, Run, Dump}
 use Rattle.nvs_store.specs.Scans.{damage_of}
 use Rattle.session.specs.declared.listing.Item.{Item}
-use Rattle.session.specs.Counts.{units_in, losses_in}
 use Rattle.session.specs.Listing.{listed}
-use Rattle.session.specs.Planned.{Planned}
-use Rattle.session.specs.Session.{Session, IsCounted}
+use Rattle.session.specs.LineDone.{Runs}
 use Rattle.image_tool.specs.declared.outcome.OutFile.{OutFile}
 use Rattle.image_tool.specs.Reading.{HasImage, HasScript}
-use Rattle.image_tool.specs.Served.{IsServedImage, first_area, area_bank, area_geometry, area_sectors, area_contents, state_on, left, begun}
+use Rattle.image_tool.specs.Served.{IsServedImage, first_area, area_bank, area_sectors, area_contents, left, begun}
 
 -- a file's name and its bytes
 abbrev pub File : Type 0
@@ -58,25 +56,23 @@ pub record Opens (host : Outside) (name : List ℕ) (image : Plain) : Type 0 whe
   pub has : HasImage host name image
   pub served : IsServedImage image
 
+-- the bench was loaded with IMAGE, which has these areas
+pub record HoldsImage (host : Outside) (name : List ℕ) (bench bench' : Device) (areas : List Area) : Type 0 where
+  pub image : Plain
+  pub opens : Opens host name image
+  pub areas_are : map plain_area areas ≡ image.areas
+  pub loaded : bench' ≡ begun image bench
+
 -- ---- run
 
 abbrev pub texts : List Answer → List ℕ
 texts answers = flat_map text_of answers
 
--- the answers of a plain map that begins with what the area holds, to the opening mount and the lines
-pub record AreaRun (image : Plain) (area : Area) (lines : List Line) (answers : List Answer) (old new : Device) : Type 0 where
-  -- wherever power is lost, and however often
-  pub session : Session (area_geometry image area) new.spent (Mount ∷ lines) answers (state_on image area (begun image old)) (state_on image area new)
-  pub units : old.spent + units_in answers ≡ new.spent
-  pub losses : new.losses ≡ counted old.losses (losses_in answers)
-  pub planned : IsCounted new.spent → Planned (dropped old.plan) (Mount ∷ lines) answers
-  pub loads : new.loads ≡ counted old.loads 1
-  pub banks : new.banks ≡ image.banks
-
--- what a run leaves: its answers, and the file of the image with the bytes that the bench holds
+-- What a run from a bench with the image leaves: the answers of a plain map that begins with what the image's area
+-- holds, wherever power is lost, and the file of the image with the bytes that the bench then holds.
 pub record LeavesImage (image : Plain) (lines : List Line) (old new : Device) (answers : List Answer) (bytes : List ℕ) : Type 0 where
   pub undamaged : IsUndamaged image (first_area image)
-  pub run : AreaRun image (first_area image) lines answers old new
+  pub runs : Runs (first_area image) (Mount ∷ lines) answers old new
   pub is_file : IsImageFile bytes (left image new)
 
 -- THE HEADLINE.
@@ -89,7 +85,7 @@ pub record RunsScript (name script out : List ℕ) (host : Outside) (bench bench
   pub read : HasScript host script lines
   pub answers : List Answer
   pub bytes : List ℕ
-  pub leaves : LeavesImage image lines bench bench' answers bytes
+  pub leaves : LeavesImage image lines (begun image bench) bench' answers bytes
   pub prints : text ≡ texts answers
   pub writes : file ≡ Some (out, bytes)
 
@@ -99,16 +95,16 @@ abbrev pub item_line : Item → List ℕ
 item_line item = codes "item " ++ decimal item.id ++ 32 ∷ (encode_lower item.value ++ 10 ∷ [])
 
 -- the text has a line for each item of the image's area, by rising ids
-pub record ListsItems (image : Plain) (old new : Device) (text : List ℕ) : Type 0 where
+pub record ListsItems (image : Plain) (text : List ℕ) : Type 0 where
   pub undamaged : IsUndamaged image (first_area image)
   pub prints : text ≡ flat_map item_line (listed (area_contents image (first_area image)).items)
-  pub loads : new ≡ begun image old
 
 -- no file is written
 pub record Dumps (name : List ℕ) (host : Outside) (bench bench' : Device) (text : List ℕ) (file : Option File) : Type 0 where
   pub image : Plain
   pub opens : Opens host name image
-  pub lists : ListsItems image bench bench' text
+  pub lists : ListsItems image text
+  pub idle : bench' ≡ begun image bench
   pub writes : file ≡ None
 
 -- ---- any command

@@ -54,6 +54,13 @@ MakesOr P Q (Err (Refused refusal)) = Q refusal
 MakesOr P Q (Err HostFailed) = ⊥
 MakesOr P Q (Err NoMemory) = ⊤
 
+-- this holds where a command was refused
+abbrev pub OnRefused : {X : Type 0} → Result X Stop → Type 0 → Type 0
+OnRefused (Ok x) P = ⊤
+OnRefused (Err (Refused refusal)) P = P
+OnRefused (Err HostFailed) P = ⊤
+OnRefused (Err NoMemory) P = ⊤
+
 -- ---- an image
 
 -- IMAGE is the file of this image

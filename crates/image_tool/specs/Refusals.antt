@@ -1,5 +1,5 @@
 -- Why a command is refused, and the line that says so.
-use Rattle.std.specs.Prelude.{◌≡◌, ◌⊎◌, ℕ, Some, List, ◌++◌, codes}
+use Rattle.std.specs.Prelude.{◌≡◌, ◌⊎◌, ⊤, ℕ, Some, Result, Ok, Err, List, ◌++◌, map, codes}
 use Rattle.std.specs.Fmt.{decimal}
 use Rattle.flash_sim.specs.Device.{Device}
 use Rattle.flash_map.specs.declared.area.Area.{Area}
@@ -12,7 +12,7 @@ use Rattle.script_lines.specs.declared.script.LineWhy.{LineWhy}
 use Rattle.script_lines.specs.declared.script.LineWhy.TheVariants as line_why
 use Rattle.image_file.specs.declared.image.ImageWhy.{ImageWhy}
 use Rattle.image_file.specs.declared.image.ImageWhy.TheVariants as image_why
-use Rattle.image_file.specs.Format.{Plain}
+use Rattle.image_file.specs.Format.{Plain, plain_area}
 use Rattle.image_file.specs.Parts.{parts}
 use Rattle.image_file.specs.Spec.{FirstBad, nothing_listed}
 use Rattle.command_words.specs.declared.commands.Command.{Command}
@@ -23,6 +23,8 @@ use Rattle.image_tool.specs.declared.status.Status.TheVariants as status
 use Rattle.image_tool.specs.declared.stops.Refusal.{Refusal}
 use Rattle.image_tool.specs.declared.stops.Refusal.TheVariants.{BadSpec, NoFile, BadFile, Unbuilt, BadArea, BadScript}
 use Rattle.image_tool.specs.Outcomes.{Opens}
+use Rattle.image_tool.specs.declared.stops.Stop.{Stop}
+use Rattle.image_tool.specs.declared.stops.Stop.TheVariants.{Refused, HostFailed, NoMemory}
 use Rattle.image_tool.specs.Reading.{HasImage, LacksImage, HasScript, LacksScript}
 use Rattle.image_tool.specs.Served.{IsServedImage, first_area, area_bank, area_sectors, begun}
 
@@ -32,40 +34,48 @@ use Rattle.image_tool.specs.Served.{IsServedImage, first_area, area_bank, area_s
 abbrev pub BuildCauses : List ℕ → Refusal → Type 0
 BuildCauses spec refusal = (refusal ≡ BadSpec) × (n : ℕ) × FirstBad nothing_listed (parts 44 spec) n
 
--- IMAGE is an image file that is not served; its first area is named
-pub record IsUnbuilt (host : Outside) (name label : List ℕ) : Type 0 where
-  pub image : Plain
-  pub has : HasImage host name image
-  pub unserved : IsServedImage image → ⊥
-  pub label_is : label ≡ (first_area image).label.bytes
+-- the image is not served; its first area is named
+abbrev pub Unserved : Plain → Device → Device → Refusal → Type 0
+Unserved image bench bench' (Unbuilt label) = (IsServedImage image → ⊥) × (label.bytes ≡ (first_area image).label.bytes) × ((bench' ≡ bench) ⊎ (bench' ≡ begun image bench))
+Unserved image bench bench' BadSpec = ⊥
+Unserved image bench bench' (NoFile word) = ⊥
+Unserved image bench bench' (BadFile at reason) = ⊥
+Unserved image bench bench' (BadArea label damage) = ⊥
+Unserved image bench bench' (BadScript n reason) = ⊥
 
--- why no bench was loaded with IMAGE
-abbrev pub LacksServed : Outside → List ℕ → Refusal → Type 0
-LacksServed host name (Unbuilt label) = IsUnbuilt host name label.bytes
-LacksServed host name refusal = LacksImage host name refusal
+-- why there is no image to work on: IMAGE is no image file, or one that is not served
+abbrev pub LacksServed : Outside → List ℕ → Device → Device → Refusal → Type 0
+LacksServed host name bench bench' refusal =
+    (LacksImage host name refusal × (bench' ≡ bench)) ⊎ ((image : Plain) × HasImage host name image × Unserved image bench bench' refusal)
 
--- the opening mount found the area damaged, and changed nothing
-abbrev pub IsDamaged : Plain → Area → Device → Device → Refusal → Type 0
-IsDamaged image area bench bench' (BadArea label damage) =
-    (label.bytes ≡ area.label.bytes) × (damage_of (area_bank image area).unit (area_sectors image area) ≡ Some damage) × (bench' ≡ begun image bench)
-IsDamaged image area bench bench' BadSpec = ⊥
-IsDamaged image area bench bench' (NoFile word) = ⊥
-IsDamaged image area bench bench' (BadFile at reason) = ⊥
-IsDamaged image area bench bench' (Unbuilt label) = ⊥
-IsDamaged image area bench bench' (BadScript n reason) = ⊥
+-- the bench was loaded with the image, which is served, or it is not served
+abbrev pub ServesOr : Plain → Device → Device → Result (List Area) Stop → Type 0
+ServesOr image bench bench' (Ok areas) = IsServedImage image × (map plain_area areas ≡ image.areas) × (bench' ≡ begun image bench)
+ServesOr image bench bench' (Err (Refused refusal)) = Unserved image bench bench' refusal
+ServesOr image bench bench' (Err HostFailed) = ⊥
+ServesOr image bench bench' (Err NoMemory) = ⊤
 
--- In the order in which they are looked at: the image, the script, the area.
+-- the image's area is damaged
+abbrev pub IsDamaged : Plain → Refusal → Type 0
+IsDamaged image (BadArea label damage) =
+    (label.bytes ≡ (first_area image).label.bytes) × (damage_of (area_bank image (first_area image)).unit (area_sectors image (first_area image)) ≡ Some damage)
+IsDamaged image BadSpec = ⊥
+IsDamaged image (NoFile word) = ⊥
+IsDamaged image (BadFile at reason) = ⊥
+IsDamaged image (Unbuilt label) = ⊥
+IsDamaged image (BadScript n reason) = ⊥
+
+-- In the order in which they are looked at: the image, the script, the area. Nothing was run.
 abbrev pub RunCauses : List ℕ → List ℕ → Outside → Device → Device → Refusal → Type 0
 RunCauses name script host bench bench' refusal =
-    (LacksServed host name refusal × (bench' ≡ bench))
-    ⊎ ((image : Plain) × Opens host name image
-    × ((LacksScript host script refusal × (bench' ≡ bench))
-    ⊎ ((lines : List Line) × HasScript host script lines × IsDamaged image (first_area image) bench bench' refusal)))
+    LacksServed host name bench bench' refusal
+    ⊎ ((image : Plain) × Opens host name image × (bench' ≡ begun image bench)
+    × (LacksScript host script refusal ⊎ ((lines : List Line) × HasScript host script lines × IsDamaged image refusal)))
 
 abbrev pub DumpCauses : List ℕ → Outside → Device → Device → Refusal → Type 0
 DumpCauses name host bench bench' refusal =
-    (LacksServed host name refusal × (bench' ≡ bench))
-    ⊎ ((image : Plain) × Opens host name image × IsDamaged image (first_area image) bench bench' refusal)
+    LacksServed host name bench bench' refusal
+    ⊎ ((image : Plain) × Opens host name image × (bench' ≡ begun image bench) × IsDamaged image refusal)
 
 abbrev pub Causes : Command → Outside → Device → Device → Refusal → Type 0
 Causes (Build out spec) host bench bench' refusal = BuildCauses spec.now refusal × (bench' ≡ bench)

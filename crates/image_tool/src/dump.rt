@@ -1,31 +1,27 @@
 // The command `dump`.
-ghost use Rattle.std.specs.Prelude.{◌≡◌, flat_map};
-ghost use Rattle.image_file.specs.Format.{plain};
 ghost use Rattle.image_file.specs.Lawful.{IsImage};
 ghost use Rattle.image_tool.specs.Outcomes.{Dumps, ListsItems, file_of};
 ghost use Rattle.image_tool.specs.Reading.{MakesOr, ReadsOr};
 ghost use Rattle.image_tool.specs.Refusals.{DumpCauses, IsDamaged};
-ghost use Rattle.image_tool.specs.Served.{IsServedImage, first_area};
+ghost use Rattle.image_tool.specs.Served.{IsServedImage, held};
 
-use crate::bench_image::load_image;
 use crate::outcome::Outcome;
 use crate::printing::item_lines;
-use crate::serving::read_served;
+use crate::serving::open_image;
 use crate::stops::{Refusal, Stop};
+use flash_map::FlashMap;
 use flash_sim::Bench;
-use image_file::Image;
 use session::{SessionFault, list_items};
 use std::alloc::Global;
 use zs_host::Host;
 
-// A line for each item of the image's area.
-fn dump_image<'a, B: Bench>(alloc: Global, image: Image, bench: &mut B) -> Result<Vec<u8>, Stop<'a>>
-    requires image { IsImage (plain image) }
-    requires served { IsServedImage (plain image) }
-    ensures { let image = plain image in MakesOr (λ text. ListsItems image (B.device bench.old) (B.device bench.new) text.items) (IsDamaged image (first_area image) (B.device bench.old) (B.device bench.new)) result }
+// A line for each item of the area. The image of these areas is on the bench.
+fn dump_image<'a, B: Bench>(alloc: Global, areas: &FlashMap, bench: &B) -> Result<Vec<u8>, Stop<'a>>
+    requires image { IsImage (held areas.now (B.device bench.now)) }
+    requires served { IsServedImage (held areas.now (B.device bench.now)) }
+    ensures { let image = held areas.now (B.device bench.now) in MakesOr (λ text. ListsItems image text.items) (IsDamaged image) result }
 {
-    let map = load_image(alloc, image, bench)?;
-    let Some(area) = map.at(0) else {
+    let Some(area) = areas.at(0) else {
         unreachable!()
     };
     match list_items(alloc, bench, area) {
@@ -47,7 +43,12 @@ pub fn dump<'a, H: Host, B: Bench>(
 ) -> Result<Outcome<'a>, Stop<'a>>
     ensures { ReadsOr (λ outcome. Dumps image.now (H.outside host.old) (B.device bench.old) (B.device bench.new) outcome.text.items (file_of outcome.file)) (DumpCauses image.now (H.outside host.old) (B.device bench.old) (B.device bench.new)) (H.outside host.old) (H.outside host.new) result }
 {
-    let image = read_served(alloc, image, host)?;
-    let text = dump_image(alloc, image, bench)?;
-    Ok(Outcome { text, file: None })
+    let areas = match open_image(alloc, image, host, bench) {
+        Ok(areas) => areas,
+        Err(stop) => return Err(stop),
+    };
+    match dump_image(alloc, &areas, bench) {
+        Ok(text) => Ok(Outcome { text, file: None }),
+        Err(stop) => Err(stop),
+    }
 }

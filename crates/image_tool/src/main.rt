@@ -1,7 +1,6 @@
 //! Runs scripts on simulated flash that may lose power at any unit.
 #![tactic(auto)]
 
-mod bench_image;
 mod build;
 mod delivering;
 mod dump;
@@ -56,6 +55,3 @@ fn main(rt: HostRuntime) -> ExitCode {
     };
     ExitCode::from(status.code())
 }
-
-#[cfg(test)]
-mod tests;

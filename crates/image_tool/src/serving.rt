@@ -1,73 +1,76 @@
-// Which images are served.
-ghost use Rattle.std.specs.Prelude.{◌≡◌, ◌↔◌, ◌<◌, IsTrue, Some, length, slice_get};
-ghost use Rattle.flash_map.specs.Area.{sector_at};
+// Images on a bench.
+ghost use Rattle.std.specs.Prelude.{◌≡◌, IfOk, OnErr};
 ghost use Rattle.image_file.specs.Format.{plain};
 ghost use Rattle.image_file.specs.Lawful.{IsImage};
-ghost use Rattle.image_tool.specs.Served.{area_bank, area_sectors, AreBlank, IsServedImage};
+ghost use Rattle.image_file.specs.Reading.{IsImageFile};
 ghost use Rattle.image_tool.specs.Reading.{ReadsOr};
-ghost use Rattle.image_tool.specs.Outcomes.{Opens};
-ghost use Rattle.image_tool.specs.Refusals.{LacksServed};
+ghost use Rattle.image_tool.specs.Outcomes.{HoldsImage};
+ghost use Rattle.image_tool.specs.Refusals.{LacksServed, ServesOr};
+ghost use Rattle.image_tool.specs.Served.{begun, held};
 
 use crate::reading::read_image_file;
 use crate::stops::{Refusal, Stop};
-use flash_map::{Area, Role};
-use image_file::Image;
-use nvs_store::{is_closed, is_erased};
+use flash_map::{FlashMap, Role};
+use flash_sim::{Bench, NoMemory};
+use image_file::{Image, write_image};
+use session::is_served;
 use std::alloc::Global;
 use zs_host::Host;
 
-// The bytes of a sector of the first area.
-fn sector_of<'a>(image: &'a Image, area: &Area, sector: u32) -> &'a [u8]
-    requires image { IsImage (plain image.now) }
-    requires area { slice_get image.now.map 0 ≡ Some area.now }
-    requires sector { sector < area.now.sectors }
-    ensures bytes { result.now ≡ sector_at (area_sectors (plain image.now) area.now) sector }
-    ensures long { length result.now ≡ (area_bank (plain image.now) area.now).sector }
+// Loads the bench with the image's banks and bytes, and keeps its areas.
+fn load_image<B: Bench>(alloc: Global, image: Image, bench: &mut B) -> Result<FlashMap, NoMemory>
+    requires { IsImage (plain image) }
+    ensures ok { IfOk result (λ areas. (areas ≡ image.map) × (B.device bench.new ≡ begun (plain image) (B.device bench.old))) }
+    ensures err { OnErr result (B.device bench.new ≡ B.device bench.old) }
 {
-    let size = image.banks[area.bank].sector as usize;
-    let start = (area.first + sector) as usize * size;
-    &image.bytes[area.bank].as_slice()[start..start + size]
+    let Image { banks, map, bytes } = image;
+    bench.load(alloc, banks, bytes)?;
+    Ok(map)
 }
 
-// Whether every sector of the first area but the first is blank.
-fn others_are_blank(image: &Image, area: &Area) -> bool
-    requires image { IsImage (plain image.now) }
-    requires area { slice_get image.now.map 0 ≡ Some area.now }
-    ensures { IsTrue result ↔ AreBlank (area_sectors (plain image.now) area.now) }
+// Loads the bench with an image of one NVS area, if the area is one that a session serves.
+fn serve<'a, B: Bench>(alloc: Global, image: Image, bench: &mut B) -> Result<FlashMap, Stop<'a>>
+    requires { IsImage (plain image) }
+    ensures { ServesOr (plain image) (B.device bench.old) (B.device bench.new) result }
 {
-    for sector in 1..area.sectors {
-        if !is_erased(sector_of(image, area, sector)) {
-            return false;
-        }
-    }
-    true
-}
-
-fn is_served(image: &Image, area: &Area) -> bool
-    requires image { IsImage (plain image.now) }
-    requires area { slice_get image.now.map 0 ≡ Some area.now }
-    ensures { IsTrue result ↔ IsServedImage (plain image.now) }
-{
-    image.map.len() == 1
-        && area.role == Role::Nvs
-        && !is_closed(sector_of(image, area, 0), image.banks[area.bank].unit)
-        && others_are_blank(image, area)
-}
-
-/// The image of a file, if it is one that this program serves. Nothing is printed or written.
-pub fn read_served<'a, H: Host>(
-    alloc: Global,
-    name: &'a str,
-    host: &mut H,
-) -> Result<Image, Stop<'a>>
-    ensures { ReadsOr (λ image. Opens (H.outside host.old) name.now (plain image)) (LacksServed (H.outside host.old) name.now) (H.outside host.old) (H.outside host.new) result }
-{
-    let image = read_image_file(alloc, name, host)?;
     let Some(area) = image.map.at(0) else {
         unreachable!()
     };
-    if is_served(&image, area) {
-        return Ok(image);
+    let label = area.label;
+    if image.map.len() != 1 || area.role != Role::Nvs {
+        return Err(Stop::Refused(Refusal::Unbuilt { label }));
     }
-    Err(Stop::Refused(Refusal::Unbuilt { label: area.label }))
+    let areas = load_image(alloc, image, bench)?;
+    let Some(area) = areas.at(0) else {
+        unreachable!()
+    };
+    if is_served(bench, area) {
+        return Ok(areas);
+    }
+    Err(Stop::Refused(Refusal::Unbuilt { label }))
+}
+
+/// Reads the image of a file and loads the bench with it, if it is one that this program serves. The areas are those of
+/// the image. Nothing is printed or written.
+pub fn open_image<'a, H: Host, B: Bench>(
+    alloc: Global,
+    name: &'a str,
+    host: &mut H,
+    bench: &mut B,
+) -> Result<FlashMap, Stop<'a>>
+    ensures { ReadsOr (λ areas. HoldsImage (H.outside host.old) name.now (B.device bench.old) (B.device bench.new) areas) (LacksServed (H.outside host.old) name.now (B.device bench.old) (B.device bench.new)) (H.outside host.old) (H.outside host.new) result }
+{
+    match read_image_file(alloc, name, host) {
+        Ok(image) => serve(alloc, image, bench),
+        Err(stop) => Err(stop),
+    }
+}
+
+/// The file of the image of these areas that the bench holds.
+pub fn image_left<B: Bench>(alloc: Global, areas: &FlashMap, bench: &B) -> Result<Vec<u8>, NoMemory>
+    requires { IsImage (held areas.now (B.device bench.now)) }
+    ensures { IfOk result (λ file. IsImageFile file.items (held areas.now (B.device bench.now))) }
+{
+    let bytes = bench.snapshot(alloc)?;
+    write_image(alloc, bench.banks(), areas, bytes.as_slice())
 }

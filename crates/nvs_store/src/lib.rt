@@ -18,6 +18,7 @@ pub use entry::{Entry, SPECIAL_ID, decode_entry, encode_entry};
 pub use geometry::{blank_scan, capacity, cost, fits};
 pub use lookup::find;
 pub use mounting::mount_scan;
+pub use places::{is_blank, is_closed};
 pub use scan::{Found, Placed, Redo, Scan};
 pub use sector::is_closed;
 pub use slots::is_erased;

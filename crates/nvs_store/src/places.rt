@@ -6,6 +6,7 @@ ghost use Rattle.flash_map.specs.Area.{unit_of, sector_size, sectors_of};
 ghost use Rattle.flash_map.specs.Lawful.{IsLawfulFor};
 ghost use Rattle.sector_ring.specs.Area.{next, previous, counts_at, is_closed_at, is_blank_at};
 ghost use Rattle.flash_map.specs.Area.{sector_at};
+ghost use Rattle.slot_list.specs.Slots.{is_erased};
 ghost use Rattle.nvs_store.specs.Scans.{reading};
 ghost use Rattle.nvs_store.specs.Sector.{has_gc_done, has_fence, is_overfull};
 ghost use Rattle.nvs_store.specs.Sought.{is_sought, NamesWithin};
@@ -70,7 +71,7 @@ pub fn sector_of<'a, F: Flash, L: Ledger>(
     area_view(flash, area, place, 0, size, steps)
 }
 
-/// Whether a slot 0 holds anything.
+/// Whether a sector is closed: its slot 0 is not all FF.
 pub fn is_closed<F: Flash, L: Ledger>(
     flash: &F,
     area: &Area,
@@ -84,6 +85,20 @@ pub fn is_closed<F: Flash, L: Ledger>(
 {
     let unit = geometry(flash, area).unit;
     sector::is_closed(sector_of(flash, area, place, steps), unit)
+}
+
+/// Whether a sector is blank: all its bytes are FF.
+pub fn is_blank<F: Flash, L: Ledger>(
+    flash: &F,
+    area: &Area,
+    place: u32,
+    steps: &mut Steps<L>,
+) -> bool
+    requires lawful { IsLawfulFor (F.device flash.now).banks area.now }
+    requires inside { place < area.now.sectors }
+    ensures { result ≡ is_erased (sector_at (sectors_of (F.device flash.now) area.now) place) }
+{
+    is_erased(sector_of(flash, area, place, steps))
 }
 
 /// Whether gc-done stands in a sector.

@@ -1,5 +1,5 @@
+pub mod FirstSector
 pub mod ListingLemmas
 pub mod LostLine
-pub mod Served
 pub mod SoFar
 pub mod StoreLemmas

@@ -27,7 +27,7 @@ use Rattle.nvs_store.proofs.SlotReads.{slot_widths}
 use Rattle.session.specs.Contents.{contents_of, used_of, IsStored, Fits}
 use Rattle.session.specs.Sets.{Refuses, Stores, Loses}
 use Rattle.session.specs.Standing.{IsSound, Stands}
-use Rattle.session.proofs.Served.{stands_first}
+use Rattle.session.proofs.FirstSector.{stands_first}
 
 -- what is kept for the gc-done entry
 abbrev pub kept : ℕ → List ℕ → ℕ

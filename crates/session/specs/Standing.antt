@@ -10,10 +10,14 @@ use Rattle.nvs_store.specs.declared.scan.Scan.{Scan}
 use Rattle.nvs_store.specs.Sector.{is_closed}
 use Rattle.nvs_store.specs.Scans.{scan_of, damage_of}
 
+-- all sectors from 1 on are blank
+abbrev pub AreBlank : List (List ℕ) → Type 0
+AreBlank sectors = (place : ℕ) → 0 < place → place < length sectors → is_erased (sector_at sectors place) ≡ true
+
 -- The first sector is not closed, and the others are blank: a session uses the first sector alone.
 pub record IsServed (unit : ℕ) (sectors : List (List ℕ)) : Type 0 where
   pub not_closed : is_closed unit (sector_at sectors 0) ≡ false
-  pub blank : (place : ℕ) → 0 < place → place < length sectors → is_erased (sector_at sectors place) ≡ true
+  pub blank : AreBlank sectors
 
 -- the area is an NVS area of the flash that a session serves, and its bytes are not damaged
 pub record IsSound (d : Device) (area : Area) : Type 0 where

@@ -4,11 +4,13 @@
 mod answers;
 mod listing;
 mod run;
+mod served;
 mod store;
 
 pub use answers::Answers;
 pub use listing::{Item, list_items};
 pub use run::{SessionFault, run_lines};
+pub use served::is_served;
 pub use store::{SetFault, item, set};
 
 #[cfg(test)]

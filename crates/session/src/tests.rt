@@ -42,34 +42,35 @@ fn load<B: Bench>(alloc: Global, bench: &mut B, sectors: Vec<u8>) -> Result<(), 
     Ok(())
 }
 
-// A sector of so many bytes, which begins and ends with these.
-fn sector_with(
+// Two sectors of so many bytes together. The first begins and ends with these.
+fn sectors_with(
     alloc: Global,
     size: usize,
     front: &[u8; 8],
     back: &[u8; 16],
 ) -> Result<Vec<u8>, AllocError>
-    requires { size ≡ 512 }
+    requires { size ≡ 1024 }
     ensures { IfOk result (λ bytes. length bytes.items ≡ size) }
 {
     let mut bytes = vec![in alloc; 255u8; size]?;
     bytes[..8].copy_from_slice(front);
-    bytes[size - 16..].copy_from_slice(back);
+    bytes[size / 2 - 16..size / 2].copy_from_slice(back);
     Ok(bytes)
 }
 
-// A sector with one item, of id 1.
+// One item, of id 1.
 fn exercise_items<B: Bench, R: Abort>(rt: &R, alloc: Global, bench: &mut B) -> Result<(), Fail> {
     let area = small_area();
-    let one = sector_with(
+    let one = sectors_with(
         alloc,
-        512,
+        1024,
         &[1, 255, 255, 255, 255, 255, 255, 255],
         &[
             1, 0, 0, 0, 1, 0, 255, 3, 255, 255, 255, 255, 255, 255, 255, 255,
         ],
     )?;
     load(alloc, bench, one)?;
+    assert!(rt; is_served(bench, &area));
     let items = list_items(alloc, bench, &area)?;
     assert_eq!(rt; items.len(), 1);
     assert_eq!(rt; items[0].id, 1);
@@ -77,23 +78,44 @@ fn exercise_items<B: Bench, R: Abort>(rt: &R, alloc: Global, bench: &mut B) -> R
     Ok(())
 }
 
+// The slots of the first sector are 00 but for slot 0.
 fn exercise_damage<B: Bench, R: Abort>(
     rt: &R,
     alloc: Global,
     bench: &mut B,
     size: usize,
 ) -> Result<(), Fail>
-    requires { size ≡ 512 }
+    requires { size ≡ 1024 }
 {
     let area = small_area();
     let damaged = SessionFault::Damaged(Damaged {
         sector: 0,
         why: Why::NoFence,
     });
-    let zeros = vec![in alloc; 0u8; size]?;
-    load(alloc, bench, zeros)?;
+    let mut bytes = vec![in alloc; 255u8; size]?;
+    bytes[0..504].fill(0);
+    load(alloc, bench, bytes)?;
+    assert!(rt; is_served(bench, &area));
     assert_eq!(rt; list_items(alloc, bench, &area).err(), Some(damaged));
     assert_eq!(rt; run_lines(alloc, &[], bench, &area).err(), Some(damaged));
+    Ok(())
+}
+
+// A byte of slot 0 or of the second sector that is not FF.
+fn exercise_others<B: Bench, R: Abort>(
+    rt: &R,
+    alloc: Global,
+    bench: &mut B,
+    size: usize,
+) -> Result<(), Fail>
+    requires { size ≡ 1024 }
+{
+    for place in [504, 511, 512, 1023] {
+        let mut bytes = vec![in alloc; 255u8; size]?;
+        bytes[place] = 0;
+        load(alloc, bench, bytes)?;
+        assert!(rt; !is_served(bench, &small_area()));
+    }
     Ok(())
 }
 
@@ -102,5 +124,6 @@ fn items_and_damage(rt: HostRuntime) -> Result<(), Fail> {
     let alloc = rt.alloc();
     let mut sim = FlatSim::new(alloc);
     exercise_items(&rt, alloc, &mut sim)?;
-    exercise_damage(&rt, alloc, &mut sim, 512)
+    exercise_damage(&rt, alloc, &mut sim, 1024)?;
+    exercise_others(&rt, alloc, &mut sim, 1024)
 }

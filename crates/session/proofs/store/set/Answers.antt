@@ -4,7 +4,7 @@ use Rattle.flash_sim.specs.Bank.{bank_at}
 use Rattle.flash_map.specs.Area.{unit_of, sectors_of, geometry_of}
 use Rattle.nvs_store.specs.declared.scan.Scan.{Scan}
 use Rattle.nvs_store.specs.Scans.{AddsPairAt, StopsAddingAt}
-use Rattle.session.proofs.Served.{stands_first, served_grown, served_stopped, sound_after}
+use Rattle.session.proofs.FirstSector.{stands_first, served_grown, served_stopped, sound_after}
 use Rattle.session.proofs.StoreLemmas.{refuses, stores, loses, sector_of, fits_scan}
 use Rattle.session.proofs.store.set.Goals as goal
 

@@ -1,8 +1,6 @@
 -- Printing a text, and then writing a file.
-use Rattle.std.specs.Prelude.{◌≡◌, ◌⊎◌, ℕ, Option, Some, None, Result, Ok, Err, List, take}
+use Rattle.std.specs.Prelude.{◌≡◌, ◌⊎◌, ℕ, Option, Some, None, List, take}
 use Rattle.zs_host.specs.Outside.{Outside, SameBut, printed_more}
-use Rattle.image_tool.specs.declared.stops.Stop.{Stop}
-use Rattle.image_tool.specs.declared.stops.Stop.TheVariants.{Refused, HostFailed, NoMemory}
 use Rattle.image_tool.specs.declared.status.Status.{Status}
 use Rattle.image_tool.specs.declared.status.Status.TheVariants as status
 use Rattle.image_tool.specs.Outcomes.{File, delivered}
@@ -28,11 +26,14 @@ pub record PrintsAll (old new : Outside) (text : List ℕ) (file : Option File) 
 abbrev pub DeliversPart : Outside → Outside → List ℕ → Option File → Type 0
 DeliversPart old new text file = PrintsFront old new text ⊎ PrintsAll old new text file
 
-abbrev pub Delivers : {A : Type 0} → Outside → Outside → List ℕ → Option File → Result A Stop → Type 0
-Delivers old new text file (Ok _) = new ≡ delivered old text file
-Delivers old new text file (Err HostFailed) = Fails old new × DeliversPart old new text file
-Delivers old new text file (Err NoMemory) = DeliversPart old new text file
-Delivers old new text file (Err (Refused refusal)) = ⊥
+abbrev pub Delivers : Outside → Outside → List ℕ → Option File → Status → Type 0
+Delivers old new text file status.Done = new ≡ delivered old text file
+Delivers old new text file status.HostFault = Fails old new × DeliversPart old new text file
+Delivers old new text file status.NoMemory = DeliversPart old new text file
+Delivers old new text file status.Usage = ⊥
+Delivers old new text file status.BadScript = ⊥
+Delivers old new text file status.BadImage = ⊥
+Delivers old new text file status.NoFile = ⊥
 
 -- the line was printed, or the host failed, or memory ran out
 abbrev pub Reports : Outside → Outside → List ℕ → Status → Status → Type 0

@@ -84,13 +84,17 @@ fn script_why(why: LineWhy) -> &'static str
     }
 }
 
+fn area_line(alloc: Global, label: &str, sector: u32, why: &str) -> Result<String, AllocError>
+    ensures { IfOk result (λ text. string_bytes text ≡ codes "bad image: area " ++ label.now ++ codes " sector " ++ decimal sector ++ codes ": " ++ why.now ++ codes "\n") }
+{
+    format!(in alloc; "bad image: area {label} sector {sector}: {why}\n")
+}
+
 fn bad_area(alloc: Global, label: &ArrayString<8>, damage: &Damaged) -> Result<String, AllocError>
     ensures { IfOk result (λ text. string_bytes text ≡ codes "bad image: area " ++ label.now.bytes ++ codes " sector " ++ decimal damage.now.sector ++ codes ": " ++ area_why damage.now.why ++ codes "\n") }
 {
-    let label = label.as_str();
-    let sector = damage.sector;
     let why = area_why(damage.why);
-    format!(in alloc; "bad image: area {label} sector {sector}: {why}\n")
+    area_line(alloc, label.as_str(), damage.sector, why)
 }
 
 /// The usage line.

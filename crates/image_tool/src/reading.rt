@@ -2,6 +2,8 @@
 ghost use Rattle.std.specs.Prelude.{◌≡◌, All};
 ghost use Rattle.image_file.specs.Format.{plain};
 ghost use Rattle.session.specs.LineDone.{IsLawfulLine};
+ghost use Rattle.image_tool.specs.declared.stops.Refusal.TheVariants.{BadFile, BadScript};
+ghost use Rattle.image_tool.specs.declared.stops.Stop.TheVariants.{Refused};
 ghost use Rattle.image_tool.specs.Reading.{ReadsOr, HasImage, LacksImage, HasScript, LacksScript};
 
 use crate::stops::{Refusal, Stop};
@@ -16,11 +18,15 @@ pub const MOST_IMAGE: usize = 8388608;
 /// The most bytes of a script.
 pub const MOST_SCRIPT: usize = 1048576;
 
-fn bad_file<'a>(at: u64, why: ImageWhy) -> Stop<'a> {
+fn bad_file<'a>(at: u64, why: ImageWhy) -> Stop<'a>
+    ensures { result ≡ Refused (BadFile at why) }
+{
     Stop::Refused(Refusal::BadFile { at, why })
 }
 
-fn bad_script<'a>(line: u64, why: LineWhy) -> Stop<'a> {
+fn bad_script<'a>(line: u64, why: LineWhy) -> Stop<'a>
+    ensures { result ≡ Refused (BadScript line why) }
+{
     Stop::Refused(Refusal::BadScript { line, why })
 }
 

@@ -6,10 +6,10 @@ ghost use Rattle.command_words.specs.declared.commands.Command.{Command as comma
 ghost use Rattle.image_tool.specs.Tool.{Prepares, CommandEnds, NoCommandEnds, ToolEnds, MayWrite};
 
 use crate::build::build;
-use crate::delivering::{deliver, report};
+use crate::delivering::{deliver, refuse, report};
 use crate::dump::dump;
 use crate::outcome::Outcome;
-use crate::printing::{USAGE, refusal_line};
+use crate::printing::USAGE;
 use crate::run::run;
 use crate::status::Status;
 use crate::stops::Stop;
@@ -45,16 +45,8 @@ fn carry_out<H: Host, B: Bench>(
     ensures files { MayWrite command.now (H.outside host.old) (H.outside host.new) }
 {
     match prepare(alloc, command, host, bench) {
-        Ok(outcome) => match deliver(alloc, host, &outcome) {
-            Ok(()) => Status::Done,
-            Err(Stop::HostFailed) => Status::HostFault,
-            Err(Stop::NoMemory) => Status::NoMemory,
-            Err(Stop::Refused(_)) => unreachable!(),
-        },
-        Err(Stop::Refused(refusal)) => match refusal_line(alloc, &refusal) {
-            Ok(line) => report(alloc, host, line.as_str(), refusal.status()),
-            Err(_) => Status::NoMemory,
-        },
+        Ok(outcome) => deliver(alloc, host, &outcome),
+        Err(Stop::Refused(refusal)) => refuse(alloc, host, &refusal),
         Err(Stop::HostFailed) => Status::HostFault,
         Err(Stop::NoMemory) => Status::NoMemory,
     }

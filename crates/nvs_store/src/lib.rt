@@ -20,5 +20,3 @@ pub use lookup::find;
 pub use mounting::mount_scan;
 pub use places::{is_blank, is_closed};
 pub use scan::{Found, Placed, Redo, Scan};
-pub use sector::is_closed;
-pub use slots::is_erased;

@@ -113,9 +113,6 @@ module _ (areas : List Area) (d : Device) (area : Area) (first : slice_get areas
 
 -- ---- a bench that was just loaded
 
-pub same_first : (areas others : List Area) (area other : Area) → areas ≡ others → slice_get areas 0 ≡ Some area → slice_get others 0 ≡ Some other → area ≡ other
-same_first areas others area other same first second = some_area area other (sym first ∙ ap (λ (list : List Area). slice_get list 0) same ∙ second)
-
 pub one_area : (areas : List Area) → length areas ≡ 1 → length (map plain_area areas) ≡ 1
 one_area areas one = length-map areas plain_area ∙ one
 

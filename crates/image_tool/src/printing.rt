@@ -84,10 +84,33 @@ fn script_why(why: LineWhy) -> &'static str
     }
 }
 
-fn area_line(alloc: Global, label: &str, sector: u32, why: &str) -> Result<String, AllocError>
-    ensures { IfOk result (λ text. string_bytes text ≡ codes "bad image: area " ++ label.now ++ codes " sector " ++ decimal sector ++ codes ": " ++ why.now ++ codes "\n") }
+fn file_line(alloc: Global, at: u64, why: &str) -> Result<String, AllocError>
+    ensures { IfOk result (λ text. string_bytes text ≡ codes "bad image: at " ++ decimal at ++ codes ": " ++ why.now ++ 10 ∷ []) }
 {
-    format!(in alloc; "bad image: area {label} sector {sector}: {why}\n")
+    let mut text = format!(in alloc; "bad image: at {at}: ")?;
+    text.push_str(why)?;
+    text.push('\n')?;
+    Ok(text)
+}
+
+fn script_line(alloc: Global, line: u64, why: &str) -> Result<String, AllocError>
+    ensures { IfOk result (λ text. string_bytes text ≡ codes "bad script: line " ++ decimal line ++ codes ": " ++ why.now ++ 10 ∷ []) }
+{
+    let mut text = format!(in alloc; "bad script: line {line}: ")?;
+    text.push_str(why)?;
+    text.push('\n')?;
+    Ok(text)
+}
+
+fn area_line(alloc: Global, label: &str, sector: u32, why: &str) -> Result<String, AllocError>
+    ensures { IfOk result (λ text. string_bytes text ≡ codes "bad image: area " ++ label.now ++ codes " sector " ++ decimal sector ++ codes ": " ++ why.now ++ 10 ∷ []) }
+{
+    let mut text = format!(in alloc; "bad image: area {label} sector ")?;
+    let place = format!(in alloc; "{sector}: ")?;
+    text.push_str(place.as_str())?;
+    text.push_str(why)?;
+    text.push('\n')?;
+    Ok(text)
 }
 
 fn bad_area(alloc: Global, label: &ArrayString<8>, damage: &Damaged) -> Result<String, AllocError>
@@ -109,7 +132,7 @@ pub fn refusal_line(alloc: Global, refusal: &Refusal<'_>) -> Result<String, Allo
         Refusal::NoFile { word } => format!(in alloc; "no file: {word}\n"),
         Refusal::BadFile { at, why } => {
             let why = file_why(*why);
-            format!(in alloc; "bad image: at {at}: {why}\n")
+            file_line(alloc, *at, why)
         }
         Refusal::Unbuilt { label } => {
             let label = label.as_str();
@@ -118,7 +141,7 @@ pub fn refusal_line(alloc: Global, refusal: &Refusal<'_>) -> Result<String, Allo
         Refusal::BadArea { label, damage } => bad_area(alloc, label, damage),
         Refusal::BadScript { line, why } => {
             let why = script_why(*why);
-            format!(in alloc; "bad script: line {line}: {why}\n")
+            script_line(alloc, *line, why)
         }
     }
 }

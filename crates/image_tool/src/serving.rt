@@ -1,15 +1,20 @@
 // Images on a bench.
-ghost use Rattle.std.specs.Prelude.{◌≡◌, IfOk, OnErr};
+ghost use Rattle.std.specs.Prelude.{◌≡◌, length, IfOk, OnErr};
+ghost use Rattle.std.specs.Bool.{MatchBool};
+ghost use Rattle.flash_map.specs.declared.area.Role.TheVariants.{Nvs};
 ghost use Rattle.image_file.specs.Format.{plain};
 ghost use Rattle.image_file.specs.Lawful.{IsImage};
 ghost use Rattle.image_file.specs.Reading.{IsImageFile};
 ghost use Rattle.image_tool.specs.Reading.{ReadsOr};
 ghost use Rattle.image_tool.specs.Outcomes.{HoldsImage};
 ghost use Rattle.image_tool.specs.Refusals.{LacksServed, ServesOr};
-ghost use Rattle.image_tool.specs.Served.{begun, held};
+ghost use Rattle.image_tool.specs.Served.{begun, first_area, held};
+ghost use Rattle.image_tool.specs.declared.stops.Refusal.TheVariants.{Unbuilt};
+ghost use Rattle.image_tool.specs.declared.stops.Stop.TheVariants.{Refused};
 
 use crate::reading::read_image_file;
 use crate::stops::{Refusal, Stop};
+use arrayvec::ArrayString;
 use flash_map::{FlashMap, Role};
 use flash_sim::{Bench, NoMemory};
 use image_file::{Image, write_image};
@@ -28,18 +33,32 @@ fn load_image<B: Bench>(alloc: Global, image: Image, bench: &mut B) -> Result<Fl
     Ok(map)
 }
 
+fn unbuilt<'a>(label: ArrayString<8>) -> Stop<'a>
+    ensures { result ≡ Refused (Unbuilt label) }
+{
+    Stop::Refused(Refusal::Unbuilt { label })
+}
+
+fn is_nvs(role: Role) -> bool
+    ensures { MatchBool result (role ≡ Nvs) (¬ (role ≡ Nvs)) }
+{
+    match role {
+        Role::Nvs => true,
+        Role::Zms | Role::Fcb | Role::Sel => false,
+    }
+}
+
 // Loads the bench with an image of one NVS area, if the area is one that a session serves.
-fn serve<'a, B: Bench>(alloc: Global, image: Image, bench: &mut B) -> Result<FlashMap, Stop<'a>>
-    requires { IsImage (plain image) }
+fn load_served<'a, B: Bench>(
+    alloc: Global,
+    image: Image,
+    bench: &mut B,
+) -> Result<FlashMap, Stop<'a>>
+    requires image { IsImage (plain image) }
+    requires one { length image.map ≡ 1 }
+    requires role { (first_area (plain image)).role ≡ Nvs }
     ensures { ServesOr (plain image) (B.device bench.old) (B.device bench.new) result }
 {
-    let Some(area) = image.map.at(0) else {
-        unreachable!()
-    };
-    let label = area.label;
-    if image.map.len() != 1 || area.role != Role::Nvs {
-        return Err(Stop::Refused(Refusal::Unbuilt { label }));
-    }
     let areas = load_image(alloc, image, bench)?;
     let Some(area) = areas.at(0) else {
         unreachable!()
@@ -47,7 +66,24 @@ fn serve<'a, B: Bench>(alloc: Global, image: Image, bench: &mut B) -> Result<Fla
     if is_served(bench, area) {
         return Ok(areas);
     }
-    Err(Stop::Refused(Refusal::Unbuilt { label }))
+    Err(unbuilt(area.label))
+}
+
+// Loads the bench with an image, if it is one that this program serves.
+fn serve<'a, B: Bench>(alloc: Global, image: Image, bench: &mut B) -> Result<FlashMap, Stop<'a>>
+    requires { IsImage (plain image) }
+    ensures { ServesOr (plain image) (B.device bench.old) (B.device bench.new) result }
+{
+    let Some(area) = image.map.at(0) else {
+        unreachable!()
+    };
+    if image.map.len() != 1 {
+        return Err(unbuilt(area.label));
+    }
+    if is_nvs(area.role) {
+        return load_served(alloc, image, bench);
+    }
+    Err(unbuilt(area.label))
 }
 
 /// Reads the image of a file and loads the bench with it, if it is one that this program serves. The areas are those of

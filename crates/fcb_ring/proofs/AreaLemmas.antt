@@ -14,7 +14,8 @@ use Rattle.flash_map.proofs.Places.{length-sector}
 use Rattle.flash_map.proofs.Sectors.{length-sectors_from}
 use Rattle.fcb_ring.specs.SectorStates.{IsSector, state_of}
 use Rattle.fcb_ring.specs.Rings.{no_state, state_at}
-use Rattle.fcb_ring.specs.Entries.{sector_at, states}
+use Rattle.fcb_ring.specs.Entries.{states}
+use Rattle.flash_map.specs.Area.{sector_at}
 use Rattle.fcb_ring.specs.Standing.{IsRingArea}
 
 -- every sector has this size
@@ -40,7 +41,7 @@ has_size d area lawful ring = record {
   at_most = ring.lawful.at_most;
   whole = (lawful.each_bank area.bank ring.lawful.in_bank.has_bank).whole_units;
   each = λ place lt. length-sector d area lawful ring.lawful.in_bank place (omega (arith, count-sectors d area));
-  several = omega (arith, count-sectors d area, ring.several);
+  several = omega (arith, count-sectors d area, ring.lawful.several);
   few = omega (arith, count-sectors d area, ring.lawful.few);
 }
 

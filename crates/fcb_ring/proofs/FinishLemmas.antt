@@ -15,7 +15,8 @@ use Rattle.fcb_ring.specs.declared.ring.Stage.TheVariants.{Inspected, Ready, Col
 use Rattle.fcb_ring.specs.declared.sector.SectorState.{SectorState}
 use Rattle.fcb_ring.specs.SectorStates.{is_torn, mended, mended_up_to, state_of}
 use Rattle.fcb_ring.specs.Rings.{state_at, turned, is_full, IsRing, AreClean}
-use Rattle.fcb_ring.specs.Entries.{sector_at, states, entries, HasEntries}
+use Rattle.fcb_ring.specs.Entries.{states, entries, HasEntries}
+use Rattle.flash_map.specs.Area.{sector_at}
 use Rattle.fcb_ring.specs.Standing.{Stands, FitsStage, IsWritten, is_finished, is_uncounted, uncounted, erases_due}
 use Rattle.fcb_ring.proofs.RingLemmas.{turned-within, full-yes, full-no}
 use Rattle.fcb_ring.proofs.AreaLemmas.{HasSize, count-sectors, state-at, length-states}

@@ -7,7 +7,8 @@ use Rattle.std.proofs.lemmas.Grind.{flat_map-append}
 use Rattle.fcb_ring.specs.declared.sector.SectorState.{SectorState}
 use Rattle.fcb_ring.specs.SectorStates.{state_of}
 use Rattle.fcb_ring.specs.Rings.{state_at, turned, first_damage, IsRing, AreClean}
-use Rattle.fcb_ring.specs.Entries.{sector_at, states, sector_entries, entries}
+use Rattle.fcb_ring.specs.Entries.{states, sector_entries, entries}
+use Rattle.flash_map.specs.Area.{sector_at}
 use Rattle.fcb_ring.proofs.PlaceLemmas.{All-range, range-append, flat_map-agree}
 use Rattle.fcb_ring.proofs.RingLemmas.{turned-within, undamaged}
 use Rattle.fcb_ring.proofs.AreaLemmas.{state-at, length-states}
@@ -41,12 +42,12 @@ module _ (unit : ℕ) (old : List (List ℕ)) (oldest used j : ℕ) (t : List �
   place-in : (k : ℕ) → k < length old → turned (length old) oldest k < length old
   place-in k lt = turned-within (length old) oldest k first (omega arith)
 
-  there : state_at (states unit grown) (turned (length (states unit grown)) oldest j) ≡ state_of unit t
+  pub there : state_at (states unit grown) (turned (length (states unit grown)) oldest j) ≡ state_of unit t
   there =
       ap (λ (n : ℕ). state_at (states unit grown) (turned n oldest j)) states-long
       ∙ state-at unit grown (turned (length old) oldest j) (omega (arith, place-in j inside, grown-long)) ∙ ap (state_of unit) (set-there old oldest j t first inside)
 
-  elsewhere : (k : ℕ) → k < length old → (k ≡ j → ⊥) → state_at (states unit grown) (turned (length (states unit grown)) oldest k) ≡ state_at (states unit old) (turned (length (states unit old)) oldest k)
+  pub elsewhere : (k : ℕ) → k < length old → (k ≡ j → ⊥) → state_at (states unit grown) (turned (length (states unit grown)) oldest k) ≡ state_at (states unit old) (turned (length (states unit old)) oldest k)
   elsewhere k lt apart =
       ap (λ (n : ℕ). state_at (states unit grown) (turned n oldest k)) states-long
       ∙ state-at unit grown (turned (length old) oldest k) (omega (arith, place-in k lt, grown-long)) ∙ ap (state_of unit) (set-elsewhere old oldest j k t first inside lt apart)

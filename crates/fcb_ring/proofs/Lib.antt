@@ -16,3 +16,11 @@ pub mod GrowLemmas
 pub mod HeaderLemmas
 pub mod FormatLemmas
 pub mod OpenLemmas
+pub mod NewestLemmas
+pub mod BuildLemmas
+pub mod OpeningLemmas
+pub mod PuttingLemmas
+pub mod CollectLemmas
+pub mod AppendLemmas
+pub mod OthersLemmas
+pub mod CostLemmas

@@ -7,7 +7,7 @@ use Rattle.std.proofs.lemmas.List.{take-append-drop, set-get_or, take_all, drop_
 use Rattle.flash_sim.specs.Device.{Device, counted}
 use Rattle.flash_map.proofs.Plans.{counted_counted}
 use Rattle.fcb_ring.specs.SectorStates.{is_torn, mended, mended_up_to}
-use Rattle.fcb_ring.specs.Entries.{sector_at}
+use Rattle.flash_map.specs.Area.{sector_at}
 use Rattle.fcb_ring.specs.Standing.{SpendsAtMost}
 use Rattle.fcb_ring.proofs.StandLemmas.{mended-yes, mended-not, mended-behind, mended-more}
 
@@ -42,14 +42,14 @@ count-front p i xs =
     omega arith
 
 -- what the erases up to one sector spend
-pub spends_next : (a b c : Device) (sectors : List (List ℕ)) (j : ℕ) (due : Bool) → j < length sectors → due ≡ is_torn (sector_at sectors j)
-    → b.spent ≡ counted a.spent (count_by is_torn (take j sectors)) → c.spent ≡ counted b.spent (cond due 1 0)
-    → c.spent ≡ counted a.spent (count_by is_torn (take (j + 1) sectors))
-spends_next a b c sectors j due lt is so_far after =
-    let sum : counted (counted a.spent (count_by is_torn (take j sectors))) (cond due 1 0) ≡ counted a.spent (count_by is_torn (take j sectors) + cond due 1 0) = counted_counted a.spent (count_by is_torn (take j sectors)) (cond due 1 0) in
-    let step : count_by is_torn (take j sectors) + cond due 1 0 ≡ count_by is_torn (take (j + 1) sectors) = elim (cases_Bool (is_torn (sector_at sectors j))) [
-      | inl torn ↦ ap (λ (t : Bool). count_by is_torn (take j sectors) + cond t 1 0) (is ∙ torn) ∙ sym (count_by_more_yes is_torn sectors j [] lt torn)
-      | inr whole ↦ ap (λ (t : Bool). count_by is_torn (take j sectors) + cond t 1 0) (is ∙ whole) ∙ omega arith ∙ sym (count_by_more_no is_torn sectors j [] lt whole)
+pub spends_next : (p : List ℕ → Bool) (a b c : Device) (sectors : List (List ℕ)) (j : ℕ) (due : Bool) → j < length sectors → due ≡ p (sector_at sectors j)
+    → b.spent ≡ counted a.spent (count_by p (take j sectors)) → c.spent ≡ counted b.spent (cond due 1 0)
+    → c.spent ≡ counted a.spent (count_by p (take (j + 1) sectors))
+spends_next p a b c sectors j due lt is so_far after =
+    let sum : counted (counted a.spent (count_by p (take j sectors))) (cond due 1 0) ≡ counted a.spent (count_by p (take j sectors) + cond due 1 0) = counted_counted a.spent (count_by p (take j sectors)) (cond due 1 0) in
+    let step : count_by p (take j sectors) + cond due 1 0 ≡ count_by p (take (j + 1) sectors) = elim (cases_Bool (p (sector_at sectors j))) [
+      | inl torn ↦ ap (λ (t : Bool). count_by p (take j sectors) + cond t 1 0) (is ∙ torn) ∙ sym (count_by_more_yes p sectors j [] lt torn)
+      | inr whole ↦ ap (λ (t : Bool). count_by p (take j sectors) + cond t 1 0) (is ∙ whole) ∙ omega arith ∙ sym (count_by_more_no p sectors j [] lt whole)
     ] in
     after ∙ ap (λ (n : ℕ). counted n (cond due 1 0)) so_far ∙ sum ∙ ap (counted a.spent) step
 
@@ -57,5 +57,5 @@ spends_next a b c sectors j due lt is so_far after =
 pub spends_then : (a b c : Device) (first second most : ℕ) → b.spent ≡ counted a.spent first → SpendsAtMost b c second → first + second ≤ most → SpendsAtMost a c most
 spends_then a b c first second most before after le = (first + after.0, omega (arith, after.1), after.2 ∙ ap (λ (n : ℕ). counted n after.0) before ∙ counted_counted a.spent first after.0)
 
-pub spends_part : (a b c : Device) (sectors : List (List ℕ)) (j : ℕ) → b.spent ≡ counted a.spent (count_by is_torn (take j sectors)) → SpendsAtMost b c 0 → SpendsAtMost a c (count_by is_torn sectors)
-spends_part a b c sectors j before after = spends_then a b c (count_by is_torn (take j sectors)) 0 (count_by is_torn sectors) before after (let le = count-front is_torn j sectors in omega arith)
+pub spends_part : (p : List ℕ → Bool) (a b c : Device) (sectors : List (List ℕ)) (j : ℕ) → b.spent ≡ counted a.spent (count_by p (take j sectors)) → SpendsAtMost b c 0 → SpendsAtMost a c (count_by p sectors)
+spends_part p a b c sectors j before after = spends_then a b c (count_by p (take j sectors)) 0 (count_by p sectors) before after (let le = count-front p j sectors in omega arith)

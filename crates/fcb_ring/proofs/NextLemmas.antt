@@ -11,7 +11,8 @@ use Rattle.fcb_ring.specs.declared.record.Record.{Record}
 use Rattle.fcb_ring.specs.declared.record.RecordAt.{RecordAt}
 use Rattle.fcb_ring.specs.Records.{record_at, records, walk}
 use Rattle.fcb_ring.specs.Rings.{turned, IsRing}
-use Rattle.fcb_ring.specs.Entries.{sector_at, states, placed, entry_of, sector_entries, entries, records_from, following}
+use Rattle.fcb_ring.specs.Entries.{states, placed, entry_of, sector_entries, entries, records_from, following}
+use Rattle.flash_map.specs.Area.{sector_at}
 use Rattle.fcb_ring.specs.Standing.{record_places}
 use Rattle.fcb_ring.proofs.Walks.{option_cases, walk-none, walk-some, walk-bound}
 use Rattle.fcb_ring.proofs.RecordLemmas.{read, advances, aligned_after, end-fields, header_fits}

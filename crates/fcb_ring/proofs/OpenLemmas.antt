@@ -7,19 +7,21 @@ use Rattle.flash_sim.specs.Device.{overwritten}
 use Rattle.flash_map.specs.Units.{padded}
 use Rattle.fcb_ring.specs.declared.ring.Ring.{Ring}
 use Rattle.fcb_ring.specs.declared.ring.Stage.{Stage}
-use Rattle.fcb_ring.specs.declared.ring.Stage.TheVariants.{Ready}
+use Rattle.fcb_ring.specs.declared.ring.Stage.TheVariants.{Inspected, Ready, Collecting, Down}
 use Rattle.fcb_ring.specs.declared.sector.SectorState.{SectorState}
 use Rattle.fcb_ring.specs.SectorStates.{is_erased, is_torn, state_of}
 use Rattle.fcb_ring.specs.Rings.{state_at, turned, IsRing, AreClean}
-use Rattle.fcb_ring.specs.Entries.{sector_at, states, entries, HasEntries}
-use Rattle.fcb_ring.specs.Standing.{Stands, FitsStage, uncounted}
+use Rattle.fcb_ring.specs.Entries.{states, entries, HasEntries}
+use Rattle.flash_map.specs.Area.{sector_at}
+use Rattle.fcb_ring.specs.Standing.{Stands, FitsStage, IsWritten, uncounted}
+use Rattle.fcb_ring.specs.Changing.{FitsOpened}
 use Rattle.fcb_ring.specs.Writing.{header_image}
 use Rattle.fcb_ring.proofs.RingLemmas.{turned-within}
 use Rattle.fcb_ring.proofs.AreaLemmas.{HasSize, state-at, length-states}
 use Rattle.fcb_ring.proofs.LayLemmas.{erased_is}
 use Rattle.fcb_ring.proofs.StandLemmas.{KeepsRun, kept-has, part, entries-are, set-there, set-elsewhere}
-use Rattle.fcb_ring.proofs.HeaderLemmas.{opened, opened-entries, opened-header, opened-used, opened-id, opened-not_overfull, opened-not_dirty, cut_header}
-use Rattle.fcb_ring.proofs.GrowLemmas.{IsGood, grown-entries, grown-uncounted, grown-undamaged}
+use Rattle.fcb_ring.proofs.HeaderLemmas.{opened, opened-entries, opened-header, opened-used, opened-id, opened-not_overfull, opened-not_dirty, opened-end_state, cut_header}
+use Rattle.fcb_ring.proofs.GrowLemmas.{IsGood, there, elsewhere, grown-form, grown-clean, grown-entries, grown-uncounted, grown-undamaged}
 
 free-erased : (unit : ℕ) (s : List ℕ) → (state_of unit s).is_free ≡ true → (state_of unit s).is_torn ≡ false → is_erased s ≡ true
 unfolding state_of
@@ -107,3 +109,43 @@ module _ (unit size : ℕ) (old : List (List ℕ)) (has : HasSize unit size old)
 
     pub open-has : HasEntries unit (set old (turned (length old) ring.oldest ring.used) (opened id size)) (entries unit old)
     open-has = record { undamaged = grown-undamaged unit old ring.oldest ring.used ring.used t form (omega arith) (omega arith) open-place.1 good follows stands.clean; are = open-list }
+
+    abbrev pub opened_area : List (List ℕ)
+    opened_area = set old (turned (length old) ring.oldest ring.used) (opened id size)
+
+    opened-long : length (states unit opened_area) ≡ length old
+    opened-long = length-states unit opened_area ∙ length-set old (turned (length old) ring.oldest ring.used) t
+
+    there-is : state_at (states unit opened_area) (turned (length (states unit opened_area)) ring.oldest ring.used) ≡ state_of unit t
+    there-is = there unit old ring.oldest ring.used ring.used t form (omega arith) (omega arith) open-place.1 good follows
+
+    fits-by : (next : Stage) → FitsOpened next (ring.used + 1) (length old) → FitsStage next (states unit opened_area) ring.oldest (ring.used + 1)
+    fits-by (Inspected full) fits = absurd fits
+    fits-by Ready fits = (
+      omega (arith, fits, opened-long),
+      λ k le lt.
+          ap (λ (x : SectorState). x.is_torn) (elsewhere unit old ring.oldest ring.used ring.used t form (omega arith) (omega arith) open-place.1 good follows k (omega (arith, opened-long)) (λ (is : k ≡ ring.used). omega arith))
+          ∙ stage-is.1 k (omega arith) (omega (arith, opened-long, long)),
+    )
+    fits-by Collecting fits = omega (arith, fits, opened-long)
+    fits-by Down fits = absurd fits
+
+    none-uncounted : (next : Stage) → FitsOpened next (ring.used + 1) (length old) → ring.used + 1 ≡ ring.used + 1 + uncounted next
+    none-uncounted (Inspected full) fits = absurd fits
+    none-uncounted Ready fits = omega arith
+    none-uncounted Collecting fits = omega arith
+    none-uncounted Down fits = absurd fits
+
+    pub open-stands : (next : Stage) → FitsOpened next (ring.used + 1) (length old) → Stands unit opened_area (record ring { used = ring.used + 1; id = id; end = padded unit 8; stage = next })
+    open-stands next fits = record {
+      form = subst (λ (n : ℕ). IsRing (states unit opened_area) ring.oldest n) (none-uncounted next fits) (grown-form unit old ring.oldest ring.used ring.used t form (omega arith) (omega arith) open-place.1 good follows);
+      clean = grown-clean unit old ring.oldest ring.used ring.used t form (omega arith) (omega arith) open-place.1 good follows stands.clean;
+      last = λ positive.
+          let back : ring.used ≡ ring.used + 1 - 1 = omega arith in
+          subst (λ (n : ℕ). IsWritten (state_at (states unit opened_area) (turned (length (states unit opened_area)) ring.oldest n)) (record ring { used = ring.used + 1; id = id; end = padded unit 8; stage = next })) back
+          (record {
+            end = sym (opened-end_state unit id size has.is_unit has.at_least) ∙ sym (ap (λ (x : SectorState). x.end) there-is);
+            id = sym (opened-id unit id size has.is_unit has.at_least) ∙ sym (ap (λ (x : SectorState). x.id) there-is);
+          });
+      stage = fits-by next fits;
+    }

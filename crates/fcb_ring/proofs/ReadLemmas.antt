@@ -9,9 +9,10 @@ use Rattle.fcb_ring.specs.declared.ring.Ring.{Ring}
 use Rattle.fcb_ring.specs.declared.ring.Stage.{Stage}
 use Rattle.fcb_ring.specs.declared.ring.Stage.TheVariants.{Inspected, Ready, Collecting, Down}
 use Rattle.fcb_ring.specs.Rings.{turned, distance}
-use Rattle.fcb_ring.specs.Entries.{sector_at, states, entries, following, records_from}
+use Rattle.fcb_ring.specs.Entries.{states, entries, following, records_from, HasEntries}
+use Rattle.flash_map.specs.Area.{sector_at}
 use Rattle.fcb_ring.specs.Standing.{Stands, FitsStage, uncounted, record_places, IsNext}
-use Rattle.fcb_ring.proofs.RingLemmas.{turned-within, distance-turned}
+use Rattle.fcb_ring.proofs.RingLemmas.{turned-within, distance-turned, undamaged}
 use Rattle.fcb_ring.proofs.AreaLemmas.{HasSize, length-states}
 use Rattle.fcb_ring.proofs.NextLemmas.{IsAcross, after_of, following-all, following-is, following-end, following-next, behind, next-is, contained_at, entry_at, body_is}
 use Rattle.flash_map.proofs.Rounding.{padding}
@@ -29,6 +30,15 @@ module _ (unit size : ℕ) (sectors : List (List ℕ)) (has : HasSize unit size 
 
   counted-is : min (ring.used + uncounted ring.stage) (length sectors - 1) ≡ min ring.used (n - 1)
   counted-is = let c = counted-by ring.stage stands.stage in omega arith
+
+  -- the area of a ring that stands is not damaged
+  pub stands-has : HasEntries unit sectors (entries unit sectors)
+  stands-has = record {
+    undamaged =
+        let l = length-states unit sectors in
+        undamaged (states unit sectors) ring.oldest (ring.used + uncounted ring.stage) stands.form (λ k lt. let c = counted-by ring.stage stands.stage in stands.clean k (omega arith));
+    are = refl;
+  }
 
   pub place-facts : (ring.oldest < n) × (ring.used ≤ n)
   place-facts = let c = counted-by ring.stage stands.stage in (omega (arith, stands.form.within, length-states unit sectors), omega arith)

@@ -110,7 +110,7 @@ advances unit sector is_unit at r some =
     let e : r.end ≡ at + unit + padded unit (body_len (get_or sector at 0) (get_or sector (at + 1) 0)) + unit = ap (λ (q : Record). q.end) h.is ∙ end-of unit sector at in
     (omega (arith, pad.positive), h.fits)
 
-unit_aligned : (unit : ℕ) → IsUnit unit → unit % unit ≡ 0
+pub unit_aligned : (unit : ℕ) → IsUnit unit → unit % unit ≡ 0
 unit_aligned = by_unit (λ unit. unit % unit ≡ 0) refl refl refl
 
 -- a record starts and ends at whole units

@@ -10,7 +10,8 @@ use Rattle.fcb_ring.specs.declared.ring.Stage.TheVariants.{Inspected}
 use Rattle.fcb_ring.specs.declared.sector.SectorState.{SectorState}
 use Rattle.fcb_ring.specs.SectorStates.{is_erased, is_torn, mended, mended_up_to, state_of}
 use Rattle.fcb_ring.specs.Rings.{state_at, turned, oldest_place, first_damage, IsRing, AreClean}
-use Rattle.fcb_ring.specs.Entries.{sector_at, states, sector_entries, entries, HasEntries}
+use Rattle.fcb_ring.specs.Entries.{states, sector_entries, entries, HasEntries}
+use Rattle.flash_map.specs.Area.{sector_at}
 use Rattle.fcb_ring.specs.Standing.{Stands, FitsStage, uncounted}
 use Rattle.fcb_ring.proofs.PlaceLemmas.{All-range, flat_map-agree, flat_map-map}
 use Rattle.fcb_ring.proofs.RingLemmas.{turned-within, turned-same, ring-form, clean-form, counting-is, undamaged}

@@ -1,5 +1,6 @@
 -- How an area reads: the bodies of the records that check, each with its place, or the area's damage.
-use Rattle.std.specs.Prelude.{◌≡◌, ℕ, ◌+◌, ◌-◌, List, [], ◌++◌, length, nat_lt, if◌then◌else◌, map, filter, flat_map, slice_index_or, slice_range, Option, Some, None}
+use Rattle.std.specs.Prelude.{◌≡◌, ℕ, ◌+◌, ◌-◌, List, [], ◌++◌, length, nat_lt, if◌then◌else◌, map, filter, flat_map, slice_range, Option, Some, None}
+use Rattle.flash_map.specs.Area.{sector_at}
 use Rattle.std.specs.List.{range_with_len}
 use Rattle.flash_map.specs.Units.{padded}
 use Rattle.flash_map.specs.declared.faults.Damaged.{Damaged}
@@ -9,9 +10,6 @@ use Rattle.fcb_ring.specs.declared.sector.SectorState.{SectorState}
 use Rattle.fcb_ring.specs.Records.{records, walk, record_at}
 use Rattle.fcb_ring.specs.Rings.{counting, first_damage, turned}
 use Rattle.fcb_ring.specs.SectorStates.{state_of}
-
-abbrev pub sector_at : List (List ℕ) → ℕ → List ℕ
-sector_at sectors place = slice_index_or sectors place []
 
 abbrev pub states : ℕ → List (List ℕ) → List SectorState
 states unit sectors = map (state_of unit) sectors

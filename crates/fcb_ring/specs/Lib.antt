@@ -1,3 +1,4 @@
+pub mod Changing
 pub mod Entries
 pub mod Records
 pub mod Rings

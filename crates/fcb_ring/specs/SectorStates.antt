@@ -15,6 +15,9 @@ pub record IsSector (unit : ℕ) (bytes : List ℕ) : Type 0 where
 abbrev pub is_erased : List ℕ → Bool
 is_erased bytes = list_all (λ byte. byte == 0xFF) bytes
 
+abbrev pub is_written : List ℕ → Bool
+is_written bytes = not (is_erased bytes)
+
 -- the four bytes that a header begins with
 abbrev pub magic : List ℕ
 magic = 0xEE ∷ 0xEE ∷ 0xFF ∷ 0xC0 ∷ []

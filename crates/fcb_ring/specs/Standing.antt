@@ -21,7 +21,6 @@ use Rattle.fcb_ring.specs.Rings.{state_at, turned, is_full, first_damage, IsRing
 pub record IsRingArea (banks : List Bank) (area : Area) : Type 0 where
   pub lawful : IsLawfulFor banks area
   pub role : (area.role ≡ Fcb) ⊎ (area.role ≡ Sel)
-  pub several : 2 ≤ area.sectors
 
 -- no call of it answered that power was lost
 abbrev pub is_up : Stage → Bool

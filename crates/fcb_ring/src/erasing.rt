@@ -3,8 +3,8 @@ ghost use Rattle.std.specs.Prelude.{◌≡◌, ◌+◌, ◌*◌, ◌<◌, ◌≤
 ghost use Rattle.flash_sim.specs.Device.{counted};
 ghost use Rattle.flash_map.specs.Area.{unit_of, sectors_of, sector_size};
 ghost use Rattle.flash_map.specs.Touches.{Touches};
-ghost use Rattle.fcb_ring.specs.SectorStates.{is_torn, mended, mended_up_to, blanked, blanked_up_to};
-ghost use Rattle.fcb_ring.specs.Entries.{sector_at};
+ghost use Rattle.fcb_ring.specs.SectorStates.{is_torn, is_written, mended, mended_up_to, blanked, blanked_up_to};
+ghost use Rattle.flash_map.specs.Area.{sector_at};
 ghost use Rattle.fcb_ring.specs.Standing.{IsRingArea, SpendsAtMost};
 
 use crate::ring::{Ring, sector_view};
@@ -37,6 +37,7 @@ pub(crate) fn erase_if<F: Flash>(
 }
 
 // Erases each sector that has a torn header.
+#[tactic(auto, using(flash_map::proofs::Touches::then))]
 pub(crate) fn erase_torn<F: Flash, L: Ledger>(
     flash: &mut F,
     area: &Area,
@@ -63,6 +64,7 @@ impl Ring {
     ///
     /// # Errors
     /// `PowerLost`. The first sectors are then erased, and the others as before.
+    #[tactic(auto, using(flash_map::proofs::Touches::then))]
     pub fn format<F: Flash, L: Ledger>(
         flash: &mut F,
         area: &Area,
@@ -72,7 +74,10 @@ impl Ring {
 
         ensures touches { Touches (area.now ∷ []) (F.device flash.old) (F.device flash.new) (is_err result) }
         ensures blank { OnOk result (sectors_of (F.device flash.new) area.now ≡ map blanked (sectors_of (F.device flash.old) area.now)) }
+        ensures units { OnOk result ((F.device flash.new).spent ≡ counted (F.device flash.old).spent (count_by is_written (sectors_of (F.device flash.old) area.now))) }
+
         ensures part { OnErr result ((n : ℕ) × (sectors_of (F.device flash.new) area.now ≡ blanked_up_to n (sectors_of (F.device flash.old) area.now))) }
+        ensures bound { OnErr result (SpendsAtMost (F.device flash.old) (F.device flash.new) (count_by is_written (sectors_of (F.device flash.old) area.now))) }
     {
         for sector in 0..area.sectors {
             let is_used = !is_erased(sector_view(flash, area, sector, steps));

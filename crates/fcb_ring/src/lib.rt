@@ -1,18 +1,26 @@
 //! A ring of records in flash: sectors with a header and rising ids, and records one behind the other. One sector is
 //! kept free, so that a collection has somewhere to put what it keeps.
-#![tactic(auto, using(flash_map::proofs::Touches::then))]
+#![tactic(auto)]
 
+mod collecting;
 mod erasing;
+mod image;
 mod mounting;
 mod reading;
 mod record;
 mod ring;
 mod sector;
 mod sequence;
+mod writing;
 
 pub use record::{Record, RecordAt};
 pub use ring::{Ring, Stage};
 pub use sector::SectorState;
+pub use writing::AppendFault;
 
 #[cfg(test)]
+mod random_areas;
+#[cfg(test)]
 mod tests;
+#[cfg(test)]
+mod writing_tests;

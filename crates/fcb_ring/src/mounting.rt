@@ -14,6 +14,7 @@ impl Ring {
     ///
     /// # Errors
     /// `Damaged`, and then nothing was programmed, or `PowerLost`. Never `NoMemory`.
+    #[tactic(auto, using(flash_map::proofs::Touches::then))]
     pub fn mount<F: Flash, L: Ledger>(
         flash: &mut F,
         area: Area,

@@ -3,7 +3,8 @@ ghost use Rattle.std.specs.Prelude.{◌≡◌, ◌+◌, ◌-◌, ◌*◌, ◌%�
 ghost use Rattle.std.specs.List.{slice_get};
 ghost use Rattle.std.specs.Option.{ForSome};
 ghost use Rattle.flash_map.specs.Area.{unit_of, sectors_of, sector_size};
-ghost use Rattle.fcb_ring.specs.Entries.{sector_at, records_from, following};
+ghost use Rattle.fcb_ring.specs.Entries.{records_from, following};
+ghost use Rattle.flash_map.specs.Area.{sector_at};
 ghost use Rattle.fcb_ring.specs.Rings.{turned};
 ghost use Rattle.fcb_ring.specs.Standing.{StandsOn, entries_on, record_places, IsNext};
 

@@ -8,7 +8,8 @@ ghost use Rattle.flash_map.specs.Touches.{Touches};
 ghost use Rattle.flash_map.specs.Units.{padded};
 ghost use Rattle.fcb_ring.specs.SectorStates.{IsSector, state_of};
 ghost use Rattle.fcb_ring.specs.Rings.{state_at, turned, oldest_place, first_damage};
-ghost use Rattle.fcb_ring.specs.Entries.{sector_at, following};
+ghost use Rattle.fcb_ring.specs.Entries.{following};
+ghost use Rattle.flash_map.specs.Area.{sector_at};
 ghost use Rattle.fcb_ring.specs.Standing.{IsRingArea, StandsOn, states_on, entries_on, KeepsEntries, record_places, IsNext, is_up, is_finished, is_collecting, is_uncounted, erases_due, SpendsAtMost, mount_lost, MountEnds};
 
 use crate::erasing::{erase_if, erase_torn};
@@ -173,6 +174,7 @@ impl Ring {
     ///
     /// # Errors
     /// `PowerLost`. The ring is then down.
+    #[tactic(auto, using(flash_map::proofs::Touches::then))]
     pub fn finish<F: Flash, L: Ledger>(
         &mut self,
         flash: &mut F,

@@ -20,7 +20,12 @@ const BANK: Bank = Bank {
 };
 
 // Three sectors that begin with these bytes, and are else erased.
-fn image(alloc: Global, first: &[u8], second: &[u8], third: &[u8]) -> Result<Vec<u8>, Fail>
+pub(crate) fn image(
+    alloc: Global,
+    first: &[u8],
+    second: &[u8],
+    third: &[u8],
+) -> Result<Vec<u8>, Fail>
     requires first { length first.now ≤ 512 }
     requires second { length second.now ≤ 512 }
     requires third { length third.now ≤ 512 }
@@ -33,7 +38,7 @@ fn image(alloc: Global, first: &[u8], second: &[u8], third: &[u8]) -> Result<Vec
     Ok(bytes)
 }
 
-fn load<B: Bench>(alloc: Global, bench: &mut B, bytes: Vec<u8>) -> Result<(), Fail>
+pub(crate) fn load<B: Bench>(alloc: Global, bench: &mut B, bytes: Vec<u8>) -> Result<(), Fail>
     requires { vec_len bytes ≡ 1536 }
     ensures { OnOk result ((B.device bench.new).banks ≡ BANK ∷ []) }
 {
@@ -43,7 +48,7 @@ fn load<B: Bench>(alloc: Global, bench: &mut B, bytes: Vec<u8>) -> Result<(), Fa
     Ok(())
 }
 
-fn area(sectors: u32) -> Area
+pub(crate) fn area(sectors: u32) -> Area
     requires least { 2 ≤ sectors }
     requires most { sectors ≤ 3 }
     ensures { IsRingArea (BANK ∷ []) result }
@@ -108,25 +113,30 @@ fn tells_damage(rt: HostRuntime) -> Result<(), Fail> {
     damages::<FlatSim, Brand, HostRuntime>(&rt, alloc, &mut sim, Blank::new(1))
 }
 
-// Mounts an area of three sectors that begin with these bytes.
-fn mounted<B: Bench, L: Ledger>(
+// Mounts an area of so many sectors with these bytes.
+pub(crate) fn mounted<B: Bench, L: Ledger>(
     alloc: Global,
     bench: &mut B,
     bytes: Vec<u8>,
+    sectors: u32,
+    reserve: u32,
     steps: &mut Steps<L>,
 ) -> Result<Ring, Fail>
-    requires { vec_len bytes ≡ 1536 }
-    ensures { IfOk result (λ ring. StandsOn (B.device bench.new) ring × (ring.stage ≡ Stage.Ready)) }
+    requires bytes { vec_len bytes ≡ 1536 }
+    requires least { 2 ≤ sectors }
+    requires most { sectors ≤ 3 }
+    ensures stands { IfOk result (λ ring. StandsOn (B.device bench.new) ring × (ring.stage ≡ Stage.Ready)) }
+    ensures banks { OnOk result ((B.device bench.new).banks ≡ BANK ∷ []) }
 {
     load(alloc, bench, bytes)?;
-    match Ring::mount(bench, area(3), 0, steps) {
+    match Ring::mount(bench, area(sectors), reserve, steps) {
         Ok(ring) => Ok(ring),
         Err(fault) => Err(fault)?,
     }
 }
 
 // The record after the given one, whose body is compared.
-fn next_with<F: Flash, L: Ledger, R: Abort>(
+pub(crate) fn next_with<F: Flash, L: Ledger, R: Abort>(
     rt: &R,
     ring: &Ring,
     flash: &F,
@@ -166,7 +176,8 @@ fn reads<B: Bench, L: Ledger, R: Abort>(
     ];
     let newer = [0xEE, 0xEE, 0xFF, 0xC0, 0x01, 0xFF, 0x00, 0x00];
     let torn = [0xEE, 0xEE, 0xFF, 0xC0];
-    let ring = mounted(alloc, bench, image(alloc, &older, &newer, &torn)?, steps)?;
+    let bytes = image(alloc, &older, &newer, &torn)?;
+    let ring = mounted(alloc, bench, bytes, 3, 0, steps)?;
     assert!(rt; ring.is_up() && ring.is_finished() && !ring.is_collecting());
     assert_eq!(rt; bench.spent(), 1);
     assert_eq!(rt; ring.oldest(), Some(0));

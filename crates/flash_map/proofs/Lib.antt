@@ -1,5 +1,6 @@
 pub mod Apart
 pub mod AreaCalls
+pub mod CopyLemmas
 pub mod MapLemmas
 pub mod OneCall
 pub mod PieceLemmas

@@ -1,5 +1,5 @@
 -- Areas that a store of their role may work on.
-use Rattle.std.specs.Prelude.{◌≡◌, ℕ, ◌%◌, ◌<◌, ◌≤◌, List}
+use Rattle.std.specs.Prelude.{◌≡◌, ℕ, ◌%◌, ◌≤◌, List}
 use Rattle.flash_sim.specs.Bank.{bank_at}
 use Rattle.flash_sim.specs.declared.flash.Bank.{Bank}
 use Rattle.flash_sim.specs.declared.flash.Kind.{Kind}
@@ -31,5 +31,5 @@ pub record IsLawfulFor (banks : List Bank) (area : Area) : Type 0 where
   pub at_least : 512 ≤ (bank_at banks area.bank).sector
   pub at_most : (bank_at banks area.bank).sector ≤ 32768
   pub whole : (bank_at banks area.bank).sector % 64 ≡ 0
-  pub some : 0 < area.sectors
+  pub several : 2 ≤ area.sectors
   pub few : area.sectors ≤ 64

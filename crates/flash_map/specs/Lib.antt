@@ -1,4 +1,5 @@
 pub mod Area
+pub mod Copies
 pub mod Lawful
 pub mod Map
 pub mod Pieces

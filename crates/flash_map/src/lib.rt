@@ -3,6 +3,7 @@
 
 mod area;
 mod calls;
+mod copies;
 mod faults;
 mod map;
 mod pieces;
@@ -10,6 +11,7 @@ mod units;
 
 pub use area::{Area, Geometry, Role};
 pub use calls::{area_erase, area_program, area_view, geometry};
+pub use copies::{Source, copy_padded};
 pub use faults::{Damaged, MountFault, Why, WriteFault};
 pub use map::{AddFault, FlashMap};
 pub use pieces::{program_all, program_padded};

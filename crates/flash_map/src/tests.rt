@@ -126,3 +126,69 @@ fn sectors_of_an_area(rt: HostRuntime) -> Result<(), Fail> {
     let mut sim = FlatSim::new(alloc);
     exercise::<FlatSim, Brand, HostRuntime>(&rt, alloc, &mut sim, Blank::new(1))
 }
+
+const TINY: Bank = Bank {
+    kind: Kind::Erasing,
+    unit: 4,
+    sector: 16,
+    count: 2,
+};
+
+fn load_numbers<B: Bench>(alloc: Global, bench: &mut B) -> Result<(), Fail>
+    ensures { OnOk result (B.device bench.new ≡ loaded (B.device bench.old) (TINY ∷ []) ((255 ∷ 255 ∷ 255 ∷ 255 ∷ 255 ∷ 255 ∷ 255 ∷ 255 ∷ 255 ∷ 255 ∷ 255 ∷ 255 ∷ 255 ∷ 255 ∷ 255 ∷ 255 ∷ 1 ∷ 2 ∷ 3 ∷ 4 ∷ 5 ∷ 6 ∷ 7 ∷ 8 ∷ 9 ∷ 10 ∷ 11 ∷ 12 ∷ 13 ∷ 14 ∷ 15 ∷ 16 ∷ []) ∷ [])) }
+{
+    let banks = vec![in alloc; TINY]?;
+    let numbers = [
+        255, 255, 255, 255, 255, 255, 255, 255, 255, 255, 255, 255, 255, 255, 255, 255, 1, 2, 3, 4,
+        5, 6, 7, 8, 9, 10, 11, 12, 13, 14, 15, 16,
+    ];
+    let bytes = vec![in alloc; Vec::from_array(alloc, numbers)?]?;
+    bench.load(alloc, banks, bytes)?;
+    Ok(())
+}
+
+// Five bytes of the second sector, copied behind the first unit of the first.
+#[tactic(auto, unfolding(crate::specs::Units::padded))]
+fn exercise_copy<B: Bench, L: Ledger, R: Abort>(
+    rt: &R,
+    alloc: Global,
+    bench: &mut B,
+    blank: Blank,
+) -> Result<(), Fail>
+    requires name { blank.name ≡ L.name }
+    requires parts { blank.parts ≡ L.parts }
+    requires some { 0 < L.parts }
+{
+    let mut steps = Steps::<L>::new(blank);
+    let area = Area {
+        label: ArrayString::new(),
+        role: Role::Nvs,
+        bank: 0,
+        first: 0,
+        sectors: 2,
+    };
+    load_numbers(alloc, bench)?;
+    let from = Source {
+        sector: 1,
+        offset: 0,
+        len: 5,
+    };
+    let copied = copy_padded(bench, &area, from, 0, 4, &mut steps);
+    assert_eq!(rt; copied, Ok(()));
+    assert_eq!(rt;
+        area_view(bench, &area, 0, 0, 16, &mut steps),
+        [
+            255, 255, 255, 255, 1, 2, 3, 4, 5, 255, 255, 255, 255, 255, 255, 255
+        ]
+        .as_slice()
+    );
+    assert_eq!(rt; bench.spent(), 2);
+    Ok(())
+}
+
+#[test]
+fn copy_of_five_bytes(rt: HostRuntime) -> Result<(), Fail> {
+    let alloc = rt.alloc();
+    let mut sim = FlatSim::new(alloc);
+    exercise_copy::<FlatSim, Brand, HostRuntime>(&rt, alloc, &mut sim, Blank::new(1))
+}

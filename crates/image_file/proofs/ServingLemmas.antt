@@ -62,6 +62,6 @@ may_be_served image i is below =
       at_least = bank.at_least;
       at_most = bank.at_most;
       whole = bank.whole;
-      some = omega (arith, beside.in_bank.some);
+      several = beside.in_bank.some;
       few = omega (arith, beside.in_bank.in_bank, bank.few);
     }

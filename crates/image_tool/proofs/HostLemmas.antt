@@ -6,7 +6,7 @@ use Rattle.std.proofs.lemmas.List.Elements.{All-from_recursion}
 use Rattle.zs_host.specs.Outside.{Outside, failed}
 use Rattle.zs_host.specs.Host.{PrintsPart}
 use Rattle.script_lines.specs.declared.line.Line.{Line}
-use Rattle.script_lines.specs.declared.line.Line.TheVariants.{Set, Get, Cut, Uncut, Mount}
+use Rattle.script_lines.specs.declared.line.Line.TheVariants.{Set, Get, Delete, Cut, Uncut, Mount}
 use Rattle.script_lines.specs.Parts.{parts}
 use Rattle.script_lines.specs.Line.{Spells}
 use Rattle.script_lines.specs.Script.{SpellsAll, told, IsScript}
@@ -26,6 +26,7 @@ fails_printing old new bytes part = fails_by old new (ap (λ (o : Outside). o.fa
 lawful_line : (text : List ℕ) (line : Line) → Spells (parts 32 text) line → IsLawfulLine line
 lawful_line text (Set id value) spells = (spells.2, spells.3.1, spells.3.2)
 lawful_line text (Get id) spells = spells.1
+lawful_line text (Delete id) spells = spells.1
 lawful_line text (Cut units) spells = tt
 lawful_line text Uncut spells = tt
 lawful_line text Mount spells = tt

@@ -1,4 +1,3 @@
-pub mod BlankLemmas
-pub mod EndLemmas
+pub mod Ends
 pub mod HostLemmas
-pub mod WordLemmas
+pub mod Images

@@ -1,7 +1,6 @@
-pub mod BlankRun
-pub mod Delivers
+pub mod Outcomes
 pub mod Reading
-pub mod Report
+pub mod Refusals
+pub mod Served
+pub mod Telling
 pub mod Tool
-pub mod WordCases
-pub mod Words

@@ -1,40 +1,39 @@
 // Printing and writing.
 ghost use Rattle.std.specs.Prelude.{◌≡◌};
-ghost use Rattle.zs_host.specs.Outside.{SameBut};
-ghost use Rattle.image_tool.specs.Delivers.{Delivers};
-ghost use Rattle.image_tool.specs.Report.{Reports};
+ghost use Rattle.image_tool.specs.Outcomes.{file_of};
+ghost use Rattle.image_tool.specs.Refusals.{line_of, status_of};
+ghost use Rattle.image_tool.specs.Telling.{Delivers, OnlyFile, Reports};
 
-use crate::reading::Stop;
+use crate::outcome::Outcome;
+use crate::printing::refusal_line;
 use crate::status::Status;
+use crate::stops::Refusal;
 use std::alloc::Global;
 use zs_host::{Host, HostFault};
 
-/// Prints the text, and then writes the file.
-pub fn deliver<H: Host>(
-    alloc: Global,
-    host: &mut H,
-    text: &[u8],
-    out: &str,
-    bytes: &[u8],
-) -> Result<(), Stop>
-    ensures delivers { Delivers (H.outside host.old) (H.outside host.new) text.now out.now bytes.now result }
-    ensures files { SameBut out.now (H.outside host.old).files (H.outside host.new).files }
+/// Prints the text, and then writes the file, if there is one.
+pub fn deliver<H: Host>(alloc: Global, host: &mut H, outcome: &Outcome<'_>) -> Status
+    ensures delivers { Delivers (H.outside host.old) (H.outside host.new) outcome.now.text.items (file_of outcome.now.file) result }
+    ensures files { OnlyFile (file_of outcome.now.file) (H.outside host.old) (H.outside host.new) }
 {
-    match host.print(alloc, text) {
+    match host.print(alloc, outcome.text.as_slice()) {
         Ok(()) => {}
-        Err(HostFault::NoMemory) => return Err(Stop::NoMemory),
-        Err(HostFault::Failed) => return Err(Stop::HostFailed),
+        Err(HostFault::NoMemory) => return Status::NoMemory,
+        Err(HostFault::Failed) => return Status::HostFault,
         Err(HostFault::Missing | HostFault::TooLong) => unreachable!(),
     }
-    match host.write_whole(alloc, out, bytes) {
-        Ok(()) => Ok(()),
-        Err(HostFault::NoMemory) => Err(Stop::NoMemory),
-        Err(HostFault::Failed) => Err(Stop::HostFailed),
+    let Some(file) = &outcome.file else {
+        return Status::Done;
+    };
+    match host.write_whole(alloc, file.name, file.bytes.as_slice()) {
+        Ok(()) => Status::Done,
+        Err(HostFault::NoMemory) => Status::NoMemory,
+        Err(HostFault::Failed) => Status::HostFault,
         Err(HostFault::Missing | HostFault::TooLong) => unreachable!(),
     }
 }
 
-/// Prints the line of a refusal.
+/// Prints a line, and then answers the status.
 pub fn report<H: Host>(alloc: Global, host: &mut H, line: &str, status: Status) -> Status
     ensures reports { Reports (H.outside host.old) (H.outside host.new) line.now status result }
     ensures files { (H.outside host.new).files ≡ (H.outside host.old).files }
@@ -44,5 +43,16 @@ pub fn report<H: Host>(alloc: Global, host: &mut H, line: &str, status: Status) 
         Err(HostFault::NoMemory) => Status::NoMemory,
         Err(HostFault::Failed) => Status::HostFault,
         Err(HostFault::Missing | HostFault::TooLong) => unreachable!(),
+    }
+}
+
+/// Prints the line of the refusal.
+pub fn refuse<H: Host>(alloc: Global, host: &mut H, refusal: &Refusal<'_>) -> Status
+    ensures reports { Reports (H.outside host.old) (H.outside host.new) (line_of refusal.now) (status_of refusal.now) result }
+    ensures files { (H.outside host.new).files ≡ (H.outside host.old).files }
+{
+    match refusal_line(alloc, refusal) {
+        Ok(line) => report(alloc, host, line.as_str(), refusal.status()),
+        Err(_) => Status::NoMemory,
     }
 }

@@ -1,13 +1,17 @@
 //! Runs scripts on simulated flash that may lose power at any unit.
 #![tactic(auto)]
 
-mod blank_run;
+mod build;
 mod delivering;
+mod dump;
+mod outcome;
 mod printing;
 mod reading;
+mod run;
+mod serving;
 mod status;
+mod stops;
 mod top;
-mod words;
 
 use flash_sim::FlatSim;
 pub use status::Status;

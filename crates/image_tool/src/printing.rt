@@ -1,11 +1,17 @@
 // Texts.
-ghost use Rattle.std.specs.Prelude.{◌≡◌, ◌++◌, ◌∷◌, [], codes, IfOk};
+ghost use Rattle.std.specs.Prelude.{◌≡◌, ◌++◌, ◌∷◌, [], codes, IfOk, OnOk, flat_map};
 ghost use Rattle.std.specs.Fmt.{decimal};
 ghost use Rattle.std.specs.String.{string_bytes};
-ghost use Rattle.image_tool.specs.Tool.{texts, name_of, bad_script_line, no_file_line};
+ghost use Rattle.image_tool.specs.Outcomes.{texts, item_line};
+ghost use Rattle.image_tool.specs.Refusals.{file_why, area_why, script_why, line_of};
 
+use crate::stops::Refusal;
+use arrayvec::ArrayString;
+use flash_map::{Damaged, Why};
 use flash_sim::NoMemory;
+use image_file::ImageWhy;
 use script_lines::{Answer, LineWhy, answer_text};
+use session::Item;
 use std::alloc::{AllocError, Global};
 
 /// The texts of all answers.
@@ -20,8 +26,57 @@ pub fn all_texts(alloc: Global, answers: &[Answer]) -> Result<Vec<u8>, NoMemory>
     Ok(all)
 }
 
-fn why_name(why: LineWhy) -> &'static str
-    ensures { result.now ≡ name_of why }
+fn item_line(alloc: Global, item: &Item) -> Result<String, AllocError>
+    ensures { IfOk result (λ text. string_bytes text ≡ item_line item.now) }
+{
+    let id = item.id;
+    let digits = hex::encode(alloc, item.value.as_slice())?;
+    format!(in alloc; "item {id} {digits}\n")
+}
+
+/// A line for each item.
+pub fn item_lines(alloc: Global, items: &[Item]) -> Result<Vec<u8>, NoMemory>
+    ensures { IfOk result (λ text. text.items ≡ flat_map item_line items.now) }
+{
+    let mut all = Vec::new(alloc);
+    for item in items {
+        let Ok(line) = item_line(alloc, item) else {
+            return Err(NoMemory);
+        };
+        all.extend_from_slice(line.as_bytes())?;
+    }
+    Ok(all)
+}
+
+fn file_why(why: ImageWhy) -> &'static str
+    ensures { result.now ≡ file_why why }
+{
+    match why {
+        ImageWhy::BadMagic => "BadMagic",
+        ImageWhy::BadVersion => "BadVersion",
+        ImageWhy::BadBank => "BadBank",
+        ImageWhy::BadArea => "BadArea",
+        ImageWhy::Short => "Short",
+        ImageWhy::Long => "Long",
+    }
+}
+
+fn area_why(why: Why) -> &'static str
+    ensures { result.now ≡ area_why why }
+{
+    match why {
+        Why::AllClosed => "AllClosed",
+        Why::TwoOpen => "TwoOpen",
+        Why::Dirty => "Dirty",
+        Why::NoFence => "NoFence",
+        Why::Overfull => "Overfull",
+        Why::BadHeader => "BadHeader",
+        Why::BadSequence => "BadSequence",
+    }
+}
+
+fn script_why(why: LineWhy) -> &'static str
+    ensures { result.now ≡ script_why why }
 {
     match why {
         LineWhy::Unknown => "Unknown",
@@ -29,26 +84,64 @@ fn why_name(why: LineWhy) -> &'static str
     }
 }
 
-fn bad_line(alloc: Global, line: u64, name: &str) -> Result<String, AllocError>
-    ensures { IfOk result (λ text. string_bytes text ≡ codes "bad script: line " ++ decimal line ++ codes ": " ++ name.now ++ 10 ∷ []) }
+fn file_line(alloc: Global, at: u64, why: &str) -> Result<String, AllocError>
+    ensures { IfOk result (λ text. string_bytes text ≡ codes "bad image: at " ++ decimal at ++ codes ": " ++ why.now ++ 10 ∷ []) }
 {
-    let mut text = format!(in alloc; "bad script: line {line}: ")?;
-    text.push_str(name)?;
+    let mut text = format!(in alloc; "bad image: at {at}: ")?;
+    text.push_str(why)?;
     text.push('\n')?;
     Ok(text)
 }
 
-/// The line that names a refused line of a script, and why it is refused.
-pub fn bad_script(alloc: Global, line: u64, why: LineWhy) -> Result<String, AllocError>
-    ensures { IfOk result (λ text. string_bytes text ≡ bad_script_line line why) }
+fn script_line(alloc: Global, line: u64, why: &str) -> Result<String, AllocError>
+    ensures { IfOk result (λ text. string_bytes text ≡ codes "bad script: line " ++ decimal line ++ codes ": " ++ why.now ++ 10 ∷ []) }
 {
-    let name = why_name(why);
-    bad_line(alloc, line, name)
+    let mut text = format!(in alloc; "bad script: line {line}: ")?;
+    text.push_str(why)?;
+    text.push('\n')?;
+    Ok(text)
 }
 
-/// The line that names a file that is not there.
-pub fn no_file(alloc: Global, word: &str) -> Result<String, AllocError>
-    ensures { IfOk result (λ text. string_bytes text ≡ no_file_line word.now) }
+fn area_line(alloc: Global, label: &str, sector: u32, why: &str) -> Result<String, AllocError>
+    ensures { IfOk result (λ text. string_bytes text ≡ codes "bad image: area " ++ label.now ++ codes " sector " ++ decimal sector ++ codes ": " ++ why.now ++ 10 ∷ []) }
 {
-    format!(in alloc; "no file: {word}\n")
+    let mut text = format!(in alloc; "bad image: area {label} sector ")?;
+    let place = format!(in alloc; "{sector}: ")?;
+    text.push_str(place.as_str())?;
+    text.push_str(why)?;
+    text.push('\n')?;
+    Ok(text)
+}
+
+fn bad_area(alloc: Global, label: &ArrayString<8>, damage: &Damaged) -> Result<String, AllocError>
+    ensures { IfOk result (λ text. string_bytes text ≡ codes "bad image: area " ++ label.now.bytes ++ codes " sector " ++ decimal damage.now.sector ++ codes ": " ++ area_why damage.now.why ++ codes "\n") }
+{
+    let why = area_why(damage.why);
+    area_line(alloc, label.as_str(), damage.sector, why)
+}
+
+/// The usage line.
+pub const USAGE: &str = "usage: image_tool build OUT SPEC | run IMAGE SCRIPT OUT | dump IMAGE\n";
+
+/// The line that a refusal prints.
+pub fn refusal_line(alloc: Global, refusal: &Refusal<'_>) -> Result<String, AllocError>
+    ensures { IfOk result (λ text. string_bytes text ≡ line_of refusal.now) }
+{
+    match refusal {
+        Refusal::BadSpec => String::from_str(alloc, USAGE),
+        Refusal::NoFile { word } => format!(in alloc; "no file: {word}\n"),
+        Refusal::BadFile { at, why } => {
+            let why = file_why(*why);
+            file_line(alloc, *at, why)
+        }
+        Refusal::Unbuilt { label } => {
+            let label = label.as_str();
+            format!(in alloc; "bad image: area {label}: Unbuilt\n")
+        }
+        Refusal::BadArea { label, damage } => bad_area(alloc, label, damage),
+        Refusal::BadScript { line, why } => {
+            let why = script_why(*why);
+            script_line(alloc, *line, why)
+        }
+    }
 }

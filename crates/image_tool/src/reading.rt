@@ -1,42 +1,75 @@
-// Reading a script.
-ghost use Rattle.std.specs.Prelude.{◌≡◌};
-ghost use Rattle.image_tool.specs.Reading.{ReadsLines};
+// Reading an image and a script.
+ghost use Rattle.std.specs.Prelude.{◌≡◌, All};
+ghost use Rattle.image_file.specs.Format.{plain};
+ghost use Rattle.session.specs.LineDone.{IsLawfulLine};
+ghost use Rattle.image_tool.specs.declared.stops.Refusal.TheVariants.{BadFile, BadScript};
+ghost use Rattle.image_tool.specs.declared.stops.Stop.TheVariants.{Refused};
+ghost use Rattle.image_tool.specs.Reading.{ReadsOr, HasImage, LacksImage, HasScript, LacksScript};
 
+use crate::stops::{Refusal, Stop};
+use image_file::{Image, ImageFault, ImageWhy, read_image};
 use script_lines::{Line, LineWhy, ScriptFault, read_script};
 use std::alloc::Global;
 use zs_host::{Host, HostFault};
 
-/// Why a run stops.
-#[derive(Clone, Copy, Debug, PartialEq, Eq)]
-pub enum Stop {
-    NoFile,
-    BadScript { line: u64, why: LineWhy },
-    HostFailed,
-    NoMemory,
-}
+/// The most bytes of an image file.
+pub const MOST_IMAGE: usize = 8388608;
 
 /// The most bytes of a script.
-pub const MOST: usize = 1048576;
+pub const MOST_SCRIPT: usize = 1048576;
+
+fn bad_file<'a>(at: u64, why: ImageWhy) -> Stop<'a>
+    ensures { result ≡ Refused (BadFile at why) }
+{
+    Stop::Refused(Refusal::BadFile { at, why })
+}
+
+fn bad_script<'a>(line: u64, why: LineWhy) -> Stop<'a>
+    ensures { result ≡ Refused (BadScript line why) }
+{
+    Stop::Refused(Refusal::BadScript { line, why })
+}
+
+/// The image of a file. Nothing is printed or written.
+pub fn read_image_file<'a, H: Host>(
+    alloc: Global,
+    name: &'a str,
+    host: &mut H,
+) -> Result<Image, Stop<'a>>
+    ensures { ReadsOr (λ image. HasImage (H.outside host.old) name.now (plain image)) (LacksImage (H.outside host.old) name.now) (H.outside host.old) (H.outside host.new) result }
+{
+    let bytes = match host.read_whole(alloc, name, MOST_IMAGE) {
+        Ok(bytes) => bytes,
+        Err(HostFault::Missing) => return Err(Stop::Refused(Refusal::NoFile { word: name })),
+        Err(HostFault::TooLong) => return Err(bad_file(MOST_IMAGE as u64, ImageWhy::Long)),
+        Err(HostFault::Failed) => return Err(Stop::HostFailed),
+        Err(HostFault::NoMemory) => return Err(Stop::NoMemory),
+    };
+    match read_image(alloc, bytes.as_slice()) {
+        Ok(image) => Ok(image),
+        Err(ImageFault::Bad { at, why }) => Err(bad_file(at, why)),
+        Err(ImageFault::NoMemory) => Err(Stop::NoMemory),
+    }
+}
 
 /// The lines of a script. Nothing is printed or written.
-pub fn read_lines<H: Host>(alloc: Global, script: &str, host: &mut H) -> Result<Vec<Line>, Stop>
-    ensures { ReadsLines script.now (H.outside host.old) (H.outside host.new) result }
+pub fn read_lines<'a, H: Host>(
+    alloc: Global,
+    name: &'a str,
+    host: &mut H,
+) -> Result<Vec<Line>, Stop<'a>>
+    ensures { ReadsOr (λ lines. HasScript (H.outside host.old) name.now lines.items × All IsLawfulLine lines.items) (LacksScript (H.outside host.old) name.now) (H.outside host.old) (H.outside host.new) result }
 {
-    let text = match host.read_whole(alloc, script, MOST) {
+    let text = match host.read_whole(alloc, name, MOST_SCRIPT) {
         Ok(text) => text,
-        Err(HostFault::Missing) => return Err(Stop::NoFile),
-        Err(HostFault::TooLong) => {
-            return Err(Stop::BadScript {
-                line: 0,
-                why: LineWhy::Long,
-            });
-        }
+        Err(HostFault::Missing) => return Err(Stop::Refused(Refusal::NoFile { word: name })),
+        Err(HostFault::TooLong) => return Err(bad_script(0, LineWhy::Long)),
         Err(HostFault::Failed) => return Err(Stop::HostFailed),
         Err(HostFault::NoMemory) => return Err(Stop::NoMemory),
     };
     match read_script(alloc, text.as_slice()) {
         Ok(lines) => Ok(lines),
-        Err(ScriptFault::BadLine { line, why }) => Err(Stop::BadScript { line, why }),
+        Err(ScriptFault::BadLine { line, why }) => Err(bad_script(line, why)),
         Err(ScriptFault::NoMemory) => Err(Stop::NoMemory),
     }
 }

@@ -1,90 +1,52 @@
 // The top call.
-ghost use Rattle.std.specs.Prelude.{◌≡◌, ◌%◌, ◌≤◌, ℕ, List, map, All, IfOk};
+ghost use Rattle.std.specs.Prelude.{◌≡◌, List, ℕ, map};
 ghost use Rattle.std.specs.String.{string_bytes};
-ghost use Rattle.zs_host.specs.Outside.{SameBut};
-ghost use Rattle.session.specs.LineDone.{IsLawfulLine};
-ghost use Rattle.image_tool.specs.Tool.{RunEnds, CommandEnds, NoCommandEnds, ToolEnds, Prepares};
-ghost use Rattle.image_tool.specs.WordCases.{command_of, IsLawfulRun};
-ghost use Rattle.image_tool.specs.Words.{Command, IsRun};
+ghost use Rattle.command_words.specs.Commands.{IsCommand};
+ghost use Rattle.command_words.specs.declared.commands.Command.{Command as command};
+ghost use Rattle.image_tool.specs.Tool.{Prepares, CommandEnds, NoCommandEnds, ToolEnds, MayWrite};
 
-use crate::blank_run::{image, run_on_blank};
-use crate::delivering::{deliver, report};
-use crate::printing::{all_texts, bad_script, no_file};
-use crate::reading::{Stop, read_lines};
+use crate::build::build;
+use crate::delivering::{deliver, refuse, report};
+use crate::dump::dump;
+use crate::outcome::Outcome;
+use crate::printing::USAGE;
+use crate::run::run;
 use crate::status::Status;
-use crate::words::{Run, read_run};
-use flash_sim::{Bench, NoMemory};
-use script_lines::Line;
+use crate::stops::Stop;
+use command_words::{Command, read_words};
+use flash_sim::Bench;
 use std::alloc::Global;
 use zs_host::Host;
 
-// What is to be printed, and what is to be written.
-#[derive(Drop)]
-struct Outcome {
-    text: Vec<u8>,
-    bytes: Vec<u8>,
-}
-
-// Runs the lines, and keeps the texts of their answers and the bytes that are left.
-fn prepare<B: Bench>(
+// What the command is to print and write.
+fn prepare<'a, H: Host, B: Bench>(
     alloc: Global,
-    run: &Run,
-    lines: &[Line],
+    command: &Command<'a>,
+    host: &mut H,
     bench: &mut B,
-) -> Result<Outcome, NoMemory>
-    requires run { IsLawfulRun run.now }
-    requires lines { All IsLawfulLine lines.now }
-    ensures { IfOk result (λ outcome. Prepares (command_of run.now) lines.now (B.device bench.old) (B.device bench.new) outcome.text.items outcome.bytes.items) }
+) -> Result<Outcome<'a>, Stop<'a>>
+    ensures { Prepares command.now (H.outside host.old) (H.outside host.new) (B.device bench.old) (B.device bench.new) result }
 {
-    let answers = run_on_blank(alloc, run.unit, run.sector, lines, bench)?;
-    let bytes = image(alloc, bench)?;
-    let text = all_texts(alloc, answers.as_slice())?;
-    Ok(Outcome { text, bytes })
-}
-
-fn run<H: Host, B: Bench>(alloc: Global, run: &Run, host: &mut H, bench: &mut B) -> Result<(), Stop>
-    requires { IsLawfulRun run.now }
-    ensures ends { RunEnds (command_of run.now) (H.outside host.old) (H.outside host.new) (B.device bench.old) (B.device bench.new) result }
-    // Whatever the end, no other file changed.
-    ensures files { SameBut run.now.out.now (H.outside host.old).files (H.outside host.new).files }
-{
-    let lines = match read_lines(alloc, run.script, host) {
-        Ok(lines) => lines,
-        Err(stop) => return Err(stop),
-    };
-    let Ok(outcome) = prepare(alloc, run, lines.as_slice(), bench) else {
-        return Err(Stop::NoMemory);
-    };
-    deliver(
-        alloc,
-        host,
-        outcome.text.as_slice(),
-        run.out,
-        outcome.bytes.as_slice(),
-    )
+    match *command {
+        Command::Build { out, spec } => build(alloc, out, spec),
+        Command::Run { image, script, out } => run(alloc, image, script, out, host, bench),
+        Command::Dump { image } => dump(alloc, image, host, bench),
+    }
 }
 
 // Carries out a command, and prints the line of its refusal.
-fn run_and_report<H: Host, B: Bench>(
+fn carry_out<H: Host, B: Bench>(
     alloc: Global,
-    command: &Run,
+    command: &Command<'_>,
     host: &mut H,
     bench: &mut B,
 ) -> Status
-    requires { IsLawfulRun command.now }
-    ensures ends { CommandEnds (command_of command.now) (H.outside host.old) (H.outside host.new) (B.device bench.old) (B.device bench.new) result }
-    ensures files { SameBut command.now.out.now (H.outside host.old).files (H.outside host.new).files }
+    ensures ends { CommandEnds command.now (H.outside host.old) (H.outside host.new) (B.device bench.old) (B.device bench.new) result }
+    ensures files { MayWrite command.now (H.outside host.old) (H.outside host.new) }
 {
-    match run(alloc, command, host, bench) {
-        Ok(()) => Status::Done,
-        Err(Stop::NoFile) => match no_file(alloc, command.script) {
-            Ok(line) => report(alloc, host, line.as_str(), Status::NoFile),
-            Err(_) => Status::NoMemory,
-        },
-        Err(Stop::BadScript { line, why }) => match bad_script(alloc, line, why) {
-            Ok(line) => report(alloc, host, line.as_str(), Status::BadScript),
-            Err(_) => Status::NoMemory,
-        },
+    match prepare(alloc, command, host, bench) {
+        Ok(outcome) => deliver(alloc, host, &outcome),
+        Err(Stop::Refused(refusal)) => refuse(alloc, host, &refusal),
         Err(Stop::HostFailed) => Status::HostFault,
         Err(Stop::NoMemory) => Status::NoMemory,
     }
@@ -95,17 +57,14 @@ pub fn no_words<H: Host>(alloc: Global, host: &mut H) -> Status
     ensures ends { NoCommandEnds (H.outside host.old) (H.outside host.new) result }
     ensures files { (H.outside host.new).files ≡ (H.outside host.old).files }
 {
-    report(
-        alloc,
-        host,
-        "usage: image_tool run UNIT SECTOR SCRIPT OUT\n",
-        Status::Usage,
-    )
+    report(alloc, host, USAGE, Status::Usage)
 }
 
-/// Carries out the command that the words after the program's name are: reads the script, runs its lines on one blank
-/// sector, prints the texts of all answers, and then writes the sector to OUT. What is refused prints one line, and
-/// nothing is written.
+/// Carries out the command that the words after the program's name are.
+///
+/// `build OUT SPEC` writes the blank image of SPEC. `run IMAGE SCRIPT OUT` runs the lines of SCRIPT on the image, prints
+/// the texts of all answers, and then writes the image that is left. `dump IMAGE` prints the items of the image. What is
+/// refused prints one line, and nothing is written.
 pub fn tool<H: Host, B: Bench>(
     alloc: Global,
     words: &[String],
@@ -114,10 +73,10 @@ pub fn tool<H: Host, B: Bench>(
 ) -> Status
     ensures ends { ToolEnds (map string_bytes words.now) (H.outside host.old) (H.outside host.new) (B.device bench.old) (B.device bench.new) result }
     // Whatever the end, no other file changed.
-    ensures files { (c : Command) → IsRun (map string_bytes words.now) c → SameBut c.out (H.outside host.old).files (H.outside host.new).files }
+    ensures files { (c : command) → IsCommand (map string_bytes words.now) c → MayWrite c (H.outside host.old) (H.outside host.new) }
 {
-    match read_run(alloc, words) {
-        Ok(Some(command)) => run_and_report(alloc, &command, host, bench),
+    match read_words(alloc, words) {
+        Ok(Some(command)) => carry_out(alloc, &command, host, bench),
         Ok(None) => no_words(alloc, host),
         Err(_) => Status::NoMemory,
     }

@@ -6,9 +6,11 @@ use Rattle.std.proofs.lemmas.List.Elements.{All-take, All-drop}
 use Rattle.std.proofs.lemmas.List.Sums.{AllPass-from_list_all, list_all-from_AllPass, prefix_len_is}
 use Rattle.std.proofs.lemmas.List.FromFn.{get_or-map-range_with_len, length-map-range_with_len}
 use Rattle.slot_list.specs.Slots as shared
+use Rattle.sector_ring.specs.Reading.{IsReading}
 use Rattle.nvs_store.specs.Geometry.{slot_size}
 use Rattle.slot_list.specs.Slots.{is_erased, Slot}
 use Rattle.nvs_store.specs.Sector.{is_closed, has_gc_done, pairs, pair_of, counting_entry, is_gc_done, slot_at, slots, is_used, used_slots}
+use Rattle.nvs_store.specs.Scans.{reading}
 
 pub erased-part : (sector : List ℕ) (start n : ℕ) → is_erased sector ≡ true → is_erased (take n (drop start sector)) ≡ true
 erased-part sector start n h =
@@ -47,3 +49,7 @@ done-not_blank unit sector done =
       | inl blank ↦ absurd (false≢true (sym (blank-not_done unit sector blank) ∙ done))
       | inr used ↦ used
     ]
+
+-- NVS reads a blank sector as one that holds nothing.
+pub reads-blank : (unit : ℕ) → IsReading (reading unit)
+reads-blank unit = record { closed = blank-closed unit; gc_done = blank-not_done unit; pairs = blank-pairs unit }

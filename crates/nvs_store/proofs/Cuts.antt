@@ -1,11 +1,11 @@
 -- What is left of a sector where programming stopped after any number of units.
-use Rattle.std.proofs.Common.{◌≡◌, ℕ, ◌+◌, ◌-◌, ◌*◌, ◌<◌, ◌≤◌, List, ◌++◌, length, Bool, true, false, cond, eqb, leb, ◌^◌, take, replicate, refl, sym, ap, subst, ◌∙◌, inl, inr, ◌⊎◌, arith}
+use Rattle.std.proofs.Common.{◌≡◌, ℕ, ◌+◌, ◌-◌, ◌*◌, ◌<◌, ◌≤◌, List, length, Bool, true, false, cond, eqb, leb, ◌^◌, take, replicate, refl, sym, ap, subst, ◌∙◌, inl, inr, ◌⊎◌, arith}
 use Rattle.nvs_store.specs.declared.entry.Entry.{Entry}
 use Rattle.flash_map.specs.Units.{IsUnit, padded}
 use Rattle.nvs_store.specs.Geometry.{slot_size, cost}
 use Rattle.nvs_store.specs.Entries.{encoded}
 use Rattle.flash_sim.specs.Device.{overwritten}
-use Rattle.nvs_store.specs.Sector.{low, data_end, HasRoom, IsNext, KeepsList, AddsPair, StopsAdding, data_image, entry_image, with_slot, has_gc_done}
+use Rattle.nvs_store.specs.Sector.{data_end, HasRoom, IsNext, AddsPair, StopsAdding, data_image, entry_image, with_slot, has_gc_done}
 use Rattle.nvs_store.specs.Scans.{sector_scan, fits, free}
 use Rattle.flash_map.proofs.Rounding.{padding, by_unit}
 use Rattle.nvs_store.proofs.SlotReads.{slot_widths}
@@ -34,7 +34,7 @@ whole unit b e bytes units h next all =
     let long = length-entry_image unit e h.is_unit in
     adds-stops unit b (with_slot unit b (data_image unit bytes) (take (units * unit) (entry_image unit e))) e.id bytes (subst (λ (upper : List ℕ). AddsPair unit b (with_slot unit b (data_image unit bytes) upper) e.id bytes) (sym (take_all (units * unit) (entry_image unit e) (omega arith))) (put_entry unit b e bytes h next))
 
-sizes : (slot_size 4 ≡ 8) × (slot_size 8 ≡ 8) × (slot_size 16 ≡ 16)
+pub sizes : (slot_size 4 ≡ 8) × (slot_size 8 ≡ 8) × (slot_size 16 ≡ 16)
 unfolding slot_size padded
 sizes = (refl, refl, refl)
 

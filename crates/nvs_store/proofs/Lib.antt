@@ -3,12 +3,17 @@ pub mod Appends
 pub mod Blank
 pub mod Cuts
 pub mod EntryBytes
+mod Examples
 pub mod FoundLemmas
+pub mod InArea
 pub mod Lookups
+pub mod MarkPutting
 pub mod Marks
+pub mod MountLemmas
 pub mod Putting
 pub mod Room
 pub mod ScanLemmas
 pub mod SlotReads
 pub mod Sound
 pub mod Views
+pub mod Walking

@@ -1,11 +1,11 @@
 -- What the code's functions on slots need.
-use Rattle.std.proofs.Common.{◌≡◌, ℕ, ◌+◌, ◌-◌, ◌*◌, ◌/◌, ◌<◌, ◌≤◌, max, Bool, true, false, cond, eqb, ltb, ◌||◌, List, [], ◌∷◌, ◌++◌, length, map, take, Option, Some, None, refl, sym, ap, subst, ◌∙◌, inl, inr, eq-eqb, not, arith}
-use Rattle.std.specs.Prelude.{fold, sum_by, slice_range}
+use Rattle.std.proofs.Common.{◌≡◌, ℕ, ◌+◌, ◌-◌, ◌*◌, ◌/◌, ◌<◌, ◌≤◌, max, min, Bool, true, false, cond, eqb, ltb, ◌||◌, List, [], ◌∷◌, ◌++◌, length, map, take, Option, Some, None, refl, sym, ap, subst, ◌∙◌, inl, inr, not, arith}
+use Rattle.std.specs.Prelude.{fold, sum_by}
 use Rattle.std.specs.Option.{option_and_then, option_map_or}
 use Rattle.std.specs.List.{filter_map, cons_option, range_with_len, list_any, suffix_len}
-use Rattle.std.proofs.lemmas.Bool.{cases_lt, ne_eqb, lt-ltb, le-ltb}
+use Rattle.std.proofs.lemmas.Bool.{cases_lt, lt-ltb, le-ltb}
 use Rattle.std.proofs.lemmas.Nat.{le-div}
-use Rattle.std.proofs.lemmas.List.{map-append, append-nil, length-take-le}
+use Rattle.std.proofs.lemmas.List.{map-append, append-nil, length-take-le, take_all}
 use Rattle.std.proofs.lemmas.List.Sums.{prefix_len_is, prefix_len-le-length, fold_push}
 use Rattle.std.proofs.lemmas.List.Folds.{list_any-append}
 use Rattle.std.proofs.lemmas.List.Elements.{filter_map-append}
@@ -13,13 +13,11 @@ use Rattle.std.proofs.lemmas.List.FromFn.{length-map-range_with_len, get_or-map-
 use Rattle.std.proofs.Math.Nat.{mul-le-mul_left}
 use Rattle.nvs_store.specs.declared.entry.Entry.{Entry}
 use Rattle.nvs_store.specs.declared.scan.Placed.{Placed}
-use Rattle.flash_map.specs.Units.{IsUnit, padded}
+use Rattle.flash_map.specs.Units.{padded}
 use Rattle.nvs_store.specs.Geometry.{slot_size, capacity}
 use Rattle.nvs_store.specs.Entries.{decoded}
 use Rattle.slot_list.specs.Slots.{Slot, is_erased}
-use Rattle.nvs_store.specs.Sector.{slot_at, slots, is_used, used_slots, counts, counting_entry, entries, entry_end, is_gc_done, written_end, data_end, low, last_placed, has_fence, is_overfull, placed_cost}
-use Rattle.flash_map.proofs.Rounding.{padding}
-use Rattle.nvs_store.proofs.SlotReads.{slot_widths}
+use Rattle.nvs_store.specs.Sector.{slot_at, slots, is_used, used_slots, counts, counting_entry, entries, entry_end, is_gc_done, written_end, data_end, low, is_wanted, last_placed, entries_within, has_fence, is_overfull, placed_cost}
 use Rattle.slot_list.specs.Slots as shared
 use Rattle.slot_list.proofs.SlotLemmas.{length-used_slots}
 
@@ -102,9 +100,9 @@ any_more : (p : Placed → Bool) (fs : List Placed) (o : Option Placed) → list
 any_more p fs None = ap (list_any p) (append-nil fs) ∙ sym (or-false (list_any p fs))
 any_more p fs (Some f) = list_any-append p fs (f ∷ []) ∙ ap (λ (t : Bool). list_any p fs || t) (or-false (p f))
 
-found_more : (id : ℕ) (fs : List Placed) (o : Option Placed) → last_placed id (fs ++ cons_option o []) ≡ option_map_or (λ f. cond (eqb f.entry.id id) (Some f) (last_placed id fs)) o (last_placed id fs)
-found_more id fs None = ap (last_placed id) (append-nil fs)
-found_more id fs (Some f) = fold_push (λ last f. cond (eqb f.entry.id id) (Some f) last) None fs f
+found_more : (wanted : Option ℕ) (fs : List Placed) (o : Option Placed) → last_placed wanted (fs ++ cons_option o []) ≡ option_map_or (λ f. cond (is_wanted wanted f.entry) (Some f) (last_placed wanted fs)) o (last_placed wanted fs)
+found_more wanted fs None = ap (last_placed wanted) (append-nil fs)
+found_more wanted fs (Some f) = fold_push (λ last f. cond (is_wanted wanted f.entry) (Some f) last) None fs f
 
 -- ---- a loop's step
 
@@ -118,31 +116,44 @@ used_more unit b used before this k low high =
 pub is_used-erased : (unit : ℕ) (b : List ℕ) (k used : ℕ) (bytes : List ℕ) → used + 1 ≡ k → bytes ≡ (slot_at unit b k).bytes → is_erased bytes ≡ true → is_used (slot_at unit b (used + 1)) ≡ false
 is_used-erased unit b k used bytes at same erased = ap (λ (j : ℕ). is_used (slot_at unit b j)) at ∙ ap (λ (x : List ℕ). not (is_erased x)) (sym same) ∙ ap not erased
 
--- one step of the search for an id, from slot n upward
-find_more : (unit : ℕ) (b : List ℕ) (id n : ℕ) (o : Option Placed) → o ≡ counting_entry unit (slot_at unit b (n + 1))
-    → last_placed id (entries_to unit b (n + 1)) ≡ option_map_or (λ f. cond (eqb f.entry.id id) (Some f) (last_placed id (entries_to unit b n))) o (last_placed id (entries_to unit b n))
-find_more unit b id n o is =
-    ap (last_placed id) (entries_to_more unit b n ∙ ap (λ (x : Option Placed). entries_to unit b n ++ cons_option x []) (sym is)) ∙ found_more id (entries_to unit b n) o
+-- one step of the search, from slot n upward
+find_more : (unit : ℕ) (b : List ℕ) (wanted : Option ℕ) (n : ℕ) (o : Option Placed) → o ≡ counting_entry unit (slot_at unit b (n + 1))
+    → last_placed wanted (entries_to unit b (n + 1)) ≡ option_map_or (λ f. cond (is_wanted wanted f.entry) (Some f) (last_placed wanted (entries_to unit b n))) o (last_placed wanted (entries_to unit b n))
+find_more unit b wanted n o is =
+    ap (last_placed wanted) (entries_to_more unit b n ∙ ap (λ (x : Option Placed). entries_to unit b n ++ cons_option x []) (sym is)) ∙ found_more wanted (entries_to unit b n) o
 
-pub find_here : (unit : ℕ) (b : List ℕ) (id index : ℕ) (f : Placed) (rest : Option Placed) → 0 < index → Some f ≡ counting_entry unit (slot_at unit b index) → f.entry.id ≡ id → last_placed id (entries_to unit b index) ≡ rest → Some f ≡ rest
-find_here unit b id index f rest positive is same later =
+pub find_here : (unit : ℕ) (b : List ℕ) (wanted : Option ℕ) (index : ℕ) (f : Placed) (rest : Option Placed) → 0 < index → Some f ≡ counting_entry unit (slot_at unit b index) → is_wanted wanted f.entry ≡ true → last_placed wanted (entries_to unit b index) ≡ rest → Some f ≡ rest
+find_here unit b wanted index f rest positive is same later =
     let back : index ≡ index - 1 + 1 = omega arith in
-    sym (sym later ∙ ap (λ (k : ℕ). last_placed id (entries_to unit b k)) back
-    ∙ find_more unit b id (index - 1) (Some f) (is ∙ ap (λ (k : ℕ). counting_entry unit (slot_at unit b k)) back)
-    ∙ ap (λ (t : Bool). cond t (Some f) (last_placed id (entries_to unit b (index - 1)))) (eq-eqb f.entry.id id same))
+    sym (sym later ∙ ap (λ (k : ℕ). last_placed wanted (entries_to unit b k)) back
+    ∙ find_more unit b wanted (index - 1) (Some f) (is ∙ ap (λ (k : ℕ). counting_entry unit (slot_at unit b k)) back)
+    ∙ ap (λ (t : Bool). cond t (Some f) (last_placed wanted (entries_to unit b (index - 1)))) same)
 
-pub find_other : (unit : ℕ) (b : List ℕ) (id index : ℕ) (f : Placed) (rest : Option Placed) → 0 < index → Some f ≡ counting_entry unit (slot_at unit b index) → (f.entry.id ≡ id → ⊥) → last_placed id (entries_to unit b index) ≡ rest → last_placed id (entries_to unit b (index - 1)) ≡ rest
-find_other unit b id index f rest positive is other later =
+pub find_other : (unit : ℕ) (b : List ℕ) (wanted : Option ℕ) (index : ℕ) (f : Placed) (rest : Option Placed) → 0 < index → Some f ≡ counting_entry unit (slot_at unit b index) → is_wanted wanted f.entry ≡ false → last_placed wanted (entries_to unit b index) ≡ rest → last_placed wanted (entries_to unit b (index - 1)) ≡ rest
+find_other unit b wanted index f rest positive is other later =
     let back : index ≡ index - 1 + 1 = omega arith in
-    sym (ap (λ (k : ℕ). last_placed id (entries_to unit b k)) back
-    ∙ find_more unit b id (index - 1) (Some f) (is ∙ ap (λ (k : ℕ). counting_entry unit (slot_at unit b k)) back)
-    ∙ ap (λ (t : Bool). cond t (Some f) (last_placed id (entries_to unit b (index - 1)))) (ne_eqb f.entry.id id other)) ∙ later
+    sym (ap (λ (k : ℕ). last_placed wanted (entries_to unit b k)) back
+    ∙ find_more unit b wanted (index - 1) (Some f) (is ∙ ap (λ (k : ℕ). counting_entry unit (slot_at unit b k)) back)
+    ∙ ap (λ (t : Bool). cond t (Some f) (last_placed wanted (entries_to unit b (index - 1)))) other) ∙ later
 
-pub find_none : (unit : ℕ) (b : List ℕ) (id index : ℕ) (rest : Option Placed) → 0 < index → None ≡ counting_entry unit (slot_at unit b index) → last_placed id (entries_to unit b index) ≡ rest → last_placed id (entries_to unit b (index - 1)) ≡ rest
-find_none unit b id index rest positive is later =
+pub find_none : (unit : ℕ) (b : List ℕ) (wanted : Option ℕ) (index : ℕ) (rest : Option Placed) → 0 < index → None ≡ counting_entry unit (slot_at unit b index) → last_placed wanted (entries_to unit b index) ≡ rest → last_placed wanted (entries_to unit b (index - 1)) ≡ rest
+find_none unit b wanted index rest positive is later =
     let back : index ≡ index - 1 + 1 = omega arith in
-    sym (ap (λ (k : ℕ). last_placed id (entries_to unit b k)) back
-    ∙ find_more unit b id (index - 1) None (is ∙ ap (λ (k : ℕ). counting_entry unit (slot_at unit b k)) back)) ∙ later
+    sym (ap (λ (k : ℕ). last_placed wanted (entries_to unit b k)) back
+    ∙ find_more unit b wanted (index - 1) None (is ∙ ap (λ (k : ℕ). counting_entry unit (slot_at unit b k)) back)) ∙ later
+
+-- the entries of the first so many used slots
+pub entries_to_within : (unit : ℕ) (b : List ℕ) (n index : ℕ) → index ≡ min (length (used_slots unit b)) n → entries_to unit b index ≡ entries_within unit b n
+entries_to_within unit b n index is =
+    elim (cases_lt n (length (used_slots unit b))) [
+      | inl lt ↦
+          let at : index ≡ n = omega arith in
+          ap (λ (k : ℕ). entries_to unit b k) at
+          ∙ ap (filter_map (counting_entry unit)) (sym (take-map-range_with_len (slot_at unit b) 1 (length (used_slots unit b)) n (omega arith)) ∙ ap (take n) (slots_to_used unit b (length (used_slots unit b)) refl))
+      | inr ge ↦
+          let at : index ≡ length (used_slots unit b) = omega arith in
+          ap (filter_map (counting_entry unit)) (slots_to_used unit b index at ∙ sym (take_all n (used_slots unit b) ge))
+    ]
 
 -- ---- the steps of the scan
 

@@ -3,7 +3,7 @@ use Rattle.std.proofs.Common.{◌≡◌, ℕ, zero, suc, ◌+◌, ◌-◌, ◌*�
 use Rattle.std.specs.Prelude.{fold, sum_by, slice_range}
 use Rattle.std.specs.List.{filter_map, cons_option, list_any, take_while, range_with_len}
 use Rattle.std.proofs.lemmas.Bool.{cases_lt, not_from_false, and_left, and_right, ne_eqb, or_right, cases_Bool, and_parts, leb-true}
-use Rattle.std.proofs.lemmas.List.{length-take, get_or-take, append-nil, take_at, take-append-drop}
+use Rattle.std.proofs.lemmas.List.{length-take, get_or-take, append-nil, take_at}
 use Rattle.std.proofs.lemmas.List.Folds.{list_any-append, list_all_at}
 use Rattle.std.proofs.lemmas.List.Edits.{length-between, get_or-between}
 use Rattle.std.proofs.lemmas.List.Elements.{filter_map-append}
@@ -130,21 +130,29 @@ put_cut_done b h =
 
 -- ---- the close entry, in slot 0
 
-abbrev entries_from : ℕ → List ℕ → ℕ → ℕ → List Placed
+abbrev pub entries_from : ℕ → List ℕ → ℕ → ℕ → List Placed
 entries_from unit b a n = filter_map (counting_entry unit) (map (slot_at unit b) (range_with_len a n))
 
--- the data of an entry that counts ends under its slot
-pub counting_entry_under : (unit : ℕ) (slot : Slot) → (counting_entry unit slot ≡ None) ⊎ ((f : Placed) × (counting_entry unit slot ≡ Some f) × (f.entry.offset + f.entry.len ≤ slot.start))
-counting_entry_under unit slot =
+-- a slot's entry, where there is one that counts
+pub counting_entry_counts : (unit : ℕ) (slot : Slot) → (counting_entry unit slot ≡ None) ⊎ ((f : Placed) × (counting_entry unit slot ≡ Some f) × (counts unit slot.start f.entry ≡ true) × (f.slot ≡ slot.index))
+counting_entry_counts unit slot =
     elim (decoded_cases slot.bytes) [
       | inl none ↦ inl (counting_entry-is unit slot None none)
       | inr some ↦
           let read = counting_entry-is unit slot (Some (entry_of slot.bytes)) some in
           elim (cases_Bool (counts unit slot.start (entry_of slot.bytes))) [
             | inl counted ↦
-                inr (record { slot = slot.index; entry = entry_of slot.bytes }, read ∙ ap (λ (b : Bool). cond b (Some (record { slot = slot.index; entry = entry_of slot.bytes })) None) counted, leb-true _ _ ((and_parts _ _ counted).1))
+                inr (record { slot = slot.index; entry = entry_of slot.bytes }, read ∙ ap (λ (b : Bool). cond b (Some (record { slot = slot.index; entry = entry_of slot.bytes })) None) counted, counted, refl)
             | inr passed ↦ inl (read ∙ ap (λ (b : Bool). cond b (Some (record { slot = slot.index; entry = entry_of slot.bytes })) None) passed)
           ]
+    ]
+
+-- its data ends under its own slot
+pub counting_entry_under : (unit : ℕ) (slot : Slot) → (counting_entry unit slot ≡ None) ⊎ ((f : Placed) × (counting_entry unit slot ≡ Some f) × (f.entry.offset + f.entry.len ≤ slot.start))
+counting_entry_under unit slot =
+    elim (counting_entry_counts unit slot) [
+      | inl none ↦ inl none
+      | inr (f, some, counted, at) ↦ inr (f, some, leb-true _ _ ((and_parts _ _ counted).1))
     ]
 
 pairs_kept_under : (unit : ℕ) (old new : List ℕ) → ((i j : ℕ) → j ≤ length old - slot_size unit → slice_range new i j ≡ slice_range old i j) → (a n : ℕ)

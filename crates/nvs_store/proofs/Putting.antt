@@ -1,9 +1,9 @@
 -- What programming data and its entry in a sector of an area leaves, on a flash.
-use Rattle.std.proofs.Common.{◌≡◌, true, ◌⊎◌, ℕ, zero, suc, ◌+◌, ◌-◌, ◌*◌, ◌/◌, ◌%◌, ◌^◌, ◌<◌, ◌≤◌, List, [], ◌++◌, length, get_or, set, take, drop, replicate, refl, sym, ap, subst, ◌∙◌, inl, inr, arith}
+use Rattle.std.proofs.Common.{◌≡◌, true, ℕ, zero, suc, ◌+◌, ◌-◌, ◌*◌, ◌/◌, ◌%◌, ◌<◌, ◌≤◌, List, [], ◌++◌, length, get_or, set, take, drop, replicate, refl, sym, ap, subst, ◌∙◌, inr, arith}
 use Rattle.std.specs.Prelude.{slice_range}
 use Rattle.std.proofs.Math.Nat.{mul-mod_left}
 use Rattle.std.proofs.lemmas.Nat.{div-add-mod'}
-use Rattle.std.proofs.lemmas.Bool.{cases_lt, not-false}
+use Rattle.std.proofs.lemmas.Bool.{not-false}
 use Rattle.std.proofs.lemmas.List.{ext_get_or, get_or-replicate, length-replicate, length-take, get_or-set_same}
 use Rattle.std.proofs.lemmas.List.Edits.{length-between, get_or-between}
 use Rattle.flash_sim.specs.Bank.{IsLawful, bank_at}
@@ -21,13 +21,13 @@ use Rattle.flash_map.proofs.Rounding.{is_unit, padding}
 use Rattle.flash_map.proofs.Sectors.{length-sectors_from, overwritten_nil}
 use Rattle.flash_map.proofs.Sequence.{writes_twice, writes_then_part}
 use Rattle.flash_map.proofs.SpendingLemmas.{spends_then, spends_then_most, most_weaker, units_sum, units_le}
-use Rattle.flash_map.proofs.WholeUnits.{done_fits}
 use Rattle.slot_list.specs.Slots.{is_erased}
 use Rattle.nvs_store.specs.declared.entry.Entry.{Entry}
 use Rattle.nvs_store.specs.Geometry.{slot_size, cost}
 use Rattle.nvs_store.specs.Entries.{encoded}
 use Rattle.nvs_store.specs.Sector.{used_slots, low, data_end, HasRoom, IsNext, AddsPair, StopsAdding, data_image, entry_image, with_slot}
-use Rattle.nvs_store.specs.Scans.{sector_at, ChangesOnly, AddsPairAt, StopsAddingAt}
+use Rattle.flash_map.specs.Area.{sector_at}
+use Rattle.nvs_store.specs.Scans.{ChangesOnly, AddsPairAt, StopsAddingAt}
 use Rattle.nvs_store.proofs.Appends.{fence_of, put_entry, length-entry_image}
 use Rattle.nvs_store.proofs.Cuts.{put_units, data-stops}
 use Rattle.nvs_store.proofs.EntryBytes.{length-encoded}
@@ -71,7 +71,7 @@ module _ (a : Device) (area : Area) (lawful : IsLawful a.banks a.bytes) (is_area
   long : length (sector_bytes a area place) ≡ sector_size a area
   long = length-sector a area lawful is_area place has_sector
 
-  inside : place < length (sectors_of a area)
+  pub inside : place < length (sectors_of a area)
   inside = omega (arith, length-sectors_from area.sectors (sector_size a area) (drop (area.first * sector_size a area) (bytes_of a area.bank)))
 
   low-aligned : low (unit_of a area) (sector_bytes a area place) % unit_of a area ≡ 0

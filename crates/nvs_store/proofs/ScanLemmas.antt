@@ -12,9 +12,8 @@ use Rattle.nvs_store.specs.declared.scan.Placed.{Placed}
 use Rattle.nvs_store.specs.declared.scan.Redo.TheVariants.{Nothing}
 use Rattle.nvs_store.specs.declared.scan.Scan.{Scan}
 use Rattle.nvs_store.specs.Geometry.{slot_size}
-use Rattle.nvs_store.specs.Sector.{used_slots, counting_entry, entries, entry_end, written_end, low, data_end, has_gc_done, AddsPair}
+use Rattle.nvs_store.specs.Sector.{counting_entry, entries, entry_end, written_end, low, data_end, has_gc_done, AddsPair}
 use Rattle.nvs_store.specs.Scans.{sector_scan}
-use Rattle.nvs_store.proofs.SlotReads.{slot_widths}
 use Rattle.nvs_store.proofs.Room.{written_end-le}
 use Rattle.nvs_store.proofs.Blank.{blank-used, blank-not_done}
 

@@ -1,5 +1,5 @@
 -- The slots of a sector of NVS, by index.
-use Rattle.std.proofs.Common.{◌≡◌, ℕ, ◌+◌, ◌-◌, ◌*◌, ◌%◌, ◌≤◌, List, length, refl, sym, ap, ◌∙◌, arith}
+use Rattle.std.proofs.Common.{◌≡◌, ℕ, ◌+◌, ◌-◌, ◌*◌, ◌%◌, ◌≤◌, List, length, refl, ap, ◌∙◌, arith}
 use Rattle.std.specs.Prelude.{slice_range}
 use Rattle.flash_map.specs.Units.{IsUnit, padded}
 use Rattle.flash_map.proofs.Rounding.{by_unit}

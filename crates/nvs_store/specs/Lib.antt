@@ -2,3 +2,4 @@ pub mod Entries
 pub mod Geometry
 pub mod Scans
 pub mod Sector
+pub mod Sought

@@ -1,18 +1,31 @@
--- What a scan says of an area, and what is wrong with it. The store uses the area's sector 0.
-use Rattle.std.specs.Prelude.{◌≡◌, ℕ, ◌+◌, ◌-◌, ◌*◌, Bool, not, List, [], length, slice_range, slice_set, slice_index_or, Option, Some, None, ◌==◌, nat_le, if◌then◌else◌}
-use Rattle.std.specs.Option.{option_map}
-use Rattle.flash_map.specs.declared.faults.Why.{Why}
-use Rattle.flash_map.specs.declared.faults.Why.TheVariants.{NoFence, Overfull}
+-- What a scan says of an area, its list, and what is wrong with it.
+use Rattle.std.specs.Prelude.{◌≡◌, ℕ, ◌+◌, ◌-◌, ◌*◌, ◌<◌, ◌≤◌, Bool, List, [], ◌∷◌, ◌++◌, length, map, fold, slice_range, slice_set, Option, Some, None, ◌==◌, nat_le, nat_lt, if◌then◌else◌}
+use Rattle.std.specs.List.{flat_map, last_or, range_with_len}
+use Rattle.flash_map.specs.declared.faults.Damaged.{Damaged}
 use Rattle.slot_list.specs.Slots.{is_erased}
+use Rattle.sector_ring.specs.Area.{next, round, is_closed_at, counts_at, open_sector, area_pairs, first_damage}
+use Rattle.flash_map.specs.Area.{sector_at}
+use Rattle.sector_ring.specs.Reading.{Reading}
 use Rattle.nvs_store.specs.declared.scan.Found.{Found}
 use Rattle.nvs_store.specs.declared.scan.Placed.{Placed}
-use Rattle.nvs_store.specs.declared.scan.Redo.TheVariants.{Nothing}
+use Rattle.nvs_store.specs.declared.scan.Redo.{Redo}
+use Rattle.nvs_store.specs.declared.scan.Redo.TheVariants.{Nothing, EraseNext, CollectAgain}
 use Rattle.nvs_store.specs.declared.scan.Scan.{Scan}
 use Rattle.nvs_store.specs.Geometry.{slot_size, cost}
-use Rattle.nvs_store.specs.Sector.{entries, pairs, low, data_end, has_gc_done, has_fence, is_overfull, last_placed, AddsPair, StopsAdding}
+use Rattle.nvs_store.specs.Sector.{entries, entries_within, is_wanted, pairs, low, data_end, has_gc_done, is_closed, has_fence, is_overfull, AddsPair, StopsAdding, KeepsList, MarksDone, Closes}
 
-abbrev pub sector_at : List (List ℕ) → ℕ → List ℕ
-sector_at sectors place = slice_index_or sectors place []
+-- how NVS reads a sector
+abbrev pub reading : ℕ → Reading
+reading unit = record {
+  is_blank = is_erased;
+  is_closed = is_closed unit;
+  has_gc_done = has_gc_done unit;
+  pairs = pairs unit;
+  has_fence = has_fence unit;
+  is_overfull = is_overfull unit;
+}
+
+-- ---- the scan
 
 -- what the scan of one sector says, with this number
 abbrev pub sector_scan : ℕ → ℕ → List ℕ → Scan
@@ -24,8 +37,22 @@ sector_scan unit place sector = record {
   redo = Nothing;
 }
 
+-- What a mount has to do with this sector open. The next sector is closed only while a collection lasts.
+abbrev pub redo_of : ℕ → List (List ℕ) → ℕ → Redo
+redo_of unit sectors place = if is_closed_at (reading unit) sectors (next sectors place) then (if has_gc_done unit (sector_at sectors place) then EraseNext else CollectAgain) else Nothing
+
+-- what it has to do once gc-done stands
+abbrev pub marked_redo : Redo → Redo
+marked_redo Nothing = Nothing
+marked_redo EraseNext = EraseNext
+marked_redo CollectAgain = EraseNext
+
+-- the scan with this sector open
+abbrev pub scan_at : ℕ → List (List ℕ) → ℕ → Scan
+scan_at unit sectors place = record (sector_scan unit place (sector_at sectors place)) { redo = redo_of unit sectors place }
+
 abbrev pub scan_of : ℕ → List (List ℕ) → Scan
-scan_of unit sectors = sector_scan unit 0 (sector_at sectors 0)
+scan_of unit sectors = scan_at unit sectors (open_sector (reading unit) sectors)
 
 -- ---- room
 
@@ -36,31 +63,63 @@ free scan = scan.low - scan.data_end
 abbrev pub fits : ℕ → Scan → ℕ → Bool
 fits unit scan len = if len == 0 then nat_le (2 * slot_size unit) (free scan) else nat_le (cost unit len + (if scan.gc_done then 2 else 3) * slot_size unit) (free scan)
 
--- ---- damage
+-- ---- damage and list
 
--- A blank sector has none.
-abbrev pub damage_in : ℕ → List ℕ → Option Why
-damage_in unit sector =
-    if is_erased sector then None
-    else if not (has_fence unit sector) then Some NoFence
-    else if is_overfull unit sector then Some Overfull
-    else None
-
-abbrev pub sector_damage : ℕ → List (List ℕ) → Option Why
-sector_damage unit sectors = damage_in unit (sector_at sectors 0)
-
--- ---- the list
+abbrev pub damage_of : ℕ → List (List ℕ) → Option Damaged
+damage_of unit sectors = first_damage (reading unit) sectors
 
 -- ids with their bytes, from the oldest to the newest
 abbrev pub list_of : ℕ → List (List ℕ) → List (ℕ × List ℕ)
-list_of unit sectors = pairs unit (sector_at sectors 0)
+list_of unit sectors = area_pairs (reading unit) sectors (open_sector (reading unit) sectors)
 
 abbrev pub found_at : ℕ → Placed → Found
 found_at place placed = record { sector = place; slot = placed.slot; entry = placed.entry }
 
+-- the entries of a sector with their places, where it counts with this one open
+abbrev pub counted_in : ℕ → List (List ℕ) → ℕ → ℕ → List Found
+counted_in unit sectors current place = if counts_at (reading unit) sectors current place then map (found_at place) (entries unit (sector_at sectors place)) else []
+
+-- those of them in the first so many slots
+abbrev pub counted_within : ℕ → List (List ℕ) → ℕ → ℕ → ℕ → List Found
+counted_within unit sectors current place n = if counts_at (reading unit) sectors current place then map (found_at place) (entries_within unit (sector_at sectors place) n) else []
+
+-- the sectors before this one in the round to the open one
+abbrev pub places_before : ℕ → ℕ → ℕ → List ℕ
+places_before count current place =
+    if nat_lt current place then range_with_len (current + 1) (place - (current + 1))
+    else range_with_len (current + 1) (count - (current + 1)) ++ range_with_len 0 place
+
+-- the entries of the sectors before this one, and those in its first so many slots
+abbrev pub found_up_to : ℕ → List (List ℕ) → ℕ → ℕ → ℕ → List Found
+found_up_to unit sectors current place n = flat_map (counted_in unit sectors current) (places_before (length sectors) current place) ++ counted_within unit sectors current place n
+
+-- the entries of the list, with their places
+abbrev pub all_found : ℕ → List (List ℕ) → List Found
+all_found unit sectors =
+    let current = open_sector (reading unit) sectors in
+    flat_map (counted_in unit sectors current) (round (length sectors) current)
+
+-- the last entry that is looked for
+abbrev pub last_wanted : Option ℕ → List Found → Option Found
+last_wanted wanted found = fold (λ last f. if is_wanted wanted f.entry then Some f else last) None found
+
+abbrev pub last_of : ℕ → List Found → Option Found
+last_of id found = last_wanted (Some id) found
+
 -- the last entry of an id, a delete too
 abbrev pub last_found : ℕ → List (List ℕ) → ℕ → Option Found
-last_found unit sectors id = option_map (found_at 0) (last_placed id (entries unit (sector_at sectors 0)))
+last_found unit sectors id = last_of id (all_found unit sectors)
+
+-- The next older entry of a list: the one before the entry at this place, or the newest where no place is named.
+abbrev pub IsNextOlder : List Found → Option (ℕ × ℕ) → Option Found → Type 0
+IsNextOlder all None next = next ≡ last_or None all
+IsNextOlder all (Some place) next = (older newer : List Found) (f : Found) → all ≡ older ++ f ∷ newer → place ≡ (f.sector, f.slot) → next ≡ last_or None older
+
+-- It is an ordinary entry of one of so many sectors of this size, and its data ends in its sector.
+pub record IsInArea (sectors size : ℕ) (f : Found) : Type 0 where
+  pub sector : f.sector < sectors
+  pub inside : f.entry.offset + f.entry.len ≤ size
+  pub ordinary : f.entry.id ≡ 0xFFFF → ⊥
 
 -- the data of an entry
 abbrev pub found_bytes : List (List ℕ) → Found → List ℕ
@@ -81,3 +140,18 @@ pub record AddsPairAt (unit : ℕ) (old new : List (List ℕ)) (place id : ℕ) 
 pub record StopsAddingAt (unit : ℕ) (old new : List (List ℕ)) (place id : ℕ) (bytes : List ℕ) : Type 0 where
   pub only : ChangesOnly old new place
   pub stops : StopsAdding unit (sector_at old place) (sector_at new place) id bytes
+
+-- gc-done stands in one sector, and no other sector changed
+pub record MarksDoneAt (unit : ℕ) (old new : List (List ℕ)) (place : ℕ) : Type 0 where
+  pub only : ChangesOnly old new place
+  pub marks : MarksDone unit (sector_at old place) (sector_at new place)
+
+-- gc-done was cut: the sector's list and marks are as they were
+pub record StopsMarkingAt (unit : ℕ) (old new : List (List ℕ)) (place : ℕ) : Type 0 where
+  pub only : ChangesOnly old new place
+  pub keeps : KeepsList unit (sector_at old place) (sector_at new place)
+
+-- one sector is closed, and no other sector changed
+pub record ClosesAt (unit : ℕ) (old new : List (List ℕ)) (place : ℕ) : Type 0 where
+  pub only : ChangesOnly old new place
+  pub closes : Closes unit (sector_at old place) (sector_at new place)

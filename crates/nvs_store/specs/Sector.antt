@@ -1,5 +1,5 @@
 -- How one sector reads. Data grows upward from the sector's start, and slots of entries grow downward from its end.
-use Rattle.std.specs.Prelude.{◌≡◌, ◌⊎◌, ℕ, ◌+◌, ◌-◌, ◌*◌, ◌/◌, ◌%◌, ◌^◌, ◌<◌, ◌≤◌, max, Bool, true, false, not, ◌&&◌, ◌||◌, List, [], ◌∷◌, ◌++◌, length, take, replicate, map, fold, sum_by, slice_range, Option, Some, None, ◌==◌, nat_le, nat_lt, if◌then◌else◌}
+use Rattle.std.specs.Prelude.{◌≡◌, ◌⊎◌, ℕ, ◌+◌, ◌-◌, ◌*◌, ◌%◌, ◌^◌, ◌<◌, ◌≤◌, max, Bool, true, false, not, ◌&&◌, ◌||◌, List, [], ◌∷◌, ◌++◌, length, take, replicate, map, fold, sum_by, slice_range, Option, Some, None, ◌==◌, nat_le, nat_lt, if◌then◌else◌}
 use Rattle.std.specs.List.{suffix_len, filter_map, list_any}
 use Rattle.std.specs.Option.{option_and_then, option_map_or}
 use Rattle.flash_sim.specs.Device.{overwritten}
@@ -85,9 +85,18 @@ pair_of sector f = (f.entry.id, slice_range sector f.entry.offset (f.entry.offse
 abbrev pub pairs : ℕ → List ℕ → List (ℕ × List ℕ)
 pairs unit sector = map (pair_of sector) (entries unit sector)
 
--- the last entry of an id, a delete too
-abbrev pub last_placed : ℕ → List Placed → Option Placed
-last_placed id placed = fold (λ last f. if f.entry.id == id then Some f else last) None placed
+-- whether an entry is looked for: that of this id, or any
+abbrev pub is_wanted : Option ℕ → Entry → Bool
+is_wanted (Some id) e = e.id == id
+is_wanted None e = true
+
+-- the last entry that is looked for, a delete too
+abbrev pub last_placed : Option ℕ → List Placed → Option Placed
+last_placed wanted placed = fold (λ last f. if is_wanted wanted f.entry then Some f else last) None placed
+
+-- those of the first so many slots
+abbrev pub entries_within : ℕ → List ℕ → ℕ → List Placed
+entries_within unit sector n = filter_map (counting_entry unit) (take n (used_slots unit sector))
 
 -- what the pairs with bytes cost
 abbrev pub pairs_cost : ℕ → List (ℕ × List ℕ) → ℕ

@@ -1,73 +1,25 @@
-// The calls on an area. The store uses its sector 0.
-ghost use Rattle.std.specs.Prelude.{◌≡◌, ◌+◌, ◌/◌, ◌<◌, ◌≤◌, ◌∷◌, [], length, is_err, None, IsTrue, IfOk, IfErr, IfSome, OnOk, OnErr};
-ghost use Rattle.std.specs.Option.{option_and_then};
+// The calls that program the open sector of an area.
+ghost use Rattle.std.specs.Prelude.{◌≡◌, ◌⊎◌, ◌+◌, ◌/◌, ◌*◌, ◌^◌, ◌<◌, ◌≤◌, ◌∷◌, [], ◌++◌, length, is_err, true, false, None, IsTrue, OnOk, OnErr};
 ghost use Rattle.flash_map.specs.declared.area.Role.TheVariants.{Nvs};
 ghost use Rattle.flash_map.specs.Area.{unit_of, sector_size, sectors_of};
 ghost use Rattle.flash_map.specs.Lawful.{IsLawfulFor};
 ghost use Rattle.flash_map.specs.Spending.{Spends, SpendsAtMost};
 ghost use Rattle.flash_map.specs.Touches.{Touches};
-ghost use Rattle.slot_list.specs.Items.{last, value_of};
+ghost use Rattle.flash_map.specs.Area.{sector_at};
 ghost use Rattle.nvs_store.specs.declared.scan.Redo.TheVariants.{Nothing};
-ghost use Rattle.nvs_store.specs.Geometry.{cost};
-ghost use Rattle.nvs_store.specs.Scans.{scan_of, fits, sector_damage, list_of, last_found, found_bytes, AddsPairAt, StopsAddingAt};
+ghost use Rattle.nvs_store.specs.Geometry.{slot_size, cost, capacity};
+ghost use Rattle.nvs_store.specs.Sector.{special_entry, is_closed, is_sound, pairs, pairs_cost};
+ghost use Rattle.nvs_store.specs.Scans.{scan_of, fits, free, damage_of, list_of, found_bytes, AddsPairAt, StopsAddingAt, MarksDoneAt, StopsMarkingAt, ClosesAt};
 
-use crate::entry::{Entry, encode_entry};
+use crate::entry::{Entry, SPECIAL_ID, encode_entry};
 use crate::geometry::slot_size;
 use crate::scan::{Found, Scan};
-use crate::sector::{damage_in, find_in, scan_sector};
-use flash_map::{Area, Damaged, area_view, geometry, padded, program_padded};
+use flash_map::{Area, Source, copy_padded, geometry, padded, program_padded};
 use flash_sim::{Flash, PowerLost, Steps};
 use std::sync::ledger::Ledger;
 
-/// Scans the area, or says what is wrong with it.
-pub fn mount_scan<F: Flash, L: Ledger>(
-    flash: &F,
-    area: &Area,
-    steps: &mut Steps<L>,
-) -> Result<Scan, Damaged>
-    requires lawful { IsLawfulFor (F.device flash.now).banks area.now }
-    requires role { area.now.role ≡ Nvs }
-
-    ensures scan { let d = F.device flash.now in IfOk result (λ scan. scan ≡ scan_of (unit_of d area.now) (sectors_of d area.now)) }
-    ensures undamaged { let d = F.device flash.now in OnOk result (sector_damage (unit_of d area.now) (sectors_of d area.now) ≡ None) }
-    ensures damaged { let d = F.device flash.now in IfErr result (λ e. sector_damage (unit_of d area.now) (sectors_of d area.now) ≡ Some e.why) }
-    ensures sector { IfErr result (λ e. e.sector ≡ 0) }
-    ensures step { steps.new ≡ steps.old + 1 }
-{
-    let g = geometry(flash, area);
-    let bytes = area_view(flash, area, 0, 0, g.sector, steps);
-    match damage_in(bytes, g.unit) {
-        Some(why) => Err(Damaged { sector: 0, why }),
-        None => Ok(scan_sector(bytes, g.unit, 0)),
-    }
-}
-
-/// The last entry of the id in the list, a delete too.
-pub fn find<F: Flash, L: Ledger>(
-    flash: &F,
-    area: &Area,
-    scan: &Scan,
-    id: u16,
-    steps: &mut Steps<L>,
-) -> Option<Found>
-    requires lawful { IsLawfulFor (F.device flash.now).banks area.now }
-    requires role { area.now.role ≡ Nvs }
-    requires scan { let d = F.device flash.now in scan.now ≡ scan_of (unit_of d area.now) (sectors_of d area.now) }
-
-    ensures found { let d = F.device flash.now in result ≡ last_found (unit_of d area.now) (sectors_of d area.now) id }
-    // the bytes that it names decide for the id
-    ensures value { let d = F.device flash.now in
-        last (list_of (unit_of d area.now) (sectors_of d area.now)) id ≡ option_and_then (λ f. value_of (found_bytes (sectors_of d area.now) f)) result }
-    ensures sector { IfSome result (λ f. f.sector < area.now.sectors) }
-    ensures inside { IfSome result (λ f. f.entry.offset + f.entry.len ≤ sector_size (F.device flash.now) area.now) }
-    ensures step { steps.new ≡ steps.old + 1 }
-{
-    let g = geometry(flash, area);
-    let bytes = area_view(flash, area, scan.current, 0, g.sector, steps);
-    find_in(bytes, g.unit, scan.current, id)
-}
-
 /// Appends a pair to the list: the data is programmed, and then its entry. No bytes are a delete.
+#[tactic(auto, using(flash_map::proofs::Touches::then))]
 pub fn append<F: Flash>(
     flash: &mut F,
     area: &Area,
@@ -85,16 +37,23 @@ pub fn append<F: Flash>(
     ensures touches { Touches (area.now ∷ []) (F.device flash.old) (F.device flash.new) (is_err result) }
     ensures ok { let d = F.device flash.old in
         OnOk result (AddsPairAt (unit_of d area.now) (sectors_of d area.now) (sectors_of (F.device flash.new) area.now) scan.old.current id bytes.now) }
+    ensures list { let d = F.device flash.old in
+        OnOk result (list_of (unit_of d area.now) (sectors_of (F.device flash.new) area.now) ≡ list_of (unit_of d area.now) (sectors_of d area.now) ++ (id, bytes.now) ∷ []) }
     ensures scan { let d = F.device flash.new in OnOk result (scan.new ≡ scan_of (unit_of d area.now) (sectors_of d area.now)) }
     ensures spent { let unit = unit_of (F.device flash.old) area.now in
         OnOk result (Spends (F.device flash.old) (F.device flash.new) (cost unit (length bytes.now) / unit)) }
 
     ensures lost { let d = F.device flash.old in
         OnErr result (StopsAddingAt (unit_of d area.now) (sectors_of d area.now) (sectors_of (F.device flash.new) area.now) scan.old.current id bytes.now) }
+    ensures list_lost { let d = F.device flash.old in
+        OnErr result ((list_of (unit_of d area.now) (sectors_of (F.device flash.new) area.now) ≡ list_of (unit_of d area.now) (sectors_of d area.now))
+        ⊎ (list_of (unit_of d area.now) (sectors_of (F.device flash.new) area.now) ≡ list_of (unit_of d area.now) (sectors_of d area.now) ++ (id, bytes.now) ∷ [])) }
     ensures spent_at_most { let unit = unit_of (F.device flash.old) area.now in
         OnErr result (SpendsAtMost (F.device flash.old) (F.device flash.new) (cost unit (length bytes.now) / unit)) }
+    ensures sound { let unit = unit_of (F.device flash.old) area.now in
+        is_sound unit (sector_at (sectors_of (F.device flash.old) area.now) scan.old.current) ≡ true → is_sound unit (sector_at (sectors_of (F.device flash.new) area.now) scan.old.current) ≡ true }
     ensures undamaged { let unit = unit_of (F.device flash.old) area.now in
-        sector_damage unit (sectors_of (F.device flash.old) area.now) ≡ None → sector_damage unit (sectors_of (F.device flash.new) area.now) ≡ None }
+        damage_of unit (sectors_of (F.device flash.old) area.now) ≡ None → damage_of unit (sectors_of (F.device flash.new) area.now) ≡ None }
 {
     let unit = geometry(flash, area).unit;
     let entry = Entry {
@@ -109,4 +68,126 @@ pub fn append<F: Flash>(
     scan.low = slot;
     scan.data_end += padded(unit, bytes.len() as u32);
     Ok(())
+}
+
+/// Appends the pair of an entry of another sector to the open sector's part of the list: the data is copied, and then
+/// its entry is programmed.
+#[tactic(auto, using(flash_map::proofs::Touches::then))]
+pub fn copy_entry<F: Flash, L: Ledger>(
+    flash: &mut F,
+    area: &Area,
+    scan: &mut Scan,
+    from: &Found,
+    steps: &mut Steps<L>,
+) -> Result<(), PowerLost>
+    requires lawful { IsLawfulFor (F.device flash.old).banks area.now }
+    requires role { area.now.role ≡ Nvs }
+    requires scan { let d = F.device flash.old in scan.old ≡ scan_of (unit_of d area.now) (sectors_of d area.now) }
+    requires has_source { from.now.sector < area.now.sectors }
+    requires other { from.now.sector ≡ scan.old.current → ⊥ }
+    requires ordinary { from.now.entry.id < 0xFFFF }
+    requires inside { from.now.entry.offset + from.now.entry.len ≤ sector_size (F.device flash.old) area.now }
+    requires free { let unit = unit_of (F.device flash.old) area.now in cost unit from.now.entry.len + 3 * slot_size unit ≤ free scan.old }
+
+    ensures touches { Touches (area.now ∷ []) (F.device flash.old) (F.device flash.new) (is_err result) }
+    ensures ok { let d = F.device flash.old in
+        OnOk result (AddsPairAt (unit_of d area.now) (sectors_of d area.now) (sectors_of (F.device flash.new) area.now) scan.old.current from.now.entry.id (found_bytes (sectors_of d area.now) from.now)) }
+    ensures scan { let d = F.device flash.new in OnOk result (scan.new ≡ scan_of (unit_of d area.now) (sectors_of d area.now)) }
+    ensures spent { let unit = unit_of (F.device flash.old) area.now in
+        OnOk result (Spends (F.device flash.old) (F.device flash.new) (cost unit from.now.entry.len / unit)) }
+
+    ensures lost { let d = F.device flash.old in
+        OnErr result (StopsAddingAt (unit_of d area.now) (sectors_of d area.now) (sectors_of (F.device flash.new) area.now) scan.old.current from.now.entry.id (found_bytes (sectors_of d area.now) from.now)) }
+    ensures spent_at_most { let unit = unit_of (F.device flash.old) area.now in
+        OnErr result (SpendsAtMost (F.device flash.old) (F.device flash.new) (cost unit from.now.entry.len / unit)) }
+{
+    let unit = geometry(flash, area).unit;
+    let entry = Entry {
+        id: from.entry.id,
+        offset: scan.data_end as u16,
+        len: from.entry.len,
+        part: 0xFF,
+    };
+    let slot = scan.low - slot_size(unit);
+    let source = Source {
+        sector: from.sector,
+        offset: from.entry.offset as u32,
+        len: from.entry.len as u32,
+    };
+    copy_padded(flash, area, source, scan.current, scan.data_end, steps)?;
+    let bytes = encode_entry(&entry);
+    program_padded(flash, area, scan.current, slot, &bytes)?;
+    scan.low = slot;
+    scan.data_end += padded(unit, source.len);
+    Ok(())
+}
+
+// The entry of close and of gc-done.
+fn special(place: u32) -> Entry
+    requires { place < 2 ^ 16 }
+    ensures { result ≡ special_entry place }
+{
+    Entry {
+        id: SPECIAL_ID,
+        offset: place as u16,
+        len: 0,
+        part: 0xFF,
+    }
+}
+
+/// Programs gc-done: from it on the open sector counts, and the next one, where that is closed, does not.
+pub fn put_done<F: Flash>(flash: &mut F, area: &Area, scan: &mut Scan) -> Result<(), PowerLost>
+    requires lawful { IsLawfulFor (F.device flash.old).banks area.now }
+    requires role { area.now.role ≡ Nvs }
+    requires scan { let d = F.device flash.old in scan.old ≡ scan_of (unit_of d area.now) (sectors_of d area.now) }
+    requires free { 2 * slot_size (unit_of (F.device flash.old) area.now) ≤ free scan.old }
+
+    ensures touches { Touches (area.now ∷ []) (F.device flash.old) (F.device flash.new) (is_err result) }
+    ensures ok { let d = F.device flash.old in
+        OnOk result (MarksDoneAt (unit_of d area.now) (sectors_of d area.now) (sectors_of (F.device flash.new) area.now) scan.old.current) }
+    ensures scan { let d = F.device flash.new in OnOk result (scan.new ≡ scan_of (unit_of d area.now) (sectors_of d area.now)) }
+    ensures spent { let unit = unit_of (F.device flash.old) area.now in
+        OnOk result (Spends (F.device flash.old) (F.device flash.new) (slot_size unit / unit)) }
+    ensures sound { let unit = unit_of (F.device flash.old) area.now in
+        OnOk result (pairs_cost unit (pairs unit (sector_at (sectors_of (F.device flash.old) area.now) scan.old.current)) ≤ capacity unit (sector_size (F.device flash.old) area.now)
+        → is_sound unit (sector_at (sectors_of (F.device flash.new) area.now) scan.old.current) ≡ true) }
+
+    ensures lost { let d = F.device flash.old in
+        OnErr result (StopsMarkingAt (unit_of d area.now) (sectors_of d area.now) (sectors_of (F.device flash.new) area.now) scan.old.current) }
+    ensures spent_at_most { let unit = unit_of (F.device flash.old) area.now in
+        OnErr result (SpendsAtMost (F.device flash.old) (F.device flash.new) (slot_size unit / unit)) }
+{
+    let unit = geometry(flash, area).unit;
+    let slot = scan.low - slot_size(unit);
+    let bytes = encode_entry(&special(scan.data_end));
+    program_padded(flash, area, scan.current, slot, &bytes)?;
+    scan.low = slot;
+    scan.gc_done = true;
+    scan.redo = scan.redo.marked();
+    Ok(())
+}
+
+/// Programs the close entry. The sector is closed from its first unit on.
+pub fn put_close<F: Flash>(flash: &mut F, area: &Area, scan: &Scan) -> Result<(), PowerLost>
+    requires lawful { IsLawfulFor (F.device flash.old).banks area.now }
+    requires role { area.now.role ≡ Nvs }
+    requires scan { let d = F.device flash.old in scan.now ≡ scan_of (unit_of d area.now) (sectors_of d area.now) }
+    requires free { let d = F.device flash.old in is_closed (unit_of d area.now) (sector_at (sectors_of d area.now) scan.now.current) ≡ false }
+
+    ensures touches { Touches (area.now ∷ []) (F.device flash.old) (F.device flash.new) (is_err result) }
+    ensures ok { let d = F.device flash.old in
+        OnOk result (ClosesAt (unit_of d area.now) (sectors_of d area.now) (sectors_of (F.device flash.new) area.now) scan.now.current) }
+    ensures spent { let unit = unit_of (F.device flash.old) area.now in
+        OnOk result (Spends (F.device flash.old) (F.device flash.new) (slot_size unit / unit)) }
+
+    ensures lost { let d = F.device flash.old in
+        OnErr result ((sectors_of (F.device flash.new) area.now ≡ sectors_of d area.now)
+        ⊎ ClosesAt (unit_of d area.now) (sectors_of d area.now) (sectors_of (F.device flash.new) area.now) scan.now.current) }
+    ensures spent_at_most { let unit = unit_of (F.device flash.old) area.now in
+        OnErr result (SpendsAtMost (F.device flash.old) (F.device flash.new) (slot_size unit / unit)) }
+{
+    let g = geometry(flash, area);
+    let top = g.sector - slot_size(g.unit);
+    let bytes = encode_entry(&special(scan.low));
+    program_padded(flash, area, scan.current, top, &bytes)
 }

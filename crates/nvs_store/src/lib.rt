@@ -1,16 +1,24 @@
-//! The entries of an NVS store in the sectors of an area. The store uses the area's sector 0.
-#![tactic(auto, using(flash_map::proofs::Touches::then))]
+//! The entries of an NVS store in the sectors of an area.
+#![tactic(auto)]
 
 mod calls;
+mod entries;
 mod entry;
 mod geometry;
+mod lookup;
+mod mounting;
+mod places;
 mod scan;
 mod sector;
 mod slots;
 #[cfg(test)]
 mod tests;
 
-pub use calls::{append, find, mount_scan};
+pub use calls::{append, copy_entry, put_close, put_done};
+pub use entries::{entry_in, used_slots};
 pub use entry::{Entry, SPECIAL_ID, decode_entry, encode_entry};
 pub use geometry::{blank_scan, capacity, cost, fits};
+pub use lookup::{find, walk};
+pub use mounting::mount_scan;
+pub use places::{is_blank, is_closed, next};
 pub use scan::{Found, Placed, Redo, Scan};

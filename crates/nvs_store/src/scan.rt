@@ -1,7 +1,7 @@
 // What a scan of an area says, and entries at their places.
 
 ghost use Rattle.std.specs.Prelude.{◌≡◌};
-ghost use Rattle.nvs_store.specs.Scans.{found_at};
+ghost use Rattle.nvs_store.specs.Scans.{found_at, marked_redo};
 
 use crate::entry::Entry;
 
@@ -41,6 +41,18 @@ pub enum Redo {
     EraseNext,
     /// The open sector is that of a collection that was cut.
     CollectAgain,
+}
+
+impl Redo {
+    /// What is left to do once gc-done stands.
+    pub fn marked(self) -> Redo
+        ensures { result ≡ marked_redo self }
+    {
+        match self {
+            Redo::Nothing => Redo::Nothing,
+            Redo::EraseNext | Redo::CollectAgain => Redo::EraseNext,
+        }
+    }
 }
 
 /// How far the open sector is filled. Places are in bytes from the sector's start.

@@ -2,15 +2,17 @@
 ghost use Rattle.std.specs.Prelude.{◌≡◌, ◌+◌, ◌^◌, ◌≤◌, ◌<◌, length, nat_lt, false};
 ghost use Rattle.std.specs.Option.{option_map, option_map_or};
 ghost use Rattle.flash_map.specs.Units.{IsUnit};
-ghost use Rattle.nvs_store.specs.Sector.{entries, last_placed, placed_cost, has_fence, is_overfull};
-ghost use Rattle.nvs_store.specs.Scans.{sector_scan, damage_in, found_at};
+ghost use Rattle.nvs_store.specs.Sector.{entries, entries_within, is_wanted, last_placed, placed_cost, has_fence, is_overfull, is_closed};
+ghost use Rattle.nvs_store.specs.Scans.{sector_scan, found_at};
 
+use crate::entry::Entry;
 use crate::geometry::{capacity, cost, slot_size};
 use crate::scan::{Found, Placed, Redo, Scan};
 use crate::slots::{
-    counting_entry, end_of, is_erased, is_gc_done, len_of, slot_start, trimmed_len, used_count,
+    counting_entry, end_of, is_erased, is_gc_done, len_of, slot_of, slot_start, trimmed_len,
+    used_count,
 };
-use flash_map::{Why, padded};
+use flash_map::padded;
 
 /// Reads how far a sector is filled.
 pub fn scan_sector(bytes: &[u8], unit: u32, place: u32) -> Scan
@@ -66,7 +68,7 @@ fn ends_above(placed: &Option<Placed>, place: u32) -> bool
     }
 }
 
-fn has_fence(bytes: &[u8], unit: u32) -> bool
+pub fn has_fence(bytes: &[u8], unit: u32) -> bool
     requires unit { IsUnit unit }
     requires short { length bytes.now ≤ 2 ^ 15 }
     ensures { result ≡ has_fence unit bytes.now }
@@ -74,7 +76,7 @@ fn has_fence(bytes: &[u8], unit: u32) -> bool
     used_count(bytes, unit) + 1 < bytes.len() as u32 / slot_size(unit)
 }
 
-fn is_overfull(bytes: &[u8], unit: u32) -> bool
+pub fn is_overfull(bytes: &[u8], unit: u32) -> bool
     requires unit { IsUnit unit }
     requires long { 16 ≤ length bytes.now }
     requires short { length bytes.now ≤ 2 ^ 15 }
@@ -92,33 +94,43 @@ fn is_overfull(bytes: &[u8], unit: u32) -> bool
     passes || u64::from(capacity(unit, bytes.len() as u32)) < costs
 }
 
-/// What is wrong with a sector. A blank one is in order.
-pub fn damage_in(bytes: &[u8], unit: u32) -> Option<Why>
+/// Whether slot 0 holds anything.
+pub fn is_closed(bytes: &[u8], unit: u32) -> bool
     requires unit { IsUnit unit }
     requires long { 16 ≤ length bytes.now }
     requires short { length bytes.now ≤ 2 ^ 15 }
-    ensures { result ≡ damage_in unit bytes.now }
+    ensures { result ≡ is_closed unit bytes.now }
 {
-    if is_erased(bytes) {
-        return None;
-    }
-    if !has_fence(bytes, unit) {
-        return Some(Why::NoFence);
-    }
-    is_overfull(bytes, unit).then_some(Why::Overfull)
+    !is_erased(slot_of(bytes, unit, 0))
 }
 
-/// The last entry of the id, a delete too. The sector has this number.
-pub fn find_in(bytes: &[u8], unit: u32, place: u32, id: u16) -> Option<Found>
+/// Whether an entry is of the id; where none is given, each is.
+fn is_wanted(wanted: Option<u16>, entry: &Entry) -> bool
+    ensures { result ≡ is_wanted wanted entry.now }
+{
+    match wanted {
+        Some(id) => entry.id == id,
+        None => true,
+    }
+}
+
+/// The last entry that is looked for in the first so many slots, a delete too. The sector has this number.
+pub fn find_in(
+    bytes: &[u8],
+    unit: u32,
+    place: u32,
+    wanted: Option<u16>,
+    slots: u32,
+) -> Option<Found>
     requires unit { IsUnit unit }
     requires long { 16 ≤ length bytes.now }
     requires short { length bytes.now ≤ 2 ^ 15 }
-    ensures { result ≡ option_map (found_at place) (last_placed id (entries unit bytes.now)) }
+    ensures { result ≡ option_map (found_at place) (last_placed wanted (entries_within unit bytes.now slots)) }
 {
-    let mut index = used_count(bytes, unit);
+    let mut index = used_count(bytes, unit).min(slots);
     while index > 0 {
         if let Some(placed) = counting_entry(bytes, unit, index) {
-            if placed.entry.id == id {
+            if is_wanted(wanted, &placed.entry) {
                 return Some(placed.at(place));
             }
         }

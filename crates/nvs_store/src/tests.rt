@@ -1,11 +1,11 @@
-ghost use Rattle.std.specs.Prelude.{◌≡◌, ◌<◌, ◌∷◌, [], OnOk, replicate};
+ghost use Rattle.std.specs.Prelude.{◌≡◌, ◌<◌, ◌∷◌, [], true, OnOk, replicate};
 ghost use Rattle.flash_sim.specs.Device.{loaded};
 ghost use Rattle.flash_map.specs.declared.area.Role.TheVariants.{Nvs};
 
 use super::*;
-use crate::sector::{damage_in, scan_sector};
+use crate::sector::{has_fence, is_overfull, scan_sector};
 use arrayvec::ArrayString;
-use flash_map::{Area, Geometry, Role, Why, area_view, geometry};
+use flash_map::{Area, Geometry, Role, area_view, geometry};
 use flash_sim::{Bank, Bench, FlatSim, Kind, PowerLost, Steps};
 use std::alloc::Global;
 use std::marker::Brand;
@@ -17,13 +17,13 @@ const SMALL: Bank = Bank {
     kind: Kind::Erasing,
     unit: 4,
     sector: 512,
-    count: 1,
+    count: 2,
 };
 
 const SMALL_AREA: Geometry = Geometry {
     unit: 4,
     sector: 512,
-    sectors: 1,
+    sectors: 2,
 };
 
 fn entry(id: u16, offset: u16, len: u16) -> Entry {
@@ -70,16 +70,16 @@ fn room(rt: HostRuntime) {
 #[test]
 fn foreign_sectors(rt: HostRuntime) {
     let mut sector = [0xFFu8; 512];
-    assert_eq!(rt; damage_in(&sector, 4), None);
     assert_eq!(rt; scan_sector(&sector, 4, 0), blank_scan(&SMALL_AREA));
     sector[496..504].copy_from_slice(&[1, 0, 0, 0, 0xEC, 1, 0xFF, 0x49]);
-    assert_eq!(rt; damage_in(&sector, 4), Some(Why::Overfull));
+    assert!(rt; is_overfull(&sector, 4));
+    assert!(rt; has_fence(&sector, 4));
     sector[0..496].fill(0);
-    assert_eq!(rt; damage_in(&sector, 4), Some(Why::NoFence));
+    assert!(rt; !has_fence(&sector, 4));
 }
 
 fn load_blank<B: Bench>(alloc: Global, bench: &mut B, size: usize) -> Result<(), Fail>
-    requires { size ≡ 512 }
+    requires { size ≡ 1024 }
     ensures { OnOk result (B.device bench.new ≡ loaded (B.device bench.old) (SMALL ∷ []) (replicate size 255 ∷ [])) }
 {
     let banks = vec![in alloc; SMALL]?;
@@ -92,14 +92,14 @@ fn small_area() -> Area
     ensures role { result.role ≡ Nvs }
     ensures bank { result.bank ≡ 0 }
     ensures first { result.first ≡ 0 }
-    ensures sectors { result.sectors ≡ 1 }
+    ensures sectors { result.sectors ≡ 2 }
 {
     Area {
         label: ArrayString::new(),
         role: Role::Nvs,
         bank: 0,
         first: 0,
-        sectors: 1,
+        sectors: 2,
     }
 }
 
@@ -115,7 +115,7 @@ fn exercise<B: Bench, L: Ledger, R: Abort>(
     requires some { 0 < L.parts }
 {
     let mut steps = Steps::<L>::new(blank);
-    load_blank(alloc, bench, 512)?;
+    load_blank(alloc, bench, 1024)?;
     let area = small_area();
     let g = geometry(bench, &area);
     let mut scan = mount_scan(bench, &area, &mut steps)?;
@@ -125,17 +125,13 @@ fn exercise<B: Bench, L: Ledger, R: Abort>(
     assert!(rt; fits(&g, &scan, 1));
     assert_eq!(rt; append(bench, &area, &mut scan, 1, &[1]), Err(PowerLost));
     bench.restore();
-    let seen = area_view(bench, &area, 0, 496, 8, &mut steps);
-    assert_eq!(rt; seen, [1, 0, 0, 0, 255, 255, 255, 255].as_slice());
-
     let mut scan = mount_scan(bench, &area, &mut steps)?;
     assert_eq!(rt; scan.low, 496);
     assert_eq!(rt; scan.data_end, 4);
+    assert_eq!(rt; scan.redo, Redo::Nothing);
     assert_eq!(rt; find(bench, &area, &scan, 1, &mut steps), None);
     assert!(rt; fits(&g, &scan, 1));
     append(bench, &area, &mut scan, 1, &[2])?;
-    let seen = area_view(bench, &area, 0, 4, 4, &mut steps);
-    assert_eq!(rt; seen, [2, 255, 255, 255].as_slice());
     let seen = area_view(bench, &area, 0, 488, 8, &mut steps);
     assert_eq!(rt; seen, [1, 0, 4, 0, 1, 0, 255, 0x8C].as_slice());
     let found = Found {
@@ -153,4 +149,139 @@ fn one_sector(rt: HostRuntime) -> Result<(), Fail> {
     let alloc = rt.alloc();
     let mut sim = FlatSim::new(alloc);
     exercise::<FlatSim, Brand, HostRuntime>(&rt, alloc, &mut sim, Blank::new(1))
+}
+
+// Two entries in the first sector, which is closed then.
+fn fill<B: Bench, L: Ledger, R: Abort>(
+    rt: &R,
+    alloc: Global,
+    bench: &mut B,
+    steps: &mut Steps<L>,
+) -> Result<(), Fail>
+    ensures banks { OnOk result ((B.device bench.new).banks ≡ SMALL ∷ []) }
+    ensures on { OnOk result ((B.device bench.new).is_on ≡ true) }
+{
+    load_blank(alloc, bench, 1024)?;
+    let area = small_area();
+    let g = geometry(bench, &area);
+    let mut scan = mount_scan(bench, &area, steps)?;
+    assert_eq!(rt; scan.redo, Redo::Nothing);
+    assert!(rt; fits(&g, &scan, 3));
+    append(bench, &area, &mut scan, 1, &[0x11, 0x22, 0x33])?;
+    assert_eq!(rt; scan.redo, Redo::Nothing);
+    assert!(rt; fits(&g, &scan, 1));
+    append(bench, &area, &mut scan, 2, &[0x44])?;
+    assert_eq!(rt; scan.current, 0);
+    assert!(rt; !is_blank(bench, &area, 0, steps));
+    assert!(rt; !is_closed(bench, &area, 0, steps));
+    put_close(bench, &area, &scan)?;
+    assert!(rt; is_closed(bench, &area, 0, steps));
+    let seen = area_view(bench, &area, 0, 488, 24, steps);
+    let slots = [
+        2, 0, 4, 0, 1, 0, 255, 0xEA, 1, 0, 0, 0, 3, 0, 255, 0xD5, 255, 255, 232, 1, 0, 0, 255, 0x68,
+    ];
+    assert_eq!(rt; seen, slots.as_slice());
+    Ok(())
+}
+
+const FIRST: Found = Found {
+    sector: 0,
+    slot: 1,
+    entry: Entry {
+        id: 1,
+        offset: 0,
+        len: 3,
+        part: 0xFF,
+    },
+};
+
+// Before gc-done the open sector counts for nothing.
+fn exercise_walk<B: Bench, L: Ledger, R: Abort>(
+    rt: &R,
+    bench: &B,
+    steps: &mut Steps<L>,
+) -> Result<(), Fail>
+    requires banks { (B.device bench.now).banks ≡ SMALL ∷ [] }
+{
+    let area = small_area();
+    let second = Found {
+        sector: 0,
+        slot: 2,
+        entry: entry(2, 4, 1),
+    };
+    let scan = mount_scan(bench, &area, steps)?;
+    assert_eq!(rt; scan.redo, Redo::CollectAgain);
+    assert_eq!(rt; walk(bench, &area, &scan, None, steps), Some(second));
+    assert_eq!(rt; walk(bench, &area, &scan, Some((0, 2)), steps), Some(FIRST));
+    assert_eq!(rt; walk(bench, &area, &scan, Some((0, 1)), steps), None);
+    Ok(())
+}
+
+fn exercise_copy<B: Bench, L: Ledger, R: Abort>(
+    rt: &R,
+    bench: &mut B,
+    steps: &mut Steps<L>,
+) -> Result<(), Fail>
+    requires banks { (B.device bench.old).banks ≡ SMALL ∷ [] }
+    ensures banks { OnOk result ((B.device bench.new).banks ≡ SMALL ∷ []) }
+{
+    let area = small_area();
+    let g = geometry(bench, &area);
+    let mut scan = mount_scan(bench, &area, steps)?;
+    assert_eq!(rt; scan.current, 1);
+    assert!(rt; !scan.gc_done);
+    assert!(rt; fits(&g, &scan, 3));
+    copy_entry(bench, &area, &mut scan, &FIRST, steps)?;
+    assert!(rt; fits(&g, &scan, 0));
+    put_done(bench, &area, &mut scan)?;
+    assert_eq!(rt; mount_scan(bench, &area, steps).ok(), Some(scan));
+    Ok(())
+}
+
+// After it the closed one does.
+fn exercise_copied<B: Bench, L: Ledger, R: Abort>(
+    rt: &R,
+    bench: &B,
+    steps: &mut Steps<L>,
+) -> Result<(), Fail>
+    requires banks { (B.device bench.now).banks ≡ SMALL ∷ [] }
+{
+    let area = small_area();
+    let scan = mount_scan(bench, &area, steps)?;
+    assert_eq!(rt; scan.redo, Redo::EraseNext);
+    let copied = Found { sector: 1, ..FIRST };
+    assert_eq!(rt; walk(bench, &area, &scan, None, steps), Some(copied));
+    assert_eq!(rt; walk(bench, &area, &scan, Some((1, 1)), steps), None);
+    let seen = area_view(bench, &area, 1, 0, 4, steps);
+    assert_eq!(rt; seen, [0x11, 0x22, 0x33, 255].as_slice());
+    let seen = area_view(bench, &area, 1, 488, 16, steps);
+    let slots = [255, 255, 4, 0, 0, 0, 255, 0xD3, 1, 0, 0, 0, 3, 0, 255, 0xD5];
+    assert_eq!(rt; seen, slots.as_slice());
+    Ok(())
+}
+
+fn exercise_two<B: Bench, L: Ledger, R: Abort>(
+    rt: &R,
+    alloc: Global,
+    bench: &mut B,
+    blank: Blank,
+) -> Result<(), Fail>
+    requires name { blank.name ≡ L.name }
+    requires parts { blank.parts ≡ L.parts }
+    requires some { 0 < L.parts }
+{
+    let mut steps = Steps::<L>::new(blank);
+    fill(rt, alloc, bench, &mut steps)?;
+    exercise_walk(rt, bench, &mut steps)?;
+    exercise_copy(rt, bench, &mut steps)?;
+    exercise_copied(rt, bench, &mut steps)?;
+    assert_eq!(rt; bench.spent(), 13);
+    Ok(())
+}
+
+#[test]
+fn two_sectors(rt: HostRuntime) -> Result<(), Fail> {
+    let alloc = rt.alloc();
+    let mut sim = FlatSim::new(alloc);
+    exercise_two::<FlatSim, Brand, HostRuntime>(&rt, alloc, &mut sim, Blank::new(1))
 }

@@ -5,7 +5,7 @@ use Rattle.std.proofs.lemmas.Slice.Eq.{bytes_eq-Decides}
 use Rattle.std.proofs.lemmas.Fmt.{decimal_injective}
 use Rattle.hex.specs.Hex.{decode_of}
 use Rattle.script_lines.specs.declared.line.Line.{Line}
-use Rattle.script_lines.specs.declared.line.Line.TheVariants.{Set, Get, Cut, Uncut, Mount}
+use Rattle.script_lines.specs.declared.line.Line.TheVariants.{Set, Get, Delete, Cut, Uncut, Mount}
 use Rattle.script_lines.specs.Line.{IsNoLine, IsPlain, name_of}
 use Rattle.script_lines.specs.Laws.{OneLine}
 
@@ -35,6 +35,7 @@ one_line words (Set id value) (Set id' value') one other =
     let equal : value ≡ value' = same_value one.0 other.0 value value' (third _ _ _ _ _ _ words_are) one.3.0 other.3.0 in
     cc
 one_line words (Set id value) (Get id') one other = absurd (apart (codes "set") (codes "get") words _ _ refl one.1 other.0)
+one_line words (Set id value) (Delete id') one other = absurd (apart (codes "set") (codes "del") words _ _ refl one.1 other.0)
 one_line words (Set id value) (Cut units') one other = absurd (apart (codes "set") (codes "cut") words _ _ refl one.1 other.0)
 one_line words (Set id value) Uncut one other = absurd (apart (codes "set") (codes "uncut") words _ _ refl one.1 other)
 one_line words (Set id value) Mount one other = absurd (apart (codes "set") (codes "mount") words _ _ refl one.1 other)
@@ -42,11 +43,21 @@ one_line words (Get id) (Set id' value') one other = absurd (apart (codes "get")
 one_line words (Get id) (Get id') one other =
     let same : id ≡ id' = decimal_injective id id' (omega arith) (omega arith) (second _ _ _ _ _ _ (sym one.0 ∙ other.0)) in
     ap Get same
+one_line words (Get id) (Delete id') one other = absurd (apart (codes "get") (codes "del") words _ _ refl one.0 other.0)
 one_line words (Get id) (Cut units') one other = absurd (apart (codes "get") (codes "cut") words _ _ refl one.0 other.0)
 one_line words (Get id) Uncut one other = absurd (apart (codes "get") (codes "uncut") words _ _ refl one.0 other)
 one_line words (Get id) Mount one other = absurd (apart (codes "get") (codes "mount") words _ _ refl one.0 other)
+one_line words (Delete id) (Set id' value') one other = absurd (apart (codes "del") (codes "set") words _ _ refl one.0 other.1)
+one_line words (Delete id) (Get id') one other = absurd (apart (codes "del") (codes "get") words _ _ refl one.0 other.0)
+one_line words (Delete id) (Delete id') one other =
+    let same : id ≡ id' = decimal_injective id id' (omega arith) (omega arith) (second _ _ _ _ _ _ (sym one.0 ∙ other.0)) in
+    ap Delete same
+one_line words (Delete id) (Cut units') one other = absurd (apart (codes "del") (codes "cut") words _ _ refl one.0 other.0)
+one_line words (Delete id) Uncut one other = absurd (apart (codes "del") (codes "uncut") words _ _ refl one.0 other)
+one_line words (Delete id) Mount one other = absurd (apart (codes "del") (codes "mount") words _ _ refl one.0 other)
 one_line words (Cut units) (Set id' value') one other = absurd (apart (codes "cut") (codes "set") words _ _ refl one.0 other.1)
 one_line words (Cut units) (Get id') one other = absurd (apart (codes "cut") (codes "get") words _ _ refl one.0 other.0)
+one_line words (Cut units) (Delete id') one other = absurd (apart (codes "cut") (codes "del") words _ _ refl one.0 other.0)
 one_line words (Cut units) (Cut units') one other =
     let same : units ≡ units' = decimal_injective units units' (omega arith) (omega arith) (second _ _ _ _ _ _ (sym one.0 ∙ other.0)) in
     ap Cut same
@@ -54,11 +65,13 @@ one_line words (Cut units) Uncut one other = absurd (apart (codes "cut") (codes 
 one_line words (Cut units) Mount one other = absurd (apart (codes "cut") (codes "mount") words _ _ refl one.0 other)
 one_line words Uncut (Set id' value') one other = absurd (apart (codes "uncut") (codes "set") words _ _ refl one other.1)
 one_line words Uncut (Get id') one other = absurd (apart (codes "uncut") (codes "get") words _ _ refl one other.0)
+one_line words Uncut (Delete id') one other = absurd (apart (codes "uncut") (codes "del") words _ _ refl one other.0)
 one_line words Uncut (Cut units') one other = absurd (apart (codes "uncut") (codes "cut") words _ _ refl one other.0)
 one_line words Uncut Uncut one other = refl
 one_line words Uncut Mount one other = absurd (apart (codes "uncut") (codes "mount") words _ _ refl one other)
 one_line words Mount (Set id' value') one other = absurd (apart (codes "mount") (codes "set") words _ _ refl one other.1)
 one_line words Mount (Get id') one other = absurd (apart (codes "mount") (codes "get") words _ _ refl one other.0)
+one_line words Mount (Delete id') one other = absurd (apart (codes "mount") (codes "del") words _ _ refl one other.0)
 one_line words Mount (Cut units') one other = absurd (apart (codes "mount") (codes "cut") words _ _ refl one other.0)
 one_line words Mount Uncut one other = absurd (apart (codes "mount") (codes "uncut") words _ _ refl one other)
 one_line words Mount Mount one other = refl
@@ -74,6 +87,7 @@ operands_are a b xs ys e = cc
 no_uncut : (operands : List (List ℕ)) → 0 < length operands → IsNoLine (codes "uncut" ∷ operands)
 no_uncut operands some (Set id value) spells = others (codes "uncut") (codes "set") operands _ refl spells.1
 no_uncut operands some (Get id) spells = others (codes "uncut") (codes "get") operands _ refl spells.0
+no_uncut operands some (Delete id) spells = others (codes "uncut") (codes "del") operands _ refl spells.0
 no_uncut operands some (Cut units) spells = others (codes "uncut") (codes "cut") operands _ refl spells.0
 no_uncut operands some Uncut spells = let none = ap length (operands_are _ _ _ _ spells) in omega arith
 no_uncut operands some Mount spells = others (codes "uncut") (codes "mount") operands _ refl spells
@@ -81,6 +95,7 @@ no_uncut operands some Mount spells = others (codes "uncut") (codes "mount") ope
 no_mount : (operands : List (List ℕ)) → 0 < length operands → IsNoLine (codes "mount" ∷ operands)
 no_mount operands some (Set id value) spells = others (codes "mount") (codes "set") operands _ refl spells.1
 no_mount operands some (Get id) spells = others (codes "mount") (codes "get") operands _ refl spells.0
+no_mount operands some (Delete id) spells = others (codes "mount") (codes "del") operands _ refl spells.0
 no_mount operands some (Cut units) spells = others (codes "mount") (codes "cut") operands _ refl spells.0
 no_mount operands some Uncut spells = others (codes "mount") (codes "uncut") operands _ refl spells
 no_mount operands some Mount spells = let none = ap length (operands_are _ _ _ _ spells) in omega arith
@@ -88,6 +103,7 @@ no_mount operands some Mount spells = let none = ap length (operands_are _ _ _ _
 pub no_plain : (line : Line) (operands : List (List ℕ)) → IsPlain line → 0 < length operands → IsNoLine (name_of line ∷ operands)
 no_plain (Set id value) operands plain some = absurd plain
 no_plain (Get id) operands plain some = absurd plain
+no_plain (Delete id) operands plain some = absurd plain
 no_plain (Cut units) operands plain some = absurd plain
 no_plain Uncut operands plain some = no_uncut operands some
 no_plain Mount operands plain some = no_mount operands some

@@ -4,7 +4,7 @@ use Rattle.std.specs.Fmt.{decimal}
 use Rattle.hex.specs.Hex.{decode_of}
 use Rattle.flash_sim.specs.declared.flash.NoMemory.{NoMemory}
 use Rattle.script_lines.specs.declared.line.Line.{Line}
-use Rattle.script_lines.specs.declared.line.Line.TheVariants.{Set, Get, Cut, Uncut, Mount}
+use Rattle.script_lines.specs.declared.line.Line.TheVariants.{Set, Get, Delete, Cut, Uncut, Mount}
 
 -- a word of 1 to 256 bytes in hexadecimal digits of either case
 abbrev pub IsValue : List ℕ → List ℕ → Type 0
@@ -14,6 +14,7 @@ IsValue word value = (decode_of word ≡ Ok value) × (0 < length value) × (len
 abbrev pub Spells : List (List ℕ) → Line → Type 0
 Spells words (Set id value) = (hex : List ℕ) × (words ≡ codes "set" ∷ decimal id ∷ hex ∷ []) × (id < 65535) × IsValue hex value
 Spells words (Get id) = (words ≡ codes "get" ∷ decimal id ∷ []) × (id < 65535)
+Spells words (Delete id) = (words ≡ codes "del" ∷ decimal id ∷ []) × (id < 65535)
 Spells words (Cut units) = (words ≡ codes "cut" ∷ decimal units ∷ []) × (units < 2 ^ 32)
 Spells words Uncut = words ≡ codes "uncut" ∷ []
 Spells words Mount = words ≡ codes "mount" ∷ []
@@ -39,11 +40,13 @@ IsPlain Uncut = ⊤
 IsPlain Mount = ⊤
 IsPlain (Set id value) = ⊥
 IsPlain (Get id) = ⊥
+IsPlain (Delete id) = ⊥
 IsPlain (Cut units) = ⊥
 
 abbrev pub name_of : Line → List ℕ
 name_of (Set id value) = codes "set"
 name_of (Get id) = codes "get"
+name_of (Delete id) = codes "del"
 name_of (Cut units) = codes "cut"
 name_of Uncut = codes "uncut"
 name_of Mount = codes "mount"

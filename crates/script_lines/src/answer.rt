@@ -16,8 +16,8 @@ pub enum Answer {
     Value { value: Bytes },
     /// There is no such item.
     Absent,
-    /// There is no room for the item, and nothing was programmed.
-    Full,
+    /// There is no room for the item, after so many units and erases: the bytes that it needs, and those of all items.
+    NoSpace { units: u64, need: u64, live: u64 },
     /// Power was lost after so many units and erases.
     Lost { units: u64 },
     /// Power is off.
@@ -34,7 +34,7 @@ fn written(alloc: Global, answer: &Answer) -> Result<String, AllocError>
             format!(in alloc; "value {digits}\n")
         }
         Answer::Absent => String::from_str(alloc, "none\n"),
-        Answer::Full => String::from_str(alloc, "full 0\n"),
+        Answer::NoSpace { units, .. } => format!(in alloc; "nospace {units}\n"),
         Answer::Lost { units } => format!(in alloc; "lost {units}\n"),
         Answer::Off => String::from_str(alloc, "off\n"),
     }

@@ -15,6 +15,8 @@ pub enum Line {
     /// Stores 1 to 256 bytes under an id of at most 65,534.
     Set { id: u16, value: Bytes },
     Get { id: u16 },
+    /// Deletes the item of an id.
+    Delete { id: u16 },
     /// Plans a loss of power after so many further units and erases, below 2^32.
     Cut { units: u64 },
     /// Drops that plan.
@@ -104,6 +106,18 @@ fn get_line(alloc: Global, rest: Option<&[u8]>) -> Result<Option<Line>, NoMemory
     }
 }
 
+fn delete_line(alloc: Global, rest: Option<&[u8]>) -> Result<Option<Line>, NoMemory>
+    ensures { ReadsLine (codes "del" ∷ parts_of 32 rest.entry) result }
+{
+    let Some(word) = one_word(rest) else {
+        return Ok(None);
+    };
+    match read_id(alloc, word)? {
+        Some(id) => Ok(Some(Line::Delete { id })),
+        None => Ok(None),
+    }
+}
+
 fn cut_line(alloc: Global, rest: Option<&[u8]>) -> Result<Option<Line>, NoMemory>
     ensures { ReadsLine (codes "cut" ∷ parts_of 32 rest.entry) result }
 {
@@ -135,6 +149,8 @@ pub fn read_line(alloc: Global, text: &[u8]) -> Result<Option<Line>, NoMemory>
         set_line(alloc, rest)
     } else if command == b"get".as_slice() {
         get_line(alloc, rest)
+    } else if command == b"del".as_slice() {
+        delete_line(alloc, rest)
     } else if command == b"cut".as_slice() {
         cut_line(alloc, rest)
     } else if command == b"uncut".as_slice() {

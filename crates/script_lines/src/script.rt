@@ -64,7 +64,8 @@ fn take_text(
 /// The lines of a script, or its first refused line.
 ///
 /// Lines end with LF, which the last may lack. An empty line and one that begins with `#` are skipped, and counted.
-/// A line's words are separated by one space. The lines are `set ID HEX`, `get ID`, `cut N`, `uncut` and `mount`,
+/// A line's words are separated by one space. The lines are `set ID HEX`, `get ID`, `del ID`, `cut N`, `uncut` and
+/// `mount`,
 /// where ID is at most 65,534, N is below 2^32, both decimal without a sign or leading zeros, and HEX is 1 to 256
 /// bytes in digits of either case. Every other line is refused as `Unknown`.
 pub fn read_script(alloc: Global, bytes: &[u8]) -> Result<Vec<Line>, ScriptFault>

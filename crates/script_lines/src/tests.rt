@@ -10,6 +10,7 @@ fn shown(alloc: Global, line: &Line) -> Result<String, AllocError> {
             format!(in alloc; "set {id} {digits};")
         }
         Line::Get { id } => format!(in alloc; "get {id};"),
+        Line::Delete { id } => format!(in alloc; "del {id};"),
         Line::Cut { units } => format!(in alloc; "cut {units};"),
         Line::Uncut => String::from_str(alloc, "uncut;"),
         Line::Mount => String::from_str(alloc, "mount;"),
@@ -39,10 +40,14 @@ fn scripts(rt: HostRuntime) -> Result<(), Fail> {
         ("", ""),
         ("\n#\n# set\n\n", ""),
         (
-            "set 1 0aFf\nget 65534\ncut 0\ncut 4294967295\nuncut\nmount",
-            "set 1 0aff;get 65534;cut 0;cut 4294967295;uncut;mount;",
+            "set 1 0aFf\nget 65534\ndel 3\ncut 0\ncut 4294967295\nuncut\nmount",
+            "set 1 0aff;get 65534;del 3;cut 0;cut 4294967295;uncut;mount;",
         ),
         ("get 0\n", "get 0;"),
+        ("del 65534", "del 65534;"),
+        ("del 65535", "Unknown 1"),
+        ("del", "Unknown 1"),
+        ("del 1 00", "Unknown 1"),
         ("get 65535", "Unknown 1"),
         ("mount\n\n#\nfly\nget", "Unknown 4"),
         ("get 01", "Unknown 1"),
@@ -110,7 +115,14 @@ fn texts(rt: HostRuntime) -> Result<(), Fail> {
         (Answer::Done { units: 0 }, "ok 0\n"),
         (Answer::Value { value }, "value 0aff\n"),
         (Answer::Absent, "none\n"),
-        (Answer::Full, "full 0\n"),
+        (
+            Answer::NoSpace {
+                units: 71,
+                need: 264,
+                live: 264,
+            },
+            "nospace 71\n",
+        ),
         (Answer::Lost { units: 66 }, "lost 66\n"),
         (Answer::Off, "off\n"),
     ];

@@ -1,16 +1,17 @@
 -- The steps of appending, closing, collecting and erasing: the form that each leaves, and its list.
-use Rattle.std.proofs.Common.{◌≡◌, ℕ, ◌-◌, ◌<◌, ◌≤◌, ◌⊎◌, true, false, List, [], ◌∷◌, ◌++◌, length, set, refl, sym, ap, subst, ◌∙◌, inl, inr, append_assoc, arith}
+use Rattle.std.proofs.Common.{◌≡◌, ℕ, ◌-◌, ◌<◌, ◌≤◌, ◌⊎◌, true, false, ltb, List, [], ◌∷◌, ◌++◌, length, set, refl, sym, ap, subst, ◌∙◌, inl, inr, append_assoc, arith}
 use Rattle.std.specs.List.{flat_map}
 use Rattle.std.proofs.lemmas.Bool.{false≢true, cases_Bool, cases_lt, cases_eq, or_left}
 use Rattle.std.proofs.lemmas.List.{append-nil, length-set}
 use Rattle.std.proofs.lemmas.List.Concat.{flat_map-append, flat_map-cons}
 use Rattle.slot_list.specs.Items.{last, SameItems}
 use Rattle.sector_ring.specs.Steps.{KeepsList, AddsPair, MarksDone, Closes}
-use Rattle.sector_ring.specs.Area.{sector_at, next, is_blank_at, area_pairs}
-use Rattle.sector_ring.specs.Forms.{IsRing, AtRest, Collecting, Collected, others, rest, pairs_at, to_copy}
+use Rattle.sector_ring.specs.Area.{next, is_blank_at, area_pairs}
+use Rattle.flash_map.specs.Area.{sector_at}
+use Rattle.sector_ring.specs.Forms.{distance, IsRing, AtRest, Collecting, Collected, others, rest, pairs_at, to_copy}
 use Rattle.sector_ring.specs.Steps.{IsFurther}
 use Rattle.slot_list.proofs.LivePairs.{collected}
-use Rattle.sector_ring.proofs.Places.{after, after-within, after-apart, distance-after, split}
+use Rattle.sector_ring.proofs.Places.{after, after-within, after-apart, distance-after, distance-positive, split}
 use Rattle.sector_ring.proofs.Rings.{open-not_closed}
 use Rattle.sector_ring.proofs.Lists.{list-at_rest, list-collecting, list-collected, others-victim, there, elsewhere, others-kept, rest-kept}
 use Rattle.sector_ring.proofs.RingSteps.{ring-open, ring-next, ring-erased}
@@ -185,6 +186,54 @@ put_mark reading sectors place new form copied marks sound =
     )
 
 -- ---- the erase
+
+-- the victim, which counts for nothing, changes and stays closed: its emptying was cut
+pub put_victim : (reading : Reading) (sectors : List (List ℕ)) (place : ℕ) (new : List ℕ) → Collected reading sectors place → reading.is_closed new ≡ true
+    → Collected reading (set sectors (next sectors place) new) place × (area_pairs reading (set sectors (next sectors place) new) place ≡ area_pairs reading sectors place)
+put_victim reading sectors place new form shut =
+    let ring = form.ring in
+    let within = ring.within in
+    let several = ring.several in
+    let victim_within = after-within (length sectors) place within in
+    let long : length (set sectors (next sectors place) new) ≡ length sectors = length-set sectors (next sectors place) new in
+    let same_next : next (set sectors (next sectors place) new) place ≡ next sectors place = ap (λ (n : ℕ). after n place) long in
+    let other : place ≡ next sectors place → ⊥ = λ (e : place ≡ next sectors place). after-apart (length sectors) place within several (sym e) in
+    let one = distance-after (length sectors) place within several in
+    let here : sector_at (set sectors (next sectors place) new) place ≡ sector_at sectors place = elsewhere sectors (next sectors place) new place other in
+    let next_ring : IsRing reading (set sectors (next sectors place) new) place 0 = record {
+      several = omega arith;
+      within = omega arith;
+      spare = omega arith;
+      closed = λ k lt. elim (cases_eq k (next sectors place)) [
+        | inl e ↦
+            ap reading.is_closed (ap (sector_at (set sectors (next sectors place) new)) e ∙ there sectors (next sectors place) new victim_within) ∙ shut
+            ∙ sym (ring.closed (next sectors place) victim_within ∙ ap (λ (n : ℕ). ltb 0 n) one)
+            ∙ ring.closed (next sectors place) victim_within
+            ∙ ap (λ (j : ℕ). ltb 0 (distance (length sectors) place j)) (sym e) ∙ ap (λ (n : ℕ). ltb 0 (distance n place k)) (sym long)
+        | inr apart ↦
+            ap reading.is_closed (elsewhere sectors (next sectors place) new k apart) ∙ ring.closed k (subst (λ (n : ℕ). k < n) long lt) ∙ ap (λ (n : ℕ). ltb 0 (distance n place k)) (sym long)
+      ];
+      blank = λ k lt apart near.
+          let inside : k < length sectors = subst (λ (n : ℕ). k < n) long lt in
+          let far = distance-positive (length sectors) place k within inside apart in
+          let near_there : distance (length sectors) place k ≤ 0 = subst (λ (n : ℕ). distance n place k ≤ 0) long near in
+          absurd (omega arith);
+      started = λ e. absurd (omega arith);
+    } in
+    let done : reading.has_gc_done (sector_at (set sectors (next sectors place) new) place) ≡ true = ap reading.has_gc_done here ∙ form.done in (
+      record {
+        ring = next_ring;
+        done = done;
+        sound = λ k lt apart.
+            let off : k ≡ next sectors place → ⊥ = λ (e : k ≡ next sectors place). apart (e ∙ sym same_next) in
+            ap (is_sound reading) (elsewhere sectors (next sectors place) new k off) ∙ form.sound k (subst (λ (n : ℕ). k < n) long lt) off;
+      },
+      list-collected reading (set sectors (next sectors place) new) place next_ring done
+          ∙ ap (λ (n : ℕ). flat_map (pairs_at reading (set sectors (next sectors place) new)) (rest n place) ++ pairs_at reading (set sectors (next sectors place) new) place) long
+          ∙ ap (λ sector. flat_map (pairs_at reading (set sectors (next sectors place) new)) (rest (length sectors) place) ++ reading.pairs sector) here
+          ∙ ap (λ ps. ps ++ pairs_at reading sectors place) (rest-kept reading sectors place (next sectors place) new within several (inr refl))
+          ∙ sym (list-collected reading sectors place ring form.done),
+    )
 
 pub erase_victim : (reading : Reading) (laws : IsReading reading) (sectors : List (List ℕ)) (place : ℕ) (new : List ℕ) → Collected reading sectors place → reading.is_blank new ≡ true
     → AtRest reading (set sectors (next sectors place) new) place × (area_pairs reading (set sectors (next sectors place) new) place ≡ area_pairs reading sectors place)

@@ -1,9 +1,12 @@
 pub mod Collects
 pub mod Lists
 pub mod LiveCost
+pub mod Parts
 pub mod Places
 pub mod RingSteps
 pub mod Rings
 pub mod RoundLemmas
+pub mod Rounding
+pub mod Searches
 pub mod Stays
 pub mod Undamaged

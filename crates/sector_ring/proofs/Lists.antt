@@ -5,7 +5,8 @@ use Rattle.std.proofs.lemmas.Bool.{eq-eqb, ne_eqb, le-ltb, not_from_true, not_fr
 use Rattle.std.proofs.lemmas.List.{append-nil, get_or-set_same, get_or-set_other}
 use Rattle.std.proofs.lemmas.List.Elements.{All-weaker, filter-append}
 use Rattle.std.proofs.lemmas.List.Concat.{flat_map-append, flat_map-cons}
-use Rattle.sector_ring.specs.Area.{sector_at, next, is_closed_at, counts_at, area_pairs}
+use Rattle.sector_ring.specs.Area.{next, is_closed_at, counts_at, area_pairs}
+use Rattle.flash_map.specs.Area.{sector_at}
 use Rattle.sector_ring.specs.Forms.{IsRing, others, rest, pairs_at}
 use Rattle.sector_ring.proofs.Places.{after, after-apart, filter_all, flat_map-agree, others-All, round-is, IsFar, split}
 use Rattle.sector_ring.proofs.Rings.{next-closed}

@@ -1,14 +1,14 @@
 -- What all live pairs cost stays in a round.
-use Rattle.std.proofs.Common.{◌≡◌, ℕ, ◌+◌, Bool, cond, eqb, ◌||◌, List, [], ◌∷◌, ◌++◌, length, refl, sym, ap, ◌∙◌, inl, inr, append_assoc, arith}
-use Rattle.std.proofs.lemmas.Bool.{cases_Bool}
+use Rattle.std.proofs.Common.{◌≡◌, ℕ, ◌+◌, ◌≤◌, Bool, cond, eqb, ◌||◌, List, [], ◌∷◌, ◌++◌, length, refl, sym, ap, ◌∙◌, inl, inr, append_assoc, arith}
+use Rattle.std.proofs.lemmas.Bool.{cases_Bool, cond-true, cond-false, or_parts}
 use Rattle.std.proofs.lemmas.List.{append-nil}
-use Rattle.std.proofs.lemmas.List.Sums.{sum_by-append}
+use Rattle.std.proofs.lemmas.List.Sums.{sum_by-cons, sum_by-append}
 use Rattle.slot_list.specs.Live.{names, live_pairs}
-use Rattle.sector_ring.specs.Rounds.{copies_cost, joined, live_cost, collect_oldest}
+use Rattle.sector_ring.specs.Rounds.{copies_cost, stored_cost, joined, live_cost, collect_oldest}
 use Rattle.slot_list.proofs.LivePairs.{names-append}
 use Rattle.sector_ring.proofs.RoundLemmas.{AreHidden, live-all, live-same, hidden, joined-push}
 
-live-split : (front back tail : List (ℕ × List ℕ)) → live_pairs (front ++ back) tail ≡ live_pairs front (back ++ tail) ++ live_pairs back tail
+pub live-split : (front back tail : List (ℕ × List ℕ)) → live_pairs (front ++ back) tail ≡ live_pairs front (back ++ tail) ++ live_pairs back tail
 unfolding live_pairs
 live-split [] back tail = refl
 live-split (pair ∷ rest) back tail =
@@ -51,3 +51,35 @@ pub live-collect : (price : ℕ → ℕ) (parts : List (List (ℕ × List ℕ)))
 unfolding collect_oldest
 live-collect price [] = refl
 live-collect price (victim ∷ others) = ap (live_cost price) (joined-push others (live_pairs victim (joined others))) ∙ live-round price victim (joined others)
+
+-- ---- the live pairs of a sector cost at most what its pairs with bytes do
+
+pub live-le : (price : ℕ → ℕ) (victim others : List (ℕ × List ℕ)) → copies_cost price (live_pairs victim others) ≤ stored_cost price victim
+unfolding live_pairs
+live-le price [] others = omega arith
+live-le price (pair ∷ tail) others =
+    let ih = live-le price tail others in
+    let all = sum_by-cons (λ (p : ℕ × List ℕ). cond (eqb (length p.1) 0) 0 (price (length p.1))) pair tail in
+    elim (cases_Bool (names pair.0 (tail ++ others) || (eqb (length pair.1) 0))) [
+      | inl skip ↦
+          let here : live_pairs (pair ∷ tail) others ≡ live_pairs tail others = cond-true (names pair.0 (tail ++ others) || (eqb (length pair.1) 0)) (live_pairs tail others) (pair ∷ live_pairs tail others) skip in
+          let e = ap (copies_cost price) here in
+          omega arith
+      | inr kept ↦
+          let parts = or_parts (names pair.0 (tail ++ others)) (eqb (length pair.1) 0) kept in
+          let here : live_pairs (pair ∷ tail) others ≡ pair ∷ live_pairs tail others = cond-false (names pair.0 (tail ++ others) || (eqb (length pair.1) 0)) (live_pairs tail others) (pair ∷ live_pairs tail others) kept in
+          let e : copies_cost price (live_pairs (pair ∷ tail) others) ≡ price (length pair.1) + copies_cost price (live_pairs tail others) = ap (copies_cost price) here ∙ sum_by-cons (λ (p : ℕ × List ℕ). price (length p.1)) pair (live_pairs tail others) in
+          let one : cond (eqb (length pair.1) 0) 0 (price (length pair.1)) ≡ price (length pair.1) = cond-false (eqb (length pair.1) 0) 0 (price (length pair.1)) parts.1 in
+          omega arith
+    ]
+
+pub stored-le : (price : ℕ → ℕ) (pairs : List (ℕ × List ℕ)) → stored_cost price pairs ≤ copies_cost price pairs
+stored-le price [] = omega arith
+stored-le price (pair ∷ tail) =
+    let ih = stored-le price tail in
+    let all = sum_by-cons (λ (p : ℕ × List ℕ). cond (eqb (length p.1) 0) 0 (price (length p.1))) pair tail in
+    let copies = sum_by-cons (λ (p : ℕ × List ℕ). price (length p.1)) pair tail in
+    elim (cases_Bool (eqb (length pair.1) 0)) [
+      | inl none ↦ let one : cond (eqb (length pair.1) 0) 0 (price (length pair.1)) ≡ 0 = cond-true (eqb (length pair.1) 0) 0 (price (length pair.1)) none in omega arith
+      | inr some ↦ let one : cond (eqb (length pair.1) 0) 0 (price (length pair.1)) ≡ price (length pair.1) = cond-false (eqb (length pair.1) 0) 0 (price (length pair.1)) some in omega arith
+    ]

@@ -6,7 +6,8 @@ use Rattle.std.specs.List.{find, list_all, slice_get}
 use Rattle.std.proofs.lemmas.Bool.{false≢true, cases_Bool, cases_lt, cases_eq, cond-false, eq-eqb, lt-ltb, le-ltb, ltb-true, ltb-false, not_from_true, not_from_false}
 use Rattle.std.proofs.lemmas.List.Folds.{list_all_at}
 use Rattle.std.proofs.lemmas.List.FromFn.{length-range_with_len, get_or-range_with_len}
-use Rattle.sector_ring.specs.Area.{sector_at, next, previous, places, is_closed_at, is_blank_at, follows_closed, openings, open_sector, counts_at, looked_at, first_of_kind, first_damage}
+use Rattle.sector_ring.specs.Area.{next, previous, places, is_closed_at, is_blank_at, follows_closed, openings, open_sector, counts_at, looked_at, first_of_kind, first_damage}
+use Rattle.flash_map.specs.Area.{sector_at}
 use Rattle.flash_map.specs.declared.faults.Why.{Why}
 use Rattle.flash_map.specs.declared.faults.Why.TheVariants.{TwoOpen, Dirty, NoFence, Overfull}
 use Rattle.sector_ring.specs.Forms.{distance, IsRing}

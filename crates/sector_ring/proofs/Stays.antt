@@ -5,7 +5,8 @@ use Rattle.std.specs.List.{filter, find, flat_map, range_with_len, slice_get, Al
 use Rattle.std.proofs.lemmas.Bool.{false≢true, cases_Bool, cases_eq, not_from_true, not_from_false, not-true, not-false}
 use Rattle.std.proofs.lemmas.List.{length-set}
 use Rattle.std.proofs.lemmas.List.Elements.{All-head, All-tail}
-use Rattle.sector_ring.specs.Area.{sector_at, next, previous, places, is_closed_at, is_blank_at, follows_closed, openings, open_sector, counts_at, area_pairs}
+use Rattle.sector_ring.specs.Area.{next, previous, places, is_closed_at, is_blank_at, follows_closed, openings, open_sector, counts_at, area_pairs}
+use Rattle.flash_map.specs.Area.{sector_at}
 use Rattle.sector_ring.specs.Forms.{others, pairs_at}
 use Rattle.sector_ring.specs.Reading.{Reading}
 use Rattle.sector_ring.proofs.Lists.{counts-next, list-split, one-counts, there, elsewhere, others-kept}

@@ -6,7 +6,8 @@ use Rattle.std.specs.List.{range_with_len, filter, find, All, list_all, slice_ge
 use Rattle.std.proofs.lemmas.Bool.{false≢true, cases_Bool, cases_lt, cases_eq, ne_eqb, lt-ltb, le-ltb, and_parts, not-true, not_from_false}
 use Rattle.std.proofs.lemmas.List.Elements.{All-cons, All-nil, All-get_or, filter-append}
 use Rattle.std.proofs.lemmas.List.FromFn.{length-range_with_len, get_or-range_with_len}
-use Rattle.sector_ring.specs.Area.{sector_at, next, previous, places, is_closed_at, is_blank_at, follows_closed, openings, open_sector, counts_at, looked_at, first_of_kind, first_damage}
+use Rattle.sector_ring.specs.Area.{next, previous, places, is_closed_at, is_blank_at, follows_closed, openings, open_sector, counts_at, looked_at, first_of_kind, first_damage}
+use Rattle.flash_map.specs.Area.{sector_at}
 use Rattle.flash_map.specs.declared.faults.Why.{Why}
 use Rattle.flash_map.specs.declared.faults.Why.TheVariants.{TwoOpen, Dirty, NoFence, Overfull, AllClosed}
 use Rattle.sector_ring.specs.Forms.{distance, IsRing, IsForm}
@@ -19,15 +20,15 @@ use Rattle.sector_ring.specs.Reading.{Reading, is_sound}
 some_none : {X : Type 0} (x : X) → Some x ≡ None → ⊥
 some_none x e = cc
 
-cond_none : {X : Type 0} (b : Bool) (x : X) (o : Option X) → cond b (Some x) o ≡ None → (b ≡ false) × (o ≡ None)
+pub cond_none : {X : Type 0} (b : Bool) (x : X) (o : Option X) → cond b (Some x) o ≡ None → (b ≡ false) × (o ≡ None)
 cond_none true x o e = absurd (some_none x e)
 cond_none false x o e = (refl, e)
 
-or_none : {X : Type 0} (a b : Option X) → option_or a b ≡ None → (a ≡ None) × (b ≡ None)
+pub or_none : {X : Type 0} (a b : Option X) → option_or a b ≡ None → (a ≡ None) × (b ≡ None)
 or_none None b e = (refl, e)
 or_none (Some x) b e = absurd (some_none x e)
 
-map_none : {X Y : Type 0} (f : X → Y) (o : Option X) → option_map f o ≡ None → o ≡ None
+pub map_none : {X Y : Type 0} (f : X → Y) (o : Option X) → option_map f o ≡ None → o ≡ None
 map_none f None e = refl
 map_none f (Some x) e = absurd (some_none (f x) e)
 
@@ -41,7 +42,7 @@ at_range P n k all lt =
     let e : 0 + k ≡ k = omega arith in
     subst P (get_or-range_with_len 0 n k 0 lt ∙ e) (All-get_or P (range_with_len 0 n) k 0 (omega arith) all)
 
-no_kind : (why : Why) (p : ℕ → Bool) (sectors : List (List ℕ)) → first_of_kind why p sectors ≡ None → (k : ℕ) → k < length sectors → p k ≡ false
+pub no_kind : (why : Why) (p : ℕ → Bool) (sectors : List (List ℕ)) → first_of_kind why p sectors ≡ None → (k : ℕ) → k < length sectors → p k ≡ false
 no_kind why p sectors e k lt = at_range (λ k. p k ≡ false) (length sectors) k (find_none_all p (places sectors) (map_none (λ (place : ℕ). record { sector = place; why = why }) (find p (places sectors)) e)) lt
 
 -- the first that passes
@@ -197,7 +198,7 @@ pub record HasNoDamage (reading : Reading) (sectors : List (List ℕ)) : Type 0 
   pub fenced : (k : ℕ) → k < length sectors → (looked_at reading sectors (open_sector reading sectors) k && not (reading.has_fence (sector_at sectors k))) ≡ false
   pub roomy : (k : ℕ) → k < length sectors → (looked_at reading sectors (open_sector reading sectors) k && reading.is_overfull (sector_at sectors k)) ≡ false
 
-rows : (reading : Reading) (sectors : List (List ℕ)) → first_damage reading sectors ≡ None → HasNoDamage reading sectors
+pub rows : (reading : Reading) (sectors : List (List ℕ)) → first_damage reading sectors ≡ None → HasNoDamage reading sectors
 unfolding first_damage
 rows reading sectors e =
     let a = cond_none (list_all (is_closed_at reading sectors) (places sectors)) (record { sector = 0; why = AllClosed }) _ e in
@@ -213,12 +214,12 @@ rows reading sectors e =
       roomy = no_kind Overfull (λ k. looked_at reading sectors (open_sector reading sectors) k && reading.is_overfull (sector_at sectors k)) sectors d.1;
     }
 
-opening-is : (reading : Reading) (sectors : List (List ℕ)) (o : Option ℕ) → slice_get (openings reading sectors) 0 ≡ o → open_sector reading sectors ≡ unwrap_or o (unwrap_or (find (λ k. not (is_blank_at reading sectors k)) (places sectors)) 0)
+pub opening-is : (reading : Reading) (sectors : List (List ℕ)) (o : Option ℕ) → slice_get (openings reading sectors) 0 ≡ o → open_sector reading sectors ≡ unwrap_or o (unwrap_or (find (λ k. not (is_blank_at reading sectors k)) (places sectors)) 0)
 unfolding open_sector
 opening-is reading sectors o e = ap (λ (o : Option ℕ). unwrap_or o (unwrap_or (find (λ k. not (is_blank_at reading sectors k)) (places sectors)) 0)) e
 
 -- the open sector is the only one that follows a closed one
-only-opening : (reading : Reading) (sectors : List (List ℕ)) (k : ℕ) → HasNoDamage reading sectors → k < length sectors → follows_closed reading sectors k ≡ true → open_sector reading sectors ≡ k
+pub only-opening : (reading : Reading) (sectors : List (List ℕ)) (k : ℕ) → HasNoDamage reading sectors → k < length sectors → follows_closed reading sectors k ≡ true → open_sector reading sectors ≡ k
 only-opening reading sectors k h lt follows =
     opening-is reading sectors (Some k) (ap (λ (xs : List ℕ). slice_get xs 0) (opening-only (follows_closed reading sectors) (length sectors) k h.one_opening lt follows))
 

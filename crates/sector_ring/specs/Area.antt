@@ -1,5 +1,6 @@
 -- How an area reads: its list of pairs, or its damage. The sectors are used round and round.
-use Rattle.std.specs.Prelude.{ℕ, ◌+◌, ◌-◌, Bool, not, ◌&&◌, ◌||◌, List, ◌++◌, [], length, slice_index_or, sum_by, Option, Some, None, unwrap_or, ◌==◌, nat_lt, if◌then◌else◌}
+use Rattle.std.specs.Prelude.{ℕ, ◌+◌, ◌-◌, Bool, not, ◌&&◌, ◌||◌, List, ◌++◌, [], length, sum_by, Option, Some, None, unwrap_or, ◌==◌, nat_lt, if◌then◌else◌}
+use Rattle.flash_map.specs.Area.{sector_at}
 use Rattle.std.specs.List.{range_with_len, filter, find, flat_map, list_all, list_any, slice_get}
 use Rattle.std.specs.Option.{option_map, option_or}
 use Rattle.flash_map.specs.declared.faults.Damaged.{Damaged}
@@ -11,9 +12,6 @@ use Rattle.sector_ring.specs.Reading.{Reading}
 
 abbrev pub places : List (List ℕ) → List ℕ
 places sectors = range_with_len 0 (length sectors)
-
-abbrev pub sector_at : List (List ℕ) → ℕ → List ℕ
-sector_at sectors place = slice_index_or sectors place []
 
 abbrev pub next : List (List ℕ) → ℕ → ℕ
 next sectors place = if place + 1 == length sectors then 0 else place + 1

@@ -2,7 +2,8 @@
 use Rattle.std.specs.Prelude.{◌≡◌, ℕ, ◌+◌, ◌-◌, ◌*◌, ◌^◌, ◌<◌, ◌≤◌, ◌⊎◌, Bool, true, false, not, ◌&&◌, ◌||◌, List, ◌++◌, length, drop, slice_set, nat_lt, nat_le, if◌then◌else◌}
 use Rattle.std.specs.List.{range_with_len, flat_map}
 use Rattle.slot_list.specs.Live.{live_pairs}
-use Rattle.sector_ring.specs.Area.{sector_at, next, is_closed_at, is_blank_at}
+use Rattle.sector_ring.specs.Area.{next, is_closed_at, is_blank_at}
+use Rattle.flash_map.specs.Area.{sector_at}
 use Rattle.sector_ring.specs.Reading.{Reading, is_sound}
 
 -- how far a place is after this one, going round

@@ -1,14 +1,20 @@
 -- Rounds of close and collect, on the parts of a list: one for each sector but the blank one before the oldest, the
 -- oldest first, the open one last. What a pair takes up is a price by the length of its bytes.
-use Rattle.std.specs.Prelude.{◌≡◌, ℕ, ◌+◌, ◌<◌, List, [], ◌∷◌, ◌++◌, length, map, sum_by}
+use Rattle.std.specs.Prelude.{◌≡◌, ℕ, ◌+◌, ◌<◌, List, [], ◌∷◌, ◌++◌, length, map, sum_by, ◌==◌, if◌then◌else◌}
 use Rattle.std.specs.List.{flat_map}
 use Rattle.slot_list.specs.Live.{live_pairs}
-use Rattle.sector_ring.specs.Forms.{rest, pairs_at}
+use Rattle.slot_list.specs.Items.{SameItems}
+use Rattle.sector_ring.specs.Area.{next, area_pairs}
+use Rattle.sector_ring.specs.Forms.{AtRest, rest, pairs_at, to_copy}
 use Rattle.sector_ring.specs.Reading.{Reading}
 
 -- what these pairs cost, each with its bytes
 abbrev pub copies_cost : (ℕ → ℕ) → List (ℕ × List ℕ) → ℕ
 copies_cost price pairs = sum_by (λ pair. price (length pair.1)) pairs
+
+-- what those with bytes cost
+abbrev pub stored_cost : (ℕ → ℕ) → List (ℕ × List ℕ) → ℕ
+stored_cost price pairs = sum_by (λ pair. if length pair.1 == 0 then 0 else price (length pair.1)) pairs
 
 -- one list of all parts
 abbrev pub joined : List (List (ℕ × List ℕ)) → List (ℕ × List ℕ)
@@ -34,3 +40,25 @@ parts reading sectors place = map (pairs_at reading sectors) (rest (length secto
 unfoldable pub collect_oldest : List (List (ℕ × List ℕ)) → List (List (ℕ × List ℕ))
 collect_oldest [] = []
 collect_oldest (victim ∷ others) = others ++ live_pairs victim (joined others) ∷ []
+
+-- what a collection makes of an area: it is at rest with the same items, and the live pairs of the victim are the open part
+pub record Collects (reading : Reading) (old : List (List ℕ)) (place : ℕ) (new : List (List ℕ)) : Type 0 where
+  pub form : AtRest reading new place
+  pub items : SameItems (area_pairs reading new place) (area_pairs reading old place)
+  pub parts : parts reading new place ≡ map (pairs_at reading old) (rest (length old) place) ++ to_copy reading old place ∷ []
+
+-- what a round of close and collect makes of an area at rest
+pub record IsRound (reading : Reading) (old : List (List ℕ)) (place : ℕ) (new : List (List ℕ)) : Type 0 where
+  pub form : AtRest reading new (next old place)
+  pub items : SameItems (area_pairs reading new (next old place)) (area_pairs reading old place)
+  pub parts : parts reading new (next old place) ≡ collect_oldest (parts reading old place)
+
+-- So many rounds led from these parts to those now. After each of them the new open part and what is needed cost more
+-- than a sector has for them.
+pub record FindsNoRoom (price : ℕ → ℕ) (need capacity : ℕ) (start now : List (List (ℕ × List ℕ))) (rounds : ℕ) : Type 0 where
+  -- the parts that were not collected yet, and the new ones
+  pub old : List (List (ℕ × List ℕ))
+  pub new : List (List (ℕ × List ℕ))
+  pub are : now ≡ old ++ new
+  pub count : rounds + length old ≡ length start
+  pub never : (last_parts : List (List (ℕ × List ℕ))) → NeverFits price need capacity old new last_parts → NeverFits price need capacity start [] last_parts

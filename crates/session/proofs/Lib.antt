@@ -1,3 +1,4 @@
+pub mod ItemsCost
+pub mod Lines
 pub mod ListingLemmas
 pub mod SoFar
-pub mod StoreLemmas

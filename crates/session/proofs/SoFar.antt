@@ -1,16 +1,14 @@
 -- A run of lines, one line after another.
-use Rattle.std.proofs.Common.{◌≡◌, ℕ, ◌+◌, ◌<◌, ◌≤◌, Bool, true, cond, List, [], ◌∷◌, ◌++◌, refl, sym, ◌∙◌, ap, subst, append_assoc, append-nil, arith, length, get_or, drop, drop-cons, suc, add-one}
+use Rattle.std.proofs.Common.{◌≡◌, ℕ, ◌+◌, ◌<◌, ◌≤◌, cond, List, [], ◌∷◌, ◌++◌, refl, sym, ◌∙◌, ap, subst, append_assoc, append-nil, arith, length, get_or, drop, drop-cons, suc, add-one}
 use Rattle.std.proofs.lemmas.List.Sums.{fold_push}
 use Rattle.std.proofs.lemmas.List.{drop_all}
 use Rattle.flash_sim.specs.Device.{Device, Plan, counted}
 use Rattle.flash_sim.specs.declared.flash.Bank.{Bank}
 use Rattle.flash_sim.specs.Bank.{bank_at}
 use Rattle.flash_map.specs.declared.area.Area.{Area}
-use Rattle.flash_map.proofs.Plans.{counted_counted, Lasts-zero, lowered_zero}
+use Rattle.flash_map.proofs.Plans.{counted_counted}
 use Rattle.script_lines.specs.declared.line.Line.{Line}
-use Rattle.script_lines.specs.declared.line.Line.TheVariants.{Mount}
 use Rattle.script_lines.specs.declared.answer.Answer.{Answer}
-use Rattle.script_lines.specs.declared.answer.Answer.TheVariants.{Done}
 use Rattle.flash_map.specs.declared.area.Geometry.{Geometry}
 use Rattle.flash_map.specs.Area.{geometry_of}
 use Rattle.session.specs.Counts.{units_of, is_lost, units_in, losses_in}
@@ -28,16 +26,9 @@ pub record SoFar (area : Area) (lines rest : List Line) (answers : List Answer) 
   pub loads : now.loads ≡ first.loads
 
 module _ {area : Area} where
-  -- the opening mount
-  pub opened : (lines : List Line) (d : Device) → d.is_on ≡ true → SoFar area (Mount ∷ lines) lines (Done 0 ∷ []) d d
-  opened lines d on = record {
-    session = λ last more end within runs. (state_of area d, (refl, ap (λ (b : Bool). record (state_of area d) { is_on = b }) on), runs);
-    planned = λ more counts plans. (Lasts-zero d.plan, subst (λ (plan : Plan). Planned plan lines more) (sym (lowered_zero d.plan)) plans);
-    spent = omega arith;
-    losses = omega arith;
-    banks = refl;
-    loads = refl;
-  }
+  -- no line yet
+  pub begun : (lines : List Line) (d : Device) → SoFar area lines lines [] d d
+  begun lines d = record { session = λ last more end within runs. runs; planned = λ more counts plans. plans; spent = omega arith; losses = omega arith; banks = refl; loads = refl }
 
   pub one_more : {lines rest : List Line} {answers : List Answer} {first mid new : Device} (line : Line) (answer : Answer) → SoFar area lines (line ∷ rest) answers first mid → LineDone area line answer mid new → SoFar area lines rest (answers ++ answer ∷ []) first new
   one_more {lines} {rest} {answers} {first} {mid} {new} line answer so_far done =

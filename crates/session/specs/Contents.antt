@@ -1,34 +1,19 @@
--- What a sector holds, as a line of a script sees it: a finite map from numbers to bytes, and the room that is taken.
-use Rattle.std.specs.Prelude.{◌≡◌, ℕ, ◌+◌, ◌-◌, ◌≤◌, Some, List, [], length, slice_index_or, if◌then◌else◌}
-use Rattle.std.specs.FinMap.{empty, get, insert}
-use Rattle.flash_map.specs.declared.area.Geometry.{Geometry}
+-- What an area holds, as a line of a script sees it: a finite map from ids to bytes.
+use Rattle.std.specs.Prelude.{◌≡◌, ℕ, Some, None, List, length, sum_by}
+use Rattle.std.specs.FinMap.{get, entries}
 use Rattle.slot_list.specs.Items.{Items, items_of}
-use Rattle.nvs_store.specs.Geometry.{slot_size, cost, capacity}
-use Rattle.nvs_store.specs.Sector.{low, data_end, has_gc_done}
 use Rattle.nvs_store.specs.Scans.{list_of}
 
-pub record Contents : Type 0 where
-  pub items : Items
-  -- bytes of data and of slots that are taken
-  pub used : ℕ
+-- the items that the sectors of an area hold
+abbrev pub items_in : ℕ → List (List ℕ) → Items
+items_in unit sectors = items_of (list_of unit sectors)
 
--- what is taken of a sector: all but what is free, the slot for the close entry, and that of a gc-done entry
-abbrev pub used_of : ℕ → List ℕ → ℕ
-used_of unit sector = length sector - slot_size unit - (if has_gc_done unit sector then slot_size unit else 0) - (low unit sector - data_end unit sector)
+abbrev pub IsStored : Items → ℕ → List ℕ → Type 0
+IsStored items id bytes = get items id ≡ Some bytes
 
--- what the sectors of an area hold, of which the first is used
-abbrev pub contents_of : ℕ → List (List ℕ) → Contents
-contents_of unit sectors = record { items = items_of (list_of unit sectors); used = used_of unit (slice_index_or sectors 0 []) }
+abbrev pub IsAbsent : Items → ℕ → Type 0
+IsAbsent items id = get items id ≡ None
 
-abbrev pub blank : Contents
-blank = record { items = empty; used = 0 }
-
-abbrev pub IsStored : Contents → ℕ → List ℕ → Type 0
-IsStored contents id bytes = get contents.items id ≡ Some bytes
-
-abbrev pub with_item : Geometry → Contents → ℕ → List ℕ → Contents
-with_item geometry contents id bytes = record { items = insert contents.items id bytes; used = contents.used + cost geometry.unit (length bytes) }
-
--- the bytes and their entry fit beside what is taken
-abbrev pub Fits : Geometry → Contents → List ℕ → Type 0
-Fits geometry contents bytes = contents.used + cost geometry.unit (length bytes) ≤ capacity geometry.unit geometry.sector
+-- what all items cost, at a price by the length of each
+abbrev pub items_cost : (ℕ → ℕ) → Items → ℕ
+items_cost price items = sum_by (λ item. price (length item.1)) (entries items)

@@ -5,5 +5,4 @@ pub mod Listing
 pub mod LineDone
 pub mod Planned
 pub mod Session
-pub mod Sets
 pub mod Standing

@@ -4,21 +4,22 @@ use Rattle.flash_sim.specs.Device.{Device, counted}
 use Rattle.flash_map.specs.declared.area.Area.{Area}
 use Rattle.flash_map.specs.Area.{unit_of, sectors_of, geometry_of}
 use Rattle.script_lines.specs.declared.line.Line.{Line}
-use Rattle.script_lines.specs.declared.line.Line.TheVariants.{Set, Get, Cut, Uncut, Mount}
+use Rattle.script_lines.specs.declared.line.Line.TheVariants.{Set, Get, Delete, Cut, Uncut, Mount}
 use Rattle.script_lines.specs.declared.answer.Answer.{Answer}
-use Rattle.session.specs.Contents.{contents_of}
+use Rattle.session.specs.Contents.{items_in}
 use Rattle.session.specs.Counts.{units_of, is_lost, units_in, losses_in}
 use Rattle.session.specs.Planned.{Allows, plan_after, Planned}
 use Rattle.session.specs.Session.{State, Step, Session, IsCounted}
 
 -- the state that the flash's bytes and power are
 abbrev pub state_of : Area → Device → State
-state_of area d = record { contents = contents_of (unit_of d area) (sectors_of d area); is_on = d.is_on }
+state_of area d = record { items = items_in (unit_of d area) (sectors_of d area); is_on = d.is_on }
 
 -- the id and the value that a line of a script may have
 abbrev pub IsLawfulLine : Line → Type 0
 IsLawfulLine (Set id value) = (id < 65535) × (0 < length value) × (length value ≤ 256)
 IsLawfulLine (Get id) = id < 65535
+IsLawfulLine (Delete id) = id < 65535
 IsLawfulLine (Cut units) = ⊤
 IsLawfulLine Uncut = ⊤
 IsLawfulLine Mount = ⊤

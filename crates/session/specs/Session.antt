@@ -1,22 +1,22 @@
 -- What answers a plain map gives, line by line.
-use Rattle.std.specs.Prelude.{◌≡◌, ◌⊎◌, ℕ, ◌-◌, ◌^◌, ◌<◌, Bool, true, false, Some, None, List, [], ◌∷◌}
-use Rattle.std.specs.FinMap.{get}
+use Rattle.std.specs.Prelude.{◌≡◌, ◌⊎◌, ℕ, ◌-◌, ◌*◌, ◌^◌, ◌<◌, Bool, true, false, Some, None, List, [], ◌∷◌, length}
+use Rattle.std.specs.FinMap.{empty, get, insert, remove}
 use Rattle.script_lines.specs.declared.line.Line.{Line}
-use Rattle.script_lines.specs.declared.line.Line.TheVariants.{Set, Get, Cut, Uncut, Mount}
+use Rattle.script_lines.specs.declared.line.Line.TheVariants.{Set, Get, Delete, Cut, Uncut, Mount}
 use Rattle.script_lines.specs.declared.answer.Answer.{Answer}
-use Rattle.script_lines.specs.declared.answer.Answer.TheVariants.{Done, Value, Absent, Full, Lost, Off}
+use Rattle.script_lines.specs.declared.answer.Answer.TheVariants.{Done, Value, Absent, NoSpace, Lost, Off}
 use Rattle.flash_map.specs.declared.area.Geometry.{Geometry}
-use Rattle.session.specs.Contents.{Contents, blank, IsStored, with_item, Fits}
-use Rattle.session.specs.Sets.{MayHold}
+use Rattle.slot_list.specs.Items.{Items}
+use Rattle.nvs_store.specs.Geometry.{cost, capacity}
+use Rattle.session.specs.Contents.{IsStored, IsAbsent, items_cost}
 
 pub record State : Type 0 where
-  -- the map, and how much room is taken
-  pub contents : Contents
+  pub items : Items
   pub is_on : Bool
 
 -- nothing is stored, and power is on
 abbrev pub fresh : State
-fresh = record { contents = blank; is_on = true }
+fresh = record { items = empty; is_on = true }
 
 abbrev pub IsOn : State → Type 0
 IsOn state = state.is_on ≡ true
@@ -28,36 +28,59 @@ IsOff state = state.is_on ≡ false
 abbrev pub IsCounted : ℕ → Type 0
 IsCounted last = last < 2 ^ 64 - 1
 
--- Sets. The choices: whether power is lost, and what the lost set left.
+-- Sets. The choices: whether power is lost, and whether the lost set is in the map.
 
-abbrev pub Sets-done : Geometry → ℕ → ℕ → List ℕ → ℕ → State → State → Type 0
-Sets-done geometry last id value units old new =
-    (IsStored old.contents id value × (units ≡ 0) × (new ≡ old))
-    ⊎ ((¬ IsStored old.contents id value) × Fits geometry old.contents value × (IsCounted last → 0 < units) × (new ≡ record old { contents = with_item geometry old.contents id value }))
+abbrev pub Sets-done : ℕ → ℕ → List ℕ → ℕ → State → State → Type 0
+Sets-done last id value units old new =
+    (IsStored old.items id value × (units ≡ 0) × (new ≡ old))
+    ⊎ ((¬ IsStored old.items id value) × (IsCounted last → 0 < units) × (new ≡ record old { items = insert old.items id value }))
 
-abbrev pub Sets-full : Geometry → ℕ → List ℕ → State → State → Type 0
-Sets-full geometry id value old new = (¬ IsStored old.contents id value) × (¬ Fits geometry old.contents value) × (new ≡ old)
+-- the items leave too little room in each of the sectors with data: all but one
+pub record Sets-full (geometry : Geometry) (id : ℕ) (value : List ℕ) (need live : ℕ) (old new : State) : Type 0 where
+  pub not_stored : ¬ IsStored old.items id value
+  pub needs : need ≡ cost geometry.unit (length value)
+  pub lives : live ≡ items_cost (cost geometry.unit) old.items
+  pub full : (geometry.sectors - 1) * (capacity geometry.unit geometry.sector - need) < live
+  pub same : new ≡ old
 
-abbrev pub Sets-lost : Geometry → ℕ → List ℕ → State → State → Type 0
-Sets-lost geometry id value old new = (¬ IsStored old.contents id value) × Fits geometry old.contents value × MayHold geometry id value old.contents new.contents × IsOff new
+abbrev pub Sets-lost : ℕ → List ℕ → State → State → Type 0
+Sets-lost id value old new = (¬ IsStored old.items id value) × ((new.items ≡ old.items) ⊎ (new.items ≡ insert old.items id value)) × IsOff new
+
+-- Deletes, with the same choices.
+
+abbrev pub Deletes-done : ℕ → ℕ → ℕ → State → State → Type 0
+Deletes-done last id units old new =
+    (IsAbsent old.items id × (units ≡ 0) × (new ≡ old))
+    ⊎ ((¬ IsAbsent old.items id) × (IsCounted last → 0 < units) × (new ≡ record old { items = remove old.items id }))
+
+abbrev pub Deletes-lost : ℕ → State → State → Type 0
+Deletes-lost id old new = (¬ IsAbsent old.items id) × ((new.items ≡ old.items) ⊎ (new.items ≡ remove old.items id)) × IsOff new
 
 abbrev pub Step : Geometry → ℕ → Line → Answer → State → State → Type 0
-Step geometry last (Set id value) (Done units) old new = IsOn old × Sets-done geometry last id value units old new
-Step geometry last (Set id value) Full old new = IsOn old × Sets-full geometry id value old new
-Step geometry last (Set id value) (Lost units) old new = IsOn old × Sets-lost geometry id value old new
+Step geometry last (Set id value) (Done units) old new = IsOn old × Sets-done last id value units old new
+Step geometry last (Set id value) (NoSpace units need live) old new = IsOn old × Sets-full geometry id value need live old new
+Step geometry last (Set id value) (Lost units) old new = IsOn old × Sets-lost id value old new
 Step geometry last (Set id value) Off old new = IsOff old × (new ≡ old)
 Step geometry last (Set id value) (Value bytes) old new = ⊥
 Step geometry last (Set id value) Absent old new = ⊥
-Step geometry last (Get id) (Value value) old new = IsOn old × (get old.contents.items id ≡ Some value) × (new ≡ old)
-Step geometry last (Get id) Absent old new = IsOn old × (get old.contents.items id ≡ None) × (new ≡ old)
+Step geometry last (Delete id) (Done units) old new = IsOn old × Deletes-done last id units old new
+Step geometry last (Delete id) (Lost units) old new = IsOn old × Deletes-lost id old new
+Step geometry last (Delete id) Off old new = IsOff old × (new ≡ old)
+Step geometry last (Delete id) (NoSpace units need live) old new = ⊥
+Step geometry last (Delete id) (Value bytes) old new = ⊥
+Step geometry last (Delete id) Absent old new = ⊥
+Step geometry last (Get id) (Value value) old new = IsOn old × (get old.items id ≡ Some value) × (new ≡ old)
+Step geometry last (Get id) Absent old new = IsOn old × (get old.items id ≡ None) × (new ≡ old)
 Step geometry last (Get id) Off old new = IsOff old × (new ≡ old)
 Step geometry last (Get id) (Done units) old new = ⊥
-Step geometry last (Get id) Full old new = ⊥
+Step geometry last (Get id) (NoSpace units need live) old new = ⊥
 Step geometry last (Get id) (Lost units) old new = ⊥
 -- a loss may be planned or not, with power on or off
 Step geometry last (Cut after) (Done units) old new = (units ≡ 0) × (new ≡ old)
 Step geometry last Uncut (Done units) old new = (units ≡ 0) × (new ≡ old)
-Step geometry last Mount (Done units) old new = (units ≡ 0) × (new ≡ record old { is_on = true })
+-- Power comes back, and the items stay, also where power is lost again. What a loss left undone is done again.
+Step geometry last Mount (Done units) old new = new ≡ record old { is_on = true }
+Step geometry last Mount (Lost units) old new = new ≡ record old { is_on = false }
 -- no other answer is given
 Step geometry last line answer old new = ⊥
 

@@ -9,7 +9,6 @@ mod store;
 pub use answers::Answers;
 pub use listing::{Item, list_items};
 pub use run::{SessionFault, run_lines};
-pub use store::{SetFault, item, set};
 
 #[cfg(test)]
 mod tests;

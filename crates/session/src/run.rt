@@ -1,89 +1,40 @@
 // The session.
-ghost use Rattle.std.specs.Prelude.{◌≡◌, ◌+◌, ◌<◌, ◌≤◌, ◌∷◌, [], true, length, All, IfOk, IfErr, OnOk};
-ghost use Rattle.flash_map.specs.Lawful.{IsLawfulFor};
-ghost use Rattle.flash_map.specs.Area.{unit_of, sectors_of};
-ghost use Rattle.flash_map.specs.declared.area.Role.TheVariants.{Nvs};
+ghost use Rattle.std.specs.Prelude.{◌≡◌, ◌<◌, ◌∷◌, [], true, All, IfOk, IfErr, OnOk};
+ghost use Rattle.nvs_gc.specs.Standing.{IsNvsArea};
 ghost use Rattle.session.specs.LineDone.{LineDone, IsLawfulLine, Runs};
 ghost use Rattle.session.specs.Fault.{IsFault};
-ghost use Rattle.session.specs.Standing.{IsSound, Stands};
+ghost use Rattle.session.specs.Standing.{IsSound, IsReady};
 ghost use Rattle.session.specs.declared.run.SessionFault.TheVariants as session_fault;
-ghost use Rattle.script_lines.specs.declared.line.Line.TheVariants.{Set, Get, Cut, Uncut, Mount};
+ghost use Rattle.script_lines.specs.declared.line.Line.TheVariants.{Mount};
 
 use crate::answers::Answers;
-use crate::store::{SetFault, item, set};
+use crate::store::{delete_item, get_item, open, set_item};
 use flash_map::{Area, Damaged};
 use flash_sim::{Bench, NoMemory, Steps};
-use nvs_store::{Scan, mount_scan};
-use script_lines::{Answer, Bytes, Line};
+use nvs_gc::Nvs;
+use script_lines::{Answer, Line};
 use std::alloc::{AllocError, Global};
 use std::marker::Brand;
 use std::sync::ledger::{Blank, Ledger};
 
-fn set_item<B: Bench, L: Ledger>(
-    bench: &mut B,
-    area: &Area,
-    scan: &mut Scan,
-    id: u16,
-    value: &Bytes,
-    steps: &mut Steps<L>,
-) -> Answer
-    requires sound { IsSound (B.device bench.old) area.now }
-    requires on { (B.device bench.old).is_on ≡ true }
-    requires stands { Stands (B.device bench.old) area.now scan.old }
-    requires line { IsLawfulLine (Set id value.now) }
-    ensures done { LineDone area.now (Set id value.now) result (B.device bench.old) (B.device bench.new) }
-    ensures sound { IsSound (B.device bench.new) area.now }
-    ensures stands { (B.device bench.new).is_on ≡ true → Stands (B.device bench.new) area.now scan.new }
-{
-    let before = bench.spent();
-    let end = set(bench, area, scan, id, value.as_slice(), steps);
-    let units = bench.spent() - before;
-    match end {
-        Ok(()) => Answer::Done { units },
-        Err(SetFault::Full) => Answer::Full,
-        Err(SetFault::PowerLost) => Answer::Lost { units },
-    }
-}
-
-fn get_item<B: Bench, L: Ledger>(
-    alloc: Global,
-    bench: &B,
-    area: &Area,
-    scan: &Scan,
-    id: u16,
-    steps: &mut Steps<L>,
-) -> Result<Answer, AllocError>
-    requires sound { IsSound (B.device bench.now) area.now }
-    requires on { (B.device bench.now).is_on ≡ true }
-    requires stands { Stands (B.device bench.now) area.now scan.now }
-    requires line { IsLawfulLine (Get id) }
-    ensures { IfOk result (λ answer. LineDone area.now (Get id) answer (B.device bench.now) (B.device bench.now)) }
-{
-    match item(bench, area, scan, id, steps) {
-        Some(bytes) => Ok(Answer::Value {
-            value: Bytes::from_vec(Vec::from_slice(alloc, bytes)?),
-        }),
-        None => Ok(Answer::Absent),
-    }
-}
-
-// Power is restored, and the sector is read again.
+// Power is restored, and the area is read again. Where power is lost in it, no store is left.
 fn mount<B: Bench, L: Ledger>(
+    alloc: Global,
     bench: &mut B,
     area: &Area,
-    scan: &mut Scan,
+    store: &mut Option<Nvs>,
     steps: &mut Steps<L>,
 ) -> Answer
-    requires sound { IsSound (B.device bench.old) area.now }
+    requires { IsSound (B.device bench.old) area.now }
     ensures done { LineDone area.now Mount result (B.device bench.old) (B.device bench.new) }
     ensures sound { IsSound (B.device bench.new) area.now }
-    ensures stands { Stands (B.device bench.new) area.now scan.new }
+    ensures ready { IsReady (B.device bench.new) area.now store.new }
 {
     bench.restore();
-    match mount_scan(bench, area, steps) {
-        Ok(mounted) => {
-            *scan = mounted;
-            Answer::Done { units: 0 }
+    match open(alloc, bench, area, steps) {
+        Ok(opened) => {
+            *store = opened.store;
+            opened.answer
         }
         Err(_) => unreachable!(),
     }
@@ -94,19 +45,18 @@ fn run_line<B: Bench, L: Ledger>(
     line: &Line,
     bench: &mut B,
     area: &Area,
-    scan: &mut Scan,
+    store: &mut Option<Nvs>,
     steps: &mut Steps<L>,
 ) -> Result<Answer, AllocError>
     requires sound { IsSound (B.device bench.old) area.now }
+    requires ready { IsReady (B.device bench.old) area.now store.old }
     requires line { IsLawfulLine line.now }
-    requires stands { (B.device bench.old).is_on ≡ true → Stands (B.device bench.old) area.now scan.old }
     ensures done { IfOk result (λ answer. LineDone area.now line.now answer (B.device bench.old) (B.device bench.new)) }
-    ensures loads { (B.device bench.new).loads ≡ (B.device bench.old).loads }
     ensures sound { IsSound (B.device bench.new) area.now }
-    ensures stands { (B.device bench.new).is_on ≡ true → Stands (B.device bench.new) area.now scan.new }
+    ensures ready { IsReady (B.device bench.new) area.now store.new }
 {
     match line {
-        Line::Mount => Ok(mount(bench, area, scan, steps)),
+        Line::Mount => Ok(mount(alloc, bench, area, store, steps)),
         Line::Cut { units } => {
             bench.arm(*units);
             Ok(Answer::Done { units: 0 })
@@ -115,20 +65,18 @@ fn run_line<B: Bench, L: Ledger>(
             bench.disarm();
             Ok(Answer::Done { units: 0 })
         }
-        Line::Get { id } => {
-            if bench.is_on() {
-                get_item(alloc, bench, area, scan, *id, steps)
-            } else {
-                Ok(Answer::Off)
-            }
-        }
-        Line::Set { id, value } => {
-            if bench.is_on() {
-                Ok(set_item(bench, area, scan, *id, value, steps))
-            } else {
-                Ok(Answer::Off)
-            }
-        }
+        Line::Get { id } => match store {
+            Some(nvs) if bench.is_on() => get_item(alloc, bench, nvs, *id, steps),
+            _ => Ok(Answer::Off),
+        },
+        Line::Set { id, value } => match store {
+            Some(nvs) if bench.is_on() => Ok(set_item(bench, nvs, *id, value, steps)),
+            _ => Ok(Answer::Off),
+        },
+        Line::Delete { id } => match store {
+            Some(nvs) if bench.is_on() => Ok(delete_item(bench, nvs, *id, steps)),
+            _ => Ok(Answer::Off),
+        },
     }
 }
 
@@ -167,8 +115,7 @@ fn run_counted<B: Bench, L: Ledger>(
     requires name { blank.name ≡ L.name }
     requires parts { blank.parts ≡ L.parts }
     requires some { 0 < L.parts }
-    requires lawful { IsLawfulFor (B.device bench.old).banks area.now }
-    requires role { area.now.role ≡ Nvs }
+    requires area { IsNvsArea (B.device bench.old).banks area.now }
     requires on { (B.device bench.old).is_on ≡ true }
     requires lines { All IsLawfulLine lines.now }
     ensures runs { IfOk result (λ answers. Runs area.now (Mount ∷ lines.now) answers (B.device bench.old) (B.device bench.new)) }
@@ -177,13 +124,14 @@ fn run_counted<B: Bench, L: Ledger>(
 {
     let mut steps = Steps::<L>::new(blank);
     let mut answers = Answers::new(alloc);
-    let mut scan = match mount_scan(bench, area, &mut steps) {
-        Ok(scan) => scan,
+    let opened = match open(alloc, bench, area, &mut steps) {
+        Ok(opened) => opened,
         Err(damaged) => return Err(SessionFault::Damaged(damaged)),
     };
-    answers.push(Answer::Done { units: 0 })?;
+    answers.push(opened.answer)?;
+    let mut store = opened.store;
     for line in lines {
-        let answer = run_line(alloc, line, bench, area, &mut scan, &mut steps)?;
+        let answer = run_line(alloc, line, bench, area, &mut store, &mut steps)?;
         answers.push(answer)?;
     }
     Ok(answers)
@@ -197,8 +145,7 @@ pub fn run_lines<B: Bench>(
     bench: &mut B,
     area: &Area,
 ) -> Result<Answers, SessionFault>
-    requires lawful { IsLawfulFor (B.device bench.old).banks area.now }
-    requires role { area.now.role ≡ Nvs }
+    requires area { IsNvsArea (B.device bench.old).banks area.now }
     requires on { (B.device bench.old).is_on ≡ true }
     requires lines { All IsLawfulLine lines.now }
     ensures runs { IfOk result (λ answers. Runs area.now (Mount ∷ lines.now) answers (B.device bench.old) (B.device bench.new)) }

@@ -1,100 +1,136 @@
-// The items of one sector, as lines read and set them.
-ghost use Rattle.std.specs.Prelude.{◌≡◌, ◌<◌, ◌≤◌, ◌∷◌, [], true, false, length, option_map};
-ghost use Rattle.std.specs.Bool.{MatchBool};
-ghost use Rattle.std.specs.FinMap as map;
-ghost use Rattle.flash_map.specs.Area.{unit_of, sectors_of, geometry_of};
-ghost use Rattle.flash_map.specs.Touches.{Touches};
-ghost use Rattle.session.specs.Contents.{contents_of, IsStored};
-ghost use Rattle.session.specs.Sets.{Sets, says_lost};
-ghost use Rattle.session.specs.Standing.{IsSound, Stands};
+// The lines that a store carries out.
+ghost use Rattle.std.specs.Prelude.{◌≡◌, true, IfOk, IfErr, OnOk};
+ghost use Rattle.nvs_gc.specs.Standing.{IsNvsArea, StandsOn, IsUndamaged};
+ghost use Rattle.session.specs.Fault.{ShowsDamage};
+ghost use Rattle.session.specs.LineDone.{LineDone, IsLawfulLine};
+ghost use Rattle.session.specs.Standing.{IsSound, IsReady};
+ghost use Rattle.script_lines.specs.declared.line.Line.TheVariants.{Set, Get, Delete, Mount};
 
-use flash_map::{Area, area_view, geometry};
-use flash_sim::{Flash, Steps};
-use nvs_store::{Scan, append, find, fits};
+use flash_map::{Area, Damaged, MountFault, WriteFault};
+use flash_sim::{Bench, Steps};
+use nvs_gc::Nvs;
+use script_lines::{Answer, Bytes};
+use std::alloc::{AllocError, Global};
 use std::sync::ledger::Ledger;
 
-/// Why an item was not set.
-#[derive(Clone, Copy, Debug, PartialEq, Eq)]
-pub enum SetFault {
-    /// The bytes and their entry do not fit.
-    Full,
-    PowerLost,
-}
-
-/// The bytes of an item.
-pub fn item<'a, F: Flash, L: Ledger>(
-    flash: &'a F,
-    area: &Area,
-    scan: &Scan,
+/// Sets an item.
+pub fn set_item<B: Bench, L: Ledger>(
+    bench: &mut B,
+    nvs: &mut Nvs,
     id: u16,
+    value: &Bytes,
     steps: &mut Steps<L>,
-) -> Option<&'a [u8]>
-    requires sound { IsSound (F.device flash.now) area.now }
-    requires stands { Stands (F.device flash.now) area.now scan.now }
-    requires id { id < 65535 }
-    ensures { option_map (λ bytes. bytes.now) result ≡ map.get (contents_of (unit_of (F.device flash.now) area.now) (sectors_of (F.device flash.now) area.now)).items id }
+) -> Answer
+    requires on { (B.device bench.old).is_on ≡ true }
+    requires stands { StandsOn (B.device bench.old) nvs.old }
+    requires line { IsLawfulLine (Set id value.now) }
+    ensures done { LineDone nvs.old.area (Set id value.now) result (B.device bench.old) (B.device bench.new) }
+    ensures undamaged { IsUndamaged (B.device bench.new) nvs.old.area }
+    ensures area { nvs.new.area ≡ nvs.old.area }
+    ensures stands { (B.device bench.new).is_on ≡ true → StandsOn (B.device bench.new) nvs.new }
 {
-    let found = find(flash, area, scan, id, steps)?;
-    if found.entry.len == 0 {
-        return None;
-    }
-    let offset = u32::from(found.entry.offset);
-    let len = u32::from(found.entry.len);
-    Some(area_view(flash, area, found.sector, offset, len, steps))
-}
-
-// Whether the item has just these bytes.
-fn is_stored<F: Flash, L: Ledger>(
-    flash: &F,
-    area: &Area,
-    scan: &Scan,
-    id: u16,
-    bytes: &[u8],
-    steps: &mut Steps<L>,
-) -> bool
-    requires sound { IsSound (F.device flash.now) area.now }
-    requires stands { Stands (F.device flash.now) area.now scan.now }
-    requires id { id < 65535 }
-    ensures { MatchBool result (IsStored (contents_of (unit_of (F.device flash.now) area.now) (sectors_of (F.device flash.now) area.now)) id bytes.now) (¬ IsStored (contents_of (unit_of (F.device flash.now) area.now) (sectors_of (F.device flash.now) area.now)) id bytes.now) }
-{
-    match item(flash, area, scan, id, steps) {
-        Some(stored) => stored == bytes,
-        None => false,
+    let before = bench.spent();
+    let end = nvs.write(bench, id, value.as_slice(), steps);
+    let units = bench.spent() - before;
+    match end {
+        Ok(()) => Answer::Done { units },
+        Err(WriteFault::NoSpace { need, live }) => Answer::NoSpace { units, need, live },
+        Err(WriteFault::TooLong) => unreachable!(),
+        Err(WriteFault::PowerLost) => Answer::Lost { units },
     }
 }
 
-/// Sets an item. Bytes that are stored already are not programmed again.
-pub fn set<F: Flash, L: Ledger>(
-    flash: &mut F,
-    area: &Area,
-    scan: &mut Scan,
+/// Deletes an item.
+pub fn delete_item<B: Bench, L: Ledger>(
+    bench: &mut B,
+    nvs: &mut Nvs,
     id: u16,
-    bytes: &[u8],
     steps: &mut Steps<L>,
-) -> Result<(), SetFault>
-    requires sound { IsSound (F.device flash.old) area.now }
-    requires on { (F.device flash.old).is_on ≡ true }
-    requires stands { Stands (F.device flash.old) area.now scan.old }
-    requires id { id < 65535 }
-    requires some { 0 < length bytes.now }
-    requires short { length bytes.now ≤ 256 }
-
-    ensures touches { Touches (area.now ∷ []) (F.device flash.old) (F.device flash.new) (says_lost result) }
-    ensures sets { Sets (geometry_of (F.device flash.old) area.now) id bytes.now
-        (F.device flash.old).spent (F.device flash.new).spent
-        (contents_of (unit_of (F.device flash.old) area.now) (sectors_of (F.device flash.old) area.now))
-        (contents_of (unit_of (F.device flash.new) area.now) (sectors_of (F.device flash.new) area.now)) result }
-    ensures sound { IsSound (F.device flash.new) area.now }
-    ensures stands { says_lost result ≡ false → Stands (F.device flash.new) area.now scan.new }
+) -> Answer
+    requires on { (B.device bench.old).is_on ≡ true }
+    requires stands { StandsOn (B.device bench.old) nvs.old }
+    requires line { IsLawfulLine (Delete id) }
+    ensures done { LineDone nvs.old.area (Delete id) result (B.device bench.old) (B.device bench.new) }
+    ensures undamaged { IsUndamaged (B.device bench.new) nvs.old.area }
+    ensures area { nvs.new.area ≡ nvs.old.area }
+    ensures stands { (B.device bench.new).is_on ≡ true → StandsOn (B.device bench.new) nvs.new }
 {
-    if is_stored(flash, area, scan, id, bytes, steps) {
-        return Ok(());
+    let before = bench.spent();
+    let end = nvs.delete(bench, id, steps);
+    let units = bench.spent() - before;
+    match end {
+        Ok(()) => Answer::Done { units },
+        Err(_) => Answer::Lost { units },
     }
-    if !fits(&geometry(flash, area), scan, bytes.len() as u32) {
-        return Err(SetFault::Full);
+}
+
+/// The value of an item.
+pub fn get_item<B: Bench, L: Ledger>(
+    alloc: Global,
+    bench: &B,
+    nvs: &Nvs,
+    id: u16,
+    steps: &mut Steps<L>,
+) -> Result<Answer, AllocError>
+    requires on { (B.device bench.now).is_on ≡ true }
+    requires stands { StandsOn (B.device bench.now) nvs.now }
+    ensures { IfOk result (λ answer. LineDone nvs.now.area (Get id) answer (B.device bench.now) (B.device bench.now)) }
+{
+    match nvs.get(bench, id, steps) {
+        Some(bytes) => Ok(Answer::Value {
+            value: Bytes::from_vec(Vec::from_slice(alloc, bytes)?),
+        }),
+        None => Ok(Answer::Absent),
     }
-    match append(flash, area, scan, id, bytes) {
-        Ok(()) => Ok(()),
-        Err(_) => Err(SetFault::PowerLost),
+}
+
+fn copy_of(area: &Area) -> Area
+    ensures { result ≡ area.now }
+{
+    Area {
+        label: area.label,
+        role: area.role,
+        bank: area.bank,
+        first: area.first,
+        sectors: area.sectors,
+    }
+}
+
+/// A mount's answer, and the store that stands then: none where power was lost.
+#[derive(Debug, Drop)]
+pub struct Opened {
+    pub answer: Answer,
+    pub store: Option<Nvs>,
+}
+
+/// Mounts, with power on. An error is the damage that the area's bytes show; then nothing changed.
+pub fn open<B: Bench, L: Ledger>(
+    alloc: Global,
+    bench: &mut B,
+    area: &Area,
+    steps: &mut Steps<L>,
+) -> Result<Opened, Damaged>
+    requires on { (B.device bench.old).is_on ≡ true }
+    requires area { IsNvsArea (B.device bench.old).banks area.now }
+    ensures done { IfOk result (λ opened. LineDone area.now Mount opened.answer (B.device bench.old) (B.device bench.new)) }
+    ensures before { OnOk result (IsSound (B.device bench.old) area.now) }
+    ensures sound { OnOk result (IsSound (B.device bench.new) area.now) }
+    ensures ready { IfOk result (λ opened. IsReady (B.device bench.new) area.now opened.store) }
+    ensures damaged { IfErr result (λ damage. ShowsDamage area.now (B.device bench.old) (B.device bench.new) damage) }
+{
+    let before = bench.spent();
+    let end = Nvs::mount(alloc, bench, copy_of(area), steps);
+    let units = bench.spent() - before;
+    match end {
+        Ok(nvs) => Ok(Opened {
+            answer: Answer::Done { units },
+            store: Some(nvs),
+        }),
+        Err(MountFault::PowerLost) => Ok(Opened {
+            answer: Answer::Lost { units },
+            store: None,
+        }),
+        Err(MountFault::Damaged(damaged)) => Err(damaged),
+        Err(MountFault::NoMemory) => unreachable!(),
     }
 }

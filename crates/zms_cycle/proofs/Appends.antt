@@ -11,6 +11,7 @@ use Rattle.std.proofs.lemmas.List.Elements.{filter_map-append}
 use Rattle.flash_map.specs.Units.{padded}
 use Rattle.slot_list.specs.Slots.{Slot, used_slots}
 use Rattle.slot_list.proofs.SlotChanges.{SameFrom, slot_at-same, slot_at-from, used_slots-more}
+use Rattle.slot_list.proofs.SlotLemmas.{index-slot_at}
 use Rattle.zms_cycle.specs.declared.entry.ZEntry.{ZEntry}
 use Rattle.zms_cycle.specs.Entries.{encoded, decoded, offset_of, value_entry, done_entry}
 use Rattle.zms_cycle.specs.declared.reading.Found.{Found}
@@ -197,6 +198,7 @@ adds_pair b mid new cycle id bytes sound size keeps room ordinary stored more =
       gc_done = ap (list_any holds_done) more.slots ∙ list_any_push holds_done (valid_slots mid) slot (done-is slot (Some (value_entry cycle id bytes (data_end b))) more.read ∙ ordinary-not_done e plain) ∙ keeps.kept.gc_done;
       found = f;
       more = all;
+      slot = index-slot_at 16 new (length (valid_slots mid) + 2) ∙ ap (λ (ss : List Slot). length ss + 2) keeps.kept.slots;
       entry_id = refl;
       entry_len = refl;
       lower = lower;

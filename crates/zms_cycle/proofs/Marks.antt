@@ -10,8 +10,8 @@ use Rattle.slot_list.proofs.SlotLemmas.{used_slots-from}
 use Rattle.zms_cycle.specs.declared.entry.ZEntry.{ZEntry}
 use Rattle.zms_cycle.specs.Entries.{encoded, decoded, fill, is_empty, close_entry, empty_entry}
 use Rattle.zms_cycle.specs.declared.reading.Found.{Found}
-use Rattle.zms_cycle.specs.Sector.{slot_of, is_valid_under, is_valid, cycle_of, valid_slots, holds_close, is_closed, entry_in, entries, holds_done, value_end, end_of, is_under, is_sound, low, pair_of}
-use Rattle.zms_cycle.specs.Changes.{with_slot, guarded, KeepsSlots, KeepsList, KeepsState, Closes, next_cycle, Empties}
+use Rattle.zms_cycle.specs.Sector.{slot_of, is_valid_under, is_valid, cycle_of, valid_slots, holds_close, is_closed, entry_in, entries, holds_done, value_end, end_of, is_under, is_sound, low, pair_of, pairs}
+use Rattle.zms_cycle.specs.Changes.{with_slot, guarded, KeepsSlots, KeepsList, Closes, next_cycle, Empties}
 use Rattle.zms_cycle.proofs.Bytes.{length-encoded, decoded-encoded, IsEntry-close, IsEntry-empty, close-is_close, empty-is_empty}
 use Rattle.zms_cycle.proofs.Slots16.{Covers, valid-is, close-is, cycle_of-is, not_valid, slot-put, with_slot-above, with_slot-below, decoded-put, covers-fill, covers-guarded, covers-higher, guarded-not_valid}
 use Rattle.zms_cycle.proofs.Frames.{IsSound, sound-parts, sound-ends, pairs-same, cycle_of-same, closed-same, slots-keep, keeps_same}
@@ -70,6 +70,11 @@ other_cycle : (cycle : Option ℕ) (slot : Slot) → is_valid_under (next_cycle 
 other_cycle None slot valid = refl
 other_cycle (Some c) slot valid =
     valid-is c slot (decoded slot.bytes) refl ∙ valid_once (decoded slot.bytes) ((c + 1) % 256) c (sym (valid-is ((c + 1) % 256) slot (decoded slot.bytes) refl) ∙ valid) (λ z. omega (arith, z))
+
+-- the slots and the marks stay, and the sector's part of the list where its values stand under the guard slot
+pub record KeepsState (old new : List ℕ) : Type 0 where
+  pub kept : KeepsSlots old new
+  pub list : is_sound old ≡ true → pairs new ≡ pairs old
 
 pub state_same : (b : List ℕ) → KeepsState b b
 state_same b = record { kept = (keeps_same b).kept; list = λ sound. refl }

@@ -51,7 +51,7 @@ whole_bank d area bank sector banks bank_is role at first count below =
         at_least = omega arith;
         at_most = omega arith;
         whole = ap (λ (n : ℕ). n % 64) size;
-        some = omega arith;
+        several = omega arith;
         few = omega arith;
       };
       role = role;

@@ -28,7 +28,7 @@ pub found_is : (b : List ℕ) (k : ℕ) (entry : Option ZEntry) (found : Option 
 found_is b k entry found read is =
     is ∙ ap (λ (i : ℕ). option_and_then (λ e. cond (is_special e) None (Some (record { slot = i; entry = e }))) entry) (sym (index-slot_at 16 b k)) ∙ sym (entry_in-is (slot_of b k) entry (sym read))
 
-entries_more : (b : List ℕ) (n k : ℕ) (found : Option Found) → k ≡ 2 + n → found ≡ entry_in (slot_of b k) → entries_to b (n + 1) ≡ entries_to b n ++ cons_option found []
+pub entries_more : (b : List ℕ) (n k : ℕ) (found : Option Found) → k ≡ 2 + n → found ≡ entry_in (slot_of b k) → entries_to b (n + 1) ≡ entries_to b n ++ cons_option found []
 entries_more b n k found at is =
     ap (filter_map entry_in) (slots_to_more 2 16 b n k at) ∙ filter_map-append entry_in (slots_to 2 16 b n) (slot_at 16 b k ∷ []) ∙ ap (λ (o : Option Found). entries_to b n ++ cons_option o []) (sym is)
 

@@ -1,11 +1,11 @@
 -- What a step leaves of a sector.
-use Rattle.std.specs.Prelude.{◌≡◌, ℕ, ◌+◌, ◌-◌, ◌*◌, ◌%◌, ◌≤◌, nat_le, true, false, List, [], ◌∷◌, ◌++◌, length, Option, Some, if◌then◌else◌}
+use Rattle.std.specs.Prelude.{◌≡◌, ◌⊎◌, ℕ, ◌+◌, ◌-◌, ◌*◌, ◌%◌, ◌≤◌, nat_le, true, false, List, [], ◌∷◌, ◌++◌, length, Option, Some, if◌then◌else◌}
 use Rattle.std.specs.Option.{option_map_or}
 use Rattle.flash_sim.specs.Device.{overwritten}
 use Rattle.flash_map.specs.Units.{padded_bytes}
 use Rattle.zms_cycle.specs.Entries.{fill}
 use Rattle.zms_cycle.specs.declared.reading.Found.{Found}
-use Rattle.zms_cycle.specs.Sector.{slot_of, is_valid_under, cycle_of, valid_slots, is_closed, entries, has_gc_done, data_len, low, data_end, is_sound, pairs}
+use Rattle.zms_cycle.specs.Sector.{slot_of, is_valid_under, is_valid, cycle_of, valid_slots, is_closed, entries, has_gc_done, data_len, low, data_end, is_sound, pairs}
 
 -- the sector with these bytes in a slot
 abbrev pub with_slot : List ℕ → ℕ → List ℕ → List ℕ
@@ -39,11 +39,6 @@ pub record KeepsList (old new : List ℕ) : Type 0 where
   pub kept : KeepsSlots old new
   pub list : pairs new ≡ pairs old
 
--- and so does the sector's part of the list where its values stand under the guard slot
-pub record KeepsState (old new : List ℕ) : Type 0 where
-  pub kept : KeepsSlots old new
-  pub list : is_sound old ≡ true → pairs new ≡ pairs old
-
 -- the sector's part of the list has one pair more
 pub record AddsPair (old new : List ℕ) (id : ℕ) (bytes : List ℕ) : Type 0 where
   pub list : pairs new ≡ pairs old ++ (id, bytes) ∷ []
@@ -51,9 +46,10 @@ pub record AddsPair (old new : List ℕ) (id : ℕ) (bytes : List ℕ) : Type 0 
   pub cycle : cycle_of new ≡ cycle_of old
   pub closed : is_closed new ≡ is_closed old
   pub gc_done : has_gc_done new ≡ has_gc_done old
-  -- the entry that was put
+  -- the entry that was put, in what was the guard slot
   pub found : Found
   pub more : entries new ≡ entries old ++ found ∷ []
+  pub slot : found.slot ≡ length (valid_slots old) + 2
   pub entry_id : found.entry.id ≡ id
   pub entry_len : found.entry.len ≡ length bytes
   pub lower : low new + 16 ≡ low old
@@ -100,3 +96,22 @@ pub record Empties (old new : List ℕ) : Type 0 where
   pub lower : low new ≡ length new - 32
   pub same_end : data_end new ≡ 0
   pub sound : is_sound new ≡ true
+
+-- the sector's being closed, its gc-done and its list are as before
+pub record ReadsAsBefore (old new : List ℕ) : Type 0 where
+  pub closed : is_closed new ≡ is_closed old
+  pub gc_done : has_gc_done new ≡ has_gc_done old
+  pub list : pairs new ≡ pairs old
+
+-- the sector is not closed and its slot 2 is not valid, so that its list is empty and it has no gc-done
+pub record HoldsNothing (sector : List ℕ) : Type 0 where
+  pub closed : is_closed sector ≡ false
+  pub second : is_valid (cycle_of sector) (slot_of sector 2) ≡ false
+  pub gc_done : has_gc_done sector ≡ false
+  pub list : pairs sector ≡ []
+
+-- An emptying that was cut. Where the sector has a guard slot and its values end at or below the start of that slot, it
+-- reads as before or holds nothing. The cycle, the slots and the marks of every sector stay.
+pub record StopsEmptying (old new : List ℕ) : Type 0 where
+  pub either : is_sound old ≡ true → ReadsAsBefore old new ⊎ HoldsNothing new
+  pub kept : KeepsSlots old new

@@ -1,10 +1,14 @@
 //! One sector of a ZMS store: entries of sixteen bytes that hold under the sector's cycle, and the steps that change them.
-#![tactic(auto, using(flash_map::proofs::Touches::then))]
+#![tactic(auto)]
 
+#[tactic(auto, using(flash_map::proofs::Touches::then))]
 mod appending;
+#[tactic(auto, using(flash_map::proofs::Touches::then))]
 mod copying;
 mod entry;
+#[tactic(auto, using(flash_map::proofs::Touches::then))]
 mod guarding;
+#[tactic(auto, using(flash_map::proofs::Touches::then))]
 mod marking;
 mod reading;
 
@@ -13,7 +17,9 @@ pub use copying::copy_entry;
 pub use entry::{ZEntry, decode_zentry, encode_zentry, fill_unit};
 pub use guarding::guard;
 pub use marking::{close, empty_sector};
-pub use reading::{Found, SectorState, state};
+pub use reading::{
+    FIRST, Found, SLOT, SPECIAL_ID, SectorState, data_len, entry_in, offset_of, read_sector, state,
+};
 
 #[cfg(test)]
 mod tests;

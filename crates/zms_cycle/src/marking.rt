@@ -4,7 +4,7 @@ ghost use Rattle.flash_map.specs.Area.{sector_size, sectors_of, sector_bytes};
 ghost use Rattle.flash_map.specs.Spending.{SpendsBetween};
 ghost use Rattle.flash_map.specs.Touches.{Touches};
 ghost use Rattle.zms_cycle.specs.Areas.{IsZmsSector, HasSlot, OthersStay};
-ghost use Rattle.zms_cycle.specs.Changes.{with_slot, KeepsList, KeepsState, Closes, Empties, next_cycle};
+ghost use Rattle.zms_cycle.specs.Changes.{with_slot, KeepsList, StopsEmptying, Closes, Empties, next_cycle};
 ghost use Rattle.zms_cycle.specs.Entries.{fill, empty_entry, close_entry};
 ghost use Rattle.zms_cycle.specs.Sector.{cycle_of, valid_slots, low, data_end, free, is_sound};
 
@@ -49,7 +49,7 @@ fn next_cycle(cycle: Option<u8>) -> u8
 }
 
 /// Empties a sector by the empty entry of the next cycle, once slots 1 and 2 are not valid under that cycle. A cut leaves
-/// the sector's marks and slots as they were, and its list too where its values stand under its guard slot.
+/// a sector whose values end at or below its guard slot as it was, or holding nothing; the marks and slots of every sector stay.
 pub fn empty_sector<F: Flash, L: Ledger>(
     flash: &mut F,
     area: &Area,
@@ -61,7 +61,7 @@ pub fn empty_sector<F: Flash, L: Ledger>(
     ensures touches { Touches (area.now ∷ []) (F.device flash.old) (F.device flash.new) (is_err result) }
     ensures others { OthersStay (F.device flash.old) (F.device flash.new) area.now sector }
     ensures ok { OnOk result (Empties (sector_bytes (F.device flash.old) area.now sector) (sector_bytes (F.device flash.new) area.now sector)) }
-    ensures lost { OnErr result (KeepsState (sector_bytes (F.device flash.old) area.now sector) (sector_bytes (F.device flash.new) area.now sector)) }
+    ensures lost { OnErr result (StopsEmptying (sector_bytes (F.device flash.old) area.now sector) (sector_bytes (F.device flash.new) area.now sector)) }
     ensures spends { OnOk result (SpendsBetween (F.device flash.old) (F.device flash.new) 1 3) }
     ensures spends_lost { OnErr result (SpendsBetween (F.device flash.old) (F.device flash.new) 0 3) }
 {

@@ -6,7 +6,7 @@ ghost use Rattle.flash_map.specs.Area.{sector_bytes};
 ghost use Rattle.slot_list.specs.Slots.{used_slots};
 ghost use Rattle.zms_cycle.specs.Areas.{IsZmsSector};
 ghost use Rattle.zms_cycle.specs.Entries.{decoded, offset_of, is_special, mark_of, is_empty, is_close, is_done};
-ghost use Rattle.zms_cycle.specs.Sector.{slot_of, is_valid_under, is_valid, cycle_of, valid_slots, holds_close, is_closed, value_end, data_len, data_end};
+ghost use Rattle.zms_cycle.specs.Sector.{slot_of, is_valid_under, is_valid, cycle_of, valid_slots, holds_close, is_closed, entry_in, value_end, data_len, data_end};
 ghost use Rattle.zms_cycle.specs.States.{state_of};
 
 use crate::{ZEntry, decode_zentry};
@@ -165,6 +165,14 @@ fn ordinary(entry: Option<ZEntry>, slot: usize) -> Option<Found>
     }
 }
 
+/// The entry in a slot, where it checks and is no special one.
+pub fn entry_in(sector: &[u8], slot: u32) -> Option<Found>
+    requires { (slot + 1) * 16 ≤ length sector.now }
+    ensures { result ≡ entry_in (slot_of sector.now slot) }
+{
+    ordinary(entry_at(sector, slot as usize), slot as usize)
+}
+
 fn holds_done(entry: &Option<ZEntry>) -> bool
     ensures { result ≡ option_map_or is_done entry.now false }
 {
@@ -174,7 +182,7 @@ fn holds_done(entry: &Option<ZEntry>) -> bool
     }
 }
 
-// Where a value of more than 8 bytes stands in the sector.
+/// Where a value of more than 8 bytes stands in the sector.
 pub fn offset_of(entry: &ZEntry) -> u32
     ensures { result ≡ offset_of entry.now }
 {
@@ -256,7 +264,8 @@ fn used_state(sector: &[u8], cycle: u8) -> SectorState
     }
 }
 
-fn read(sector: &[u8]) -> SectorState
+/// How the bytes of a sector read.
+pub fn read_sector(sector: &[u8]) -> SectorState
     requires long { 48 ≤ length sector.now }
     requires short { length sector.now ≤ 2 ^ 15 }
     ensures { result ≡ state_of sector.now }
@@ -279,7 +288,7 @@ pub fn state<F: Flash, L: Ledger>(
     ensures step { steps.new ≡ steps.old + 1 }
 {
     let size = geometry(flash, area).sector;
-    read(area_view(flash, area, sector, 0, size, steps))
+    read_sector(area_view(flash, area, sector, 0, size, steps))
 }
 
 // The cycle of a sector, or none where it is blank.

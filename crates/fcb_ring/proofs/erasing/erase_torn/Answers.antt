@@ -5,7 +5,7 @@ use Rattle.flash_sim.specs.Device.{counted}
 use Rattle.flash_map.specs.Area.{sectors_of, sector_size}
 use Rattle.flash_map.proofs.Touches.{then}
 use Rattle.fcb_ring.specs.SectorStates.{is_torn}
-use Rattle.fcb_ring.specs.Entries.{sector_at}
+use Rattle.flash_map.specs.Area.{sector_at}
 use Rattle.fcb_ring.proofs.AreaLemmas.{count-sectors}
 use Rattle.fcb_ring.proofs.StandLemmas.{mended-behind}
 use Rattle.fcb_ring.proofs.MountLemmas.{on_err, mends_next, mends_all, spends_next, spends_part}
@@ -14,7 +14,7 @@ use Rattle.fcb_ring.proofs.erasing.erase_torn.Goals as goal
 pub returns-in_err-erase_if-clause-bound : goal.returns-in_err-erase_if-clause-bound
 returns-in_err-erase_if-clause-bound g c =
     let a = g.F.Flash.device c.args.flash.now in
-    on_err c.from_residual.result (spends_part a (g.F.Flash.device c.loop-sector.flash) (g.F.Flash.device c.erase_if.new.flash) (sectors_of a c.args.area.now) c.loop-sector.sector c.loop-sector.invariant.spent c.in_err-erase_if.ensures.bound)
+    on_err c.from_residual.result (spends_part is_torn a (g.F.Flash.device c.loop-sector.flash) (g.F.Flash.device c.erase_if.new.flash) (sectors_of a c.args.area.now) c.loop-sector.sector c.loop-sector.invariant.spent c.in_err-erase_if.ensures.bound)
 
 pub loop-sector-preserved : goal.loop-sector-preserved
 loop-sector-preserved g c =
@@ -33,7 +33,7 @@ loop-sector-preserved g c =
       within = omega arith;
       touches = then kept.touches c.in_ok-erase_if.ensures.touches;
       so_far = mends_next (sectors_of a area) (sectors_of b area) (sectors_of after area) j (sector_size b area) c.is_torn-is_due.result inside kept.so_far (sym (ap length bytes) ∙ c.sector_view.ensures.len) due c.in_ok-erase_if.ensures.erased;
-      spent = spends_next a b after (sectors_of a area) j c.is_torn-is_due.result inside (due ∙ ap is_torn here) kept.spent c.in_ok-erase_if.ensures.units;
+      spent = spends_next is_torn a b after (sectors_of a area) j c.is_torn-is_due.result inside (due ∙ ap is_torn here) kept.spent c.in_ok-erase_if.ensures.units;
     }
 
 pub returns-clause-mended : goal.returns-clause-mended

@@ -2,7 +2,7 @@ use Rattle.std.proofs.Common.{◌+◌, ◌∙◌, ap, arith}
 use Rattle.std.specs.Prelude.{slice_range}
 use Rattle.flash_map.specs.declared.area.Geometry.{Geometry}
 use Rattle.flash_map.specs.Area.{sectors_of, sector_size}
-use Rattle.fcb_ring.specs.Entries.{sector_at}
+use Rattle.flash_map.specs.Area.{sector_at}
 use Rattle.fcb_ring.proofs.AreaLemmas.{has_size, count-sectors, whole_range, sector_is}
 use Rattle.fcb_ring.proofs.ring.sector_view.Goals as goal
 

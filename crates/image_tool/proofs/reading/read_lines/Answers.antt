@@ -7,4 +7,4 @@ pub returns-in-Ok-read_script : goal.returns-in-Ok-read_script
 returns-in-Ok-read_script g c =
     let lines = c.in-Ok-read_script.lines.items in
     let is : IsScript c.in-Ok.text.items lines = subst (λ (text : List ℕ). IsScript text lines) c.as_slice.ensures.value c.in-Ok-read_script.ensures in
-    (record { text = c.in-Ok.text.items; has = c.in-Ok.ensures.0; short = c.in-Ok.ensures.1; is = is }, lawful_lines c.in-Ok.text.items lines is, c.in-Ok.ensures.2)
+    ((record { text = c.in-Ok.text.items; has = record { has = c.in-Ok.ensures.0; short = c.in-Ok.ensures.1 }; is = is }, lawful_lines c.in-Ok.text.items lines is), c.in-Ok.ensures.2)

@@ -1,4 +1,4 @@
-use Rattle.std.proofs.Common.{◌≡◌, ℕ, ◌+◌, ◌-◌, ◌/◌, ◌<◌, ◌≤◌, List, length, refl, sym, ap, subst, ◌∙◌, arith}
+use Rattle.std.proofs.Common.{◌≡◌, ℕ, ◌-◌, ◌/◌, ◌<◌, false, List, [], ◌∷◌, length, refl, sym, ap, subst, ◌∙◌, arith}
 use Rattle.flash_sim.specs.Bank.{bank_at}
 use Rattle.flash_sim.specs.Device.{Device}
 use Rattle.flash_sim.specs.declared.flash.Bank.{Bank}
@@ -11,16 +11,19 @@ use Rattle.flash_map.specs.Units.{IsUnit, padded, padded_bytes}
 use Rattle.flash_map.proofs.PieceLemmas.{on_err}
 use Rattle.flash_map.proofs.Places.{length-sector}
 use Rattle.flash_map.proofs.Rounding.{padding}
+use Rattle.sector_ring.specs.Area.{next, is_closed_at, open_sector}
+use Rattle.flash_map.specs.Area.{sector_at}
+use Rattle.sector_ring.proofs.Stays.{open_within}
 use Rattle.nvs_store.specs.declared.entry.Entry.{Entry}
 use Rattle.nvs_store.specs.declared.scan.Scan.{Scan}
 use Rattle.nvs_store.specs.Geometry.{slot_size}
 use Rattle.nvs_store.specs.Entries.{encoded}
 use Rattle.nvs_store.specs.Sector.{low, data_end, HasRoom, IsNext}
-use Rattle.nvs_store.specs.Scans.{sector_at, sector_scan, scan_of, AddsPairAt, StopsAddingAt}
-use Rattle.nvs_store.proofs.Appending.{scan_current, fits_there, adds-undamaged, stops-undamaged, undamaged_first}
+use Rattle.nvs_store.specs.Scans.{reading, scan_at, scan_of, AddsPairAt, StopsAddingAt}
+use Rattle.nvs_store.proofs.Appending.{open_is, scan_there, fits_there, next_open, list_after, lost_list, undamaged_after, pair_used, stops_used, stops_closed, adds_sound, stops_sound, scan_added}
 use Rattle.nvs_store.proofs.Cuts.{HasRoom-from_fits}
+use Rattle.nvs_store.proofs.MountLemmas.{length-sectors}
 use Rattle.nvs_store.proofs.Putting.{can_data, data_cut, data_most, can_entry_after, pair_put, entry_cut, pair_spent, pair_most}
-use Rattle.nvs_store.proofs.ScanLemmas.{scan_grown}
 use Rattle.nvs_store.proofs.Views.{unit_is}
 use Rattle.nvs_store.proofs.calls.append.Goals as goal
 
@@ -33,15 +36,19 @@ overflow_cast-entry g c =
     let unit : ℕ = unit_of a area in
     let place : ℕ = c.args.scan.now.current in
     let bytes : List ℕ = c.args.bytes.now in
+    let old : List (List ℕ) = sectors_of a area in
     let b : List ℕ = sector_bytes a area place in
-    let first : place ≡ 0 = ap (λ (s : Scan). s.current) c.requires.scan in
-    let has_sector : place < area.sectors = omega (arith, c.requires.lawful.some) in
-    let scanned : c.args.scan.now ≡ sector_scan unit place b = scan_current unit (sectors_of a area) c.args.scan.now c.requires.scan in
+    let count : length old ≡ area.sectors = length-sectors a area in
+    let is : open_sector (reading unit) old ≡ place = open_is unit old c.args.scan.now c.requires.scan in
+    let inside : open_sector (reading unit) old < length old = open_within (reading unit) old (omega (arith, c.requires.lawful.several)) in
+    let within : place < length old = omega arith in
+    let has_sector : place < area.sectors = omega arith in
+    let scanned : c.args.scan.now ≡ scan_at unit old place = scan_there unit old c.args.scan.now c.requires.scan in
     let lowest : c.args.scan.now.low ≡ low unit b = ap (λ (s : Scan). s.low) scanned in
     let end : c.args.scan.now.data_end ≡ data_end unit b = ap (λ (s : Scan). s.data_end) scanned in
     let is-unit : IsUnit unit = unit_is a area lawful is_area in
     let long : length b ≡ sector_size a area = length-sector a area lawful is_area place has_sector in
-    let fitting = fits_there unit (length bytes) b c.args.scan.now scanned c.requires.fits in
+    let fitting = fits_there unit (length bytes) old c.args.scan.now c.requires.scan c.requires.fits in
     let room : HasRoom unit b (length bytes) = HasRoom-from_fits unit place b (length bytes) is-unit (omega (arith, long, c.requires.lawful.at_most)) fitting in
     let pad = padding unit is-unit in
     let rounded = pad.no_less (length bytes) in
@@ -57,15 +64,19 @@ overflow_cast-entry-2 g c =
     let unit : ℕ = unit_of a area in
     let place : ℕ = c.args.scan.now.current in
     let bytes : List ℕ = c.args.bytes.now in
+    let old : List (List ℕ) = sectors_of a area in
     let b : List ℕ = sector_bytes a area place in
-    let first : place ≡ 0 = ap (λ (s : Scan). s.current) c.requires.scan in
-    let has_sector : place < area.sectors = omega (arith, c.requires.lawful.some) in
-    let scanned : c.args.scan.now ≡ sector_scan unit place b = scan_current unit (sectors_of a area) c.args.scan.now c.requires.scan in
+    let count : length old ≡ area.sectors = length-sectors a area in
+    let is : open_sector (reading unit) old ≡ place = open_is unit old c.args.scan.now c.requires.scan in
+    let inside : open_sector (reading unit) old < length old = open_within (reading unit) old (omega (arith, c.requires.lawful.several)) in
+    let within : place < length old = omega arith in
+    let has_sector : place < area.sectors = omega arith in
+    let scanned : c.args.scan.now ≡ scan_at unit old place = scan_there unit old c.args.scan.now c.requires.scan in
     let lowest : c.args.scan.now.low ≡ low unit b = ap (λ (s : Scan). s.low) scanned in
     let end : c.args.scan.now.data_end ≡ data_end unit b = ap (λ (s : Scan). s.data_end) scanned in
     let is-unit : IsUnit unit = unit_is a area lawful is_area in
     let long : length b ≡ sector_size a area = length-sector a area lawful is_area place has_sector in
-    let fitting = fits_there unit (length bytes) b c.args.scan.now scanned c.requires.fits in
+    let fitting = fits_there unit (length bytes) old c.args.scan.now c.requires.scan c.requires.fits in
     let room : HasRoom unit b (length bytes) = HasRoom-from_fits unit place b (length bytes) is-unit (omega (arith, long, c.requires.lawful.at_most)) fitting in
     let pad = padding unit is-unit in
     let rounded = pad.no_less (length bytes) in
@@ -81,15 +92,19 @@ program_padded-requires-clause-can g c =
     let unit : ℕ = unit_of a area in
     let place : ℕ = c.args.scan.now.current in
     let bytes : List ℕ = c.args.bytes.now in
+    let old : List (List ℕ) = sectors_of a area in
     let b : List ℕ = sector_bytes a area place in
-    let first : place ≡ 0 = ap (λ (s : Scan). s.current) c.requires.scan in
-    let has_sector : place < area.sectors = omega (arith, c.requires.lawful.some) in
-    let scanned : c.args.scan.now ≡ sector_scan unit place b = scan_current unit (sectors_of a area) c.args.scan.now c.requires.scan in
+    let count : length old ≡ area.sectors = length-sectors a area in
+    let is : open_sector (reading unit) old ≡ place = open_is unit old c.args.scan.now c.requires.scan in
+    let inside : open_sector (reading unit) old < length old = open_within (reading unit) old (omega (arith, c.requires.lawful.several)) in
+    let within : place < length old = omega arith in
+    let has_sector : place < area.sectors = omega arith in
+    let scanned : c.args.scan.now ≡ scan_at unit old place = scan_there unit old c.args.scan.now c.requires.scan in
     let lowest : c.args.scan.now.low ≡ low unit b = ap (λ (s : Scan). s.low) scanned in
     let end : c.args.scan.now.data_end ≡ data_end unit b = ap (λ (s : Scan). s.data_end) scanned in
     let is-unit : IsUnit unit = unit_is a area lawful is_area in
     let long : length b ≡ sector_size a area = length-sector a area lawful is_area place has_sector in
-    let fitting = fits_there unit (length bytes) b c.args.scan.now scanned c.requires.fits in
+    let fitting = fits_there unit (length bytes) old c.args.scan.now c.requires.scan c.requires.fits in
     let room : HasRoom unit b (length bytes) = HasRoom-from_fits unit place b (length bytes) is-unit (omega (arith, long, c.requires.lawful.at_most)) fitting in
     subst (λ (offset : ℕ). CanProgramAll a area place offset (padded_bytes unit bytes)) (sym end) (can_data a area lawful is_area place has_sector bytes room)
 
@@ -102,20 +117,55 @@ returns-in_err-program_padded-clause-lost g c =
     let unit : ℕ = unit_of a area in
     let place : ℕ = c.args.scan.now.current in
     let bytes : List ℕ = c.args.bytes.now in
+    let old : List (List ℕ) = sectors_of a area in
     let b : List ℕ = sector_bytes a area place in
-    let first : place ≡ 0 = ap (λ (s : Scan). s.current) c.requires.scan in
-    let has_sector : place < area.sectors = omega (arith, c.requires.lawful.some) in
-    let scanned : c.args.scan.now ≡ sector_scan unit place b = scan_current unit (sectors_of a area) c.args.scan.now c.requires.scan in
+    let count : length old ≡ area.sectors = length-sectors a area in
+    let is : open_sector (reading unit) old ≡ place = open_is unit old c.args.scan.now c.requires.scan in
+    let inside : open_sector (reading unit) old < length old = open_within (reading unit) old (omega (arith, c.requires.lawful.several)) in
+    let within : place < length old = omega arith in
+    let has_sector : place < area.sectors = omega arith in
+    let scanned : c.args.scan.now ≡ scan_at unit old place = scan_there unit old c.args.scan.now c.requires.scan in
     let lowest : c.args.scan.now.low ≡ low unit b = ap (λ (s : Scan). s.low) scanned in
     let end : c.args.scan.now.data_end ≡ data_end unit b = ap (λ (s : Scan). s.data_end) scanned in
     let is-unit : IsUnit unit = unit_is a area lawful is_area in
     let long : length b ≡ sector_size a area = length-sector a area lawful is_area place has_sector in
-    let fitting = fits_there unit (length bytes) b c.args.scan.now scanned c.requires.fits in
+    let fitting = fits_there unit (length bytes) old c.args.scan.now c.requires.scan c.requires.fits in
     let room : HasRoom unit b (length bytes) = HasRoom-from_fits unit place b (length bytes) is-unit (omega (arith, long, c.requires.lawful.at_most)) fitting in
     let m : Device = g.F.Flash.device c.program_padded.new.flash in
     let part : WritesPart a m area place (data_end unit b) (padded_bytes unit bytes) = subst (λ (offset : ℕ). WritesPart a m area place offset (padded_bytes unit bytes)) end c.in_err-program_padded.ensures.lost in
-    let stops : StopsAddingAt unit (sectors_of a area) (sectors_of m area) place c.args.id bytes = data_cut a area lawful is_area place has_sector m c.args.id bytes room part in
+    let stops : StopsAddingAt unit old (sectors_of m area) place c.args.id bytes = data_cut a area lawful is_area place has_sector m c.args.id bytes room part in
+    let now : List ℕ = sector_at (sectors_of m area) place in
     on_err c.from_residual.result stops
+
+pub returns-in_err-program_padded-clause-list_lost : goal.returns-in_err-program_padded-clause-list_lost
+returns-in_err-program_padded-clause-list_lost g c =
+    let a : Device = g.F.Flash.device c.args.flash.now in
+    let area : Area = c.args.area.now in
+    let lawful = g.met.F.Flash.is_lawful c.args.flash.now in
+    let is_area = c.requires.lawful.in_bank in
+    let unit : ℕ = unit_of a area in
+    let place : ℕ = c.args.scan.now.current in
+    let bytes : List ℕ = c.args.bytes.now in
+    let old : List (List ℕ) = sectors_of a area in
+    let b : List ℕ = sector_bytes a area place in
+    let count : length old ≡ area.sectors = length-sectors a area in
+    let is : open_sector (reading unit) old ≡ place = open_is unit old c.args.scan.now c.requires.scan in
+    let inside : open_sector (reading unit) old < length old = open_within (reading unit) old (omega (arith, c.requires.lawful.several)) in
+    let within : place < length old = omega arith in
+    let has_sector : place < area.sectors = omega arith in
+    let scanned : c.args.scan.now ≡ scan_at unit old place = scan_there unit old c.args.scan.now c.requires.scan in
+    let lowest : c.args.scan.now.low ≡ low unit b = ap (λ (s : Scan). s.low) scanned in
+    let end : c.args.scan.now.data_end ≡ data_end unit b = ap (λ (s : Scan). s.data_end) scanned in
+    let is-unit : IsUnit unit = unit_is a area lawful is_area in
+    let long : length b ≡ sector_size a area = length-sector a area lawful is_area place has_sector in
+    let fitting = fits_there unit (length bytes) old c.args.scan.now c.requires.scan c.requires.fits in
+    let room : HasRoom unit b (length bytes) = HasRoom-from_fits unit place b (length bytes) is-unit (omega (arith, long, c.requires.lawful.at_most)) fitting in
+    let free : is_closed_at (reading unit) old (next old place) ≡ false = next_open unit old c.args.scan.now c.requires.scan c.requires.redo in
+    let m : Device = g.F.Flash.device c.program_padded.new.flash in
+    let part : WritesPart a m area place (data_end unit b) (padded_bytes unit bytes) = subst (λ (offset : ℕ). WritesPart a m area place offset (padded_bytes unit bytes)) end c.in_err-program_padded.ensures.lost in
+    let stops : StopsAddingAt unit old (sectors_of m area) place c.args.id bytes = data_cut a area lawful is_area place has_sector m c.args.id bytes room part in
+    let now : List ℕ = sector_at (sectors_of m area) place in
+    on_err c.from_residual.result (lost_list unit old (sectors_of m area) place c.args.id bytes within is room stops free)
 
 pub returns-in_err-program_padded-clause-spent_at_most : goal.returns-in_err-program_padded-clause-spent_at_most
 returns-in_err-program_padded-clause-spent_at_most g c =
@@ -126,18 +176,51 @@ returns-in_err-program_padded-clause-spent_at_most g c =
     let unit : ℕ = unit_of a area in
     let place : ℕ = c.args.scan.now.current in
     let bytes : List ℕ = c.args.bytes.now in
+    let old : List (List ℕ) = sectors_of a area in
     let b : List ℕ = sector_bytes a area place in
-    let first : place ≡ 0 = ap (λ (s : Scan). s.current) c.requires.scan in
-    let has_sector : place < area.sectors = omega (arith, c.requires.lawful.some) in
-    let scanned : c.args.scan.now ≡ sector_scan unit place b = scan_current unit (sectors_of a area) c.args.scan.now c.requires.scan in
+    let count : length old ≡ area.sectors = length-sectors a area in
+    let is : open_sector (reading unit) old ≡ place = open_is unit old c.args.scan.now c.requires.scan in
+    let inside : open_sector (reading unit) old < length old = open_within (reading unit) old (omega (arith, c.requires.lawful.several)) in
+    let within : place < length old = omega arith in
+    let has_sector : place < area.sectors = omega arith in
+    let scanned : c.args.scan.now ≡ scan_at unit old place = scan_there unit old c.args.scan.now c.requires.scan in
     let lowest : c.args.scan.now.low ≡ low unit b = ap (λ (s : Scan). s.low) scanned in
     let end : c.args.scan.now.data_end ≡ data_end unit b = ap (λ (s : Scan). s.data_end) scanned in
     let is-unit : IsUnit unit = unit_is a area lawful is_area in
     let long : length b ≡ sector_size a area = length-sector a area lawful is_area place has_sector in
-    let fitting = fits_there unit (length bytes) b c.args.scan.now scanned c.requires.fits in
+    let fitting = fits_there unit (length bytes) old c.args.scan.now c.requires.scan c.requires.fits in
     let room : HasRoom unit b (length bytes) = HasRoom-from_fits unit place b (length bytes) is-unit (omega (arith, long, c.requires.lawful.at_most)) fitting in
     let m : Device = g.F.Flash.device c.program_padded.new.flash in
     on_err c.from_residual.result (data_most a area lawful is_area place has_sector m bytes c.in_err-program_padded.ensures.spent_at_most)
+
+pub returns-in_err-program_padded-clause-sound : goal.returns-in_err-program_padded-clause-sound
+returns-in_err-program_padded-clause-sound g c =
+    let a : Device = g.F.Flash.device c.args.flash.now in
+    let area : Area = c.args.area.now in
+    let lawful = g.met.F.Flash.is_lawful c.args.flash.now in
+    let is_area = c.requires.lawful.in_bank in
+    let unit : ℕ = unit_of a area in
+    let place : ℕ = c.args.scan.now.current in
+    let bytes : List ℕ = c.args.bytes.now in
+    let old : List (List ℕ) = sectors_of a area in
+    let b : List ℕ = sector_bytes a area place in
+    let count : length old ≡ area.sectors = length-sectors a area in
+    let is : open_sector (reading unit) old ≡ place = open_is unit old c.args.scan.now c.requires.scan in
+    let inside : open_sector (reading unit) old < length old = open_within (reading unit) old (omega (arith, c.requires.lawful.several)) in
+    let within : place < length old = omega arith in
+    let has_sector : place < area.sectors = omega arith in
+    let scanned : c.args.scan.now ≡ scan_at unit old place = scan_there unit old c.args.scan.now c.requires.scan in
+    let lowest : c.args.scan.now.low ≡ low unit b = ap (λ (s : Scan). s.low) scanned in
+    let end : c.args.scan.now.data_end ≡ data_end unit b = ap (λ (s : Scan). s.data_end) scanned in
+    let is-unit : IsUnit unit = unit_is a area lawful is_area in
+    let long : length b ≡ sector_size a area = length-sector a area lawful is_area place has_sector in
+    let fitting = fits_there unit (length bytes) old c.args.scan.now c.requires.scan c.requires.fits in
+    let room : HasRoom unit b (length bytes) = HasRoom-from_fits unit place b (length bytes) is-unit (omega (arith, long, c.requires.lawful.at_most)) fitting in
+    let m : Device = g.F.Flash.device c.program_padded.new.flash in
+    let part : WritesPart a m area place (data_end unit b) (padded_bytes unit bytes) = subst (λ (offset : ℕ). WritesPart a m area place offset (padded_bytes unit bytes)) end c.in_err-program_padded.ensures.lost in
+    let stops : StopsAddingAt unit old (sectors_of m area) place c.args.id bytes = data_cut a area lawful is_area place has_sector m c.args.id bytes room part in
+    let now : List ℕ = sector_at (sectors_of m area) place in
+    stops_sound unit place b now c.args.id bytes room fitting stops.stops
 
 pub returns-in_err-program_padded-clause-undamaged : goal.returns-in_err-program_padded-clause-undamaged
 returns-in_err-program_padded-clause-undamaged g c =
@@ -148,20 +231,27 @@ returns-in_err-program_padded-clause-undamaged g c =
     let unit : ℕ = unit_of a area in
     let place : ℕ = c.args.scan.now.current in
     let bytes : List ℕ = c.args.bytes.now in
+    let old : List (List ℕ) = sectors_of a area in
     let b : List ℕ = sector_bytes a area place in
-    let first : place ≡ 0 = ap (λ (s : Scan). s.current) c.requires.scan in
-    let has_sector : place < area.sectors = omega (arith, c.requires.lawful.some) in
-    let scanned : c.args.scan.now ≡ sector_scan unit place b = scan_current unit (sectors_of a area) c.args.scan.now c.requires.scan in
+    let count : length old ≡ area.sectors = length-sectors a area in
+    let is : open_sector (reading unit) old ≡ place = open_is unit old c.args.scan.now c.requires.scan in
+    let inside : open_sector (reading unit) old < length old = open_within (reading unit) old (omega (arith, c.requires.lawful.several)) in
+    let within : place < length old = omega arith in
+    let has_sector : place < area.sectors = omega arith in
+    let scanned : c.args.scan.now ≡ scan_at unit old place = scan_there unit old c.args.scan.now c.requires.scan in
     let lowest : c.args.scan.now.low ≡ low unit b = ap (λ (s : Scan). s.low) scanned in
     let end : c.args.scan.now.data_end ≡ data_end unit b = ap (λ (s : Scan). s.data_end) scanned in
     let is-unit : IsUnit unit = unit_is a area lawful is_area in
     let long : length b ≡ sector_size a area = length-sector a area lawful is_area place has_sector in
-    let fitting = fits_there unit (length bytes) b c.args.scan.now scanned c.requires.fits in
+    let fitting = fits_there unit (length bytes) old c.args.scan.now c.requires.scan c.requires.fits in
     let room : HasRoom unit b (length bytes) = HasRoom-from_fits unit place b (length bytes) is-unit (omega (arith, long, c.requires.lawful.at_most)) fitting in
+    let free : is_closed_at (reading unit) old (next old place) ≡ false = next_open unit old c.args.scan.now c.requires.scan c.requires.redo in
     let m : Device = g.F.Flash.device c.program_padded.new.flash in
     let part : WritesPart a m area place (data_end unit b) (padded_bytes unit bytes) = subst (λ (offset : ℕ). WritesPart a m area place offset (padded_bytes unit bytes)) end c.in_err-program_padded.ensures.lost in
-    let stops : StopsAddingAt unit (sectors_of a area) (sectors_of m area) place c.args.id bytes = data_cut a area lawful is_area place has_sector m c.args.id bytes room part in
-    undamaged_first unit place (sectors_of a area) (sectors_of m area) first (stops-undamaged unit place b (sector_at (sectors_of m area) place) c.args.id bytes room fitting stops.stops)
+    let stops : StopsAddingAt unit old (sectors_of m area) place c.args.id bytes = data_cut a area lawful is_area place has_sector m c.args.id bytes room part in
+    let now : List ℕ = sector_at (sectors_of m area) place in
+    undamaged_after unit old (sectors_of m area) place within is stops.only (stops_closed unit place b now c.args.id bytes room stops.stops) (stops_used unit place b now c.args.id bytes room stops.stops) (omega (arith, c.requires.lawful.several)) free
+    (stops_sound unit place b now c.args.id bytes room fitting stops.stops)
 
 pub program_padded-requires-2-clause-can : goal.program_padded-requires-2-clause-can
 program_padded-requires-2-clause-can g c =
@@ -172,18 +262,22 @@ program_padded-requires-2-clause-can g c =
     let unit : ℕ = unit_of a area in
     let place : ℕ = c.args.scan.now.current in
     let bytes : List ℕ = c.args.bytes.now in
+    let old : List (List ℕ) = sectors_of a area in
     let b : List ℕ = sector_bytes a area place in
-    let first : place ≡ 0 = ap (λ (s : Scan). s.current) c.requires.scan in
-    let has_sector : place < area.sectors = omega (arith, c.requires.lawful.some) in
-    let scanned : c.args.scan.now ≡ sector_scan unit place b = scan_current unit (sectors_of a area) c.args.scan.now c.requires.scan in
+    let count : length old ≡ area.sectors = length-sectors a area in
+    let is : open_sector (reading unit) old ≡ place = open_is unit old c.args.scan.now c.requires.scan in
+    let inside : open_sector (reading unit) old < length old = open_within (reading unit) old (omega (arith, c.requires.lawful.several)) in
+    let within : place < length old = omega arith in
+    let has_sector : place < area.sectors = omega arith in
+    let scanned : c.args.scan.now ≡ scan_at unit old place = scan_there unit old c.args.scan.now c.requires.scan in
     let lowest : c.args.scan.now.low ≡ low unit b = ap (λ (s : Scan). s.low) scanned in
     let end : c.args.scan.now.data_end ≡ data_end unit b = ap (λ (s : Scan). s.data_end) scanned in
     let is-unit : IsUnit unit = unit_is a area lawful is_area in
     let long : length b ≡ sector_size a area = length-sector a area lawful is_area place has_sector in
-    let fitting = fits_there unit (length bytes) b c.args.scan.now scanned c.requires.fits in
+    let fitting = fits_there unit (length bytes) old c.args.scan.now c.requires.scan c.requires.fits in
     let room : HasRoom unit b (length bytes) = HasRoom-from_fits unit place b (length bytes) is-unit (omega (arith, long, c.requires.lawful.at_most)) fitting in
     let e : Entry = record { id = c.args.id; offset = c.args.scan.now.data_end; len = length bytes; part = 255 } in
-    let next : IsNext unit b e bytes = record { ordinary = c.requires.ordinary; place = end; long = refl } in
+    let follows : IsNext unit b e bytes = record { ordinary = c.requires.ordinary; place = end; long = refl } in
     let width : c.slot_size.result ≡ slot_size unit = c.slot_size.ensures.size ∙ ap (λ (x : Geometry). slot_size x.unit) c.geometry-unit.ensures in
     let at : c.args.scan.now.low - c.slot_size.result ≡ low unit b - slot_size unit = omega arith in
     let m : Device = g.F.Flash.device c.program_padded.new.flash in
@@ -201,18 +295,22 @@ returns-in_err-program_padded-2-clause-lost g c =
     let unit : ℕ = unit_of a area in
     let place : ℕ = c.args.scan.now.current in
     let bytes : List ℕ = c.args.bytes.now in
+    let old : List (List ℕ) = sectors_of a area in
     let b : List ℕ = sector_bytes a area place in
-    let first : place ≡ 0 = ap (λ (s : Scan). s.current) c.requires.scan in
-    let has_sector : place < area.sectors = omega (arith, c.requires.lawful.some) in
-    let scanned : c.args.scan.now ≡ sector_scan unit place b = scan_current unit (sectors_of a area) c.args.scan.now c.requires.scan in
+    let count : length old ≡ area.sectors = length-sectors a area in
+    let is : open_sector (reading unit) old ≡ place = open_is unit old c.args.scan.now c.requires.scan in
+    let inside : open_sector (reading unit) old < length old = open_within (reading unit) old (omega (arith, c.requires.lawful.several)) in
+    let within : place < length old = omega arith in
+    let has_sector : place < area.sectors = omega arith in
+    let scanned : c.args.scan.now ≡ scan_at unit old place = scan_there unit old c.args.scan.now c.requires.scan in
     let lowest : c.args.scan.now.low ≡ low unit b = ap (λ (s : Scan). s.low) scanned in
     let end : c.args.scan.now.data_end ≡ data_end unit b = ap (λ (s : Scan). s.data_end) scanned in
     let is-unit : IsUnit unit = unit_is a area lawful is_area in
     let long : length b ≡ sector_size a area = length-sector a area lawful is_area place has_sector in
-    let fitting = fits_there unit (length bytes) b c.args.scan.now scanned c.requires.fits in
+    let fitting = fits_there unit (length bytes) old c.args.scan.now c.requires.scan c.requires.fits in
     let room : HasRoom unit b (length bytes) = HasRoom-from_fits unit place b (length bytes) is-unit (omega (arith, long, c.requires.lawful.at_most)) fitting in
     let e : Entry = record { id = c.args.id; offset = c.args.scan.now.data_end; len = length bytes; part = 255 } in
-    let next : IsNext unit b e bytes = record { ordinary = c.requires.ordinary; place = end; long = refl } in
+    let follows : IsNext unit b e bytes = record { ordinary = c.requires.ordinary; place = end; long = refl } in
     let width : c.slot_size.result ≡ slot_size unit = c.slot_size.ensures.size ∙ ap (λ (x : Geometry). slot_size x.unit) c.geometry-unit.ensures in
     let at : c.args.scan.now.low - c.slot_size.result ≡ low unit b - slot_size unit = omega arith in
     let m : Device = g.F.Flash.device c.program_padded.new.flash in
@@ -221,8 +319,47 @@ returns-in_err-program_padded-2-clause-lost g c =
     let last : Device = g.F.Flash.device c.program_padded-2.new.flash in
     let part : WritesPart m last area place (low unit b - slot_size unit) (padded_bytes (unit_of m area) (encoded e)) =
     subst (λ (offset : ℕ). WritesPart m last area place offset (padded_bytes (unit_of m area) (encoded e))) at (subst (λ (xs : List ℕ). WritesPart m last area place (c.args.scan.now.low - c.slot_size.result) (padded_bytes (unit_of m area) xs)) c.encode_entry.ensures c.in_err-program_padded-2.ensures.lost) in
-    let stops : StopsAddingAt unit (sectors_of a area) (sectors_of last area) place c.args.id bytes = entry_cut a area lawful is_area place has_sector m bytes room one.touches.banks first_part last e next part in
+    let stops : StopsAddingAt unit old (sectors_of last area) place c.args.id bytes = entry_cut a area lawful is_area place has_sector m bytes room one.touches.banks first_part last e follows part in
+    let now : List ℕ = sector_at (sectors_of last area) place in
     on_err c.from_residual-in_err-program_padded-2.result stops
+
+pub returns-in_err-program_padded-2-clause-list_lost : goal.returns-in_err-program_padded-2-clause-list_lost
+returns-in_err-program_padded-2-clause-list_lost g c =
+    let a : Device = g.F.Flash.device c.args.flash.now in
+    let area : Area = c.args.area.now in
+    let lawful = g.met.F.Flash.is_lawful c.args.flash.now in
+    let is_area = c.requires.lawful.in_bank in
+    let unit : ℕ = unit_of a area in
+    let place : ℕ = c.args.scan.now.current in
+    let bytes : List ℕ = c.args.bytes.now in
+    let old : List (List ℕ) = sectors_of a area in
+    let b : List ℕ = sector_bytes a area place in
+    let count : length old ≡ area.sectors = length-sectors a area in
+    let is : open_sector (reading unit) old ≡ place = open_is unit old c.args.scan.now c.requires.scan in
+    let inside : open_sector (reading unit) old < length old = open_within (reading unit) old (omega (arith, c.requires.lawful.several)) in
+    let within : place < length old = omega arith in
+    let has_sector : place < area.sectors = omega arith in
+    let scanned : c.args.scan.now ≡ scan_at unit old place = scan_there unit old c.args.scan.now c.requires.scan in
+    let lowest : c.args.scan.now.low ≡ low unit b = ap (λ (s : Scan). s.low) scanned in
+    let end : c.args.scan.now.data_end ≡ data_end unit b = ap (λ (s : Scan). s.data_end) scanned in
+    let is-unit : IsUnit unit = unit_is a area lawful is_area in
+    let long : length b ≡ sector_size a area = length-sector a area lawful is_area place has_sector in
+    let fitting = fits_there unit (length bytes) old c.args.scan.now c.requires.scan c.requires.fits in
+    let room : HasRoom unit b (length bytes) = HasRoom-from_fits unit place b (length bytes) is-unit (omega (arith, long, c.requires.lawful.at_most)) fitting in
+    let free : is_closed_at (reading unit) old (next old place) ≡ false = next_open unit old c.args.scan.now c.requires.scan c.requires.redo in
+    let e : Entry = record { id = c.args.id; offset = c.args.scan.now.data_end; len = length bytes; part = 255 } in
+    let follows : IsNext unit b e bytes = record { ordinary = c.requires.ordinary; place = end; long = refl } in
+    let width : c.slot_size.result ≡ slot_size unit = c.slot_size.ensures.size ∙ ap (λ (x : Geometry). slot_size x.unit) c.geometry-unit.ensures in
+    let at : c.args.scan.now.low - c.slot_size.result ≡ low unit b - slot_size unit = omega arith in
+    let m : Device = g.F.Flash.device c.program_padded.new.flash in
+    let one = c.in_ok-program_padded.ensures in
+    let first_part : Writes a m area place (data_end unit b) (padded_bytes unit bytes) = subst (λ (offset : ℕ). Writes a m area place offset (padded_bytes unit bytes)) end one.ok in
+    let last : Device = g.F.Flash.device c.program_padded-2.new.flash in
+    let part : WritesPart m last area place (low unit b - slot_size unit) (padded_bytes (unit_of m area) (encoded e)) =
+    subst (λ (offset : ℕ). WritesPart m last area place offset (padded_bytes (unit_of m area) (encoded e))) at (subst (λ (xs : List ℕ). WritesPart m last area place (c.args.scan.now.low - c.slot_size.result) (padded_bytes (unit_of m area) xs)) c.encode_entry.ensures c.in_err-program_padded-2.ensures.lost) in
+    let stops : StopsAddingAt unit old (sectors_of last area) place c.args.id bytes = entry_cut a area lawful is_area place has_sector m bytes room one.touches.banks first_part last e follows part in
+    let now : List ℕ = sector_at (sectors_of last area) place in
+    on_err c.from_residual-in_err-program_padded-2.result (lost_list unit old (sectors_of last area) place c.args.id bytes within is room stops free)
 
 pub returns-in_err-program_padded-2-clause-spent_at_most : goal.returns-in_err-program_padded-2-clause-spent_at_most
 returns-in_err-program_padded-2-clause-spent_at_most g c =
@@ -233,18 +370,22 @@ returns-in_err-program_padded-2-clause-spent_at_most g c =
     let unit : ℕ = unit_of a area in
     let place : ℕ = c.args.scan.now.current in
     let bytes : List ℕ = c.args.bytes.now in
+    let old : List (List ℕ) = sectors_of a area in
     let b : List ℕ = sector_bytes a area place in
-    let first : place ≡ 0 = ap (λ (s : Scan). s.current) c.requires.scan in
-    let has_sector : place < area.sectors = omega (arith, c.requires.lawful.some) in
-    let scanned : c.args.scan.now ≡ sector_scan unit place b = scan_current unit (sectors_of a area) c.args.scan.now c.requires.scan in
+    let count : length old ≡ area.sectors = length-sectors a area in
+    let is : open_sector (reading unit) old ≡ place = open_is unit old c.args.scan.now c.requires.scan in
+    let inside : open_sector (reading unit) old < length old = open_within (reading unit) old (omega (arith, c.requires.lawful.several)) in
+    let within : place < length old = omega arith in
+    let has_sector : place < area.sectors = omega arith in
+    let scanned : c.args.scan.now ≡ scan_at unit old place = scan_there unit old c.args.scan.now c.requires.scan in
     let lowest : c.args.scan.now.low ≡ low unit b = ap (λ (s : Scan). s.low) scanned in
     let end : c.args.scan.now.data_end ≡ data_end unit b = ap (λ (s : Scan). s.data_end) scanned in
     let is-unit : IsUnit unit = unit_is a area lawful is_area in
     let long : length b ≡ sector_size a area = length-sector a area lawful is_area place has_sector in
-    let fitting = fits_there unit (length bytes) b c.args.scan.now scanned c.requires.fits in
+    let fitting = fits_there unit (length bytes) old c.args.scan.now c.requires.scan c.requires.fits in
     let room : HasRoom unit b (length bytes) = HasRoom-from_fits unit place b (length bytes) is-unit (omega (arith, long, c.requires.lawful.at_most)) fitting in
     let e : Entry = record { id = c.args.id; offset = c.args.scan.now.data_end; len = length bytes; part = 255 } in
-    let next : IsNext unit b e bytes = record { ordinary = c.requires.ordinary; place = end; long = refl } in
+    let follows : IsNext unit b e bytes = record { ordinary = c.requires.ordinary; place = end; long = refl } in
     let width : c.slot_size.result ≡ slot_size unit = c.slot_size.ensures.size ∙ ap (λ (x : Geometry). slot_size x.unit) c.geometry-unit.ensures in
     let at : c.args.scan.now.low - c.slot_size.result ≡ low unit b - slot_size unit = omega arith in
     let m : Device = g.F.Flash.device c.program_padded.new.flash in
@@ -255,6 +396,43 @@ returns-in_err-program_padded-2-clause-spent_at_most g c =
     (pair_most a area lawful is_area place has_sector m bytes room one.touches.banks first_part last e one.spent
     (subst (λ (xs : List ℕ). SpendsAtMost m last (padded (unit_of m area) (length xs) / unit_of m area)) c.encode_entry.ensures c.in_err-program_padded-2.ensures.spent_at_most))
 
+pub returns-in_err-program_padded-2-clause-sound : goal.returns-in_err-program_padded-2-clause-sound
+returns-in_err-program_padded-2-clause-sound g c =
+    let a : Device = g.F.Flash.device c.args.flash.now in
+    let area : Area = c.args.area.now in
+    let lawful = g.met.F.Flash.is_lawful c.args.flash.now in
+    let is_area = c.requires.lawful.in_bank in
+    let unit : ℕ = unit_of a area in
+    let place : ℕ = c.args.scan.now.current in
+    let bytes : List ℕ = c.args.bytes.now in
+    let old : List (List ℕ) = sectors_of a area in
+    let b : List ℕ = sector_bytes a area place in
+    let count : length old ≡ area.sectors = length-sectors a area in
+    let is : open_sector (reading unit) old ≡ place = open_is unit old c.args.scan.now c.requires.scan in
+    let inside : open_sector (reading unit) old < length old = open_within (reading unit) old (omega (arith, c.requires.lawful.several)) in
+    let within : place < length old = omega arith in
+    let has_sector : place < area.sectors = omega arith in
+    let scanned : c.args.scan.now ≡ scan_at unit old place = scan_there unit old c.args.scan.now c.requires.scan in
+    let lowest : c.args.scan.now.low ≡ low unit b = ap (λ (s : Scan). s.low) scanned in
+    let end : c.args.scan.now.data_end ≡ data_end unit b = ap (λ (s : Scan). s.data_end) scanned in
+    let is-unit : IsUnit unit = unit_is a area lawful is_area in
+    let long : length b ≡ sector_size a area = length-sector a area lawful is_area place has_sector in
+    let fitting = fits_there unit (length bytes) old c.args.scan.now c.requires.scan c.requires.fits in
+    let room : HasRoom unit b (length bytes) = HasRoom-from_fits unit place b (length bytes) is-unit (omega (arith, long, c.requires.lawful.at_most)) fitting in
+    let e : Entry = record { id = c.args.id; offset = c.args.scan.now.data_end; len = length bytes; part = 255 } in
+    let follows : IsNext unit b e bytes = record { ordinary = c.requires.ordinary; place = end; long = refl } in
+    let width : c.slot_size.result ≡ slot_size unit = c.slot_size.ensures.size ∙ ap (λ (x : Geometry). slot_size x.unit) c.geometry-unit.ensures in
+    let at : c.args.scan.now.low - c.slot_size.result ≡ low unit b - slot_size unit = omega arith in
+    let m : Device = g.F.Flash.device c.program_padded.new.flash in
+    let one = c.in_ok-program_padded.ensures in
+    let first_part : Writes a m area place (data_end unit b) (padded_bytes unit bytes) = subst (λ (offset : ℕ). Writes a m area place offset (padded_bytes unit bytes)) end one.ok in
+    let last : Device = g.F.Flash.device c.program_padded-2.new.flash in
+    let part : WritesPart m last area place (low unit b - slot_size unit) (padded_bytes (unit_of m area) (encoded e)) =
+    subst (λ (offset : ℕ). WritesPart m last area place offset (padded_bytes (unit_of m area) (encoded e))) at (subst (λ (xs : List ℕ). WritesPart m last area place (c.args.scan.now.low - c.slot_size.result) (padded_bytes (unit_of m area) xs)) c.encode_entry.ensures c.in_err-program_padded-2.ensures.lost) in
+    let stops : StopsAddingAt unit old (sectors_of last area) place c.args.id bytes = entry_cut a area lawful is_area place has_sector m bytes room one.touches.banks first_part last e follows part in
+    let now : List ℕ = sector_at (sectors_of last area) place in
+    stops_sound unit place b now c.args.id bytes room fitting stops.stops
+
 pub returns-in_err-program_padded-2-clause-undamaged : goal.returns-in_err-program_padded-2-clause-undamaged
 returns-in_err-program_padded-2-clause-undamaged g c =
     let a : Device = g.F.Flash.device c.args.flash.now in
@@ -264,18 +442,23 @@ returns-in_err-program_padded-2-clause-undamaged g c =
     let unit : ℕ = unit_of a area in
     let place : ℕ = c.args.scan.now.current in
     let bytes : List ℕ = c.args.bytes.now in
+    let old : List (List ℕ) = sectors_of a area in
     let b : List ℕ = sector_bytes a area place in
-    let first : place ≡ 0 = ap (λ (s : Scan). s.current) c.requires.scan in
-    let has_sector : place < area.sectors = omega (arith, c.requires.lawful.some) in
-    let scanned : c.args.scan.now ≡ sector_scan unit place b = scan_current unit (sectors_of a area) c.args.scan.now c.requires.scan in
+    let count : length old ≡ area.sectors = length-sectors a area in
+    let is : open_sector (reading unit) old ≡ place = open_is unit old c.args.scan.now c.requires.scan in
+    let inside : open_sector (reading unit) old < length old = open_within (reading unit) old (omega (arith, c.requires.lawful.several)) in
+    let within : place < length old = omega arith in
+    let has_sector : place < area.sectors = omega arith in
+    let scanned : c.args.scan.now ≡ scan_at unit old place = scan_there unit old c.args.scan.now c.requires.scan in
     let lowest : c.args.scan.now.low ≡ low unit b = ap (λ (s : Scan). s.low) scanned in
     let end : c.args.scan.now.data_end ≡ data_end unit b = ap (λ (s : Scan). s.data_end) scanned in
     let is-unit : IsUnit unit = unit_is a area lawful is_area in
     let long : length b ≡ sector_size a area = length-sector a area lawful is_area place has_sector in
-    let fitting = fits_there unit (length bytes) b c.args.scan.now scanned c.requires.fits in
+    let fitting = fits_there unit (length bytes) old c.args.scan.now c.requires.scan c.requires.fits in
     let room : HasRoom unit b (length bytes) = HasRoom-from_fits unit place b (length bytes) is-unit (omega (arith, long, c.requires.lawful.at_most)) fitting in
+    let free : is_closed_at (reading unit) old (next old place) ≡ false = next_open unit old c.args.scan.now c.requires.scan c.requires.redo in
     let e : Entry = record { id = c.args.id; offset = c.args.scan.now.data_end; len = length bytes; part = 255 } in
-    let next : IsNext unit b e bytes = record { ordinary = c.requires.ordinary; place = end; long = refl } in
+    let follows : IsNext unit b e bytes = record { ordinary = c.requires.ordinary; place = end; long = refl } in
     let width : c.slot_size.result ≡ slot_size unit = c.slot_size.ensures.size ∙ ap (λ (x : Geometry). slot_size x.unit) c.geometry-unit.ensures in
     let at : c.args.scan.now.low - c.slot_size.result ≡ low unit b - slot_size unit = omega arith in
     let m : Device = g.F.Flash.device c.program_padded.new.flash in
@@ -284,8 +467,10 @@ returns-in_err-program_padded-2-clause-undamaged g c =
     let last : Device = g.F.Flash.device c.program_padded-2.new.flash in
     let part : WritesPart m last area place (low unit b - slot_size unit) (padded_bytes (unit_of m area) (encoded e)) =
     subst (λ (offset : ℕ). WritesPart m last area place offset (padded_bytes (unit_of m area) (encoded e))) at (subst (λ (xs : List ℕ). WritesPart m last area place (c.args.scan.now.low - c.slot_size.result) (padded_bytes (unit_of m area) xs)) c.encode_entry.ensures c.in_err-program_padded-2.ensures.lost) in
-    let stops : StopsAddingAt unit (sectors_of a area) (sectors_of last area) place c.args.id bytes = entry_cut a area lawful is_area place has_sector m bytes room one.touches.banks first_part last e next part in
-    undamaged_first unit place (sectors_of a area) (sectors_of last area) first (stops-undamaged unit place b (sector_at (sectors_of last area) place) c.args.id bytes room fitting stops.stops)
+    let stops : StopsAddingAt unit old (sectors_of last area) place c.args.id bytes = entry_cut a area lawful is_area place has_sector m bytes room one.touches.banks first_part last e follows part in
+    let now : List ℕ = sector_at (sectors_of last area) place in
+    undamaged_after unit old (sectors_of last area) place within is stops.only (stops_closed unit place b now c.args.id bytes room stops.stops) (stops_used unit place b now c.args.id bytes room stops.stops) (omega (arith, c.requires.lawful.several)) free
+    (stops_sound unit place b now c.args.id bytes room fitting stops.stops)
 
 pub overflow_cast-bytes : goal.overflow_cast-bytes
 overflow_cast-bytes g c =
@@ -296,15 +481,19 @@ overflow_cast-bytes g c =
     let unit : ℕ = unit_of a area in
     let place : ℕ = c.args.scan.now.current in
     let bytes : List ℕ = c.args.bytes.now in
+    let old : List (List ℕ) = sectors_of a area in
     let b : List ℕ = sector_bytes a area place in
-    let first : place ≡ 0 = ap (λ (s : Scan). s.current) c.requires.scan in
-    let has_sector : place < area.sectors = omega (arith, c.requires.lawful.some) in
-    let scanned : c.args.scan.now ≡ sector_scan unit place b = scan_current unit (sectors_of a area) c.args.scan.now c.requires.scan in
+    let count : length old ≡ area.sectors = length-sectors a area in
+    let is : open_sector (reading unit) old ≡ place = open_is unit old c.args.scan.now c.requires.scan in
+    let inside : open_sector (reading unit) old < length old = open_within (reading unit) old (omega (arith, c.requires.lawful.several)) in
+    let within : place < length old = omega arith in
+    let has_sector : place < area.sectors = omega arith in
+    let scanned : c.args.scan.now ≡ scan_at unit old place = scan_there unit old c.args.scan.now c.requires.scan in
     let lowest : c.args.scan.now.low ≡ low unit b = ap (λ (s : Scan). s.low) scanned in
     let end : c.args.scan.now.data_end ≡ data_end unit b = ap (λ (s : Scan). s.data_end) scanned in
     let is-unit : IsUnit unit = unit_is a area lawful is_area in
     let long : length b ≡ sector_size a area = length-sector a area lawful is_area place has_sector in
-    let fitting = fits_there unit (length bytes) b c.args.scan.now scanned c.requires.fits in
+    let fitting = fits_there unit (length bytes) old c.args.scan.now c.requires.scan c.requires.fits in
     let room : HasRoom unit b (length bytes) = HasRoom-from_fits unit place b (length bytes) is-unit (omega (arith, long, c.requires.lawful.at_most)) fitting in
     let pad = padding unit is-unit in
     let rounded = pad.no_less (length bytes) in
@@ -320,15 +509,19 @@ padded-requires-clause-len g c =
     let unit : ℕ = unit_of a area in
     let place : ℕ = c.args.scan.now.current in
     let bytes : List ℕ = c.args.bytes.now in
+    let old : List (List ℕ) = sectors_of a area in
     let b : List ℕ = sector_bytes a area place in
-    let first : place ≡ 0 = ap (λ (s : Scan). s.current) c.requires.scan in
-    let has_sector : place < area.sectors = omega (arith, c.requires.lawful.some) in
-    let scanned : c.args.scan.now ≡ sector_scan unit place b = scan_current unit (sectors_of a area) c.args.scan.now c.requires.scan in
+    let count : length old ≡ area.sectors = length-sectors a area in
+    let is : open_sector (reading unit) old ≡ place = open_is unit old c.args.scan.now c.requires.scan in
+    let inside : open_sector (reading unit) old < length old = open_within (reading unit) old (omega (arith, c.requires.lawful.several)) in
+    let within : place < length old = omega arith in
+    let has_sector : place < area.sectors = omega arith in
+    let scanned : c.args.scan.now ≡ scan_at unit old place = scan_there unit old c.args.scan.now c.requires.scan in
     let lowest : c.args.scan.now.low ≡ low unit b = ap (λ (s : Scan). s.low) scanned in
     let end : c.args.scan.now.data_end ≡ data_end unit b = ap (λ (s : Scan). s.data_end) scanned in
     let is-unit : IsUnit unit = unit_is a area lawful is_area in
     let long : length b ≡ sector_size a area = length-sector a area lawful is_area place has_sector in
-    let fitting = fits_there unit (length bytes) b c.args.scan.now scanned c.requires.fits in
+    let fitting = fits_there unit (length bytes) old c.args.scan.now c.requires.scan c.requires.fits in
     let room : HasRoom unit b (length bytes) = HasRoom-from_fits unit place b (length bytes) is-unit (omega (arith, long, c.requires.lawful.at_most)) fitting in
     let pad = padding unit is-unit in
     let rounded = pad.no_less (length bytes) in
@@ -344,18 +537,22 @@ returns-clause-ok g c =
     let unit : ℕ = unit_of a area in
     let place : ℕ = c.args.scan.now.current in
     let bytes : List ℕ = c.args.bytes.now in
+    let old : List (List ℕ) = sectors_of a area in
     let b : List ℕ = sector_bytes a area place in
-    let first : place ≡ 0 = ap (λ (s : Scan). s.current) c.requires.scan in
-    let has_sector : place < area.sectors = omega (arith, c.requires.lawful.some) in
-    let scanned : c.args.scan.now ≡ sector_scan unit place b = scan_current unit (sectors_of a area) c.args.scan.now c.requires.scan in
+    let count : length old ≡ area.sectors = length-sectors a area in
+    let is : open_sector (reading unit) old ≡ place = open_is unit old c.args.scan.now c.requires.scan in
+    let inside : open_sector (reading unit) old < length old = open_within (reading unit) old (omega (arith, c.requires.lawful.several)) in
+    let within : place < length old = omega arith in
+    let has_sector : place < area.sectors = omega arith in
+    let scanned : c.args.scan.now ≡ scan_at unit old place = scan_there unit old c.args.scan.now c.requires.scan in
     let lowest : c.args.scan.now.low ≡ low unit b = ap (λ (s : Scan). s.low) scanned in
     let end : c.args.scan.now.data_end ≡ data_end unit b = ap (λ (s : Scan). s.data_end) scanned in
     let is-unit : IsUnit unit = unit_is a area lawful is_area in
     let long : length b ≡ sector_size a area = length-sector a area lawful is_area place has_sector in
-    let fitting = fits_there unit (length bytes) b c.args.scan.now scanned c.requires.fits in
+    let fitting = fits_there unit (length bytes) old c.args.scan.now c.requires.scan c.requires.fits in
     let room : HasRoom unit b (length bytes) = HasRoom-from_fits unit place b (length bytes) is-unit (omega (arith, long, c.requires.lawful.at_most)) fitting in
     let e : Entry = record { id = c.args.id; offset = c.args.scan.now.data_end; len = length bytes; part = 255 } in
-    let next : IsNext unit b e bytes = record { ordinary = c.requires.ordinary; place = end; long = refl } in
+    let follows : IsNext unit b e bytes = record { ordinary = c.requires.ordinary; place = end; long = refl } in
     let width : c.slot_size.result ≡ slot_size unit = c.slot_size.ensures.size ∙ ap (λ (x : Geometry). slot_size x.unit) c.geometry-unit.ensures in
     let at : c.args.scan.now.low - c.slot_size.result ≡ low unit b - slot_size unit = omega arith in
     let m : Device = g.F.Flash.device c.program_padded.new.flash in
@@ -364,8 +561,49 @@ returns-clause-ok g c =
     let last : Device = g.F.Flash.device c.program_padded-2.new.flash in
     let written : Writes m last area place (low unit b - slot_size unit) (padded_bytes (unit_of m area) (encoded e)) =
     subst (λ (offset : ℕ). Writes m last area place offset (padded_bytes (unit_of m area) (encoded e))) at (subst (λ (xs : List ℕ). Writes m last area place (c.args.scan.now.low - c.slot_size.result) (padded_bytes (unit_of m area) xs)) c.encode_entry.ensures c.in_ok-program_padded-2.ensures.ok) in
-    let put : AddsPairAt unit (sectors_of a area) (sectors_of last area) place c.args.id bytes = pair_put a area lawful is_area place has_sector m bytes room one.touches.banks first_part last e next written in
+    let put : AddsPairAt unit old (sectors_of last area) place c.args.id bytes = pair_put a area lawful is_area place has_sector m bytes room one.touches.banks first_part last e follows written in
+    let now : List ℕ = sector_at (sectors_of last area) place in
+    let full = pair_used unit place b now c.args.id bytes room put.adds in
     put
+
+pub returns-clause-list : goal.returns-clause-list
+returns-clause-list g c =
+    let a : Device = g.F.Flash.device c.args.flash.now in
+    let area : Area = c.args.area.now in
+    let lawful = g.met.F.Flash.is_lawful c.args.flash.now in
+    let is_area = c.requires.lawful.in_bank in
+    let unit : ℕ = unit_of a area in
+    let place : ℕ = c.args.scan.now.current in
+    let bytes : List ℕ = c.args.bytes.now in
+    let old : List (List ℕ) = sectors_of a area in
+    let b : List ℕ = sector_bytes a area place in
+    let count : length old ≡ area.sectors = length-sectors a area in
+    let is : open_sector (reading unit) old ≡ place = open_is unit old c.args.scan.now c.requires.scan in
+    let inside : open_sector (reading unit) old < length old = open_within (reading unit) old (omega (arith, c.requires.lawful.several)) in
+    let within : place < length old = omega arith in
+    let has_sector : place < area.sectors = omega arith in
+    let scanned : c.args.scan.now ≡ scan_at unit old place = scan_there unit old c.args.scan.now c.requires.scan in
+    let lowest : c.args.scan.now.low ≡ low unit b = ap (λ (s : Scan). s.low) scanned in
+    let end : c.args.scan.now.data_end ≡ data_end unit b = ap (λ (s : Scan). s.data_end) scanned in
+    let is-unit : IsUnit unit = unit_is a area lawful is_area in
+    let long : length b ≡ sector_size a area = length-sector a area lawful is_area place has_sector in
+    let fitting = fits_there unit (length bytes) old c.args.scan.now c.requires.scan c.requires.fits in
+    let room : HasRoom unit b (length bytes) = HasRoom-from_fits unit place b (length bytes) is-unit (omega (arith, long, c.requires.lawful.at_most)) fitting in
+    let free : is_closed_at (reading unit) old (next old place) ≡ false = next_open unit old c.args.scan.now c.requires.scan c.requires.redo in
+    let e : Entry = record { id = c.args.id; offset = c.args.scan.now.data_end; len = length bytes; part = 255 } in
+    let follows : IsNext unit b e bytes = record { ordinary = c.requires.ordinary; place = end; long = refl } in
+    let width : c.slot_size.result ≡ slot_size unit = c.slot_size.ensures.size ∙ ap (λ (x : Geometry). slot_size x.unit) c.geometry-unit.ensures in
+    let at : c.args.scan.now.low - c.slot_size.result ≡ low unit b - slot_size unit = omega arith in
+    let m : Device = g.F.Flash.device c.program_padded.new.flash in
+    let one = c.in_ok-program_padded.ensures in
+    let first_part : Writes a m area place (data_end unit b) (padded_bytes unit bytes) = subst (λ (offset : ℕ). Writes a m area place offset (padded_bytes unit bytes)) end one.ok in
+    let last : Device = g.F.Flash.device c.program_padded-2.new.flash in
+    let written : Writes m last area place (low unit b - slot_size unit) (padded_bytes (unit_of m area) (encoded e)) =
+    subst (λ (offset : ℕ). Writes m last area place offset (padded_bytes (unit_of m area) (encoded e))) at (subst (λ (xs : List ℕ). Writes m last area place (c.args.scan.now.low - c.slot_size.result) (padded_bytes (unit_of m area) xs)) c.encode_entry.ensures c.in_ok-program_padded-2.ensures.ok) in
+    let put : AddsPairAt unit old (sectors_of last area) place c.args.id bytes = pair_put a area lawful is_area place has_sector m bytes room one.touches.banks first_part last e follows written in
+    let now : List ℕ = sector_at (sectors_of last area) place in
+    let full = pair_used unit place b now c.args.id bytes room put.adds in
+    list_after unit old (sectors_of last area) place within is put.only put.adds.closed (λ _. full) ((c.args.id, bytes) ∷ []) free put.adds.list
 
 pub returns-clause-scan : goal.returns-clause-scan
 returns-clause-scan g c =
@@ -376,18 +614,22 @@ returns-clause-scan g c =
     let unit : ℕ = unit_of a area in
     let place : ℕ = c.args.scan.now.current in
     let bytes : List ℕ = c.args.bytes.now in
+    let old : List (List ℕ) = sectors_of a area in
     let b : List ℕ = sector_bytes a area place in
-    let first : place ≡ 0 = ap (λ (s : Scan). s.current) c.requires.scan in
-    let has_sector : place < area.sectors = omega (arith, c.requires.lawful.some) in
-    let scanned : c.args.scan.now ≡ sector_scan unit place b = scan_current unit (sectors_of a area) c.args.scan.now c.requires.scan in
+    let count : length old ≡ area.sectors = length-sectors a area in
+    let is : open_sector (reading unit) old ≡ place = open_is unit old c.args.scan.now c.requires.scan in
+    let inside : open_sector (reading unit) old < length old = open_within (reading unit) old (omega (arith, c.requires.lawful.several)) in
+    let within : place < length old = omega arith in
+    let has_sector : place < area.sectors = omega arith in
+    let scanned : c.args.scan.now ≡ scan_at unit old place = scan_there unit old c.args.scan.now c.requires.scan in
     let lowest : c.args.scan.now.low ≡ low unit b = ap (λ (s : Scan). s.low) scanned in
     let end : c.args.scan.now.data_end ≡ data_end unit b = ap (λ (s : Scan). s.data_end) scanned in
     let is-unit : IsUnit unit = unit_is a area lawful is_area in
     let long : length b ≡ sector_size a area = length-sector a area lawful is_area place has_sector in
-    let fitting = fits_there unit (length bytes) b c.args.scan.now scanned c.requires.fits in
+    let fitting = fits_there unit (length bytes) old c.args.scan.now c.requires.scan c.requires.fits in
     let room : HasRoom unit b (length bytes) = HasRoom-from_fits unit place b (length bytes) is-unit (omega (arith, long, c.requires.lawful.at_most)) fitting in
     let e : Entry = record { id = c.args.id; offset = c.args.scan.now.data_end; len = length bytes; part = 255 } in
-    let next : IsNext unit b e bytes = record { ordinary = c.requires.ordinary; place = end; long = refl } in
+    let follows : IsNext unit b e bytes = record { ordinary = c.requires.ordinary; place = end; long = refl } in
     let width : c.slot_size.result ≡ slot_size unit = c.slot_size.ensures.size ∙ ap (λ (x : Geometry). slot_size x.unit) c.geometry-unit.ensures in
     let at : c.args.scan.now.low - c.slot_size.result ≡ low unit b - slot_size unit = omega arith in
     let m : Device = g.F.Flash.device c.program_padded.new.flash in
@@ -396,12 +638,14 @@ returns-clause-scan g c =
     let last : Device = g.F.Flash.device c.program_padded-2.new.flash in
     let written : Writes m last area place (low unit b - slot_size unit) (padded_bytes (unit_of m area) (encoded e)) =
     subst (λ (offset : ℕ). Writes m last area place offset (padded_bytes (unit_of m area) (encoded e))) at (subst (λ (xs : List ℕ). Writes m last area place (c.args.scan.now.low - c.slot_size.result) (padded_bytes (unit_of m area) xs)) c.encode_entry.ensures c.in_ok-program_padded-2.ensures.ok) in
-    let put : AddsPairAt unit (sectors_of a area) (sectors_of last area) place c.args.id bytes = pair_put a area lawful is_area place has_sector m bytes room one.touches.banks first_part last e next written in
+    let put : AddsPairAt unit old (sectors_of last area) place c.args.id bytes = pair_put a area lawful is_area place has_sector m bytes room one.touches.banks first_part last e follows written in
+    let now : List ℕ = sector_at (sectors_of last area) place in
+    let full = pair_used unit place b now c.args.id bytes room put.adds in
     let size : c.padded.result ≡ padded unit (length bytes) = c.padded.ensures.value ∙ ap (λ (x : Geometry). padded x.unit (length bytes)) c.geometry-unit.ensures in
     let banks : last.banks ≡ a.banks = c.in_ok-program_padded-2.ensures.touches.banks ∙ one.touches.banks in
     let same : unit ≡ unit_of last area = sym (ap (λ (l : List Bank). (bank_at l area.bank).unit) banks) in
-    scan_grown unit place b (sector_at (sectors_of last area) place) c.args.id bytes c.args.scan.now c.slot_size.result c.padded.result put.adds scanned width size
-    ∙ ap (λ (k : ℕ). sector_scan unit k (sector_at (sectors_of last area) k)) first ∙ ap (λ (u : ℕ). scan_of u (sectors_of last area)) same
+    scan_added unit old (sectors_of last area) c.args.id bytes c.args.scan.now c.slot_size.result c.padded.result within c.requires.scan put full width size
+    ∙ ap (λ (u : ℕ). scan_of u (sectors_of last area)) same
 
 pub returns-clause-spent : goal.returns-clause-spent
 returns-clause-spent g c =
@@ -412,24 +656,66 @@ returns-clause-spent g c =
     let unit : ℕ = unit_of a area in
     let place : ℕ = c.args.scan.now.current in
     let bytes : List ℕ = c.args.bytes.now in
+    let old : List (List ℕ) = sectors_of a area in
     let b : List ℕ = sector_bytes a area place in
-    let first : place ≡ 0 = ap (λ (s : Scan). s.current) c.requires.scan in
-    let has_sector : place < area.sectors = omega (arith, c.requires.lawful.some) in
-    let scanned : c.args.scan.now ≡ sector_scan unit place b = scan_current unit (sectors_of a area) c.args.scan.now c.requires.scan in
+    let count : length old ≡ area.sectors = length-sectors a area in
+    let is : open_sector (reading unit) old ≡ place = open_is unit old c.args.scan.now c.requires.scan in
+    let inside : open_sector (reading unit) old < length old = open_within (reading unit) old (omega (arith, c.requires.lawful.several)) in
+    let within : place < length old = omega arith in
+    let has_sector : place < area.sectors = omega arith in
+    let scanned : c.args.scan.now ≡ scan_at unit old place = scan_there unit old c.args.scan.now c.requires.scan in
     let lowest : c.args.scan.now.low ≡ low unit b = ap (λ (s : Scan). s.low) scanned in
     let end : c.args.scan.now.data_end ≡ data_end unit b = ap (λ (s : Scan). s.data_end) scanned in
     let is-unit : IsUnit unit = unit_is a area lawful is_area in
     let long : length b ≡ sector_size a area = length-sector a area lawful is_area place has_sector in
-    let fitting = fits_there unit (length bytes) b c.args.scan.now scanned c.requires.fits in
+    let fitting = fits_there unit (length bytes) old c.args.scan.now c.requires.scan c.requires.fits in
     let room : HasRoom unit b (length bytes) = HasRoom-from_fits unit place b (length bytes) is-unit (omega (arith, long, c.requires.lawful.at_most)) fitting in
     let e : Entry = record { id = c.args.id; offset = c.args.scan.now.data_end; len = length bytes; part = 255 } in
-    let next : IsNext unit b e bytes = record { ordinary = c.requires.ordinary; place = end; long = refl } in
+    let follows : IsNext unit b e bytes = record { ordinary = c.requires.ordinary; place = end; long = refl } in
     let m : Device = g.F.Flash.device c.program_padded.new.flash in
     let one = c.in_ok-program_padded.ensures in
     let first_part : Writes a m area place (data_end unit b) (padded_bytes unit bytes) = subst (λ (offset : ℕ). Writes a m area place offset (padded_bytes unit bytes)) end one.ok in
     let last : Device = g.F.Flash.device c.program_padded-2.new.flash in
     pair_spent a area lawful is_area place has_sector m bytes room one.touches.banks first_part last e one.spent
     (subst (λ (xs : List ℕ). Spends m last (padded (unit_of m area) (length xs) / unit_of m area)) c.encode_entry.ensures c.in_ok-program_padded-2.ensures.spent)
+
+pub returns-clause-sound : goal.returns-clause-sound
+returns-clause-sound g c =
+    let a : Device = g.F.Flash.device c.args.flash.now in
+    let area : Area = c.args.area.now in
+    let lawful = g.met.F.Flash.is_lawful c.args.flash.now in
+    let is_area = c.requires.lawful.in_bank in
+    let unit : ℕ = unit_of a area in
+    let place : ℕ = c.args.scan.now.current in
+    let bytes : List ℕ = c.args.bytes.now in
+    let old : List (List ℕ) = sectors_of a area in
+    let b : List ℕ = sector_bytes a area place in
+    let count : length old ≡ area.sectors = length-sectors a area in
+    let is : open_sector (reading unit) old ≡ place = open_is unit old c.args.scan.now c.requires.scan in
+    let inside : open_sector (reading unit) old < length old = open_within (reading unit) old (omega (arith, c.requires.lawful.several)) in
+    let within : place < length old = omega arith in
+    let has_sector : place < area.sectors = omega arith in
+    let scanned : c.args.scan.now ≡ scan_at unit old place = scan_there unit old c.args.scan.now c.requires.scan in
+    let lowest : c.args.scan.now.low ≡ low unit b = ap (λ (s : Scan). s.low) scanned in
+    let end : c.args.scan.now.data_end ≡ data_end unit b = ap (λ (s : Scan). s.data_end) scanned in
+    let is-unit : IsUnit unit = unit_is a area lawful is_area in
+    let long : length b ≡ sector_size a area = length-sector a area lawful is_area place has_sector in
+    let fitting = fits_there unit (length bytes) old c.args.scan.now c.requires.scan c.requires.fits in
+    let room : HasRoom unit b (length bytes) = HasRoom-from_fits unit place b (length bytes) is-unit (omega (arith, long, c.requires.lawful.at_most)) fitting in
+    let e : Entry = record { id = c.args.id; offset = c.args.scan.now.data_end; len = length bytes; part = 255 } in
+    let follows : IsNext unit b e bytes = record { ordinary = c.requires.ordinary; place = end; long = refl } in
+    let width : c.slot_size.result ≡ slot_size unit = c.slot_size.ensures.size ∙ ap (λ (x : Geometry). slot_size x.unit) c.geometry-unit.ensures in
+    let at : c.args.scan.now.low - c.slot_size.result ≡ low unit b - slot_size unit = omega arith in
+    let m : Device = g.F.Flash.device c.program_padded.new.flash in
+    let one = c.in_ok-program_padded.ensures in
+    let first_part : Writes a m area place (data_end unit b) (padded_bytes unit bytes) = subst (λ (offset : ℕ). Writes a m area place offset (padded_bytes unit bytes)) end one.ok in
+    let last : Device = g.F.Flash.device c.program_padded-2.new.flash in
+    let written : Writes m last area place (low unit b - slot_size unit) (padded_bytes (unit_of m area) (encoded e)) =
+    subst (λ (offset : ℕ). Writes m last area place offset (padded_bytes (unit_of m area) (encoded e))) at (subst (λ (xs : List ℕ). Writes m last area place (c.args.scan.now.low - c.slot_size.result) (padded_bytes (unit_of m area) xs)) c.encode_entry.ensures c.in_ok-program_padded-2.ensures.ok) in
+    let put : AddsPairAt unit old (sectors_of last area) place c.args.id bytes = pair_put a area lawful is_area place has_sector m bytes room one.touches.banks first_part last e follows written in
+    let now : List ℕ = sector_at (sectors_of last area) place in
+    let full = pair_used unit place b now c.args.id bytes room put.adds in
+    adds_sound unit place b now c.args.id bytes room fitting put.adds
 
 pub returns-clause-undamaged : goal.returns-clause-undamaged
 returns-clause-undamaged g c =
@@ -440,18 +726,23 @@ returns-clause-undamaged g c =
     let unit : ℕ = unit_of a area in
     let place : ℕ = c.args.scan.now.current in
     let bytes : List ℕ = c.args.bytes.now in
+    let old : List (List ℕ) = sectors_of a area in
     let b : List ℕ = sector_bytes a area place in
-    let first : place ≡ 0 = ap (λ (s : Scan). s.current) c.requires.scan in
-    let has_sector : place < area.sectors = omega (arith, c.requires.lawful.some) in
-    let scanned : c.args.scan.now ≡ sector_scan unit place b = scan_current unit (sectors_of a area) c.args.scan.now c.requires.scan in
+    let count : length old ≡ area.sectors = length-sectors a area in
+    let is : open_sector (reading unit) old ≡ place = open_is unit old c.args.scan.now c.requires.scan in
+    let inside : open_sector (reading unit) old < length old = open_within (reading unit) old (omega (arith, c.requires.lawful.several)) in
+    let within : place < length old = omega arith in
+    let has_sector : place < area.sectors = omega arith in
+    let scanned : c.args.scan.now ≡ scan_at unit old place = scan_there unit old c.args.scan.now c.requires.scan in
     let lowest : c.args.scan.now.low ≡ low unit b = ap (λ (s : Scan). s.low) scanned in
     let end : c.args.scan.now.data_end ≡ data_end unit b = ap (λ (s : Scan). s.data_end) scanned in
     let is-unit : IsUnit unit = unit_is a area lawful is_area in
     let long : length b ≡ sector_size a area = length-sector a area lawful is_area place has_sector in
-    let fitting = fits_there unit (length bytes) b c.args.scan.now scanned c.requires.fits in
+    let fitting = fits_there unit (length bytes) old c.args.scan.now c.requires.scan c.requires.fits in
     let room : HasRoom unit b (length bytes) = HasRoom-from_fits unit place b (length bytes) is-unit (omega (arith, long, c.requires.lawful.at_most)) fitting in
+    let free : is_closed_at (reading unit) old (next old place) ≡ false = next_open unit old c.args.scan.now c.requires.scan c.requires.redo in
     let e : Entry = record { id = c.args.id; offset = c.args.scan.now.data_end; len = length bytes; part = 255 } in
-    let next : IsNext unit b e bytes = record { ordinary = c.requires.ordinary; place = end; long = refl } in
+    let follows : IsNext unit b e bytes = record { ordinary = c.requires.ordinary; place = end; long = refl } in
     let width : c.slot_size.result ≡ slot_size unit = c.slot_size.ensures.size ∙ ap (λ (x : Geometry). slot_size x.unit) c.geometry-unit.ensures in
     let at : c.args.scan.now.low - c.slot_size.result ≡ low unit b - slot_size unit = omega arith in
     let m : Device = g.F.Flash.device c.program_padded.new.flash in
@@ -460,5 +751,7 @@ returns-clause-undamaged g c =
     let last : Device = g.F.Flash.device c.program_padded-2.new.flash in
     let written : Writes m last area place (low unit b - slot_size unit) (padded_bytes (unit_of m area) (encoded e)) =
     subst (λ (offset : ℕ). Writes m last area place offset (padded_bytes (unit_of m area) (encoded e))) at (subst (λ (xs : List ℕ). Writes m last area place (c.args.scan.now.low - c.slot_size.result) (padded_bytes (unit_of m area) xs)) c.encode_entry.ensures c.in_ok-program_padded-2.ensures.ok) in
-    let put : AddsPairAt unit (sectors_of a area) (sectors_of last area) place c.args.id bytes = pair_put a area lawful is_area place has_sector m bytes room one.touches.banks first_part last e next written in
-    undamaged_first unit place (sectors_of a area) (sectors_of last area) first (adds-undamaged unit place b (sector_at (sectors_of last area) place) c.args.id bytes room fitting put.adds)
+    let put : AddsPairAt unit old (sectors_of last area) place c.args.id bytes = pair_put a area lawful is_area place has_sector m bytes room one.touches.banks first_part last e follows written in
+    let now : List ℕ = sector_at (sectors_of last area) place in
+    let full = pair_used unit place b now c.args.id bytes room put.adds in
+    undamaged_after unit old (sectors_of last area) place within is put.only put.adds.closed (λ _. full) (omega (arith, c.requires.lawful.several)) free (adds_sound unit place b now c.args.id bytes room fitting put.adds)

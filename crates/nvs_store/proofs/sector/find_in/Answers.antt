@@ -4,14 +4,14 @@ use Rattle.nvs_store.specs.declared.scan.Found.{Found}
 use Rattle.nvs_store.specs.Sector.{last_placed}
 use Rattle.nvs_store.specs.Scans.{found_at}
 use Rattle.nvs_store.proofs.SlotReads.{slot_size_bounds}
-use Rattle.nvs_store.proofs.Lookups.{entries_to, used_inside, entries_to_used, find_here, find_other, find_none}
+use Rattle.nvs_store.proofs.Lookups.{entries_to, used_inside, entries_to_within, find_here, find_other, find_none}
 use Rattle.nvs_store.proofs.sector.find_in.Goals as goal
-use Rattle.nvs_store.proofs.sector.find_in.Goals.{in-Some+else-placed-id, in_default}
+use Rattle.nvs_store.proofs.sector.find_in.Goals.{in-Some+else-is_wanted, in_default}
 
 pub loop-index-init : goal.loop-index-init
 loop-index-init c = record {
   inside = omega arith;
-  later = ap (last_placed c.args.id) (entries_to_used c.args.unit c.args.bytes.now c.used_count-index.result c.used_count-index.ensures);
+  later = ap (last_placed c.args.wanted) (entries_to_within c.args.unit c.args.bytes.now c.args.slots c.min-index.result (omega arith));
 }
 
 pub counting_entry-requires-clause-inside : goal.counting_entry-requires-clause-inside
@@ -19,19 +19,19 @@ counting_entry-requires-clause-inside c =
     let size = slot_size_bounds c.args.unit c.requires.unit in
     used_inside c.args.unit c.args.bytes.now c.loop-index.index (omega arith) (omega arith) c.loop-index.invariant.inside
 
-pub returns-then-placed-id : goal.returns-then-placed-id
-returns-then-placed-id c = ap (λ (f : Found). Some f) c.at.ensures ∙ ap (option_map (found_at c.args.place)) (find_here c.args.unit c.args.bytes.now c.args.id c.loop-index.index c.in-Some.placed _ c.loop-index-test.true c.in-Some.ensures c.if-placed-id.true c.loop-index.invariant.later)
+pub returns-then-is_wanted : goal.returns-then-is_wanted
+returns-then-is_wanted c = ap (λ (f : Found). Some f) c.at.ensures ∙ ap (option_map (found_at c.args.place)) (find_here c.args.unit c.args.bytes.now c.args.wanted c.loop-index.index c.in-Some.placed _ c.loop-index-test.true c.in-Some.ensures (sym c.is_wanted.ensures ∙ c.if-is_wanted.true) c.loop-index.invariant.later)
 
 pub loop-index-preserved : goal.loop-index-preserved
 loop-index-preserved c = record {
   inside = omega arith;
   later = elim c.match-counting_entry.branch [
-    | in-Some+else-placed-id w ↦ find_other c.args.unit c.args.bytes.now c.args.id c.loop-index.index w.in-Some.placed _ c.loop-index-test.true w.in-Some.ensures w.if-placed-id.false c.loop-index.invariant.later
-    | in_default w ↦ find_none c.args.unit c.args.bytes.now c.args.id c.loop-index.index _ c.loop-index-test.true (sym w.in_default.is ∙ c.counting_entry.ensures) c.loop-index.invariant.later
+    | in-Some+else-is_wanted w ↦ find_other c.args.unit c.args.bytes.now c.args.wanted c.loop-index.index w.in-Some.placed _ c.loop-index-test.true w.in-Some.ensures (sym w.is_wanted.ensures ∙ w.if-is_wanted.false) c.loop-index.invariant.later
+    | in_default w ↦ find_none c.args.unit c.args.bytes.now c.args.wanted c.loop-index.index _ c.loop-index-test.true (sym w.in_default.is ∙ c.counting_entry.ensures) c.loop-index.invariant.later
   ];
 }
 
 pub returns : goal.returns
 returns c =
     let none : 0 ≡ c.loop-index.index = omega arith in
-    ap (option_map (found_at c.args.place)) (ap (λ (k : ℕ). last_placed c.args.id (entries_to c.args.unit c.args.bytes.now k)) none ∙ c.loop-index.invariant.later)
+    ap (option_map (found_at c.args.place)) (ap (λ (k : ℕ). last_placed c.args.wanted (entries_to c.args.unit c.args.bytes.now k)) none ∙ c.loop-index.invariant.later)

@@ -4,7 +4,7 @@ use Rattle.std.specs.List.{list_any}
 use Rattle.slot_list.proofs.SlotLemmas.{factor_le}
 use Rattle.nvs_store.specs.declared.scan.Placed.{Placed}
 use Rattle.nvs_store.specs.Geometry.{slot_size, capacity}
-use Rattle.nvs_store.specs.Sector.{used_slots, low, placed_cost, is_overfull}
+use Rattle.nvs_store.specs.Sector.{used_slots, low, placed_cost}
 use Rattle.nvs_store.proofs.SlotReads.{slot_size_bounds}
 use Rattle.nvs_store.proofs.Lookups.{used_inside, entries_to_used, sum_step, any_step, overfull_is}
 use Rattle.nvs_store.proofs.sector.is_overfull.Goals as goal

@@ -1,5 +1,4 @@
 use Rattle.std.proofs.Common.{ℕ, sym, ap, ◌∙◌, true, false}
-use Rattle.nvs_store.specs.Entries.{decoded}
 use Rattle.nvs_store.specs.Sector.{slot_at, counts}
 use Rattle.nvs_store.proofs.Lookups.{counting_entry-some, counting_entry-none}
 use Rattle.nvs_store.proofs.slots.counting_entry.Goals as goal

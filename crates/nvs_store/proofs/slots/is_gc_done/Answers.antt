@@ -1,6 +1,5 @@
 use Rattle.std.proofs.Common.{sym, ap, ◌∙◌, ◌&&◌, Bool, eqb, Some, None, eq-eqb}
 use Rattle.std.proofs.lemmas.Bool.{and_left, ne_eqb}
-use Rattle.nvs_store.specs.Entries.{decoded}
 use Rattle.nvs_store.specs.Sector.{slot_at}
 use Rattle.nvs_store.proofs.EntryBytes.{is_gc_done-is}
 use Rattle.nvs_store.proofs.slots.is_gc_done.Goals as goal

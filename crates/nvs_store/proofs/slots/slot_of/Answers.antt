@@ -1,4 +1,4 @@
-use Rattle.std.proofs.Common.{ℕ, List, length, slice_range, ap, sym, ◌+◌, ◌-◌, ◌*◌, ◌∙◌}
+use Rattle.std.proofs.Common.{ℕ, List, slice_range, ap, ◌+◌, ◌∙◌}
 use Rattle.slot_list.proofs.SlotLemmas.{bytes-slot_at}
 use Rattle.nvs_store.specs.Geometry.{slot_size}
 use Rattle.nvs_store.proofs.slots.slot_of.Goals as goal

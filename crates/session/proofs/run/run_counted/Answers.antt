@@ -1,15 +1,17 @@
 use Rattle.std.proofs.Common.{◌∷◌, List, subst}
 use Rattle.script_lines.specs.declared.line.Line.{Line}
 use Rattle.script_lines.specs.declared.line.Line.TheVariants.{Mount}
-use Rattle.session.proofs.SoFar.{SoFar, opened, one_more, whole, next_line, no_line}
+use Rattle.session.proofs.SoFar.{SoFar, begun, one_more, whole, next_line, no_line}
 use Rattle.session.proofs.run.run_counted.Goals as goal
 
 pub loop-line-init : goal.loop-line-init
-loop-line-init g c = record {
-  so_far = rw (c.in_ok-push.ensures.ok, c.new-answers.ensures) (opened c.args.lines.now (g.B.Flash.device c.args.bench.now) c.requires.on);
-  sound = record { lawful = c.requires.lawful; role = c.requires.role; undamaged = c.in-Ok.ensures.undamaged };
-  stands = λ on. c.in-Ok.ensures.scan;
-}
+loop-line-init g c =
+    let first = g.B.Flash.device c.args.bench.now in
+    record {
+      so_far = rw (c.in_ok-push.ensures.ok, c.new-answers.ensures) (one_more Mount c.in-Ok.opened.answer (begun (Mount ∷ c.args.lines.now) first) c.in-Ok.ensures.done);
+      sound = c.in-Ok.ensures.sound;
+      ready = c.in-Ok.ensures.ready;
+    }
 
 pub loop-line-preserved : goal.loop-line-preserved
 loop-line-preserved g c =
@@ -19,7 +21,7 @@ loop-line-preserved g c =
     record {
       so_far = rw (c.in_ok-push-2.ensures.ok) (one_more c.line-item.result c.in_ok-answer.answer before c.in_ok-answer.ensures.done);
       sound = c.run_line.ensures.sound;
-      stands = c.run_line.ensures.stands;
+      ready = c.run_line.ensures.ready;
     }
 
 pub returns-clause-runs : goal.returns-clause-runs

@@ -1,6 +1,6 @@
 use Rattle.std.proofs.Common.{◌≡◌, ◌∷◌, drop, true}
 use Rattle.script_lines.specs.declared.line.Line.TheVariants.{Mount}
-use Rattle.session.specs.Standing.{IsSound, Stands}
+use Rattle.session.specs.Standing.{IsSound, IsReady}
 use Rattle.session.proofs.SoFar.{SoFar}
 use Rattle.session.proofs.run.run_counted.Given as goal
 
@@ -10,5 +10,5 @@ invariant-loop-line g l =
     record {
       so_far : SoFar l.area (Mount ∷ l.lines) (drop l.line-index l.lines) l.answers (device l.fn.bench) (device l.bench);
       sound : IsSound (device l.bench) l.area;
-      stands : (device l.bench).is_on ≡ true → Stands (device l.bench) l.area l.scan;
+      ready : IsReady (device l.bench) l.area l.store;
     }

@@ -9,4 +9,4 @@ pub returns-clause-state : goal.returns-clause-state
 returns-clause-state g c =
     let d = g.F.Flash.device c.args.flash.now in
     let size = ap (λ (shape : Geometry). shape.sector) c.geometry-size.ensures in
-    c.read.ensures ∙ ap state_of (c.area_view.ensures.bytes ∙ whole_range (sector_bytes d c.args.area.now c.args.sector) c.geometry-size.result.sector (size_is d c.args.area.now c.args.sector c.requires (g.met.F.Flash.is_lawful c.args.flash.now) ∙ sym size))
+    c.read_sector.ensures ∙ ap state_of (c.area_view.ensures.bytes ∙ whole_range (sector_bytes d c.args.area.now c.args.sector) c.geometry-size.result.sector (size_is d c.args.area.now c.args.sector c.requires (g.met.F.Flash.is_lawful c.args.flash.now) ∙ sym size))

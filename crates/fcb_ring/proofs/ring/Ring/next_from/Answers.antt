@@ -4,7 +4,8 @@ use Rattle.flash_map.specs.declared.area.Geometry.{Geometry}
 use Rattle.flash_map.specs.Area.{unit_of, sectors_of, sector_size}
 use Rattle.flash_map.specs.Units.{padded}
 use Rattle.fcb_ring.specs.declared.record.RecordAt.{RecordAt}
-use Rattle.fcb_ring.specs.Entries.{sector_at, records_from, following}
+use Rattle.fcb_ring.specs.Entries.{records_from, following}
+use Rattle.flash_map.specs.Area.{sector_at}
 use Rattle.fcb_ring.proofs.AreaLemmas.{has_size, count-sectors}
 use Rattle.fcb_ring.proofs.RecordLemmas.{header_fits}
 use Rattle.fcb_ring.proofs.ReadLemmas.{place-facts, found-there, none-there, none-behind, some_from, is_none_from}

@@ -4,7 +4,8 @@ use Rattle.flash_map.specs.declared.area.Geometry.{Geometry}
 use Rattle.flash_map.specs.Area.{unit_of, sectors_of}
 use Rattle.fcb_ring.specs.declared.record.Record.{Record}
 use Rattle.fcb_ring.specs.Records.{record_at, walk}
-use Rattle.fcb_ring.specs.Entries.{sector_at, placed}
+use Rattle.fcb_ring.specs.Entries.{placed}
+use Rattle.flash_map.specs.Area.{sector_at}
 use Rattle.fcb_ring.proofs.NextLemmas.{first-passing}
 use Rattle.fcb_ring.proofs.ring.Ring.next_in.Goals as goal
 

@@ -1,0 +1,119 @@
+-- An append that opens the next sector first: what the first call left, and then the second.
+use Rattle.std.proofs.Common.{◌≡◌, ℕ, ◌+◌, ◌-◌, ◌*◌, ◌/◌, ◌<◌, ◌≤◌, ◌≢◌, ltb, leb, Bool, true, false, cond, eqb, not, ◌||◌, List, [], ◌∷◌, ◌++◌, length, inl, inr, refl, sym, ap, subst, ◌∙◌, arith, Result, Ok, Err, is_err}
+use Rattle.std.specs.Result.{IsErr}
+use Rattle.std.proofs.lemmas.Bool.{ne_eqb, eq-eqb, both_ways, and_parts, ltb-true, leb-true}
+use Rattle.flash_sim.specs.Bank.{bank_at}
+use Rattle.flash_sim.specs.Device.{Device}
+use Rattle.flash_sim.specs.declared.flash.Bank.{Bank}
+use Rattle.flash_map.specs.declared.area.Area.{Area}
+use Rattle.flash_map.specs.Area.{unit_of, sector_size, sectors_of}
+use Rattle.flash_map.specs.Spending.{Spends, SpendsAtMost}
+use Rattle.flash_map.specs.Touches.{Touches}
+use Rattle.flash_map.specs.Units.{padded}
+use Rattle.flash_map.proofs.SpendingLemmas.{spends_then, spends_then_most, most_weaker}
+use Rattle.fcb_ring.specs.declared.record.RecordAt.{RecordAt}
+use Rattle.fcb_ring.specs.declared.ring.Ring.{Ring}
+use Rattle.fcb_ring.specs.declared.ring.Stage.{Stage}
+use Rattle.fcb_ring.specs.declared.ring.Stage.TheVariants.{Ready}
+use Rattle.fcb_ring.specs.Changing.{newest_place, next_place, PutsRecord, AddsRecord, CutList, IsHeaderLoss, CutAppend, append_units, GoesOn, IsReady, IsDown, has_room, is_scratch_left}
+use Rattle.fcb_ring.specs.Entries.{states, HasEntries}
+use Rattle.fcb_ring.specs.Rings.{turned}
+use Rattle.fcb_ring.specs.Standing.{StandsOn, FitsStage, entries_on, KeepsEntries, is_up}
+use Rattle.fcb_ring.specs.Writing.{record_cost}
+use Rattle.fcb_ring.proofs.AreaLemmas.{count-sectors, length-states}
+
+pub is_err_by : {T E : Type 0} (r : Result T E) (P : Bool → Type 0) → IsErr r → P true → P (is_err r)
+is_err_by (Ok x) P e p = absurd (clash e)
+  where
+    clash : false ≡ true → ⊥
+    clash e = cc
+is_err_by (Err e) P is p = p
+
+-- the unit and the sectors' size stay
+pub unit-after : (a b : Device) (area other : Area) → b.banks ≡ a.banks → other ≡ area → unit_of b other ≡ unit_of a area
+unit-after a b area other banks same = ap (λ (all : List Bank). (bank_at all other.bank).unit) banks ∙ ap (unit_of a) same
+
+pub size-after : (a b : Device) (area other : Area) → b.banks ≡ a.banks → other ≡ area → sector_size b other ≡ sector_size a area
+size-after a b area other banks same = ap (λ (all : List Bank). (bank_at all other.bank).sector) banks ∙ ap (sector_size a) same
+
+pub adds-here : (old new : Device) (ring : Ring) (body : List ℕ) → ring.used < ring.area.sectors → PutsRecord old new ring body → AddsRecord old new ring.area (newest_place ring) body
+adds-here old new ring body free puts =
+    (puts.at, puts.sector, subst (λ (b : Bool). HasEntries (unit_of new ring.area) (sectors_of new ring.area) (entries_on old ring.area ++ cond b [] ((puts.at, body) ∷ []))) (ne_eqb ring.used ring.area.sectors (λ (e : ring.used ≡ ring.area.sectors). omega arith)) puts.list)
+
+-- the sector that was opened is the newest then
+opened-place : (before ring : Ring) → ring.area ≡ before.area → ring.oldest ≡ before.oldest → ring.used ≡ before.used + 1 → newest_place ring ≡ next_place before
+opened-place before ring same oldest more =
+    let back : ring.used - 1 ≡ before.used = omega arith in
+    ap (λ (x : Area). turned x.sectors ring.oldest (ring.used - 1)) same ∙ ap (λ (o : ℕ). turned before.area.sectors o (ring.used - 1)) oldest ∙ ap (turned before.area.sectors before.oldest) back
+
+pub adds-after : (a b c : Device) (before ring : Ring) (body : List ℕ) → ring.area ≡ before.area → ring.oldest ≡ before.oldest → ring.used ≡ before.used + 1 → KeepsEntries a b before.area → ring.used < ring.area.sectors → PutsRecord b c ring body
+    → AddsRecord a c before.area (next_place before) body
+adds-after a b c before ring body same oldest more kept free puts =
+    let area = before.area in
+    let here = adds-here b c ring body free puts in
+    let there : HasEntries (unit_of c before.area) (sectors_of c before.area) (entries_on b before.area ++ (here.0, body) ∷ []) = subst (λ (x : Area). HasEntries (unit_of c x) (sectors_of c x) (entries_on b x ++ (here.0, body) ∷ [])) same here.2 in
+    let place : newest_place ring ≡ next_place before = opened-place before ring same oldest more in
+    (here.0, here.1 ∙ place, subst (λ (l : List (RecordAt × List ℕ)). HasEntries (unit_of c area) (sectors_of c area) (l ++ (here.0, body) ∷ [])) kept.are there)
+
+pub cut-after : (a b c : Device) (before ring : Ring) (body : List ℕ) → ring.area ≡ before.area → ring.oldest ≡ before.oldest → ring.used ≡ before.used + 1 → KeepsEntries a b before.area → b.is_on ≡ a.is_on → CutAppend b c ring.area (newest_place ring) body
+    → CutAppend a c before.area (next_place before) body
+cut-after a b c before ring body same oldest more kept power cut = by (subst (λ (p : ℕ). CutAppend b c before.area p body) (opened-place before ring same oldest more) (subst (λ (x : Area). CutAppend b c x (newest_place ring) body) same cut))
+  where
+    by : CutAppend b c before.area (next_place before) body → CutAppend a c before.area (next_place before) body
+    by (inl (list, loss)) = inl (subst (λ (l : List (RecordAt × List ℕ)). HasEntries (unit_of c before.area) (sectors_of c before.area) l) kept.are list, λ (on : a.is_on ≡ true). loss (power ∙ on))
+    by (inr (done, loss, list)) = inr (done, loss, subst (λ (l : List (RecordAt × List ℕ)). CutList (unit_of c before.area) (sectors_of c before.area) l (next_place before) body done) kept.are list)
+
+-- what both calls spend
+pub spends-both : (a b c : Device) (area other : Area) (len : ℕ) → b.banks ≡ a.banks → other ≡ area → Spends a b (padded (unit_of a area) 8 / unit_of a area) → Spends b c (record_cost (unit_of b other) len / unit_of b other)
+    → Spends a c (append_units (unit_of a area) len false)
+spends-both a b c area other len banks same first second =
+    let unit = unit_of a area in
+    let two : Spends b c (record_cost (unit_of a area) len / unit_of a area) = subst (λ (u : ℕ). Spends b c (record_cost u len / u)) (unit-after a b area other banks same) second in
+    let swap : padded unit 8 / unit + record_cost unit len / unit ≡ record_cost unit len / unit + padded unit 8 / unit = omega arith in
+    subst (λ (n : ℕ). Spends a c n) swap (spends_then a b c (padded unit 8 / unit) (record_cost unit len / unit) first two)
+
+pub most-first : (a b : Device) (unit len : ℕ) → SpendsAtMost a b (padded unit 8 / unit) → SpendsAtMost a b (append_units unit len false)
+most-first a b unit len first = most_weaker a b (padded unit 8 / unit) (append_units unit len false) (omega arith) first
+
+pub most-both : (a b c : Device) (area other : Area) (len : ℕ) → b.banks ≡ a.banks → other ≡ area → Spends a b (padded (unit_of a area) 8 / unit_of a area) → SpendsAtMost b c (record_cost (unit_of b other) len / unit_of b other)
+    → SpendsAtMost a c (append_units (unit_of a area) len false)
+most-both a b c area other len banks same first second =
+    let unit = unit_of a area in
+    let two : SpendsAtMost b c (record_cost (unit_of a area) len / unit_of a area) = subst (λ (u : ℕ). SpendsAtMost b c (record_cost u len / u)) (unit-after a b area other banks same) second in
+    most_weaker a c (padded unit 8 / unit + record_cost unit len / unit) (append_units unit len false) (omega arith) (spends_then_most a b c (padded unit 8 / unit) (record_cost unit len / unit) first two)
+
+-- ---- what the tests before an append say
+
+pub ready-used : (d : Device) (ring : Ring) → StandsOn d ring → ring.stage ≡ Ready → ring.used < ring.area.sectors
+ready-used d ring on ready =
+    let fits : FitsStage Ready (states (unit_of d ring.area) (sectors_of d ring.area)) ring.oldest ring.used = subst (λ (s : Stage). FitsStage s (states (unit_of d ring.area) (sectors_of d ring.area)) ring.oldest ring.used) ready on.sectors.stage in
+    omega (arith, fits.0, length-states (unit_of d ring.area) (sectors_of d ring.area), count-sectors d ring.area)
+
+-- another sector than the scratch one is free
+pub more-free : (d : Device) (ring : Ring) → StandsOn d ring → ring.stage ≡ Ready → is_scratch_left ring ≡ false → ring.used + 1 < ring.area.sectors
+more-free d ring on ready not_left =
+    let below = ready-used d ring on ready in
+    let apart : ring.used + 1 ≢ ring.area.sectors = λ (e : ring.used + 1 ≡ ring.area.sectors). both_ways (eqb (ring.used + 1) ring.area.sectors) not_left (eq-eqb (ring.used + 1) ring.area.sectors e) in
+    omega arith
+
+pub room-is : (unit size : ℕ) (ring : Ring) (kept len : ℕ) → has_room unit size ring kept len ≡ true → (0 < ring.used) × (ring.end + record_cost unit len ≤ size)
+room-is unit size ring kept len has =
+    let parts = and_parts (ltb 0 ring.used) (leb (ring.end + record_cost unit len + kept) size) has in
+    let first : 0 < ring.used = ltb-true 0 ring.used parts.0 in
+    let second : ring.end + record_cost unit len + kept ≤ size = leb-true (ring.end + record_cost unit len + kept) size parts.1 in
+    (first, omega arith)
+
+pub units-here : (unit len : ℕ) (here : Bool) → here ≡ true → append_units unit len here ≡ record_cost unit len / unit
+units-here unit len here is = ap (append_units unit len) is ∙ omega arith
+
+pub place-here : (here : Bool) (first second : ℕ) → here ≡ true → first ≡ cond here first second
+place-here here first second is = sym (ap (λ (b : Bool). cond b first second) is)
+
+pub goes-here : (before after : Ring) (here : Bool) → here ≡ true → after.oldest ≡ before.oldest → after.used ≡ before.used → after.id ≡ before.id → GoesOn before after here
+goes-here before after here is oldest used id = subst (λ (b : Bool). GoesOn before after b) (sym is) (record { oldest = oldest; used = omega arith; id = id })
+
+pub place-next : (here : Bool) (first second : ℕ) → here ≡ false → second ≡ cond here first second
+place-next here first second is = sym (ap (λ (b : Bool). cond b first second) is)
+
+pub units-next : (unit len : ℕ) (here : Bool) → here ≡ false → append_units unit len false ≡ append_units unit len here
+units-next unit len here is = sym (ap (append_units unit len) is)

@@ -1,0 +1,108 @@
+use Rattle.std.proofs.Common.{◌≡◌, ◌≤◌, ◌<◌, ◌+◌, ◌*◌, ◌/◌, ℕ, List, true, false, length, inl, inr, ◌∷◌, [], ap, sym, subst, ◌∙◌, arith}
+use Rattle.flash_sim.specs.Device.{Device}
+use Rattle.flash_map.specs.Area.{unit_of, sector_size}
+use Rattle.flash_map.specs.Touches.{Touches}
+use Rattle.flash_map.specs.Units.{padded}
+use Rattle.flash_map.specs.declared.area.Area.{Area}
+use Rattle.flash_map.proofs.PieceLemmas.{on_err}
+use Rattle.flash_map.proofs.Touches.{then}
+use Rattle.fcb_ring.specs.declared.ring.Ring.{Ring}
+use Rattle.fcb_ring.specs.declared.ring.Stage.TheVariants.{Ready}
+use Rattle.fcb_ring.specs.Standing.{is_finished}
+use Rattle.fcb_ring.specs.Writing.{record_cost}
+use Rattle.fcb_ring.proofs.AppendLemmas.{is_err_by, unit-after, size-after, adds-after, cut-after, spends-both, most-first, most-both}
+use Rattle.fcb_ring.proofs.ring.Ring.put_in_next.Goals as goal
+
+pub put_record-requires-clause-writes : goal.put_record-requires-clause-writes
+put_record-requires-clause-writes g c = ap is_finished c.in_ok-open_next.ensures.stage
+
+pub put_record-requires-clause-some : goal.put_record-requires-clause-some
+put_record-requires-clause-some g c = omega (arith, c.in_ok-open_next.ensures.used)
+
+pub put_record-requires-clause-short : goal.put_record-requires-clause-short
+put_record-requires-clause-short g c =
+    let a : Device = g.F.Flash.device c.args.flash.now in
+    let b : Device = g.F.Flash.device c.open_next.new.flash in
+    let r : Ring = c.open_next.new.self in
+    let unit : unit_of b r.area ≡ unit_of a c.args.self.now.area = unit-after a b c.args.self.now.area r.area c.in_ok-open_next.ensures.touches.banks c.in_ok-open_next.ensures.area in
+    subst (λ (u : ℕ). record_cost u (length c.args.body.now) ≤ 400) (sym unit) c.requires.short
+
+pub put_record-requires-clause-fits : goal.put_record-requires-clause-fits
+put_record-requires-clause-fits g c =
+    let a : Device = g.F.Flash.device c.args.flash.now in
+    let b : Device = g.F.Flash.device c.open_next.new.flash in
+    let r : Ring = c.open_next.new.self in
+    let area : Area = c.args.self.now.area in
+    let unit : unit_of b r.area ≡ unit_of a area = unit-after a b area r.area c.in_ok-open_next.ensures.touches.banks c.in_ok-open_next.ensures.area in
+    let size : sector_size b r.area ≡ sector_size a area = size-after a b area r.area c.in_ok-open_next.ensures.touches.banks c.in_ok-open_next.ensures.area in
+    let fits : r.end + record_cost (unit_of a area) (length c.args.body.now) ≤ sector_size b r.area = omega (arith, c.requires.fits, c.in_ok-open_next.ensures.end, size) in
+    subst (λ (u : ℕ). r.end + record_cost u (length c.args.body.now) ≤ sector_size b r.area) (sym unit) fits
+
+pub returns-in_err-open_next-clause-cut : goal.returns-in_err-open_next-clause-cut
+returns-in_err-open_next-clause-cut g c = on_err c.from_residual.result (inl (c.in_err-open_next.ensures.list, c.in_err-open_next.ensures.lost))
+
+pub returns-in_err-open_next-clause-down : goal.returns-in_err-open_next-clause-down
+returns-in_err-open_next-clause-down g c =
+    let a : Device = g.F.Flash.device c.args.flash.now in
+    let b : Device = g.F.Flash.device c.open_next.new.flash in
+    on_err c.from_residual.result (record { down = c.in_err-open_next.ensures.down; units = most-first a b (unit_of a c.args.self.now.area) (length c.args.body.now) c.in_err-open_next.ensures.bound })
+
+pub returns-in_err-put_record-clause-cut : goal.returns-in_err-put_record-clause-cut
+returns-in_err-put_record-clause-cut g c =
+    let a : Device = g.F.Flash.device c.args.flash.now in
+    let b : Device = g.F.Flash.device c.open_next.new.flash in
+    let d : Device = g.F.Flash.device c.put_record.new.flash in
+    let r : Ring = c.open_next.new.self in
+    let same : r.area ≡ c.args.self.now.area = c.in_ok-open_next.ensures.area in
+    let count : r.area.sectors ≡ c.args.self.now.area.sectors = ap (λ (x : Area). x.sectors) same in
+    on_err c.from_residual-in_err-put_record.result
+    (cut-after a b d c.args.self.now r c.args.body.now same c.in_ok-open_next.ensures.oldest c.in_ok-open_next.ensures.used c.in_ok-open_next.ensures.list c.in_ok-open_next.ensures.touches.ends.on
+    (c.in_err-put_record.ensures.counted (omega (arith, c.requires.free, c.in_ok-open_next.ensures.used, count))))
+
+pub returns-in_err-put_record-clause-down : goal.returns-in_err-put_record-clause-down
+returns-in_err-put_record-clause-down g c =
+    let a : Device = g.F.Flash.device c.args.flash.now in
+    let b : Device = g.F.Flash.device c.open_next.new.flash in
+    let d : Device = g.F.Flash.device c.put_record.new.flash in
+    let r : Ring = c.open_next.new.self in
+    on_err c.from_residual-in_err-put_record.result (record {
+      down = c.in_err-put_record.ensures.down;
+      units = most-both a b d c.args.self.now.area r.area (length c.args.body.now) c.in_ok-open_next.ensures.touches.banks c.in_ok-open_next.ensures.area c.in_ok-open_next.ensures.units c.in_err-put_record.ensures.bound;
+    })
+
+pub returns-in_err-put_record-clause-touches : goal.returns-in_err-put_record-clause-touches
+returns-in_err-put_record-clause-touches g c =
+    let a : Device = g.F.Flash.device c.args.flash.now in
+    let b : Device = g.F.Flash.device c.open_next.new.flash in
+    let d : Device = g.F.Flash.device c.put_record.new.flash in
+    let area : Area = c.args.self.now.area in
+    is_err_by c.from_residual-in_err-put_record.result (Touches (area ∷ []) a d) c.from_residual-in_err-put_record.ensures.0
+    (then c.in_ok-open_next.ensures.touches (subst (λ (x : Area). Touches (x ∷ []) b d true) c.in_ok-open_next.ensures.area c.in_err-put_record.ensures.touches))
+
+pub returns-clause-touches : goal.returns-clause-touches
+returns-clause-touches g c =
+    let b : Device = g.F.Flash.device c.open_next.new.flash in
+    let d : Device = g.F.Flash.device c.put_record.new.flash in
+    then c.in_ok-open_next.ensures.touches (subst (λ (x : Area). Touches (x ∷ []) b d false) c.in_ok-open_next.ensures.area c.in_ok-put_record.ensures.touches)
+
+pub returns-clause-adds : goal.returns-clause-adds
+returns-clause-adds g c =
+    let a : Device = g.F.Flash.device c.args.flash.now in
+    let b : Device = g.F.Flash.device c.open_next.new.flash in
+    let d : Device = g.F.Flash.device c.put_record.new.flash in
+    let r : Ring = c.open_next.new.self in
+    let same : r.area ≡ c.args.self.now.area = c.in_ok-open_next.ensures.area in
+    let count : r.area.sectors ≡ c.args.self.now.area.sectors = ap (λ (x : Area). x.sectors) same in
+    adds-after a b d c.args.self.now r c.args.body.now same c.in_ok-open_next.ensures.oldest c.in_ok-open_next.ensures.used c.in_ok-open_next.ensures.list (omega (arith, c.requires.free, c.in_ok-open_next.ensures.used, count)) c.in_ok-put_record.ensures.puts
+
+pub returns-clause-ready : goal.returns-clause-ready
+returns-clause-ready g c =
+    let a : Device = g.F.Flash.device c.args.flash.now in
+    let b : Device = g.F.Flash.device c.open_next.new.flash in
+    let d : Device = g.F.Flash.device c.put_record.new.flash in
+    let r : Ring = c.open_next.new.self in
+    record {
+      stands = c.in_ok-put_record.ensures.stands;
+      stage = c.in_ok-put_record.ensures.stage ∙ c.in_ok-open_next.ensures.stage;
+      units = spends-both a b d c.args.self.now.area r.area (length c.args.body.now) c.in_ok-open_next.ensures.touches.banks c.in_ok-open_next.ensures.area c.in_ok-open_next.ensures.units c.in_ok-put_record.ensures.units;
+    }

@@ -1,0 +1,192 @@
+-- What appending, rotating and collecting make of an area and of its ring.
+use Rattle.std.specs.Prelude.{◌≡◌, ◌⊎◌, ℕ, ◌+◌, ◌-◌, ◌*◌, ◌/◌, ◌%◌, ◌<◌, ◌≤◌, Bool, true, false, not, ◌&&◌, ◌||◌, List, [], ◌∷◌, ◌++◌, length, slice_range, Some, Result, Ok, Err, ◌==◌, nat_lt, nat_le, if◌then◌else◌}
+use Rattle.flash_sim.specs.Device.{Device}
+use Rattle.flash_sim.specs.declared.flash.Loss.{Loss}
+use Rattle.flash_map.specs.Area.{unit_of, sector_size, sectors_of, sector_bytes, place_of}
+use Rattle.flash_map.specs.Spending.{Spends, SpendsAtMost}
+use Rattle.flash_map.specs.Units.{padded}
+use Rattle.flash_map.specs.declared.area.Area.{Area}
+use Rattle.fcb_ring.specs.declared.ring.Ring.{Ring}
+use Rattle.fcb_ring.specs.declared.ring.Stage.{Stage}
+use Rattle.fcb_ring.specs.declared.ring.Stage.TheVariants.{Ready, Collecting}
+use Rattle.fcb_ring.specs.declared.record.RecordAt.{RecordAt}
+use Rattle.fcb_ring.specs.declared.writing.AppendFault.{AppendFault}
+use Rattle.fcb_ring.specs.declared.writing.AppendFault.TheVariants.{Full, TooLong, PowerLost}
+use Rattle.fcb_ring.specs.Entries.{sector_entries, HasEntries}
+use Rattle.fcb_ring.specs.Rings.{turned}
+use Rattle.fcb_ring.specs.Standing.{StandsOn, entries_on, KeepsEntries, is_up}
+use Rattle.fcb_ring.specs.Writing.{record_image, record_cost, cut_record, spelled, IsChance}
+
+-- ---- room
+
+-- the room in bytes that a record leaves in its sector
+abbrev pub kept_room : Ring → Bool → ℕ
+kept_room ring into_reserve = if into_reserve then 0 else ring.reserve
+
+-- No sector could hold a record with a body of this length.
+abbrev pub is_too_long : ℕ → ℕ → ℕ → ℕ → Bool
+is_too_long unit size kept len = (len == 0) || (nat_lt 16383 len || nat_lt (size - padded unit 8 - kept) (record_cost unit len))
+
+-- a record with a body of this length fits behind those of the newest sector
+abbrev pub has_room : ℕ → ℕ → Ring → ℕ → ℕ → Bool
+has_room unit size ring kept len = nat_lt 0 ring.used && nat_le (ring.end + record_cost unit len + kept) size
+
+-- no sector but the scratch one is free
+abbrev pub is_scratch_left : Ring → Bool
+is_scratch_left ring = ring.used + 1 == ring.area.sectors
+
+-- ---- sectors
+
+-- the sector in which the ring writes
+abbrev pub newest_place : Ring → ℕ
+newest_place ring = turned ring.area.sectors ring.oldest (ring.used - 1)
+
+-- and the one that it opens next
+abbrev pub next_place : Ring → ℕ
+next_place ring = turned ring.area.sectors ring.oldest ring.used
+
+-- no other sector of the area changed
+abbrev pub KeepsOthers : Device → Device → Area → ℕ → Type 0
+KeepsOthers old new area changed = (place : ℕ) → (place ≡ changed → ⊥) → sector_bytes new area place ≡ sector_bytes old area place
+
+-- the records of one sector that check
+abbrev pub sector_list : Device → Area → ℕ → List (RecordAt × List ℕ)
+sector_list d area place = sector_entries (unit_of d area) place (sector_bytes d area place)
+
+-- the stage of a ring of which so many sectors are used
+abbrev pub FitsOpened : Stage → ℕ → ℕ → Type 0
+FitsOpened Ready used count = used < count
+FitsOpened Collecting used count = used ≡ count
+FitsOpened stage used count = ⊥
+
+-- ---- one record
+
+-- A record with this body stands behind the others of the newest sector, and in the list where that sector counts.
+pub record PutsRecord (old new : Device) (ring : Ring) (body : List ℕ) : Type 0 where
+  pub at : RecordAt
+  pub sector : at.sector ≡ newest_place ring
+  pub here : sector_list new ring.area (newest_place ring) ≡ sector_list old ring.area (newest_place ring) ++ (at, body) ∷ []
+  pub list : HasEntries (unit_of new ring.area) (sectors_of new ring.area) (entries_on old ring.area ++ (if ring.used == ring.area.sectors then [] else ((at, body) ∷ [])))
+
+-- the list has one record more, with this body, in this sector
+abbrev pub AddsRecord : Device → Device → Area → ℕ → List ℕ → Type 0
+AddsRecord old new area place body = (at : RecordAt) × (at.sector ≡ place) × HasEntries (unit_of new area) (sectors_of new area) (entries_on old area ++ (at, body) ∷ [])
+
+-- What stands behind a list once so many units of a record were put into this sector: nothing that checks; the record, if
+-- all else of it is FF; or by chance the body that these units spell.
+abbrev pub CutList : ℕ → List (List ℕ) → List (RecordAt × List ℕ) → ℕ → List ℕ → ℕ → Type 0
+CutList unit sectors list place body done =
+    ((IsChance unit body done → ⊥) × HasEntries unit sectors list)
+    ⊎ ((at : RecordAt) × (at.sector ≡ place) × (cut_record unit body done ≡ record_image unit body) × HasEntries unit sectors (list ++ (at, body) ∷ []))
+    ⊎ ((at : RecordAt) × (at.sector ≡ place) × IsChance unit body done × HasEntries unit sectors (list ++ (at, spelled unit body done) ∷ []))
+
+-- power was lost after so many units of a record in this sector, which it does not begin
+pub record IsRecordLoss (new : Device) (area : Area) (place : ℕ) (body : List ℕ) (done : ℕ) : Type 0 where
+  pub offset : ℕ
+  pub has_sector : place < area.sectors
+  pub behind_header : 8 ≤ offset
+  pub in_sector : offset + record_cost (unit_of new area) (length body) ≤ sector_size new area
+  pub fewer : done < record_cost (unit_of new area) (length body) / unit_of new area
+  pub loss : new.last_loss ≡ Some (record { at = place_of new area place offset; want = record { items = record_image (unit_of new area) body }; done = done })
+
+-- power was lost in a header, which begins its sector
+abbrev pub IsHeaderLoss : Device → Area → Type 0
+IsHeaderLoss new area = (place : ℕ) × (loss : Loss) × (place < area.sectors) × (new.last_loss ≡ Some loss) × (loss.at ≡ place_of new area place 0)
+
+-- an append to this sector that was cut, in the sector's header or in the record
+abbrev pub CutAppend : Device → Device → Area → ℕ → List ℕ → Type 0
+CutAppend old new area place body =
+    (KeepsEntries old new area × (old.is_on ≡ true → IsHeaderLoss new area))
+    ⊎ ((done : ℕ) × IsRecordLoss new area place body done × CutList (unit_of new area) (sectors_of new area) (entries_on old area) place body done)
+
+-- ---- calls
+
+-- the answer says that power was lost
+abbrev pub append_lost : {T : Type 0} → Result T AppendFault → Bool
+append_lost (Ok x) = false
+append_lost (Err Full) = false
+append_lost (Err TooLong) = false
+append_lost (Err PowerLost) = true
+
+-- the units of an append, which opens a sector where the newest has no room
+abbrev pub append_units : ℕ → ℕ → Bool → ℕ
+append_units unit len here = record_cost unit len / unit + (if here then 0 else (padded unit 8 / unit))
+
+-- the id of the sector that is opened next: they count up from 0, round the end
+abbrev pub next_id : Ring → ℕ
+next_id ring = if ring.used == 0 then 0 else ((ring.id + 1) % 65536)
+
+-- the ring after a call that stays in its newest sector, or else opens the next
+pub record GoesOn (before after : Ring) (stays : Bool) : Type 0 where
+  pub oldest : after.oldest ≡ before.oldest
+  pub used : after.used ≡ before.used + (if stays then 0 else 1)
+  pub id : after.id ≡ (if stays then before.id else next_id before)
+
+-- the ring stands, ready for the next record, and just so many units were spent
+pub record IsReady (old new : Device) (after : Ring) (spent : ℕ) : Type 0 where
+  pub stands : StandsOn new after
+  pub stage : after.stage ≡ Ready
+  pub units : Spends old new spent
+
+-- nothing changed
+pub record IsRefused (old new : Device) (before after : Ring) : Type 0 where
+  pub flash : new ≡ old
+  pub ring : after ≡ before
+
+-- the ring is down, and at most so many units were spent
+pub record IsDown (old new : Device) (after : Ring) (most : ℕ) : Type 0 where
+  pub down : is_up after.stage ≡ false
+  pub units : SpendsAtMost old new most
+
+-- No sector could hold a record with this body, which leaves so much room.
+abbrev pub too_long_for : Device → Ring → List ℕ → ℕ → Bool
+too_long_for d ring body kept = is_too_long (unit_of d ring.area) (sector_size d ring.area) kept (length body)
+
+-- it fits behind those of the newest sector
+abbrev pub stays_for : Device → Ring → List ℕ → ℕ → Bool
+stays_for d ring body kept = has_room (unit_of d ring.area) (sector_size d ring.area) ring kept (length body)
+
+-- it fits there, or another sector than the scratch one is free
+pub record CanAppend (d : Device) (ring : Ring) (body : List ℕ) (kept : ℕ) : Type 0 where
+  pub short : too_long_for d ring body kept ≡ false
+  pub room : (stays_for d ring body kept || not (is_scratch_left ring)) ≡ true
+
+-- the sector into which it goes
+abbrev pub place_for : Device → Ring → List ℕ → ℕ → ℕ
+place_for d ring body kept = if stays_for d ring body kept then newest_place ring else next_place ring
+
+-- how an append of a record that leaves so much room ends
+abbrev pub AppendEnds : {T : Type 0} → Device → Device → Ring → Ring → List ℕ → ℕ → Result T AppendFault → Type 0
+AppendEnds old new before after body kept (Ok x) =
+    CanAppend old before body kept × AddsRecord old new before.area (place_for old before body kept) body × GoesOn before after (stays_for old before body kept)
+    × IsReady old new after (append_units (unit_of old before.area) (length body) (stays_for old before body kept))
+AppendEnds old new before after body kept (Err TooLong) = (too_long_for old before body kept ≡ true) × IsRefused old new before after
+AppendEnds old new before after body kept (Err Full) =
+    (too_long_for old before body kept ≡ false) × (stays_for old before body kept ≡ false) × (is_scratch_left before ≡ true) × IsRefused old new before after
+AppendEnds old new before after body kept (Err PowerLost) =
+    CanAppend old before body kept × CutAppend old new before.area (place_for old before body kept) body × IsDown old new after (append_units (unit_of old before.area) (length body) (stays_for old before body kept))
+
+-- how a rotation ends
+abbrev pub RotateEnds : {T : Type 0} → Device → Device → Ring → Ring → Result T AppendFault → Type 0
+RotateEnds old new before after (Ok x) =
+    let unit = unit_of old before.area in
+    (is_scratch_left before ≡ false) × KeepsEntries old new before.area × GoesOn before after false × IsReady old new after (padded unit 8 / unit)
+RotateEnds old new before after (Err TooLong) = ⊥
+RotateEnds old new before after (Err Full) = (is_scratch_left before ≡ true) × IsRefused old new before after
+RotateEnds old new before after (Err PowerLost) =
+    let unit = unit_of old before.area in
+    (is_scratch_left before ≡ false) × KeepsEntries old new before.area × IsDown old new after (padded unit 8 / unit)
+
+-- The oldest sector is erased, and the next is the oldest: its records are gone from the list's front, and the copies stand at its end.
+pub record EndsCollection (old new : Device) (before after : Ring) : Type 0 where
+  pub rest : List (RecordAt × List ℕ)
+  pub old_list : entries_on old before.area ≡ sector_list old before.area before.oldest ++ rest
+  pub new_list : HasEntries (unit_of new before.area) (sectors_of new before.area) (rest ++ sector_list old before.area (newest_place before))
+  pub oldest : after.oldest ≡ turned before.area.sectors before.oldest 1
+  pub used : after.used + 1 ≡ before.used
+  pub id : after.id ≡ before.id
+
+-- a record with the body of this one stands behind the copies in the newest sector
+abbrev pub CopiesRecord : Device → Device → Ring → RecordAt → Type 0
+CopiesRecord old new ring r =
+    (at : RecordAt) × (at.sector ≡ newest_place ring) × (sector_list new ring.area (newest_place ring) ≡ sector_list old ring.area (newest_place ring) ++ (at, slice_range (sector_bytes old ring.area r.sector) r.body (r.body + r.len)) ∷ [])

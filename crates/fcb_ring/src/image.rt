@@ -1,0 +1,84 @@
+// What the ring programs: headers and records.
+ghost use Rattle.std.specs.Prelude.{◌≡◌, ◌+◌, ◌*◌, ◌/◌, ◌%◌, ◌<◌, ◌≤◌, ◌++◌, ◌^◌, length};
+ghost use Rattle.flash_map.specs.Units.{IsUnit, padded};
+ghost use Rattle.fcb_ring.specs.Writing.{filled, length_field, record_image, record_cost, header_image};
+
+use arrayvec::ArrayVec;
+use crc8_entry::{START, crc8};
+use flash_map::padded;
+
+// The bytes of the greatest unit.
+const UNIT: usize = 16;
+
+// The most bytes of a record: those of one program.
+const RECORD: usize = 400;
+
+// A header with this id, as it is at the greatest unit. At a smaller one it is the front of it.
+#[tactic(auto, unfolding(crate::specs::Writing::header_image, crate::specs::Writing::filled, flash_map::specs::Units::padded))]
+pub(crate) fn header_image(id: u16) -> [u8; UNIT]
+    ensures { result ≡ header_image 16 id }
+{
+    let [low, high] = id.to_le_bytes();
+    let mut image = [0xFF; UNIT];
+    image[..8].copy_from_slice(&[0xEE, 0xEE, 0xFF, 0xC0, 0x01, 0xFF, low, high]);
+    image
+}
+
+// The bytes of a record with a body of this length.
+pub(crate) fn record_cost(unit: u32, len: u32) -> u32
+    requires unit { IsUnit unit }
+    requires len { len < 2 ^ 30 }
+    ensures { result ≡ record_cost unit len }
+{
+    unit + padded(unit, len) + unit
+}
+
+// The bytes that a length is written by.
+#[tactic(auto, unfolding(crate::specs::Writing::length_field))]
+fn length_field(len: u32) -> ArrayVec<u8, 2>
+    requires { len ≤ 16383 }
+    ensures { result.items ≡ length_field len }
+{
+    let mut field = ArrayVec::new();
+    if len < 0x80 {
+        field.push(len as u8);
+        return field;
+    }
+    field.push((len % 0x80 + 0x80) as u8);
+    field.push((len / 0x80) as u8);
+    field
+}
+
+// Puts bytes behind the others.
+fn push_all(image: &mut ArrayVec<u8, RECORD>, bytes: &[u8])
+    requires { length image.old.items + length bytes.now ≤ 400 }
+    ensures { image.new.items ≡ image.old.items ++ bytes.now }
+{
+    let _fits = image.try_extend_from_slice(bytes);
+}
+
+// Puts a part behind the others, filled up to whole units.
+fn push_filled(image: &mut ArrayVec<u8, RECORD>, unit: u32, part: &[u8])
+    requires unit { IsUnit unit }
+    requires room { length image.old.items + padded unit (length part.now) ≤ 400 }
+    ensures { image.new.items ≡ image.old.items ++ filled unit part.now }
+{
+    let fill = padded(unit, part.len() as u32) as usize - part.len();
+    push_all(image, part);
+    push_all(image, &[0xFF; UNIT][..fill]);
+}
+
+// A record with this body.
+pub(crate) fn record_image(unit: u32, body: &[u8]) -> ArrayVec<u8, RECORD>
+    requires unit { IsUnit unit }
+    requires short { record_cost unit (length body.now) ≤ 400 }
+    ensures { result.items ≡ record_image unit body.now }
+{
+    let field = length_field(body.len() as u32);
+    let crc = crc8(crc8(START, field.as_slice()), body);
+    let mut image = ArrayVec::new();
+    push_filled(&mut image, unit, field.as_slice());
+    push_filled(&mut image, unit, body);
+    push_filled(&mut image, unit, &[crc]);
+    image
+}

@@ -1,0 +1,293 @@
+use Rattle.std.proofs.Common.{◌≡◌, ℕ, ◌+◌, ◌-◌, ◌/◌, ◌<◌, ◌≤◌, List, [], ◌∷◌, ◌++◌, length, take, drop, replicate, sym, ap, subst, ◌∙◌, arith}
+use Rattle.std.proofs.Math.Nat.{zero-mod}
+use Rattle.std.proofs.lemmas.List.{take_all}
+use Rattle.flash_sim.specs.Bank.{bank_at}
+use Rattle.flash_sim.specs.Device.{Device}
+use Rattle.flash_sim.specs.declared.flash.Bank.{Bank}
+use Rattle.flash_map.specs.declared.area.Area.{Area}
+use Rattle.flash_map.specs.declared.area.Geometry.{Geometry}
+use Rattle.flash_map.specs.declared.copies.Source.{Source}
+use Rattle.flash_map.specs.Area.{unit_of, sector_size, place_of, CanProgramIn, Writes, WritesPart}
+use Rattle.flash_map.specs.Copies.{source}
+use Rattle.flash_map.specs.Spending.{Spends, SpendsAtMost}
+use Rattle.flash_map.specs.Units.{IsUnit, padded, padded_bytes}
+use Rattle.flash_map.proofs.CopyLemmas.{piece_at, piece_there, piece_is, source_part, length-source, writes_nothing, spends_nothing}
+use Rattle.flash_map.proofs.PaddedLemmas.{length-padded_bytes}
+use Rattle.flash_map.proofs.PieceLemmas.{piece_len-is, on_err, can_piece, written_more, part_more}
+use Rattle.flash_map.proofs.Places.{length-sector, place_fits}
+use Rattle.flash_map.proofs.Rounding.{is_unit}
+use Rattle.flash_map.proofs.SpendingLemmas.{spends-programs, most-fails, piece_spends, piece_at_most}
+use Rattle.flash_map.proofs.Touches.{then, untouched}
+use Rattle.flash_map.proofs.copies.copy_padded.Goals as goal
+
+pub loop-done-init : goal.loop-done-init
+loop-done-init g c =
+    let a : Device = g.F.Flash.device c.args.flash.now in
+    let area : Area = c.args.area.now in
+    let lawful = g.met.F.Flash.is_lawful c.args.flash.now in
+    let is_area = c.requires.lawful in
+    let unit : ℕ = unit_of a area in
+    let from : Source = c.args.from in
+    let p : List ℕ = source a area from in
+    let image : List ℕ = padded_bytes unit p in
+    let is-unit : IsUnit unit = is_unit unit (lawful.each_bank area.bank is_area.has_bank).unit in
+    let sector_long = length-sector a area lawful is_area from.sector c.requires.has_source in
+    let long : length p ≡ from.len = length-source a area from (omega (arith, c.requires.inside, sector_long)) in
+    let all : c.padded-all.result ≡ padded unit (length p) = c.padded-all.ensures.value ∙ ap (λ (x : Geometry). padded x.unit from.len) c.geometry.ensures ∙ ap (padded unit) (sym long) in
+    let image_long : length image ≡ padded unit (length p) = length-padded_bytes unit p is-unit in
+    record {
+      in_range = omega arith;
+      whole_units = zero-mod unit;
+      touches = untouched (area ∷ []) a;
+      written = writes_nothing a area c.args.sector c.args.offset image;
+      spent = spends_nothing a unit;
+    }
+
+pub overflow_add-part : goal.overflow_add-part
+overflow_add-part g c =
+    let a : Device = g.F.Flash.device c.args.flash.now in
+    let area : Area = c.args.area.now in
+    let lawful = g.met.F.Flash.is_lawful c.args.flash.now in
+    let is_area = c.requires.lawful in
+    let unit : ℕ = unit_of a area in
+    let from : Source = c.args.from in
+    let p : List ℕ = source a area from in
+    let image : List ℕ = padded_bytes unit p in
+    let is-unit : IsUnit unit = is_unit unit (lawful.each_bank area.bank is_area.has_bank).unit in
+    let sector_long = length-sector a area lawful is_area from.sector c.requires.has_source in
+    let long : length p ≡ from.len = length-source a area from (omega (arith, c.requires.inside, sector_long)) in
+    let all : c.padded-all.result ≡ padded unit (length p) = c.padded-all.ensures.value ∙ ap (λ (x : Geometry). padded x.unit from.len) c.geometry.ensures ∙ ap (padded unit) (sym long) in
+    let image_long : length image ≡ padded unit (length p) = length-padded_bytes unit p is-unit in
+    let b : Device = g.F.Flash.device c.loop-done.flash in
+    let kept = c.loop-done.invariant in
+    let done : ℕ = c.loop-done.done in
+    let at = piece_at unit is-unit (length p) done kept.whole_units (omega (arith, all)) in
+    let fits = place_fits a area lawful is_area from.sector c.requires.has_source in
+    omega (arith, at.before, long, c.requires.inside, fits)
+
+pub overflow_sub-from : goal.overflow_sub-from
+overflow_sub-from g c =
+    let a : Device = g.F.Flash.device c.args.flash.now in
+    let area : Area = c.args.area.now in
+    let lawful = g.met.F.Flash.is_lawful c.args.flash.now in
+    let is_area = c.requires.lawful in
+    let unit : ℕ = unit_of a area in
+    let from : Source = c.args.from in
+    let p : List ℕ = source a area from in
+    let image : List ℕ = padded_bytes unit p in
+    let is-unit : IsUnit unit = is_unit unit (lawful.each_bank area.bank is_area.has_bank).unit in
+    let sector_long = length-sector a area lawful is_area from.sector c.requires.has_source in
+    let long : length p ≡ from.len = length-source a area from (omega (arith, c.requires.inside, sector_long)) in
+    let all : c.padded-all.result ≡ padded unit (length p) = c.padded-all.ensures.value ∙ ap (λ (x : Geometry). padded x.unit from.len) c.geometry.ensures ∙ ap (padded unit) (sym long) in
+    let image_long : length image ≡ padded unit (length p) = length-padded_bytes unit p is-unit in
+    let b : Device = g.F.Flash.device c.loop-done.flash in
+    let kept = c.loop-done.invariant in
+    let done : ℕ = c.loop-done.done in
+    let at = piece_at unit is-unit (length p) done kept.whole_units (omega (arith, all)) in
+    omega (arith, at.before, long)
+
+pub piece_of-piece-requires-clause-inside : goal.piece_of-piece-requires-clause-inside
+piece_of-piece-requires-clause-inside g c =
+    let a : Device = g.F.Flash.device c.args.flash.now in
+    let area : Area = c.args.area.now in
+    let lawful = g.met.F.Flash.is_lawful c.args.flash.now in
+    let is_area = c.requires.lawful in
+    let unit : ℕ = unit_of a area in
+    let from : Source = c.args.from in
+    let p : List ℕ = source a area from in
+    let image : List ℕ = padded_bytes unit p in
+    let is-unit : IsUnit unit = is_unit unit (lawful.each_bank area.bank is_area.has_bank).unit in
+    let sector_long = length-sector a area lawful is_area from.sector c.requires.has_source in
+    let long : length p ≡ from.len = length-source a area from (omega (arith, c.requires.inside, sector_long)) in
+    let all : c.padded-all.result ≡ padded unit (length p) = c.padded-all.ensures.value ∙ ap (λ (x : Geometry). padded x.unit from.len) c.geometry.ensures ∙ ap (padded unit) (sym long) in
+    let image_long : length image ≡ padded unit (length p) = length-padded_bytes unit p is-unit in
+    let b : Device = g.F.Flash.device c.loop-done.flash in
+    let kept = c.loop-done.invariant in
+    let done : ℕ = c.loop-done.done in
+    let piece = piece_there unit (length p) done c.min-end.result c.min.result c.padded-all.result from.len is-unit kept.whole_units (omega arith) all (sym long) c.min-end.ensures c.min.ensures in
+    let size : sector_size b area ≡ sector_size a area = ap (λ (l : List Bank). (bank_at l area.bank).sector) kept.touches.banks in
+    omega (arith, piece.within, long, c.requires.inside)
+
+pub overflow_add-offset : goal.overflow_add-offset
+overflow_add-offset g c =
+    let a : Device = g.F.Flash.device c.args.flash.now in
+    let area : Area = c.args.area.now in
+    let lawful = g.met.F.Flash.is_lawful c.args.flash.now in
+    let is_area = c.requires.lawful in
+    let unit : ℕ = unit_of a area in
+    let from : Source = c.args.from in
+    let p : List ℕ = source a area from in
+    let image : List ℕ = padded_bytes unit p in
+    let is-unit : IsUnit unit = is_unit unit (lawful.each_bank area.bank is_area.has_bank).unit in
+    let sector_long = length-sector a area lawful is_area from.sector c.requires.has_source in
+    let long : length p ≡ from.len = length-source a area from (omega (arith, c.requires.inside, sector_long)) in
+    let all : c.padded-all.result ≡ padded unit (length p) = c.padded-all.ensures.value ∙ ap (λ (x : Geometry). padded x.unit from.len) c.geometry.ensures ∙ ap (padded unit) (sym long) in
+    let image_long : length image ≡ padded unit (length p) = length-padded_bytes unit p is-unit in
+    let b : Device = g.F.Flash.device c.loop-done.flash in
+    let kept = c.loop-done.invariant in
+    let done : ℕ = c.loop-done.done in
+    let fits = place_fits a area lawful is_area c.args.sector c.requires.can.has_sector in
+    omega (arith, c.requires.can.in_sector, fits)
+
+pub area_program-requires-clause-can : goal.area_program-requires-clause-can
+area_program-requires-clause-can g c =
+    let a : Device = g.F.Flash.device c.args.flash.now in
+    let area : Area = c.args.area.now in
+    let lawful = g.met.F.Flash.is_lawful c.args.flash.now in
+    let is_area = c.requires.lawful in
+    let unit : ℕ = unit_of a area in
+    let from : Source = c.args.from in
+    let p : List ℕ = source a area from in
+    let image : List ℕ = padded_bytes unit p in
+    let is-unit : IsUnit unit = is_unit unit (lawful.each_bank area.bank is_area.has_bank).unit in
+    let sector_long = length-sector a area lawful is_area from.sector c.requires.has_source in
+    let long : length p ≡ from.len = length-source a area from (omega (arith, c.requires.inside, sector_long)) in
+    let all : c.padded-all.result ≡ padded unit (length p) = c.padded-all.ensures.value ∙ ap (λ (x : Geometry). padded x.unit from.len) c.geometry.ensures ∙ ap (padded unit) (sym long) in
+    let image_long : length image ≡ padded unit (length p) = length-padded_bytes unit p is-unit in
+    let b : Device = g.F.Flash.device c.loop-done.flash in
+    let kept = c.loop-done.invariant in
+    let done : ℕ = c.loop-done.done in
+    let piece = piece_there unit (length p) done c.min-end.result c.min.result c.padded-all.result from.len is-unit kept.whole_units (omega arith) all (sym long) c.min-end.ensures c.min.ensures in
+    let sector : ℕ = c.args.sector in
+    let offset : ℕ = c.args.offset in
+    let tail : take (c.min-end.result - done) c.piece_of-piece.result ≡ take (c.min-end.result - done) (drop done image) =
+    ap (take (c.min-end.result - done)) (c.piece_of-piece.ensures ∙ ap (λ (xs : List ℕ). xs ++ replicate (32 - c.min.result) 255) (source_part a b area sector offset (take done image) from done c.min.result c.requires.other kept.written (omega (arith, piece.within, long))))
+    ∙ piece_is unit p done c.min-end.result c.min.result piece in
+    let inside : c.min-end.result ≤ length image = omega (arith, piece.inside) in
+    subst (λ (xs : List ℕ). CanProgramIn b area sector (offset + done) xs) (sym tail)
+    (can_piece a b area lawful is_area sector offset image c.requires.can done c.min-end.result piece.more inside kept.whole_units piece.aligned kept.touches kept.written (omega (arith, piece.narrow)))
+
+pub returns-in_err-area_program-clause-lost : goal.returns-in_err-area_program-clause-lost
+returns-in_err-area_program-clause-lost g c =
+    let a : Device = g.F.Flash.device c.args.flash.now in
+    let area : Area = c.args.area.now in
+    let lawful = g.met.F.Flash.is_lawful c.args.flash.now in
+    let is_area = c.requires.lawful in
+    let unit : ℕ = unit_of a area in
+    let from : Source = c.args.from in
+    let p : List ℕ = source a area from in
+    let image : List ℕ = padded_bytes unit p in
+    let is-unit : IsUnit unit = is_unit unit (lawful.each_bank area.bank is_area.has_bank).unit in
+    let sector_long = length-sector a area lawful is_area from.sector c.requires.has_source in
+    let long : length p ≡ from.len = length-source a area from (omega (arith, c.requires.inside, sector_long)) in
+    let all : c.padded-all.result ≡ padded unit (length p) = c.padded-all.ensures.value ∙ ap (λ (x : Geometry). padded x.unit from.len) c.geometry.ensures ∙ ap (padded unit) (sym long) in
+    let image_long : length image ≡ padded unit (length p) = length-padded_bytes unit p is-unit in
+    let b : Device = g.F.Flash.device c.loop-done.flash in
+    let kept = c.loop-done.invariant in
+    let done : ℕ = c.loop-done.done in
+    let piece = piece_there unit (length p) done c.min-end.result c.min.result c.padded-all.result from.len is-unit kept.whole_units (omega arith) all (sym long) c.min-end.ensures c.min.ensures in
+    let sector : ℕ = c.args.sector in
+    let offset : ℕ = c.args.offset in
+    let tail : take (c.min-end.result - done) c.piece_of-piece.result ≡ take (c.min-end.result - done) (drop done image) =
+    ap (take (c.min-end.result - done)) (c.piece_of-piece.ensures ∙ ap (λ (xs : List ℕ). xs ++ replicate (32 - c.min.result) 255) (source_part a b area sector offset (take done image) from done c.min.result c.requires.other kept.written (omega (arith, piece.within, long))))
+    ∙ piece_is unit p done c.min-end.result c.min.result piece in
+    let inside : c.min-end.result ≤ length image = omega (arith, piece.inside) in
+    let last : Device = g.F.Flash.device c.area_program.new.flash in
+    on_err c.from_residual.result (part_more a b area lawful is_area sector offset image c.requires.can done c.min-end.result piece.more inside kept.whole_units piece.aligned kept.touches kept.written last (subst (λ (xs : List ℕ). WritesPart b last area sector (offset + done) xs) tail c.in_err-area_program.ensures.part))
+
+pub returns-in_err-area_program-clause-spent_at_most : goal.returns-in_err-area_program-clause-spent_at_most
+returns-in_err-area_program-clause-spent_at_most g c =
+    let a : Device = g.F.Flash.device c.args.flash.now in
+    let area : Area = c.args.area.now in
+    let lawful = g.met.F.Flash.is_lawful c.args.flash.now in
+    let is_area = c.requires.lawful in
+    let unit : ℕ = unit_of a area in
+    let from : Source = c.args.from in
+    let p : List ℕ = source a area from in
+    let image : List ℕ = padded_bytes unit p in
+    let is-unit : IsUnit unit = is_unit unit (lawful.each_bank area.bank is_area.has_bank).unit in
+    let sector_long = length-sector a area lawful is_area from.sector c.requires.has_source in
+    let long : length p ≡ from.len = length-source a area from (omega (arith, c.requires.inside, sector_long)) in
+    let all : c.padded-all.result ≡ padded unit (length p) = c.padded-all.ensures.value ∙ ap (λ (x : Geometry). padded x.unit from.len) c.geometry.ensures ∙ ap (padded unit) (sym long) in
+    let image_long : length image ≡ padded unit (length p) = length-padded_bytes unit p is-unit in
+    let b : Device = g.F.Flash.device c.loop-done.flash in
+    let kept = c.loop-done.invariant in
+    let done : ℕ = c.loop-done.done in
+    let piece = piece_there unit (length p) done c.min-end.result c.min.result c.padded-all.result from.len is-unit kept.whole_units (omega arith) all (sym long) c.min-end.ensures c.min.ensures in
+    let sector : ℕ = c.args.sector in
+    let offset : ℕ = c.args.offset in
+    let tail : take (c.min-end.result - done) c.piece_of-piece.result ≡ take (c.min-end.result - done) (drop done image) =
+    ap (take (c.min-end.result - done)) (c.piece_of-piece.ensures ∙ ap (λ (xs : List ℕ). xs ++ replicate (32 - c.min.result) 255) (source_part a b area sector offset (take done image) from done c.min.result c.requires.other kept.written (omega (arith, piece.within, long))))
+    ∙ piece_is unit p done c.min-end.result c.min.result piece in
+    let inside : c.min-end.result ≤ length image = omega (arith, piece.inside) in
+    let last : Device = g.F.Flash.device c.area_program.new.flash in
+    on_err c.from_residual.result
+    (subst (λ (n : ℕ). SpendsAtMost a last (padded unit n / unit)) long
+    (piece_at_most a b last area is-unit done c.min-end.result (take (c.min-end.result - done) c.piece_of-piece.result) (ap length tail ∙ piece_len-is image done c.min-end.result inside) kept.whole_units (omega (arith, piece.more)) kept.touches.banks kept.spent (padded unit (length p)) piece.inside
+    (most-fails b last (place_of b area sector (offset + done)) (take (c.min-end.result - done) c.piece_of-piece.result) c.in_err-area_program.ensures.lost)))
+
+pub loop-done-preserved : goal.loop-done-preserved
+loop-done-preserved g c =
+    let a : Device = g.F.Flash.device c.args.flash.now in
+    let area : Area = c.args.area.now in
+    let lawful = g.met.F.Flash.is_lawful c.args.flash.now in
+    let is_area = c.requires.lawful in
+    let unit : ℕ = unit_of a area in
+    let from : Source = c.args.from in
+    let p : List ℕ = source a area from in
+    let image : List ℕ = padded_bytes unit p in
+    let is-unit : IsUnit unit = is_unit unit (lawful.each_bank area.bank is_area.has_bank).unit in
+    let sector_long = length-sector a area lawful is_area from.sector c.requires.has_source in
+    let long : length p ≡ from.len = length-source a area from (omega (arith, c.requires.inside, sector_long)) in
+    let all : c.padded-all.result ≡ padded unit (length p) = c.padded-all.ensures.value ∙ ap (λ (x : Geometry). padded x.unit from.len) c.geometry.ensures ∙ ap (padded unit) (sym long) in
+    let image_long : length image ≡ padded unit (length p) = length-padded_bytes unit p is-unit in
+    let b : Device = g.F.Flash.device c.loop-done.flash in
+    let kept = c.loop-done.invariant in
+    let done : ℕ = c.loop-done.done in
+    let piece = piece_there unit (length p) done c.min-end.result c.min.result c.padded-all.result from.len is-unit kept.whole_units (omega arith) all (sym long) c.min-end.ensures c.min.ensures in
+    let sector : ℕ = c.args.sector in
+    let offset : ℕ = c.args.offset in
+    let tail : take (c.min-end.result - done) c.piece_of-piece.result ≡ take (c.min-end.result - done) (drop done image) =
+    ap (take (c.min-end.result - done)) (c.piece_of-piece.ensures ∙ ap (λ (xs : List ℕ). xs ++ replicate (32 - c.min.result) 255) (source_part a b area sector offset (take done image) from done c.min.result c.requires.other kept.written (omega (arith, piece.within, long))))
+    ∙ piece_is unit p done c.min-end.result c.min.result piece in
+    let inside : c.min-end.result ≤ length image = omega (arith, piece.inside) in
+    let last : Device = g.F.Flash.device c.area_program.new.flash in
+    record {
+      in_range = omega (arith, piece.inside, all);
+      whole_units = piece.aligned;
+      touches = then kept.touches c.in_ok-area_program.ensures.touches;
+      written = written_more a b area lawful is_area sector offset image c.requires.can done c.min-end.result piece.more inside kept.whole_units piece.aligned kept.touches kept.written last (subst (λ (xs : List ℕ). Writes b last area sector (offset + done) xs) tail c.in_ok-area_program.ensures.written);
+      spent = piece_spends a b last area is-unit done c.min-end.result (take (c.min-end.result - done) c.piece_of-piece.result) (ap length tail ∙ piece_len-is image done c.min-end.result inside) kept.whole_units (omega (arith, piece.more)) kept.touches.banks kept.spent (spends-programs b last (place_of b area sector (offset + done)) (take (c.min-end.result - done) c.piece_of-piece.result) c.in_ok-area_program.ensures.ok);
+    }
+
+pub returns-clause-ok : goal.returns-clause-ok
+returns-clause-ok g c =
+    let a : Device = g.F.Flash.device c.args.flash.now in
+    let area : Area = c.args.area.now in
+    let lawful = g.met.F.Flash.is_lawful c.args.flash.now in
+    let is_area = c.requires.lawful in
+    let unit : ℕ = unit_of a area in
+    let from : Source = c.args.from in
+    let p : List ℕ = source a area from in
+    let image : List ℕ = padded_bytes unit p in
+    let is-unit : IsUnit unit = is_unit unit (lawful.each_bank area.bank is_area.has_bank).unit in
+    let sector_long = length-sector a area lawful is_area from.sector c.requires.has_source in
+    let long : length p ≡ from.len = length-source a area from (omega (arith, c.requires.inside, sector_long)) in
+    let all : c.padded-all.result ≡ padded unit (length p) = c.padded-all.ensures.value ∙ ap (λ (x : Geometry). padded x.unit from.len) c.geometry.ensures ∙ ap (padded unit) (sym long) in
+    let image_long : length image ≡ padded unit (length p) = length-padded_bytes unit p is-unit in
+    let b : Device = g.F.Flash.device c.loop-done.flash in
+    let kept = c.loop-done.invariant in
+    let done : ℕ = c.loop-done.done in
+    let whole : take done image ≡ image = take_all done image (omega (arith, all, image_long, kept.in_range)) in
+    subst (λ (xs : List ℕ). Writes a b area c.args.sector c.args.offset xs) whole kept.written
+
+pub returns-clause-spent : goal.returns-clause-spent
+returns-clause-spent g c =
+    let a : Device = g.F.Flash.device c.args.flash.now in
+    let area : Area = c.args.area.now in
+    let lawful = g.met.F.Flash.is_lawful c.args.flash.now in
+    let is_area = c.requires.lawful in
+    let unit : ℕ = unit_of a area in
+    let from : Source = c.args.from in
+    let p : List ℕ = source a area from in
+    let image : List ℕ = padded_bytes unit p in
+    let is-unit : IsUnit unit = is_unit unit (lawful.each_bank area.bank is_area.has_bank).unit in
+    let sector_long = length-sector a area lawful is_area from.sector c.requires.has_source in
+    let long : length p ≡ from.len = length-source a area from (omega (arith, c.requires.inside, sector_long)) in
+    let all : c.padded-all.result ≡ padded unit (length p) = c.padded-all.ensures.value ∙ ap (λ (x : Geometry). padded x.unit from.len) c.geometry.ensures ∙ ap (padded unit) (sym long) in
+    let image_long : length image ≡ padded unit (length p) = length-padded_bytes unit p is-unit in
+    let b : Device = g.F.Flash.device c.loop-done.flash in
+    let kept = c.loop-done.invariant in
+    let done : ℕ = c.loop-done.done in
+    let same : done ≡ padded unit from.len = omega (arith, kept.in_range, all) ∙ ap (padded unit) long in
+    subst (λ (n : ℕ). Spends a b (n / unit)) same kept.spent

@@ -1,0 +1,86 @@
+// Copying from one sector of an area to another.
+ghost use Rattle.std.specs.Prelude.{◌≡◌, ◌+◌, ◌-◌, ◌/◌, ◌≤◌, ◌<◌, ◌^◌, ◌++◌, ◌∷◌, [], length, replicate, is_err, slice_range, OnOk, OnErr};
+ghost use Rattle.flash_map.specs.Area.{IsLawfulArea, unit_of, sector_size, sector_bytes, Writes, WritesPart};
+ghost use Rattle.flash_map.specs.Copies.{source};
+ghost use Rattle.flash_map.specs.Pieces.{CanProgramAll};
+ghost use Rattle.flash_map.specs.Spending.{Spends, SpendsAtMost};
+ghost use Rattle.flash_map.specs.Touches.{Touches};
+ghost use Rattle.flash_map.specs.Units.{padded, padded_bytes};
+
+use crate::{Area, area_program, area_view, geometry, padded};
+use flash_sim::{Flash, PowerLost, Steps};
+use std::sync::ledger::Ledger;
+
+/// A range of bytes of an area.
+#[derive(Clone, Copy, Debug, PartialEq, Eq)]
+pub struct Source {
+    pub sector: u32,
+    pub offset: u32,
+    pub len: u32,
+}
+
+// The most bytes of one piece. Every unit divides it.
+const PIECE: u32 = 32;
+
+// Some bytes of a sector, at most a piece, with FF behind them.
+fn piece_of<F: Flash, L: Ledger>(
+    flash: &F,
+    area: &Area,
+    from: Source,
+    steps: &mut Steps<L>,
+) -> [u8; 32]
+    requires lawful { IsLawfulArea (F.device flash.now).banks area.now }
+    requires has_sector { from.sector < area.now.sectors }
+    requires short { from.len ≤ 32 }
+    requires inside { from.offset + from.len ≤ sector_size (F.device flash.now) area.now }
+    ensures { let d = F.device flash.now in result ≡ source d area.now from ++ replicate (32 - from.len) 0xFF }
+{
+    let mut piece = [0xFF; 32];
+    let seen = area_view(flash, area, from.sector, from.offset, from.len, steps);
+    piece[..from.len as usize].copy_from_slice(seen);
+    piece
+}
+
+/// Programs a range of another sector's bytes, with FF behind them up to whole units, upward and in pieces of at most
+/// 32 bytes through a buffer of its own. Each piece is one step.
+#[tactic(auto, using(crate::proofs::Touches::then))]
+pub fn copy_padded<F: Flash, L: Ledger>(
+    flash: &mut F,
+    area: &Area,
+    from: Source,
+    sector: u32,
+    offset: u32,
+    steps: &mut Steps<L>,
+) -> Result<(), PowerLost>
+    requires lawful { IsLawfulArea (F.device flash.old).banks area.now }
+    requires has_source { from.sector < area.now.sectors }
+    requires inside { from.offset + from.len ≤ sector_size (F.device flash.old) area.now }
+    requires other { from.sector ≡ sector → ⊥ }
+    requires short { from.len < 2 ^ 30 }
+    requires can { let d = F.device flash.old in CanProgramAll d area.now sector offset (padded_bytes (unit_of d area.now) (source d area.now from)) }
+
+    ensures touches { Touches (area.now ∷ []) (F.device flash.old) (F.device flash.new) (is_err result) }
+    ensures ok { let d = F.device flash.old in OnOk result (Writes d (F.device flash.new) area.now sector offset (padded_bytes (unit_of d area.now) (source d area.now from))) }
+    ensures spent { let unit = unit_of (F.device flash.old) area.now in
+        OnOk result (Spends (F.device flash.old) (F.device flash.new) (padded unit from.len / unit)) }
+
+    ensures lost { let d = F.device flash.old in OnErr result (WritesPart d (F.device flash.new) area.now sector offset (padded_bytes (unit_of d area.now) (source d area.now from))) }
+    ensures spent_at_most { let unit = unit_of (F.device flash.old) area.now in
+        OnErr result (SpendsAtMost (F.device flash.old) (F.device flash.new) (padded unit from.len / unit)) }
+{
+    let all = padded(geometry(flash, area).unit, from.len);
+    let mut done = 0;
+    while done < all {
+        let end = all.min(done + PIECE);
+        let part = Source {
+            sector: from.sector,
+            offset: from.offset + done,
+            len: PIECE.min(from.len - done),
+        };
+        let piece = piece_of(flash, area, part, steps);
+        let bytes = &piece[..(end - done) as usize];
+        area_program(flash, area, sector, offset + done, bytes)?;
+        done = end;
+    }
+    Ok(())
+}

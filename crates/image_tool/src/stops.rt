@@ -1,0 +1,73 @@
+// Why a command is not done.
+ghost use Rattle.std.specs.Prelude.{◌≡◌};
+ghost use Rattle.image_tool.specs.Refusals.{status_of};
+ghost use Rattle.image_tool.specs.declared.stops.Stop.TheVariants as stops;
+
+use crate::status::Status;
+use arrayvec::ArrayString;
+use flash_map::Damaged;
+use flash_sim::NoMemory;
+use image_file::ImageWhy;
+use script_lines::LineWhy;
+
+/// What is wrong with the words of a command, or with the files that they name.
+#[derive(Clone, Copy, Debug, PartialEq, Eq)]
+pub enum Refusal<'a> {
+    /// The word of a blank image is not lawful.
+    BadSpec,
+    /// There is no file of this name.
+    NoFile {
+        word: &'a str,
+    },
+    /// The file is no image: its first place that departs from the format, in bytes, and how.
+    BadFile {
+        at: u64,
+        why: ImageWhy,
+    },
+    /// This program does not serve such an image. The label is that of its first area.
+    Unbuilt {
+        label: ArrayString<8>,
+    },
+    /// The bytes of the image's area are damaged.
+    BadArea {
+        label: ArrayString<8>,
+        damage: Damaged,
+    },
+    /// The first line of the script that is refused, counted from 1, or 0 for the whole.
+    BadScript {
+        line: u64,
+        why: LineWhy,
+    },
+}
+
+impl Refusal<'_> {
+    /// The status that the program ends with.
+    pub fn status(&self) -> Status
+        ensures { result ≡ status_of self.now }
+    {
+        match self {
+            Refusal::BadSpec => Status::Usage,
+            Refusal::NoFile { .. } => Status::NoFile,
+            Refusal::BadFile { .. } | Refusal::Unbuilt { .. } | Refusal::BadArea { .. } => {
+                Status::BadImage
+            }
+            Refusal::BadScript { .. } => Status::BadScript,
+        }
+    }
+}
+
+/// Why a command stops before its end.
+#[derive(Clone, Copy, Debug, PartialEq, Eq)]
+pub enum Stop<'a> {
+    Refused(Refusal<'a>),
+    HostFailed,
+    NoMemory,
+}
+
+impl From<NoMemory> for Stop<'_> {
+    ghost from_gives = { λ _ result. result ≡ stops.NoMemory };
+
+    fn from(_: NoMemory) -> Self {
+        Stop::NoMemory
+    }
+}

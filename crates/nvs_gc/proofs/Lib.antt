@@ -1,0 +1,12 @@
+pub mod Areas
+pub mod CollectSteps
+pub mod CopyLemmas
+pub mod CopyLoop
+pub mod EndLemmas
+pub mod LiveLemmas
+pub mod LiveSum
+pub mod Mounting
+pub mod RoundSteps
+pub mod Standings
+pub mod WriteSteps
+pub mod Written

@@ -1,0 +1,45 @@
+-- What a store that stands says of its area.
+use Rattle.std.proofs.Common.{◌≡◌, ℕ, ◌+◌, ◌-◌, ◌<◌, ◌≤◌, cond, eqb, take, drop, true, false, List, length, Some, None, sym, ap, subst, ◌∙◌, arith}
+use Rattle.std.specs.Prelude.{slice_range}
+use Rattle.std.proofs.lemmas.Bool.{ne_eqb, cond-false}
+use Rattle.std.proofs.lemmas.List.{length-take-le, length-drop}
+use Rattle.std.proofs.lemmas.List.Edits.{length-between}
+use Rattle.flash_sim.specs.Device.{Device}
+use Rattle.flash_map.specs.Area.{unit_of, sectors_of}
+use Rattle.slot_list.specs.Items.{value_of}
+use Rattle.sector_ring.specs.Area.{open_sector}
+use Rattle.sector_ring.specs.Forms.{AtRest}
+use Rattle.sector_ring.proofs.Stays.{open_within}
+use Rattle.nvs_store.specs.Scans.{reading}
+use Rattle.nvs_store.proofs.Appending.{open_is}
+use Rattle.nvs_store.proofs.MountLemmas.{length-sectors}
+use Rattle.nvs_gc.specs.declared.nvs.Nvs.{Nvs}
+use Rattle.nvs_gc.specs.Standing.{StandsOn}
+use Rattle.nvs_gc.proofs.Mounting.{rest-there}
+
+module _ (d : Device) (nvs : Nvs) (stands : StandsOn d nvs) where
+  pub several-sectors : 2 ≤ length (sectors_of d nvs.area)
+  several-sectors = let count = length-sectors d nvs.area in omega (arith, stands.area.lawful.several)
+
+  pub current-inside : nvs.scan.current < nvs.area.sectors
+  current-inside =
+      let count = length-sectors d nvs.area in
+      let is = open_is (unit_of d nvs.area) (sectors_of d nvs.area) nvs.scan stands.scan in
+      let within = open_within (reading (unit_of d nvs.area)) (sectors_of d nvs.area) (let several = several-sectors in omega arith) in
+      omega arith
+
+  pub rest-stands : AtRest (reading (unit_of d nvs.area)) (sectors_of d nvs.area) nvs.scan.current
+  rest-stands = rest-there (unit_of d nvs.area) (sectors_of d nvs.area) nvs.scan several-sectors stands.undamaged stands.scan stands.rested
+
+-- ---- the value that an entry's data stands for
+
+pub value_none : (sector : List ℕ) (offset len : ℕ) → len ≡ 0 → value_of (slice_range sector offset (offset + len)) ≡ None
+value_none sector offset len none =
+    let at : offset + len - offset ≡ 0 = omega arith in
+    ap (λ (n : ℕ). value_of (take n (drop offset sector))) at
+
+pub value_some : (sector : List ℕ) (offset len : ℕ) → offset + len ≤ length sector → (len ≡ 0 → ⊥) → value_of (slice_range sector offset (offset + len)) ≡ Some (slice_range sector offset (offset + len))
+value_some sector offset len inside some =
+    let long = length-between sector offset (offset + len) inside in
+    let there : eqb (length (slice_range sector offset (offset + len))) 0 ≡ false = ne_eqb (length (slice_range sector offset (offset + len))) 0 (λ (e : length (slice_range sector offset (offset + len)) ≡ 0). some (omega arith)) in
+    cond-false (eqb (length (slice_range sector offset (offset + len))) 0) None (Some (slice_range sector offset (offset + len))) there

@@ -1,0 +1,124 @@
+-- How the calls of a store end.
+use Rattle.std.specs.Prelude.{◌≡◌, ◌⊎◌, ℕ, ◌-◌, ◌*◌, ◌^◌, ◌<◌, ◌≤◌, Bool, true, false, List, length, Option, Some, None, IsTrue, Result, Ok, Err}
+use Rattle.std.specs.FinMap.{get, insert, remove}
+use Rattle.flash_sim.specs.Device.{Device}
+use Rattle.flash_sim.specs.declared.flash.PowerLost.{PowerLost as Lost}
+use Rattle.flash_map.specs.declared.area.Area.{Area}
+use Rattle.flash_map.specs.declared.faults.MountFault.{MountFault}
+use Rattle.flash_map.specs.declared.faults.MountFault.TheVariants.{Damaged as HasDamage, PowerLost as MountLost, NoMemory}
+use Rattle.flash_map.specs.declared.faults.WriteFault.{WriteFault}
+use Rattle.flash_map.specs.declared.faults.WriteFault.TheVariants.{NoSpace, TooLong, PowerLost}
+use Rattle.flash_map.specs.Area.{unit_of, sector_size, sectors_of}
+use Rattle.flash_map.specs.Spending.{Spends, SpendsAtMost}
+use Rattle.slot_list.specs.Items.{Items}
+use Rattle.sector_ring.specs.Rounds.{live_cost}
+use Rattle.nvs_store.specs.Geometry.{cost, capacity}
+use Rattle.nvs_store.specs.Scans.{damage_of, fits}
+use Rattle.nvs_gc.specs.declared.nvs.Nvs.{Nvs}
+use Rattle.nvs_gc.specs.Spending.{mount_units, entry_units, most_units}
+use Rattle.nvs_gc.specs.Standing.{list_on, items_on, StandsOn, KeepsItems}
+
+-- ---- mounting
+
+-- the answer says that power was lost
+abbrev pub mount_lost : {T : Type 0} → Result T MountFault → Bool
+mount_lost (Ok nvs) = false
+mount_lost (Err (HasDamage damaged)) = false
+mount_lost (Err MountLost) = true
+mount_lost (Err NoMemory) = false
+
+-- The area is damaged, and then nothing changed; or it is not, and its items stay, whether power is lost or not.
+abbrev pub MountEnds : Device → Device → Area → Result Nvs MountFault → Type 0
+MountEnds old new area (Ok nvs) =
+    (damage_of (unit_of old area) (sectors_of old area) ≡ None) × StandsOn new nvs × (nvs.area ≡ area) × KeepsItems old new area
+    × Spends old new (mount_units (unit_of old area) (sectors_of old area))
+MountEnds old new area (Err (HasDamage damaged)) = (damage_of (unit_of old area) (sectors_of old area) ≡ Some damaged) × (new ≡ old)
+MountEnds old new area (Err MountLost) =
+    (damage_of (unit_of old area) (sectors_of old area) ≡ None) × KeepsItems old new area
+    × SpendsAtMost old new (mount_units (unit_of old area) (sectors_of old area))
+MountEnds old new area (Err NoMemory) = ⊥
+
+-- ---- reading
+
+-- greater than this id, where there is one
+abbrev pub IsBehind : Option ℕ → ℕ → Type 0
+IsBehind None id = Unit {0}
+IsBehind (Some after) id = after < id
+
+-- the least id behind this one that has a value, of all ids of 16 bits
+abbrev pub IsNextId : Items → Option ℕ → Option ℕ → Type 0
+IsNextId items after None = (id : ℕ) → id < 2 ^ 16 → IsBehind after id → get items id ≡ None
+IsNextId items after (Some next) = IsBehind after next × (get items next ≡ None → ⊥) × ((id : ℕ) → IsBehind after id → id < next → get items id ≡ None)
+
+-- ---- writing
+
+abbrev pub write_lost : {T : Type 0} → Result T WriteFault → Bool
+write_lost (Ok _) = false
+write_lost (Err (NoSpace need live)) = false
+write_lost (Err TooLong) = false
+write_lost (Err PowerLost) = true
+
+-- these bytes are the item's already
+abbrev pub Holds : Device → Area → ℕ → List ℕ → Type 0
+Holds d area id bytes = get (items_on d area) id ≡ Some bytes
+
+-- data of this length fits the open sector
+abbrev pub Fits : Device → Nvs → ℕ → Type 0
+Fits d nvs len = IsTrue (fits (unit_of d nvs.area) nvs.scan len)
+
+-- data of this length and its entry cost no more than a sector has for them
+abbrev pub IsShort : Device → Area → ℕ → Type 0
+IsShort d area len = cost (unit_of d area) len ≤ capacity (unit_of d area) (sector_size d area)
+
+-- the item has these bytes, and all others stay
+pub record Writes (old new : Device) (nvs : Nvs) (id : ℕ) (bytes : List ℕ) : Type 0 where
+  pub short : IsShort old nvs.area (length bytes)
+  pub items : items_on new nvs.area ≡ insert (items_on old nvs.area) id bytes
+  pub equal : Holds old nvs.area id bytes → new ≡ old
+  pub fitting : ¬ Holds old nvs.area id bytes → Fits old nvs (length bytes) → Spends old new (entry_units old nvs.area (length bytes))
+  pub at_most : SpendsAtMost old new (most_units old nvs.area (nvs.area.sectors - 1) (length bytes))
+
+-- No round of collections makes room: the live items leave none in any of the sectors with data.
+pub record FindsNoSpace (old new : Device) (nvs : Nvs) (id : ℕ) (bytes : List ℕ) (need live : ℕ) : Type 0 where
+  pub needs : need ≡ cost (unit_of old nvs.area) (length bytes)
+  pub lives : live ≡ live_cost (cost (unit_of old nvs.area)) (list_on old nvs.area)
+  pub short : IsShort old nvs.area (length bytes)
+  pub full : (nvs.area.sectors - 1) * (capacity (unit_of old nvs.area) (sector_size old nvs.area) - need) < live
+  pub other : ¬ Holds old nvs.area id bytes
+  pub unfit : ¬ Fits old nvs (length bytes)
+  pub items : items_on new nvs.area ≡ items_on old nvs.area
+  pub at_most : SpendsAtMost old new (most_units old nvs.area (nvs.area.sectors - 1) (length bytes))
+
+-- power was lost: the items are the old ones, or those with the pair
+pub record StopsWriting (old new : Device) (nvs : Nvs) (id : ℕ) (bytes : List ℕ) : Type 0 where
+  pub short : IsShort old nvs.area (length bytes)
+  pub other : ¬ Holds old nvs.area id bytes
+  pub items : (items_on new nvs.area ≡ items_on old nvs.area) ⊎ (items_on new nvs.area ≡ insert (items_on old nvs.area) id bytes)
+  pub fitting : Fits old nvs (length bytes) → SpendsAtMost old new (entry_units old nvs.area (length bytes))
+  pub at_most : SpendsAtMost old new (most_units old nvs.area (nvs.area.sectors - 1) (length bytes))
+
+abbrev pub WriteEnds : {T : Type 0} → Device → Device → Nvs → ℕ → List ℕ → Result T WriteFault → Type 0
+WriteEnds old new nvs id bytes (Ok _) = Writes old new nvs id bytes
+WriteEnds old new nvs id bytes (Err (NoSpace need live)) = FindsNoSpace old new nvs id bytes need live
+WriteEnds old new nvs id bytes (Err TooLong) = (¬ IsShort old nvs.area (length bytes)) × (new ≡ old)
+WriteEnds old new nvs id bytes (Err PowerLost) = StopsWriting old new nvs id bytes
+
+-- ---- deleting
+
+-- the id has no item, and all others stay
+pub record Deletes (old new : Device) (nvs : Nvs) (id : ℕ) : Type 0 where
+  pub items : items_on new nvs.area ≡ remove (items_on old nvs.area) id
+  pub absent : get (items_on old nvs.area) id ≡ None → new ≡ old
+  pub fitting : ¬ (get (items_on old nvs.area) id ≡ None) → Fits old nvs 0 → Spends old new (entry_units old nvs.area 0)
+  pub at_most : SpendsAtMost old new (most_units old nvs.area 1 0)
+
+-- power was lost: the items are the old ones, or those without the id
+pub record StopsDeleting (old new : Device) (nvs : Nvs) (id : ℕ) : Type 0 where
+  pub present : ¬ (get (items_on old nvs.area) id ≡ None)
+  pub items : (items_on new nvs.area ≡ items_on old nvs.area) ⊎ (items_on new nvs.area ≡ remove (items_on old nvs.area) id)
+  pub fitting : Fits old nvs 0 → SpendsAtMost old new (entry_units old nvs.area 0)
+  pub at_most : SpendsAtMost old new (most_units old nvs.area 1 0)
+
+abbrev pub DeleteEnds : {T : Type 0} → Device → Device → Nvs → ℕ → Result T Lost → Type 0
+DeleteEnds old new nvs id (Ok _) = Deletes old new nvs id
+DeleteEnds old new nvs id (Err _) = StopsDeleting old new nvs id

@@ -1,0 +1,4 @@
+pub mod Collecting
+pub mod Ends
+pub mod Spending
+pub mod Standing

@@ -1,0 +1,48 @@
+-- How many units and erases calls carry out.
+use Rattle.std.specs.Prelude.{ℕ, ◌+◌, ◌-◌, ◌*◌, ◌/◌, List, if◌then◌else◌}
+use Rattle.flash_sim.specs.Device.{Device}
+use Rattle.flash_map.specs.declared.area.Area.{Area}
+use Rattle.flash_map.specs.Area.{unit_of, sector_size}
+use Rattle.sector_ring.specs.Area.{next, is_blank_at, open_sector}
+use Rattle.sector_ring.specs.Forms.{to_copy}
+use Rattle.sector_ring.specs.Rounds.{copies_cost}
+use Rattle.nvs_store.specs.declared.scan.Redo.{Redo}
+use Rattle.nvs_store.specs.declared.scan.Redo.TheVariants.{Nothing, EraseNext, CollectAgain}
+use Rattle.nvs_store.specs.Geometry.{slot_size, cost}
+use Rattle.nvs_store.specs.Scans.{reading, redo_of}
+
+-- what a collection with this sector open copies, in bytes
+abbrev pub copied : ℕ → List (List ℕ) → ℕ → ℕ
+copied unit sectors place = copies_cost (cost unit) (to_copy (reading unit) sectors place)
+
+-- A mount, with this sector open: the erase of the victim alone, or the whole collection again, which begins with
+-- the erase of the open sector unless that is blank.
+abbrev pub redo_units : ℕ → List (List ℕ) → ℕ → Redo → ℕ
+redo_units unit sectors place Nothing = 0
+redo_units unit sectors place EraseNext = 1
+redo_units unit sectors place CollectAgain = (copied unit sectors place + slot_size unit) / unit + 1 + (if is_blank_at (reading unit) sectors place then 0 else 1)
+
+abbrev pub mount_units : ℕ → List (List ℕ) → ℕ
+mount_units unit sectors =
+    let place = open_sector (reading unit) sectors in
+    redo_units unit sectors place (redo_of unit sectors place)
+
+-- A round of close and collect from this open sector. The victim is the sector after the next one.
+abbrev pub round_units : ℕ → List (List ℕ) → ℕ → ℕ
+round_units unit sectors place =
+    let opened = next sectors place in
+    if is_blank_at (reading unit) sectors place then 0
+    else (if is_blank_at (reading unit) sectors (next sectors opened) then slot_size unit / unit
+    else (2 * slot_size unit + copied unit sectors opened) / unit + 1)
+
+-- the units of a sector
+abbrev pub sector_units : Device → Area → ℕ
+sector_units d area = sector_size d area / unit_of d area
+
+-- data of this length and its entry
+abbrev pub entry_units : Device → Area → ℕ → ℕ
+entry_units d area len = cost (unit_of d area) len / unit_of d area
+
+-- so many rounds, and then an entry with data of this length
+abbrev pub most_units : Device → Area → ℕ → ℕ → ℕ
+most_units d area rounds len = rounds * (sector_units d area + 1) + entry_units d area len

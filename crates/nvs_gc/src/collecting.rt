@@ -1,0 +1,265 @@
+// Closing, collecting, and what a mount has to do again.
+ghost use Rattle.std.specs.Prelude.{◌≡◌, ◌+◌, ◌*◌, ◌/◌, ◌<◌, ◌≤◌, ◌∷◌, [], true, false, is_err, length, IfOk, IfSome, OnOk, OnErr, if◌then◌else◌};
+ghost use Rattle.slot_list.specs.Slots.{is_erased};
+ghost use Rattle.flash_map.specs.Area.{unit_of, sector_size, sectors_of};
+ghost use Rattle.flash_map.specs.Spending.{Spends, SpendsAtMost};
+ghost use Rattle.flash_map.specs.Touches.{Touches};
+ghost use Rattle.sector_ring.specs.Area.{next, is_blank_at};
+ghost use Rattle.sector_ring.specs.Forms.{AtRest, Collecting, to_copy};
+ghost use Rattle.sector_ring.specs.Rounds.{copies_cost};
+ghost use Rattle.flash_map.specs.Area.{sector_at};
+ghost use Rattle.nvs_store.specs.declared.scan.Redo.TheVariants.{Nothing, CollectAgain};
+ghost use Rattle.nvs_store.specs.Geometry.{slot_size, cost};
+ghost use Rattle.nvs_store.specs.Sector.{used_slots};
+ghost use Rattle.nvs_store.specs.Scans.{reading, scan_of, free, IsInArea};
+ghost use Rattle.nvs_gc.specs.Collecting.{is_live, live_in, HasCopied, StopsCopying, Empties, KeepsMarks, CopiesOne, cost_of, CollectsAt, TurnsAt};
+ghost use Rattle.nvs_gc.specs.Spending.{copied, redo_units, round_units};
+ghost use Rattle.nvs_gc.specs.Standing.{IsNvsArea, IsUndamaged, KeepsItems};
+
+use flash_map::{Area, area_erase};
+use flash_sim::{Flash, PowerLost, Steps};
+use nvs_store::{
+    Found, Redo, Scan, copy_entry, entry_in, find, is_blank, mount_scan, next, put_close, put_done,
+    used_slots,
+};
+use std::sync::ledger::Ledger;
+
+// The scan of an area that is not damaged.
+fn scan_again<F: Flash, L: Ledger>(flash: &F, area: &Area, steps: &mut Steps<L>) -> Scan
+    requires area { IsNvsArea (F.device flash.now).banks area.now }
+    requires undamaged { IsUndamaged (F.device flash.now) area.now }
+    ensures { let d = F.device flash.now in result ≡ scan_of (unit_of d area.now) (sectors_of d area.now) }
+{
+    match mount_scan(flash, area, steps) {
+        Ok(scan) => scan,
+        Err(_) => unreachable!(),
+    }
+}
+
+// Whether an entry of the list is the last of its id and has data.
+pub fn is_live<F: Flash, L: Ledger>(
+    flash: &F,
+    area: &Area,
+    scan: &Scan,
+    found: &Found,
+    steps: &mut Steps<L>,
+) -> bool
+    requires area { IsNvsArea (F.device flash.now).banks area.now }
+    requires scan { let d = F.device flash.now in scan.now ≡ scan_of (unit_of d area.now) (sectors_of d area.now) }
+    ensures { let d = F.device flash.now in result ≡ is_live (unit_of d area.now) (sectors_of d area.now) found.now }
+{
+    match find(flash, area, scan, found.entry.id, steps) {
+        Some(last) => {
+            last.sector == found.sector && last.slot == found.slot && found.entry.len > 0
+        }
+        None => false,
+    }
+}
+
+// The live entry in a used slot.
+pub fn live_in<F: Flash, L: Ledger>(
+    flash: &F,
+    area: &Area,
+    scan: &Scan,
+    place: u32,
+    slot: u32,
+    steps: &mut Steps<L>,
+) -> Option<Found>
+    requires area { IsNvsArea (F.device flash.now).banks area.now }
+    requires scan { let d = F.device flash.now in scan.now ≡ scan_of (unit_of d area.now) (sectors_of d area.now) }
+    requires inside { place < area.now.sectors }
+    requires used { let d = F.device flash.now in slot ≤ length (used_slots (unit_of d area.now) (sector_at (sectors_of d area.now) place)) }
+    ensures found { let d = F.device flash.now in result ≡ live_in (unit_of d area.now) (sectors_of d area.now) place slot }
+    ensures in_area { IfSome result (IsInArea area.now.sectors (sector_size (F.device flash.now) area.now)) }
+    ensures place { IfSome result (λ found. found.sector ≡ place) }
+{
+    let found = entry_in(flash, area, place, slot, steps)?;
+    if is_live(flash, area, scan, &found, steps) {
+        Some(found)
+    } else {
+        None
+    }
+}
+
+// Copies the entry in a slot of the victim, if it is live.
+fn copy_slot<F: Flash, L: Ledger>(
+    flash: &mut F,
+    area: &Area,
+    scan: &mut Scan,
+    victim: u32,
+    slot: u32,
+    steps: &mut Steps<L>,
+) -> Result<(), PowerLost>
+    requires area { IsNvsArea (F.device flash.old).banks area.now }
+    requires scan { let d = F.device flash.old in scan.old ≡ scan_of (unit_of d area.now) (sectors_of d area.now) }
+    requires inside { victim < area.now.sectors }
+    requires other { victim ≡ scan.old.current → ⊥ }
+    requires used { let d = F.device flash.old in slot ≤ length (used_slots (unit_of d area.now) (sector_at (sectors_of d area.now) victim)) }
+    requires free { let d = F.device flash.old in let unit = unit_of d area.now in cost_of unit (live_in unit (sectors_of d area.now) victim slot) + 3 * slot_size unit ≤ free scan.old }
+    ensures touches { Touches (area.now ∷ []) (F.device flash.old) (F.device flash.new) (is_err result) }
+    ensures copies { let d = F.device flash.old in let unit = unit_of d area.now in OnOk result (CopiesOne unit (sectors_of d area.now) (sectors_of (F.device flash.new) area.now) scan.old.current (live_in unit (sectors_of d area.now) victim slot)) }
+    ensures scan { let d = F.device flash.new in OnOk result (scan.new ≡ scan_of (unit_of d area.now) (sectors_of d area.now)) }
+    ensures spent { let d = F.device flash.old in let unit = unit_of d area.now in OnOk result (Spends d (F.device flash.new) (cost_of unit (live_in unit (sectors_of d area.now) victim slot) / unit)) }
+    ensures lost { let d = F.device flash.old in OnErr result (KeepsMarks (unit_of d area.now) (sectors_of d area.now) (sectors_of (F.device flash.new) area.now) scan.old.current) }
+    ensures spent_at_most { let d = F.device flash.old in let unit = unit_of d area.now in OnErr result (SpendsAtMost d (F.device flash.new) (cost_of unit (live_in unit (sectors_of d area.now) victim slot) / unit)) }
+{
+    match live_in(flash, area, scan, victim, slot, steps) {
+        Some(found) => copy_entry(flash, area, scan, &found, steps),
+        None => Ok(()),
+    }
+}
+
+// Copies the live entries of the victim to the open sector.
+#[tactic(auto, using(flash_map::proofs::Touches::then))]
+fn copy_live<F: Flash, L: Ledger>(
+    flash: &mut F,
+    area: &Area,
+    scan: &mut Scan,
+    victim: u32,
+    steps: &mut Steps<L>,
+) -> Result<(), PowerLost>
+    requires area { IsNvsArea (F.device flash.old).banks area.now }
+    requires scan { let d = F.device flash.old in scan.old ≡ scan_of (unit_of d area.now) (sectors_of d area.now) }
+    requires collecting { let d = F.device flash.old in Collecting (reading (unit_of d area.now)) (sectors_of d area.now) scan.old.current }
+    requires blank { let d = F.device flash.old in is_blank_at (reading (unit_of d area.now)) (sectors_of d area.now) scan.old.current ≡ true }
+    requires victim { victim ≡ next (sectors_of (F.device flash.old) area.now) scan.old.current }
+    ensures touches { Touches (area.now ∷ []) (F.device flash.old) (F.device flash.new) (is_err result) }
+    ensures copies { let d = F.device flash.old in let unit = unit_of d area.now in let sectors = sectors_of d area.now in OnOk result (HasCopied unit sectors (sectors_of (F.device flash.new) area.now) scan.old.current (to_copy (reading unit) sectors scan.old.current)) }
+    ensures scan { let d = F.device flash.new in OnOk result (scan.new ≡ scan_of (unit_of d area.now) (sectors_of d area.now)) }
+    ensures current { OnOk result (scan.new.current ≡ scan.old.current) }
+    ensures spent { let d = F.device flash.old in let unit = unit_of d area.now in OnOk result (Spends d (F.device flash.new) (copied unit (sectors_of d area.now) scan.old.current / unit)) }
+    ensures lost { let d = F.device flash.old in OnErr result (StopsCopying (unit_of d area.now) (sectors_of d area.now) (sectors_of (F.device flash.new) area.now) scan.old.current) }
+    ensures spent_at_most { let d = F.device flash.old in let unit = unit_of d area.now in OnErr result (SpendsAtMost d (F.device flash.new) (copied unit (sectors_of d area.now) scan.old.current / unit)) }
+{
+    let used = used_slots(flash, area, victim, steps);
+    for slot in 1..used + 1 {
+        copy_slot(flash, area, scan, victim, slot, steps)?;
+    }
+    Ok(())
+}
+
+// A whole collection into a blank open sector.
+#[tactic(auto, using(flash_map::proofs::Touches::then))]
+fn collect<F: Flash, L: Ledger>(
+    flash: &mut F,
+    area: &Area,
+    scan: &mut Scan,
+    steps: &mut Steps<L>,
+) -> Result<(), PowerLost>
+    requires area { IsNvsArea (F.device flash.old).banks area.now }
+    requires scan { let d = F.device flash.old in scan.old ≡ scan_of (unit_of d area.now) (sectors_of d area.now) }
+    requires collecting { let d = F.device flash.old in Collecting (reading (unit_of d area.now)) (sectors_of d area.now) scan.old.current }
+    requires blank { let d = F.device flash.old in is_blank_at (reading (unit_of d area.now)) (sectors_of d area.now) scan.old.current ≡ true }
+    ensures touches { Touches (area.now ∷ []) (F.device flash.old) (F.device flash.new) (is_err result) }
+    ensures collects { let d = F.device flash.old in OnOk result (CollectsAt (unit_of d area.now) (sectors_of d area.now) (sectors_of (F.device flash.new) area.now) scan.old.current) }
+    ensures spent { let d = F.device flash.old in let unit = unit_of d area.now in OnOk result (Spends d (F.device flash.new) ((copied unit (sectors_of d area.now) scan.old.current + slot_size unit) / unit + 1)) }
+    ensures items { KeepsItems (F.device flash.old) (F.device flash.new) area.now }
+    ensures spent_at_most { let d = F.device flash.old in let unit = unit_of d area.now in OnErr result (SpendsAtMost d (F.device flash.new) ((copied unit (sectors_of d area.now) scan.old.current + slot_size unit) / unit + 1)) }
+{
+    let victim = next(area, scan.current);
+    copy_live(flash, area, scan, victim, steps)?;
+    put_done(flash, area, scan)?;
+    area_erase(flash, area, victim)
+}
+
+// Erases a sector, unless it is blank.
+fn empty<F: Flash, L: Ledger>(
+    flash: &mut F,
+    area: &Area,
+    place: u32,
+    steps: &mut Steps<L>,
+) -> Result<(), PowerLost>
+    requires area { IsNvsArea (F.device flash.old).banks area.now }
+    requires inside { place < area.now.sectors }
+    ensures touches { Touches (area.now ∷ []) (F.device flash.old) (F.device flash.new) (is_err result) }
+    ensures empties { OnOk result (Empties (sectors_of (F.device flash.old) area.now) (sectors_of (F.device flash.new) area.now) place) }
+    ensures spent { let d = F.device flash.old in OnOk result (Spends d (F.device flash.new) (if is_erased (sector_at (sectors_of d area.now) place) then 0 else 1)) }
+    ensures same { OnErr result (sectors_of (F.device flash.new) area.now ≡ sectors_of (F.device flash.old) area.now) }
+    ensures spent_at_most { OnErr result (SpendsAtMost (F.device flash.old) (F.device flash.new) 0) }
+{
+    if is_blank(flash, area, place, steps) {
+        return Ok(());
+    }
+    area_erase(flash, area, place)
+}
+
+// A collection into an open sector that may hold a part of it.
+#[tactic(auto, using(flash_map::proofs::Touches::then))]
+fn collect_again<F: Flash, L: Ledger>(
+    flash: &mut F,
+    area: &Area,
+    scan: &Scan,
+    steps: &mut Steps<L>,
+) -> Result<Scan, PowerLost>
+    requires area { IsNvsArea (F.device flash.old).banks area.now }
+    requires scan { let d = F.device flash.old in scan.now ≡ scan_of (unit_of d area.now) (sectors_of d area.now) }
+    requires collecting { let d = F.device flash.old in Collecting (reading (unit_of d area.now)) (sectors_of d area.now) scan.now.current }
+    ensures touches { Touches (area.now ∷ []) (F.device flash.old) (F.device flash.new) (is_err result) }
+    ensures scan { let d = F.device flash.new in IfOk result (λ scan. scan ≡ scan_of (unit_of d area.now) (sectors_of d area.now)) }
+    ensures rested { IfOk result (λ scan. scan.redo ≡ Nothing) }
+    ensures items { KeepsItems (F.device flash.old) (F.device flash.new) area.now }
+    ensures collects { let d = F.device flash.old in OnOk result (CollectsAt (unit_of d area.now) (sectors_of d area.now) (sectors_of (F.device flash.new) area.now) scan.now.current) }
+    ensures spent { let d = F.device flash.old in let unit = unit_of d area.now in OnOk result (Spends d (F.device flash.new) (redo_units unit (sectors_of d area.now) scan.now.current CollectAgain)) }
+    ensures spent_at_most { let d = F.device flash.old in let unit = unit_of d area.now in OnErr result (SpendsAtMost d (F.device flash.new) (redo_units unit (sectors_of d area.now) scan.now.current CollectAgain)) }
+{
+    empty(flash, area, scan.current, steps)?;
+    let mut blank = scan_again(flash, area, steps);
+    collect(flash, area, &mut blank, steps)?;
+    Ok(scan_again(flash, area, steps))
+}
+
+// What a mount does with this scan, and the scan of the area at rest.
+#[tactic(auto, using(flash_map::proofs::Touches::then))]
+pub fn redo<F: Flash, L: Ledger>(
+    flash: &mut F,
+    area: &Area,
+    scan: Scan,
+    steps: &mut Steps<L>,
+) -> Result<Scan, PowerLost>
+    requires area { IsNvsArea (F.device flash.old).banks area.now }
+    requires undamaged { IsUndamaged (F.device flash.old) area.now }
+    requires scan { let d = F.device flash.old in scan ≡ scan_of (unit_of d area.now) (sectors_of d area.now) }
+    ensures touches { Touches (area.now ∷ []) (F.device flash.old) (F.device flash.new) (is_err result) }
+    ensures scan { let d = F.device flash.new in IfOk result (λ scan. scan ≡ scan_of (unit_of d area.now) (sectors_of d area.now)) }
+    ensures rested { IfOk result (λ scan. scan.redo ≡ Nothing) }
+    ensures items { KeepsItems (F.device flash.old) (F.device flash.new) area.now }
+    ensures same { let d = F.device flash.old in OnOk result (AtRest (reading (unit_of d area.now)) (sectors_of d area.now) scan.current → sectors_of (F.device flash.new) area.now ≡ sectors_of d area.now) }
+    ensures collects { let d = F.device flash.old in let unit = unit_of d area.now in OnOk result (Collecting (reading unit) (sectors_of d area.now) scan.current → CollectsAt unit (sectors_of d area.now) (sectors_of (F.device flash.new) area.now) scan.current) }
+    ensures spent { let d = F.device flash.old in let unit = unit_of d area.now in OnOk result (Spends d (F.device flash.new) (redo_units unit (sectors_of d area.now) scan.current scan.redo)) }
+    ensures spent_at_most { let d = F.device flash.old in let unit = unit_of d area.now in OnErr result (SpendsAtMost d (F.device flash.new) (redo_units unit (sectors_of d area.now) scan.current scan.redo)) }
+{
+    match scan.redo {
+        Redo::Nothing => Ok(scan),
+        Redo::EraseNext => {
+            area_erase(flash, area, next(area, scan.current))?;
+            Ok(scan_again(flash, area, steps))
+        }
+        Redo::CollectAgain => collect_again(flash, area, &scan, steps),
+    }
+}
+
+// Closes the open sector and collects.
+#[tactic(auto, using(flash_map::proofs::Touches::then))]
+pub fn round<F: Flash, L: Ledger>(
+    flash: &mut F,
+    area: &Area,
+    scan: &Scan,
+    steps: &mut Steps<L>,
+) -> Result<Scan, PowerLost>
+    requires area { IsNvsArea (F.device flash.old).banks area.now }
+    requires undamaged { IsUndamaged (F.device flash.old) area.now }
+    requires scan { let d = F.device flash.old in scan.now ≡ scan_of (unit_of d area.now) (sectors_of d area.now) }
+    requires rested { scan.now.redo ≡ Nothing }
+    requires used { let d = F.device flash.old in is_blank_at (reading (unit_of d area.now)) (sectors_of d area.now) scan.now.current ≡ false }
+    ensures touches { Touches (area.now ∷ []) (F.device flash.old) (F.device flash.new) (is_err result) }
+    ensures scan { let d = F.device flash.new in IfOk result (λ scan. scan ≡ scan_of (unit_of d area.now) (sectors_of d area.now)) }
+    ensures rested { IfOk result (λ scan. scan.redo ≡ Nothing) }
+    ensures items { KeepsItems (F.device flash.old) (F.device flash.new) area.now }
+    ensures turns { let d = F.device flash.old in OnOk result (TurnsAt (unit_of d area.now) (sector_size d area.now) (sectors_of d area.now) (sectors_of (F.device flash.new) area.now) scan.now.current) }
+    ensures spent { let d = F.device flash.old in let unit = unit_of d area.now in OnOk result (Spends d (F.device flash.new) (round_units unit (sectors_of d area.now) scan.now.current)) }
+    ensures spent_at_most { let d = F.device flash.old in let unit = unit_of d area.now in OnErr result (SpendsAtMost d (F.device flash.new) (round_units unit (sectors_of d area.now) scan.now.current)) }
+{
+    put_close(flash, area, scan)?;
+    let opened = scan_again(flash, area, steps);
+    redo(flash, area, opened, steps)
+}

@@ -1,0 +1,25 @@
+-- What a mount looks for from sector to sector.
+use Rattle.std.specs.Prelude.{ℕ, ◌<◌, ⊤, Bool, not, ◌&&◌, List, ◌==◌}
+use Rattle.sector_ring.specs.Area.{is_closed_at, is_blank_at, follows_closed, looked_at}
+use Rattle.flash_map.specs.Area.{sector_at}
+use Rattle.nvs_store.specs.declared.places.Sought.{Sought}
+use Rattle.nvs_store.specs.declared.places.Sought.TheVariants.{NotClosed, Opening, NotBlank, Dirty, Unfenced, Full}
+use Rattle.nvs_store.specs.Sector.{has_fence, is_overfull}
+use Rattle.nvs_store.specs.Scans.{reading}
+
+-- the sector that it names is one of the area
+abbrev pub NamesWithin : Sought → ℕ → Type 0
+NamesWithin NotClosed count = ⊤
+NamesWithin Opening count = ⊤
+NamesWithin NotBlank count = ⊤
+NamesWithin (Dirty current) count = ⊤
+NamesWithin (Unfenced current) count = current < count
+NamesWithin (Full current) count = current < count
+
+abbrev pub is_sought : Sought → ℕ → List (List ℕ) → ℕ → Bool
+is_sought NotClosed unit sectors place = not (is_closed_at (reading unit) sectors place)
+is_sought Opening unit sectors place = follows_closed (reading unit) sectors place
+is_sought NotBlank unit sectors place = not (is_blank_at (reading unit) sectors place)
+is_sought (Dirty current) unit sectors place = not (is_closed_at (reading unit) sectors place) && not (place == current) && not (is_blank_at (reading unit) sectors place)
+is_sought (Unfenced current) unit sectors place = looked_at (reading unit) sectors current place && not (has_fence unit (sector_at sectors place))
+is_sought (Full current) unit sectors place = looked_at (reading unit) sectors current place && is_overfull unit (sector_at sectors place)

@@ -1,0 +1,188 @@
+// Entries of the list of an area.
+ghost use Rattle.std.specs.Prelude.{◌≡◌, ◌+◌, ◌-◌, ◌^◌, ◌<◌, ◌≤◌, length, None, IfSome};
+ghost use Rattle.std.specs.List.{flat_map, range_with_len};
+ghost use Rattle.std.specs.Option.{option_and_then};
+ghost use Rattle.flash_map.specs.declared.area.Role.TheVariants.{Nvs};
+ghost use Rattle.flash_map.specs.Area.{unit_of, sector_size, sectors_of};
+ghost use Rattle.flash_map.specs.Lawful.{IsLawfulFor};
+ghost use Rattle.slot_list.specs.Items.{last, value_of};
+ghost use Rattle.nvs_store.specs.Scans.{scan_of, counted_in, counted_within, last_wanted, last_found, all_found, list_of, found_bytes, found_up_to, places_before, IsInArea, IsNextOlder};
+
+use crate::places::{counts, sector_of};
+use crate::scan::{Found, Scan};
+use crate::sector::find_in;
+use flash_map::{Area, geometry};
+use flash_sim::{Flash, Steps};
+use std::sync::ledger::Ledger;
+
+// More than a sector has.
+const ALL_SLOTS: u32 = 32768;
+
+/// The last entry that is looked for in the first so many slots of a sector, where that counts with `current` open.
+fn find_at<F: Flash, L: Ledger>(
+    flash: &F,
+    area: &Area,
+    current: u32,
+    place: u32,
+    wanted: Option<u16>,
+    slots: u32,
+    steps: &mut Steps<L>,
+) -> Option<Found>
+    requires lawful { IsLawfulFor (F.device flash.now).banks area.now }
+    requires role { area.now.role ≡ Nvs }
+    requires current { current < area.now.sectors }
+    requires inside { place < area.now.sectors }
+    ensures within { let d = F.device flash.now in result ≡ last_wanted wanted (counted_within (unit_of d area.now) (sectors_of d area.now) current place slots) }
+    ensures whole { let d = F.device flash.now in
+        2 ^ 15 ≤ slots → result ≡ last_wanted wanted (counted_in (unit_of d area.now) (sectors_of d area.now) current place) }
+{
+    if counts(flash, area, current, place, steps) {
+        let unit = geometry(flash, area).unit;
+        let bytes = sector_of(flash, area, place, steps);
+        find_in(bytes, unit, place, wanted, slots)
+    } else {
+        None
+    }
+}
+
+/// The last entry that is looked for in the sectors from `first` to the one before `end`, of those that count.
+fn find_among<F: Flash, L: Ledger>(
+    flash: &F,
+    area: &Area,
+    current: u32,
+    first: u32,
+    end: u32,
+    wanted: Option<u16>,
+    steps: &mut Steps<L>,
+) -> Option<Found>
+    requires lawful { IsLawfulFor (F.device flash.now).banks area.now }
+    requires role { area.now.role ≡ Nvs }
+    requires current { current < area.now.sectors }
+    requires order { first ≤ end }
+    requires inside { end ≤ area.now.sectors }
+    ensures { let d = F.device flash.now in
+        result ≡ last_wanted wanted (flat_map (counted_in (unit_of d area.now) (sectors_of d area.now) current) (range_with_len first (end - first))) }
+{
+    let mut place = end;
+    while place > first {
+        let found = find_at(flash, area, current, place - 1, wanted, ALL_SLOTS, steps);
+        if found.is_some() {
+            return found;
+        }
+        place -= 1;
+    }
+    None
+}
+
+/// The last entry of the id in the list, a delete too.
+pub fn find<F: Flash, L: Ledger>(
+    flash: &F,
+    area: &Area,
+    scan: &Scan,
+    id: u16,
+    steps: &mut Steps<L>,
+) -> Option<Found>
+    requires lawful { IsLawfulFor (F.device flash.now).banks area.now }
+    requires role { area.now.role ≡ Nvs }
+    requires scan { let d = F.device flash.now in scan.now ≡ scan_of (unit_of d area.now) (sectors_of d area.now) }
+
+    ensures found { let d = F.device flash.now in result ≡ last_found (unit_of d area.now) (sectors_of d area.now) id }
+    // the bytes that it names decide for the id
+    ensures value { let d = F.device flash.now in
+        last (list_of (unit_of d area.now) (sectors_of d area.now)) id ≡ option_and_then (λ f. value_of (found_bytes (sectors_of d area.now) f)) result }
+    ensures in_area { IfSome result (IsInArea area.now.sectors (sector_size (F.device flash.now) area.now)) }
+{
+    let current = scan.current;
+    let newest = find_among(flash, area, current, 0, current + 1, Some(id), steps);
+    if newest.is_some() {
+        return newest;
+    }
+    find_among(
+        flash,
+        area,
+        current,
+        current + 1,
+        area.sectors,
+        Some(id),
+        steps,
+    )
+}
+
+/// The newest entry in the sectors before this one, in the round to the open sector.
+fn newest_before<F: Flash, L: Ledger>(
+    flash: &F,
+    area: &Area,
+    current: u32,
+    place: u32,
+    steps: &mut Steps<L>,
+) -> Option<Found>
+    requires lawful { IsLawfulFor (F.device flash.now).banks area.now }
+    requires role { area.now.role ≡ Nvs }
+    requires current { current < area.now.sectors }
+    requires inside { place < area.now.sectors }
+    ensures { let d = F.device flash.now in
+        result ≡ last_wanted None (flat_map (counted_in (unit_of d area.now) (sectors_of d area.now) current) (places_before (length (sectors_of d area.now)) current place)) }
+{
+    if current < place {
+        return find_among(flash, area, current, current + 1, place, None, steps);
+    }
+    let newest = find_among(flash, area, current, 0, place, None, steps);
+    if newest.is_some() {
+        return newest;
+    }
+    find_among(flash, area, current, current + 1, area.sectors, None, steps)
+}
+
+/// The newest entry up to so many slots of this sector, in the round to the open sector.
+fn newest_up_to<F: Flash, L: Ledger>(
+    flash: &F,
+    area: &Area,
+    current: u32,
+    place: u32,
+    slots: u32,
+    steps: &mut Steps<L>,
+) -> Option<Found>
+    requires lawful { IsLawfulFor (F.device flash.now).banks area.now }
+    requires role { area.now.role ≡ Nvs }
+    requires current { current < area.now.sectors }
+    requires inside { place < area.now.sectors }
+    ensures { let d = F.device flash.now in
+        result ≡ last_wanted None (found_up_to (unit_of d area.now) (sectors_of d area.now) current place slots) }
+{
+    let newest = find_at(flash, area, current, place, None, slots, steps);
+    if newest.is_some() {
+        return newest;
+    }
+    newest_before(flash, area, current, place, steps)
+}
+
+/// The next older entry of the list: the one before the entry in this sector and slot, or the newest one where no
+/// place is given. `None` comes exactly at the front of the list.
+pub fn walk<F: Flash, L: Ledger>(
+    flash: &F,
+    area: &Area,
+    scan: &Scan,
+    after: Option<(u32, u32)>,
+    steps: &mut Steps<L>,
+) -> Option<Found>
+    requires lawful { IsLawfulFor (F.device flash.now).banks area.now }
+    requires role { area.now.role ≡ Nvs }
+    requires scan { let d = F.device flash.now in scan.now ≡ scan_of (unit_of d area.now) (sectors_of d area.now) }
+    requires inside { IfSome after (λ place. place.0 < area.now.sectors) }
+
+    ensures older { let d = F.device flash.now in IsNextOlder (all_found (unit_of d area.now) (sectors_of d area.now)) after result }
+    ensures in_area { IfSome result (IsInArea area.now.sectors (sector_size (F.device flash.now) area.now)) }
+{
+    let current = scan.current;
+    match after {
+        Some((sector, slot)) => newest_up_to(
+            flash,
+            area,
+            current,
+            sector,
+            slot.saturating_sub(1),
+            steps,
+        ),
+        None => newest_up_to(flash, area, current, current, ALL_SLOTS, steps),
+    }
+}

@@ -1,0 +1,124 @@
+// Which sector is open, and what is wrong with an area.
+ghost use Rattle.std.specs.Prelude.{◌≡◌, ◌<◌, None, IfOk, IfErr, OnOk};
+ghost use Rattle.flash_map.specs.declared.area.Role.TheVariants.{Nvs};
+ghost use Rattle.flash_map.specs.Area.{unit_of, sectors_of};
+ghost use Rattle.flash_map.specs.Lawful.{IsLawfulFor};
+ghost use Rattle.sector_ring.specs.Area.{open_sector, openings};
+ghost use Rattle.std.specs.List.{slice_get};
+ghost use Rattle.nvs_store.specs.Scans.{reading, redo_of, scan_of, damage_of};
+
+use crate::places::{Sought, first, has_gc_done, is_closed, next, sector_of};
+use crate::scan::{Redo, Scan};
+use crate::sector::scan_sector;
+use flash_map::{Area, Damaged, Why, geometry};
+use flash_sim::{Flash, Steps};
+use std::sync::ledger::Ledger;
+
+/// The open sector: the first that is not closed after a closed one; where none is, the first that is not blank, or
+/// sector 0.
+fn open_sector<F: Flash, L: Ledger>(flash: &F, area: &Area, steps: &mut Steps<L>) -> u32
+    requires lawful { IsLawfulFor (F.device flash.now).banks area.now }
+    requires role { area.now.role ≡ Nvs }
+    ensures value { let d = F.device flash.now in result ≡ open_sector (reading (unit_of d area.now)) (sectors_of d area.now) }
+    ensures within { result < area.now.sectors }
+{
+    if let Some(place) = first(flash, area, Sought::Opening, 0, steps) {
+        return place;
+    }
+    first(flash, area, Sought::NotBlank, 0, steps).unwrap_or(0)
+}
+
+/// The second sector that is not closed after a closed one.
+fn second_opening<F: Flash, L: Ledger>(flash: &F, area: &Area, steps: &mut Steps<L>) -> Option<u32>
+    requires lawful { IsLawfulFor (F.device flash.now).banks area.now }
+    requires role { area.now.role ≡ Nvs }
+    ensures { let d = F.device flash.now in result ≡ slice_get (openings (reading (unit_of d area.now)) (sectors_of d area.now)) 1 }
+{
+    let opening = first(flash, area, Sought::Opening, 0, steps)?;
+    first(flash, area, Sought::Opening, opening + 1, steps)
+}
+
+/// The first sector of the first kind of damage, with this sector open.
+fn damage<F: Flash, L: Ledger>(
+    flash: &F,
+    area: &Area,
+    current: u32,
+    steps: &mut Steps<L>,
+) -> Option<Damaged>
+    requires lawful { IsLawfulFor (F.device flash.now).banks area.now }
+    requires role { area.now.role ≡ Nvs }
+    requires current { let d = F.device flash.now in current ≡ open_sector (reading (unit_of d area.now)) (sectors_of d area.now) }
+    requires within { current < area.now.sectors }
+    ensures { let d = F.device flash.now in result ≡ damage_of (unit_of d area.now) (sectors_of d area.now) }
+{
+    let Some(_) = first(flash, area, Sought::NotClosed, 0, steps) else {
+        return Some(Damaged {
+            sector: 0,
+            why: Why::AllClosed,
+        });
+    };
+    if let Some(sector) = second_opening(flash, area, steps) {
+        return Some(Damaged {
+            sector,
+            why: Why::TwoOpen,
+        });
+    }
+    if let Some(sector) = first(flash, area, Sought::Dirty(current), 0, steps) {
+        return Some(Damaged {
+            sector,
+            why: Why::Dirty,
+        });
+    }
+    if let Some(sector) = first(flash, area, Sought::Unfenced(current), 0, steps) {
+        return Some(Damaged {
+            sector,
+            why: Why::NoFence,
+        });
+    }
+    let sector = first(flash, area, Sought::Full(current), 0, steps)?;
+    Some(Damaged {
+        sector,
+        why: Why::Overfull,
+    })
+}
+
+/// What a mount has to do with this sector open.
+fn redo<F: Flash, L: Ledger>(flash: &F, area: &Area, current: u32, steps: &mut Steps<L>) -> Redo
+    requires lawful { IsLawfulFor (F.device flash.now).banks area.now }
+    requires role { area.now.role ≡ Nvs }
+    requires within { current < area.now.sectors }
+    ensures { let d = F.device flash.now in result ≡ redo_of (unit_of d area.now) (sectors_of d area.now) current }
+{
+    if is_closed(flash, area, next(area, current), steps) {
+        if has_gc_done(flash, area, current, steps) {
+            Redo::EraseNext
+        } else {
+            Redo::CollectAgain
+        }
+    } else {
+        Redo::Nothing
+    }
+}
+
+/// Scans the area, or says what is wrong with it. It programs nothing.
+pub fn mount_scan<F: Flash, L: Ledger>(
+    flash: &F,
+    area: &Area,
+    steps: &mut Steps<L>,
+) -> Result<Scan, Damaged>
+    requires lawful { IsLawfulFor (F.device flash.now).banks area.now }
+    requires role { area.now.role ≡ Nvs }
+
+    ensures scan { let d = F.device flash.now in IfOk result (λ scan. scan ≡ scan_of (unit_of d area.now) (sectors_of d area.now)) }
+    ensures undamaged { let d = F.device flash.now in OnOk result (damage_of (unit_of d area.now) (sectors_of d area.now) ≡ None) }
+    ensures damaged { let d = F.device flash.now in IfErr result (λ e. damage_of (unit_of d area.now) (sectors_of d area.now) ≡ Some e) }
+{
+    let unit = geometry(flash, area).unit;
+    let current = open_sector(flash, area, steps);
+    if let Some(damaged) = damage(flash, area, current, steps) {
+        return Err(damaged);
+    }
+    let mut scan = scan_sector(sector_of(flash, area, current, steps), unit, current);
+    scan.redo = redo(flash, area, current, steps);
+    Ok(scan)
+}

@@ -8,7 +8,7 @@ use Rattle.flash_sim.specs.Device.{Device, counted}
 use Rattle.flash_map.proofs.Plans.{counted_counted}
 use Rattle.fcb_ring.specs.SectorStates.{is_torn, mended, mended_up_to}
 use Rattle.flash_map.specs.Area.{sector_at}
-use Rattle.fcb_ring.specs.Standing.{SpendsAtMost}
+use Rattle.flash_map.specs.Spending.{SpendsAtMost}
 use Rattle.fcb_ring.proofs.StandLemmas.{mended-yes, mended-not, mended-behind, mended-more}
 
 -- what holds, holds at an `Err`

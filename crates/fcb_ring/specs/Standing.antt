@@ -9,6 +9,7 @@ use Rattle.flash_map.specs.declared.faults.MountFault.TheVariants.{Damaged as Ha
 use Rattle.flash_map.specs.declared.area.Role.TheVariants.{Fcb, Sel}
 use Rattle.flash_map.specs.Area.{unit_of, sectors_of}
 use Rattle.flash_map.specs.Lawful.{IsLawfulFor}
+use Rattle.flash_map.specs.Spending.{SpendsAtMost}
 use Rattle.fcb_ring.specs.declared.record.RecordAt.{RecordAt}
 use Rattle.fcb_ring.specs.declared.ring.Ring.{Ring}
 use Rattle.fcb_ring.specs.declared.ring.Stage.{Stage}
@@ -91,10 +92,6 @@ IsNext list (Some r) next = (i : ℕ) → slice_get (record_places list) i ≡ S
 -- what mounting erases: each sector with a torn header, and the newest one where no sector is free
 abbrev pub erases_due : List SectorState → ℕ
 erases_due sectors = count_by (λ state. state.is_torn) sectors + (if is_full sectors then 1 else 0)
-
--- at most so many units and erases were spent
-abbrev pub SpendsAtMost : Device → Device → ℕ → Type 0
-SpendsAtMost old new most = (units : ℕ) × (units ≤ most) × (new.spent ≡ counted old.spent units)
 
 -- the answer says that power was lost
 abbrev pub mount_lost : {T : Type 0} → Result T MountFault → Bool

@@ -8,15 +8,13 @@ ghost use Rattle.fcb_ring.specs.Changing.{is_scratch_left, newest_place, next_pl
 ghost use Rattle.fcb_ring.specs.Standing.{StandsOn, entries_on, KeepsEntries, record_places, is_up};
 ghost use Rattle.fcb_ring.specs.Writing.{record_cost};
 
+use crate::image::RECORD;
 use crate::record::RecordAt;
 use crate::ring::{Ring, Stage};
 use arrayvec::ArrayVec;
 use flash_map::area_erase;
 use flash_sim::{Flash, PowerLost, Steps};
 use std::sync::ledger::Ledger;
-
-// The most bytes of a record: those of one program.
-const RECORD: usize = 400;
 
 fn copy_of(bytes: &[u8]) -> ArrayVec<u8, RECORD>
     requires { length bytes.now ≤ 400 }

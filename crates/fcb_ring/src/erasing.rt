@@ -5,7 +5,8 @@ ghost use Rattle.flash_map.specs.Area.{unit_of, sectors_of, sector_size};
 ghost use Rattle.flash_map.specs.Touches.{Touches};
 ghost use Rattle.fcb_ring.specs.SectorStates.{is_torn, is_written, mended, mended_up_to, blanked, blanked_up_to};
 ghost use Rattle.flash_map.specs.Area.{sector_at};
-ghost use Rattle.fcb_ring.specs.Standing.{IsRingArea, SpendsAtMost};
+ghost use Rattle.flash_map.specs.Spending.{SpendsAtMost};
+ghost use Rattle.fcb_ring.specs.Standing.{IsRingArea};
 
 use crate::ring::{Ring, sector_view};
 use crate::sector::{is_erased, is_torn};

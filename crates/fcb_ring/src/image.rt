@@ -11,7 +11,7 @@ use flash_map::padded;
 const UNIT: usize = 16;
 
 // The most bytes of a record: those of one program.
-const RECORD: usize = 400;
+pub(crate) const RECORD: usize = 400;
 
 // A header with this id, as it is at the greatest unit. At a smaller one it is the front of it.
 #[tactic(auto, unfolding(crate::specs::Writing::header_image, crate::specs::Writing::filled, flash_map::specs::Units::padded))]

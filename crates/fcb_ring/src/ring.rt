@@ -4,13 +4,14 @@ ghost use Rattle.std.specs.List.{slice_get};
 ghost use Rattle.std.specs.Option.{ForSome};
 ghost use Rattle.flash_sim.specs.Device.{counted};
 ghost use Rattle.flash_map.specs.Area.{unit_of, sectors_of, sector_size};
+ghost use Rattle.flash_map.specs.Spending.{SpendsAtMost};
 ghost use Rattle.flash_map.specs.Touches.{Touches};
 ghost use Rattle.flash_map.specs.Units.{padded};
 ghost use Rattle.fcb_ring.specs.SectorStates.{IsSector, state_of};
 ghost use Rattle.fcb_ring.specs.Rings.{state_at, turned, oldest_place, first_damage};
 ghost use Rattle.fcb_ring.specs.Entries.{following};
 ghost use Rattle.flash_map.specs.Area.{sector_at};
-ghost use Rattle.fcb_ring.specs.Standing.{IsRingArea, StandsOn, states_on, entries_on, KeepsEntries, record_places, IsNext, is_up, is_finished, is_collecting, is_uncounted, erases_due, SpendsAtMost, mount_lost, MountEnds};
+ghost use Rattle.fcb_ring.specs.Standing.{IsRingArea, StandsOn, states_on, entries_on, KeepsEntries, record_places, IsNext, is_up, is_finished, is_collecting, is_uncounted, erases_due, mount_lost, MountEnds};
 
 use crate::erasing::{erase_if, erase_torn};
 use crate::record::{Record, RecordAt, next_checked};
@@ -165,6 +166,13 @@ impl Ring {
         ensures { result ≡ is_collecting self.now.stage }
     {
         matches!(self.stage, Stage::Collecting)
+    }
+
+    /// The area on which the ring stands.
+    pub fn area(&self) -> &Area
+        ensures { result.now ≡ self.now.area }
+    {
+        &self.area
     }
 }
 

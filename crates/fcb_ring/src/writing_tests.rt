@@ -193,6 +193,33 @@ fn lays_records(rt: HostRuntime) -> Result<(), Fail> {
     lays::<FlatSim, Brand, HostRuntime>(&rt, alloc, &mut sim, Blank::new(1))
 }
 
+// One record, and then the second of two sectors is the scratch one.
+fn fills<B: Bench, L: Ledger, R: Abort>(
+    rt: &R,
+    alloc: Global,
+    bench: &mut B,
+    blank: Blank,
+) -> Result<(), Fail>
+    requires name { blank.name ≡ L.name }
+    requires parts { blank.parts ≡ L.parts }
+    requires some { 0 < L.parts }
+{
+    let mut steps = Steps::<L>::new(blank);
+    let steps = &mut steps;
+    let bytes = image(alloc, &[], &[], &[])?;
+    let mut ring = mounted(alloc, bench, bytes, 2, 0, steps)?;
+    append(&mut ring, bench, &[0x61, 0x3D, 0x01])?;
+    assert_eq!(rt; ring.rotate(bench), Err(AppendFault::Full));
+    Ok(())
+}
+
+#[test]
+fn is_full_after_its_first_record(rt: HostRuntime) -> Result<(), Fail> {
+    let alloc = rt.alloc();
+    let mut sim = FlatSim::new(alloc);
+    fills::<FlatSim, Brand, HostRuntime>(&rt, alloc, &mut sim, Blank::new(1))
+}
+
 // How many records check after an append that was cut after so many units, and the CRC over them: none but where the first
 // units check by chance, or all were put.
 const CUTS: [(u32, u8); 7] = [

@@ -3,3 +3,4 @@ pub mod Joins
 pub mod MatchLemmas
 pub mod Faults
 pub mod KeyLemmas
+pub mod NameTest

@@ -1,6 +1,6 @@
 -- Which texts are names of settings.
 use Rattle.std.specs.Prelude.{ℕ, ◌≤◌, Bool, ◌&&◌, not, nat_le, ◌==◌, IsTrue, List, length, All}
-use Rattle.std.specs.List.{slice_split}
+use Rattle.std.specs.List.{list_all, slice_split}
 
 abbrev pub is_slash : ℕ → Bool
 is_slash byte = byte == 0x2F
@@ -27,3 +27,9 @@ pub record IsName (text : List ℕ) : Type 0 where
   pub bytes : HasNameBytes text
   pub whole : HasWholeParts text
   pub few : length (parts_of text) ≤ 8
+
+-- whether a text is a name
+unfoldable pub is_name : List ℕ → Bool
+is_name text =
+    nat_le 1 (length text) && nat_le (length text) 64 && list_all is_name_byte text
+    && list_all (λ part. nat_le 1 (length part)) (parts_of text) && nat_le (length (parts_of text)) 8

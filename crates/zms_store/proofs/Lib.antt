@@ -5,7 +5,6 @@ pub mod CopyLoop
 pub mod Damages
 pub mod EntryReads
 pub mod Examples
-pub mod LiveLemmas
 pub mod LiveSum
 pub mod MountLemmas
 pub mod NextIds
@@ -20,3 +19,4 @@ pub mod Views
 pub mod WalkLemmas
 pub mod WriteEnds
 pub mod WriteSteps
+pub mod ZmsEntries

@@ -21,7 +21,8 @@ use Rattle.zms_store.specs.declared.sector.Placed.{Placed}
 use Rattle.zms_store.specs.Area.{reading, placed_at, counted_in, all_placed, IsListed, IsPlaced}
 use Rattle.zms_store.specs.Walk.{entries_within, counted_within, placed_up_to, places_before, IsNextOlder}
 use Rattle.zms_store.proofs.EntryReads.{entry_cases}
-use Rattle.zms_store.proofs.PlacedLemmas.{among, none_by}
+use Rattle.live_items.proofs.LastLemmas.{none_by}
+use Rattle.zms_store.proofs.PlacedLemmas.{among}
 use Rattle.zms_store.proofs.Sectors.{entries_all, few_slots}
 
 some_first : (o rest : Option Placed) → is_some o ≡ true → option_or o rest ≡ o

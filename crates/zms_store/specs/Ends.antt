@@ -1,6 +1,5 @@
 -- How the calls of a store end.
 use Rattle.std.specs.Prelude.{◌≡◌, ◌⊎◌, ℕ, ◌+◌, ◌-◌, ◌*◌, ◌<◌, ◌≤◌, Bool, true, false, ◌&&◌, nat_lt, List, length, Option, Some, None, IsTrue, Result, Ok, Err}
-use Rattle.std.specs.Option.{option_map_or}
 use Rattle.std.specs.FinMap.{get, insert, remove}
 use Rattle.flash_sim.specs.Device.{Device}
 use Rattle.flash_sim.specs.declared.flash.PowerLost.{PowerLost as Lost}
@@ -12,8 +11,8 @@ use Rattle.flash_map.specs.declared.faults.WriteFault.TheVariants.{NoSpace, TooL
 use Rattle.flash_map.specs.Area.{sector_size, sectors_of, sector_bytes}
 use Rattle.flash_map.specs.Spending.{SpendsBetween}
 use Rattle.slot_list.specs.Items.{Items}
-use Rattle.slot_list.specs.Live.{names}
 use Rattle.sector_ring.specs.Rounds.{live_cost}
+use Rattle.live_items.specs.NextIds.{IsBehind}
 use Rattle.zms_cycle.specs.Sector.{cost, capacity, fits}
 use Rattle.zms_store.specs.Area.{damage_of}
 use Rattle.zms_store.specs.declared.store.Zms.{Zms}
@@ -41,27 +40,6 @@ MountEnds old new area (Err MountLost) =
 MountEnds old new area (Err NoMemory) = ⊥
 
 -- reading
-
--- greater than this id, where there is one
-abbrev pub IsBehind : Option ℕ → ℕ → Type 0
-IsBehind None id = Unit {0}
-IsBehind (Some after) id = after < id
-
-abbrev pub is_between : ℕ → Option ℕ → Option ℕ → Bool
-is_between id after least = option_map_or (λ a. nat_lt a id) after true && option_map_or (λ l. nat_lt id l) least true
-
--- an id behind this one that has a value
-abbrev pub Follows : Items → Option ℕ → ℕ → Type 0
-Follows items after id = IsBehind after id × (get items id ≡ None → ⊥)
-
--- there is an id, and it is not above this one
-abbrev pub IsAtMost : Option ℕ → ℕ → Type 0
-IsAtMost None id = ⊥
-IsAtMost (Some least) id = least ≤ id
-
--- no id of these pairs that is behind this one and has a value is below the least
-abbrev pub IsLeastOf : Items → Option ℕ → List (ℕ × List ℕ) → Option ℕ → Type 0
-IsLeastOf items after pairs least = (id : ℕ) → Follows items after id → names id pairs ≡ true → IsAtMost least id
 
 -- the least id behind this one that has a value
 abbrev pub IsNextId : Items → Option ℕ → Option ℕ → Type 0

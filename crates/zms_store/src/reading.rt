@@ -5,10 +5,11 @@ ghost use Rattle.std.specs.FinMap as map;
 ghost use Rattle.flash_map.specs.Area.{sectors_of, sector_at};
 ghost use Rattle.sector_ring.specs.Area.{open_sector};
 ghost use Rattle.sector_ring.specs.Rounds.{copies_cost, live_cost};
+ghost use Rattle.live_items.specs.NextIds.{is_between, Follows, IsAtMost, IsLeastOf};
 ghost use Rattle.zms_cycle.specs.Sector.{cost, is_sound, pairs, valid_slots};
 ghost use Rattle.zms_store.specs.Area.{reading, all_placed, IsListed, IsPlaced, placed_bytes};
 ghost use Rattle.zms_store.specs.Collecting.{live_in, live_to, cost_of};
-ghost use Rattle.zms_store.specs.Ends.{is_between, Follows, IsAtMost, IsLeastOf, IsNextId};
+ghost use Rattle.zms_store.specs.Ends.{IsNextId};
 ghost use Rattle.zms_store.specs.Standing.{IsZmsArea, StandsOn, list_on, items_on};
 ghost use Rattle.zms_store.specs.Walk.{IsNextOlder};
 

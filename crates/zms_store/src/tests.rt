@@ -30,7 +30,7 @@ const NAME: [u8; 16] = [
 
 const NAME_ID: u32 = 0x8000_2920;
 
-fn area() -> Area
+pub(crate) fn area() -> Area
     ensures role { result.role ≡ ZmsRole }
     ensures bank { result.bank ≡ 0 }
     ensures first { result.first ≡ 0 }
@@ -62,7 +62,7 @@ fn put_unit(image: &mut [u8], at: usize, unit: &[u8; 16])
 }
 
 // Loads a bank of two sectors with these bytes.
-fn load<B: Bench>(alloc: Global, bench: &mut B, image: Vec<u8>) -> Result<(), Fail>
+pub(crate) fn load<B: Bench>(alloc: Global, bench: &mut B, image: Vec<u8>) -> Result<(), Fail>
     requires { length image.items ≡ 1024 }
     ensures { OnOk result ((B.device bench.new).banks ≡ BANK ∷ []) }
 {
@@ -73,7 +73,7 @@ fn load<B: Bench>(alloc: Global, bench: &mut B, image: Vec<u8>) -> Result<(), Fa
 }
 
 // A store over a bank that was loaded.
-fn mounted<B: Bench, L: Ledger>(
+pub(crate) fn mounted<B: Bench, L: Ledger>(
     alloc: Global,
     bench: &mut B,
     steps: &mut Steps<L>,
@@ -334,33 +334,42 @@ const THREE: [u8; 16] = [232, 1, 1, 0, 3, 0, 0, 0, 65, 0, 0, 0, 0, 0, 0, 0];
 
 const NO_EIGHT: [u8; 16] = [195, 1, 0, 0, 8, 0, 0, 0, 0, 0, 0, 0, 0, 0, 0, 0];
 
+// Puts these entries into the first two sectors.
+pub(crate) fn fill(image: &mut [u8])
+    requires { 1024 ≤ length image.old }
+    ensures { length image.new ≡ length image.old }
+{
+    put_unit(image, 496, &EMPTY);
+    put_unit(image, 480, &CLOSE);
+    put_unit(image, 464, &SEVEN);
+    put_unit(image, 448, &NINE);
+    put_unit(image, 432, &EIGHT);
+    put_unit(image, 0, &VALUE);
+    put_unit(image, 1008, &EMPTY);
+    put_unit(image, 976, &NEW_SEVEN);
+    put_unit(image, 960, &THREE);
+    put_unit(image, 944, &NO_EIGHT);
+}
+
 fn ring_image(alloc: Global) -> Result<Vec<u8>, Fail>
     ensures { IfOk result (λ image. length image.items ≡ 1536) }
 {
     let mut image = vec![in alloc; 255u8; 1536]?;
-    put_unit(&mut image, 496, &EMPTY);
-    put_unit(&mut image, 480, &CLOSE);
-    put_unit(&mut image, 464, &SEVEN);
-    put_unit(&mut image, 448, &NINE);
-    put_unit(&mut image, 432, &EIGHT);
-    put_unit(&mut image, 0, &VALUE);
-    put_unit(&mut image, 1008, &EMPTY);
-    put_unit(&mut image, 976, &NEW_SEVEN);
-    put_unit(&mut image, 960, &THREE);
-    put_unit(&mut image, 944, &NO_EIGHT);
+    fill(&mut image);
     Ok(image)
 }
 
-// A store over these three sectors.
-fn mounted_ring<B: Bench, L: Ledger>(
+// A store over three sectors with these bytes.
+pub(crate) fn mounted_ring<B: Bench, L: Ledger>(
     alloc: Global,
     bench: &mut B,
+    image: Vec<u8>,
     steps: &mut Steps<L>,
 ) -> Result<Zms, Fail>
+    requires { length image.items ≡ 1536 }
     ensures stands { IfOk result (λ zms. StandsOn (B.device bench.new) zms) }
     ensures area { IfOk result (λ zms. zms.area.sectors ≡ 3) }
 {
-    let image = ring_image(alloc)?;
     let banks = vec![in alloc; RING]?;
     let bytes = vec![in alloc; image]?;
     bench.load(alloc, banks, bytes)?;
@@ -429,7 +438,7 @@ fn exercise_lists<B: Bench, L: Ledger, R: Abort>(
     requires some { 0 < L.parts }
 {
     let mut steps = Steps::<L>::new(blank);
-    let zms = mounted_ring(alloc, bench, &mut steps)?;
+    let zms = mounted_ring(alloc, bench, ring_image(alloc)?, &mut steps)?;
     walked(rt, bench, &zms, &mut steps);
     ids(rt, bench, &zms, &mut steps);
     Ok(())

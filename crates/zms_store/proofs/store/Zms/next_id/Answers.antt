@@ -4,10 +4,11 @@ use Rattle.flash_map.specs.Area.{sector_at, sectors_of}
 use Rattle.std.proofs.lemmas.Bool.{cases_lt}
 use Rattle.zms_cycle.specs.Sector.{pairs}
 use Rattle.zms_store.specs.declared.store.Zms.{Zms}
-use Rattle.zms_store.specs.Ends.{IsLeastOf}
+use Rattle.live_items.specs.NextIds.{IsLeastOf}
 use Rattle.zms_store.specs.Standing.{items_on}
 use Rattle.zms_store.proofs.MountLemmas.{length-sectors}
-use Rattle.zms_store.proofs.NextIds.{least_kept, next_is}
+use Rattle.live_items.proofs.NextIds.{least_kept}
+use Rattle.zms_store.proofs.NextIds.{next_is}
 use Rattle.zms_store.proofs.StandLemmas.{current_within}
 use Rattle.zms_store.proofs.store.Zms.next_id.Goals as goal
 
@@ -37,4 +38,4 @@ returns g c =
     let zms : Zms = c.args.self.now in
     let count = length-sectors d zms.area in
     let within = current_within d zms.area zms.current c.requires.area c.requires.current in
-    next_is (sectors_of d zms.area) c.args.after c.loop-place.least zms.current (omega arith) (sym c.requires.current) c.loop-place.invariant.some (λ k inside. c.loop-place.invariant.least k (omega arith))
+    next_is (sectors_of d zms.area) c.args.after c.loop-place.least (omega (arith, c.requires.current)) c.loop-place.invariant.some (λ k inside. c.loop-place.invariant.least k (omega arith))

@@ -5,9 +5,10 @@ use Rattle.zms_cycle.specs.declared.reading.Found.{Found}
 use Rattle.zms_cycle.specs.Sector.{entries, pair_of, pairs, valid_slots}
 use Rattle.zms_cycle.proofs.Scanning.{entries_to}
 use Rattle.zms_store.specs.declared.sector.Marks.{Marks}
-use Rattle.zms_store.specs.Ends.{IsAtMost, IsLeastOf}
+use Rattle.live_items.specs.NextIds.{IsAtMost, IsLeastOf}
 use Rattle.zms_store.specs.Standing.{items_on}
-use Rattle.zms_store.proofs.NextIds.{at_most_self, kept_then, least_none, least_step}
+use Rattle.live_items.proofs.NextIds.{at_most_self, kept_then}
+use Rattle.zms_store.proofs.NextIds.{least_start, least_step}
 use Rattle.zms_store.proofs.PlacedReads.{size_there}
 use Rattle.zms_store.proofs.Sectors.{entries_all, few_slots, read_room}
 use Rattle.zms_store.proofs.store.Zms.next_in.Goals as goal
@@ -29,7 +30,7 @@ loop-slot-init g c =
     record {
       some = c.requires.some;
       kept = at_most_self c.args.least;
-      least = least_none (items_on (g.F.Flash.device c.args.flash.now) c.args.self.now.area) c.args.after c.sector_of-bytes.result.now c.args.least;
+      least = least_start (items_on (g.F.Flash.device c.args.flash.now) c.args.self.now.area) c.args.after c.sector_of-bytes.result.now c.args.least;
     }
 
 pub loop-slot-preserved : goal.loop-slot-preserved

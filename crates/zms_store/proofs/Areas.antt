@@ -1,5 +1,5 @@
 -- What each step of a collection leaves of an area: its form, its items, its room.
-use Rattle.std.proofs.Common.{◌≡◌, ℕ, ◌+◌, ◌-◌, ◌*◌, ◌<◌, ◌≤◌, Bool, true, false, not, ◌&&◌, ◌||◌, eqb, ltb, leb, cond, List, [], ◌∷◌, ◌++◌, length, map, set, Option, Some, None, refl, sym, ap, subst, ◌∙◌, inl, inr, ◌⊎◌, arith, zero, suc}
+use Rattle.std.proofs.Common.{◌≡◌, ℕ, ◌+◌, ◌-◌, ◌≤◌, Bool, true, false, not, ◌&&◌, ◌||◌, eqb, ltb, cond, List, [], ◌∷◌, ◌++◌, length, map, set, Option, None, refl, sym, ap, subst, ◌∙◌, inl, inr, arith, zero, suc}
 use Rattle.std.specs.Prelude.{sum_by, IsSome}
 use Rattle.std.specs.List.{filter_map, flat_map, list_all, list_any, range_with_len}
 use Rattle.std.proofs.lemmas.Bool.{cases_Bool, and_parts, le-ltb, le-leb, not-true}
@@ -12,13 +12,13 @@ use Rattle.slot_list.specs.Items.{last, SameItems, items_of}
 use Rattle.slot_list.specs.Slots.{Slot, slot_at}
 use Rattle.slot_list.proofs.ItemLemmas as items
 use Rattle.slot_list.proofs.SlotCounts.{slots_to_used}
-use Rattle.sector_ring.specs.Area.{next, open_sector, area_pairs}
-use Rattle.sector_ring.specs.Forms.{AtRest, Collecting, Collected, IsForm, pairs_at, rest, to_copy}
+use Rattle.sector_ring.specs.Area.{next, area_pairs}
+use Rattle.sector_ring.specs.Forms.{Collecting, Collected, IsForm, pairs_at, rest, to_copy}
 use Rattle.sector_ring.specs.Reading.{is_sound as ring_sound}
 use Rattle.sector_ring.specs.Rounds.{copies_cost, stored_cost, Collects}
 use Rattle.sector_ring.specs.Steps as ring_steps
 use Rattle.sector_ring.proofs.Collects.{put_copy, put_victim}
-use Rattle.sector_ring.proofs.Lists.{there, elsewhere}
+use Rattle.sector_ring.proofs.Lists.{elsewhere}
 use Rattle.sector_ring.proofs.LiveCost.{live-le, stored-le}
 use Rattle.sector_ring.proofs.Places.{after, after-apart, after-within}
 use Rattle.sector_ring.proofs.Rings.{next-closed}

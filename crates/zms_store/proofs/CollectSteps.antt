@@ -1,7 +1,6 @@
 -- A collection, step by step: the start, the copies, gc-done, the emptying of the victim.
-use Rattle.std.proofs.Common.{◌≡◌, ℕ, ◌+◌, ◌-◌, ◌*◌, ◌/◌, ◌<◌, ◌≤◌, ◌⊎◌, Bool, true, false, not, ◌&&◌, cond, List, [], ◌∷◌, length, set, Option, Some, None, refl, sym, ap, subst, ◌∙◌, inl, inr, arith}
+use Rattle.std.proofs.Common.{◌≡◌, ℕ, ◌+◌, ◌≤◌, Bool, true, false, not, ◌&&◌, cond, List, [], length, Option, Some, None, refl, sym, ap, subst, ◌∙◌, inl, inr, arith}
 use Rattle.std.specs.Prelude.{IsSome, is_some}
-use Rattle.flash_sim.specs.Bank.{IsLawful}
 use Rattle.flash_sim.specs.Device.{Device}
 use Rattle.flash_map.specs.declared.area.Area.{Area}
 use Rattle.flash_map.specs.Area.{sector_at, sectors_of}
@@ -14,18 +13,18 @@ use Rattle.sector_ring.proofs.Collects.{put_victim, erase_victim}
 use Rattle.sector_ring.proofs.Rings.{open-not_closed, next-closed}
 use Rattle.sector_ring.proofs.Rounding.{collects_from}
 use Rattle.sector_ring.proofs.Parts.{to_copy-kept}
-use Rattle.sector_ring.proofs.Places.{after, after-apart, after-within}
-use Rattle.zms_cycle.specs.Changes.{KeepsList, MarksDone, Empties, StopsEmptying, next_cycle}
-use Rattle.zms_cycle.specs.Sector.{cycle_of, valid_slots, is_closed, has_gc_done, holds_done, capacity, cost, low, data_end, free, is_sound}
+use Rattle.sector_ring.proofs.Places.{after}
+use Rattle.zms_cycle.specs.Changes.{KeepsList, Empties, StopsEmptying}
+use Rattle.zms_cycle.specs.Sector.{cycle_of, is_closed, has_gc_done, cost, low, free}
 use Rattle.zms_store.specs.declared.sector.Redo.TheVariants.{Nothing, EmptyNext, CollectAgain}
 use Rattle.zms_store.specs.Area.{is_begun, is_unused, reading, redo_of, list_of, damage_of}
-use Rattle.zms_store.specs.Collecting.{ChangesOnly, Begins, HasCopied, StopsCopying, KeepsMarks, CollectsAt}
+use Rattle.zms_store.specs.Collecting.{ChangesOnly, Begins, HasCopied, StopsCopying, CollectsAt}
 use Rattle.zms_store.specs.Spending.{copied, begin_units}
-use Rattle.zms_store.specs.Standing.{IsZmsArea, KeepsItems}
-use Rattle.zms_store.proofs.Areas.{keeps-by, stopped, stopped-keeps, has_stopped, none_copied, from_start, marks_stopped, only_then, only_length, only_else, empties_unused, victim-sound, copied-le, victim_cut, collected_at, marked-keeps}
+use Rattle.zms_store.specs.Standing.{KeepsItems}
+use Rattle.zms_store.proofs.Areas.{keeps-by, stopped, has_stopped, none_copied, from_start, marks_stopped, only_then, only_length, empties_unused, copied-le}
 use Rattle.zms_store.proofs.Damages.{form_of}
 use Rattle.zms_store.proofs.MountLemmas.{redo_is}
-use Rattle.zms_store.proofs.Sectors.{laws, unused_closed}
+use Rattle.zms_store.proofs.Sectors.{laws}
 
 -- An open sector that is not in use, once it has a cycle.
 pub record HasBegun (old start : List (List ℕ)) (place : ℕ) : Type 0 where

@@ -7,7 +7,6 @@ use Rattle.sector_ring.specs.Rounds.{copies_cost}
 use Rattle.slot_list.proofs.SlotLemmas.{index-slot_at}
 use Rattle.live_items.specs.Live as live
 use Rattle.live_items.proofs.CopyLemmas as laws
-use Rattle.zms_cycle.specs.declared.reading.Found.{Found}
 use Rattle.zms_cycle.specs.Sector.{slot_of, entry_in, valid_slots, cost, is_sound}
 use Rattle.zms_store.specs.declared.sector.Placed.{Placed}
 use Rattle.zms_store.specs.Area.{reading, placed_bytes}

@@ -1,5 +1,5 @@
 -- The copies of a collection, one slot of the victim after the other.
-use Rattle.std.proofs.Common.{◌≡◌, ℕ, ◌+◌, ◌-◌, ◌*◌, ◌/◌, ◌<◌, ◌≤◌, ◌⊎◌, true, false, List, [], ◌∷◌, ◌++◌, length, Option, Some, None, refl, sym, ap, subst, ◌∙◌, inl, inr, arith}
+use Rattle.std.proofs.Common.{◌≡◌, ℕ, ◌+◌, ◌*◌, ◌/◌, ◌<◌, ◌≤◌, ◌⊎◌, true, false, List, [], ◌∷◌, length, Option, Some, None, refl, sym, ap, subst, ◌∙◌, inl, inr, arith}
 use Rattle.std.specs.Prelude.{Result, Ok, Err, OnOk, OnErr, IsErr, is_err}
 use Rattle.flash_sim.specs.Device.{Device}
 use Rattle.flash_sim.specs.declared.flash.Bank.{Bank}
@@ -8,23 +8,22 @@ use Rattle.flash_map.specs.declared.area.Area.{Area}
 use Rattle.flash_map.specs.Area.{sector_at, sectors_of}
 use Rattle.flash_map.specs.Spending.{SpendsBetween}
 use Rattle.flash_map.specs.Touches.{Touches}
-use Rattle.flash_map.specs.Units.{padded}
 use Rattle.flash_map.proofs.SpendingBounds.{between_none, between_then, between_within}
 use Rattle.flash_map.proofs.Touches.{then, untouched}
 use Rattle.sector_ring.specs.Area.{next, open_sector}
 use Rattle.sector_ring.specs.Forms.{Collecting, to_copy}
 use Rattle.sector_ring.specs.Rounds.{copies_cost}
-use Rattle.sector_ring.proofs.Places.{after-apart, after-within}
+use Rattle.sector_ring.proofs.Places.{after-within}
 use Rattle.sector_ring.proofs.RingSteps.{reads}
 use Rattle.zms_cycle.specs.Changes.{AddsPair}
-use Rattle.zms_cycle.specs.Sector.{slot_of, cycle_of, valid_slots, entry_in, entry_len, pair_at, value_of, cost, capacity, free, low, data_end, is_sound}
+use Rattle.zms_cycle.specs.Sector.{slot_of, valid_slots, entry_in, entry_len, pair_at, value_of, cost, free, is_sound}
 use Rattle.zms_cycle.proofs.CopyCalls.{pair_is, entry_len_is}
 use Rattle.zms_store.specs.declared.sector.Placed.{Placed}
 use Rattle.zms_store.specs.Area.{reading, placed_bytes}
 use Rattle.zms_store.specs.Collecting.{ChangesOnly, live_in, live_to, HasCopied, StopsCopying, KeepsMarks, CopiesOne, cost_of}
 use Rattle.zms_store.specs.Standing.{IsZmsArea}
 use Rattle.zms_store.specs.Spending.{copied}
-use Rattle.zms_store.proofs.Areas.{stopped, has_stopped, none_copied, one_copied, marks_stopped, victim-sound, copied-le}
+use Rattle.zms_store.proofs.Areas.{stopped, has_stopped, one_copied, marks_stopped, victim-sound, copied-le}
 use Rattle.zms_store.proofs.MountLemmas.{length-sectors}
 use Rattle.zms_store.proofs.CopyLemmas.{to_none, to_some, to_less, to_cost, copies-are, live-bytes, live_same, victim_same, bytes_same}
 

@@ -2,7 +2,7 @@
 use Rattle.std.proofs.Common.{◌≡◌, ℕ, zero, suc, ◌+◌, ◌-◌, ◌<◌, ◌≤◌, Bool, true, false, not, ◌&&◌, ◌||◌, cond, eqb, List, length, Option, Some, None, refl, sym, ap, ◌∙◌, inl, inr, arith}
 use Rattle.std.specs.List.{find, list_all, range_with_len, slice_get}
 use Rattle.std.specs.Option.{option_map, option_or}
-use Rattle.std.proofs.lemmas.Bool.{false≢true, cases_Bool, cases_eq, ne_eqb, eq-eqb, not-false}
+use Rattle.std.proofs.lemmas.Bool.{false≢true, cases_Bool, ne_eqb, eq-eqb, not-false}
 use Rattle.flash_map.specs.declared.faults.Why.{Why}
 use Rattle.flash_map.specs.declared.faults.Why.TheVariants.{AllClosed, TwoOpen, Dirty, NoFence, Overfull}
 use Rattle.flash_map.specs.declared.faults.Damaged.{Damaged}
@@ -13,8 +13,8 @@ use Rattle.sector_ring.proofs.Places.{All-range, find_none}
 use Rattle.sector_ring.proofs.RingSteps.{reads}
 use Rattle.sector_ring.proofs.Searches.{second-filter, second-none}
 use Rattle.sector_ring.proofs.Undamaged.{HasNoDamage, rows, only-opening, opening-is, option_cases, cond_none, or_none, no_kind, found, find-filter, form-of}
-use Rattle.zms_cycle.specs.Sector.{is_closed, has_guard, is_sound}
-use Rattle.zms_store.specs.Area.{is_begun, is_unused, is_overfull, reading, is_second_open, is_overfull_at, damage_of}
+use Rattle.zms_cycle.specs.Sector.{has_guard, is_sound}
+use Rattle.zms_store.specs.Area.{is_begun, is_overfull, reading, is_second_open, is_overfull_at, damage_of}
 use Rattle.zms_store.proofs.Sectors.{unused-is, unused_sound, sound_of}
 
 -- What an undamaged area is, row by row.

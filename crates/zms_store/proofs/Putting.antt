@@ -1,15 +1,15 @@
 -- Putting a pair into the open sector, whole or cut.
-use Rattle.std.proofs.Common.{◌≡◌, ℕ, ◌+◌, ◌-◌, ◌*◌, ◌<◌, ◌≤◌, Bool, true, false, not, ◌&&◌, ◌||◌, cond, eqb, leb, ltb, List, [], ◌∷◌, ◌++◌, length, map, set, Option, Some, None, refl, sym, ap, subst, ◌∙◌, inl, inr, ◌⊎◌, arith}
+use Rattle.std.proofs.Common.{◌≡◌, ℕ, ◌+◌, ◌*◌, ◌≤◌, Bool, true, false, not, ◌&&◌, ◌||◌, cond, eqb, leb, ltb, List, [], ◌∷◌, ◌++◌, length, map, Option, Some, None, refl, sym, ap, subst, ◌∙◌, inl, inr, arith}
 use Rattle.std.specs.Prelude.{sum_by, IsSome}
-use Rattle.std.specs.List.{filter_map, cons_option, list_any, list_all}
+use Rattle.std.specs.List.{filter_map, cons_option, list_any}
 use Rattle.std.specs.Option.{option_map_or}
-use Rattle.std.proofs.lemmas.Bool.{false≢true, cases_Bool, cases_eq, and_left, cond-true, cond-false, eq-eqb, ne_eqb, leb-true, lt-ltb}
+use Rattle.std.proofs.lemmas.Bool.{false≢true, cases_Bool, cases_eq, and_left, cond-true, cond-false, eq-eqb, ne_eqb, leb-true}
 use Rattle.std.proofs.lemmas.List.Sums.{sum_by_push, sum_by-cons}
 use Rattle.flash_map.specs.Area.{sector_at}
 use Rattle.slot_list.specs.Items.{last, items_of, with_pair}
 use Rattle.slot_list.specs.Slots.{Slot}
 use Rattle.slot_list.proofs.ItemLemmas.{items_of-push}
-use Rattle.sector_ring.specs.Area.{open_sector, area_pairs}
+use Rattle.sector_ring.specs.Area.{area_pairs}
 use Rattle.sector_ring.specs.Forms.{AtRest}
 use Rattle.sector_ring.specs.Reading.{is_sound as ring_sound}
 use Rattle.sector_ring.specs.Rounds.{stored_cost}
@@ -18,9 +18,9 @@ use Rattle.sector_ring.proofs.Collects.{put_pair, put_nothing, blank-sound}
 use Rattle.sector_ring.proofs.RingSteps.{reads}
 use Rattle.zms_cycle.specs.declared.entry.ZEntry.{ZEntry}
 use Rattle.zms_cycle.specs.declared.reading.Found.{Found}
-use Rattle.zms_cycle.specs.Changes.{KeepsSlots, KeepsList, AddsPair, Empties, StopsEmptying}
-use Rattle.zms_cycle.specs.Entries.{decoded, is_special, is_done, mark_of}
-use Rattle.zms_cycle.specs.Sector.{slot_of, is_valid, cycle_of, valid_slots, holds_close, is_closed, entry_in, entries, has_gc_done, holds_done, data_len, cost, capacity, low, data_end, free, fits, is_sound, pair_of, pairs}
+use Rattle.zms_cycle.specs.Changes.{KeepsSlots, KeepsList, AddsPair, StopsEmptying}
+use Rattle.zms_cycle.specs.Entries.{is_special, is_done, mark_of}
+use Rattle.zms_cycle.specs.Sector.{slot_of, is_valid, cycle_of, valid_slots, holds_close, is_closed, entry_in, entries, has_gc_done, holds_done, data_len, cost, capacity, data_end, free, fits, is_sound, pair_of, pairs}
 use Rattle.zms_cycle.proofs.Frames.{end_of-above}
 use Rattle.zms_cycle.proofs.Slots16.{entry_in-is}
 use Rattle.zms_store.specs.Area.{is_begun, is_unused, entry_cost, reading, list_of, damage_of}

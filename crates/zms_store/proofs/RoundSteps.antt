@@ -1,25 +1,24 @@
 -- A whole round of close and collect, and the room that it leaves.
-use Rattle.std.proofs.Common.{◌≡◌, ℕ, ◌+◌, ◌-◌, ◌*◌, ◌/◌, ◌<◌, ◌≤◌, Bool, true, false, not, ◌&&◌, cond, eqb, leb, ltb, List, [], ◌∷◌, length, map, set, Option, Some, None, refl, sym, ap, subst, ◌∙◌, inl, inr, ◌⊎◌, arith}
+use Rattle.std.proofs.Common.{◌≡◌, ℕ, ◌+◌, ◌-◌, ◌*◌, ◌<◌, ◌≤◌, Bool, true, false, not, ◌&&◌, cond, eqb, leb, ltb, List, [], ◌∷◌, length, Option, Some, None, refl, sym, ap, subst, ◌∙◌, inl, inr, ◌⊎◌, arith}
 use Rattle.std.specs.Prelude.{IsSome}
-use Rattle.std.specs.List.{filter_map, flat_map, list_all, list_any, All}
-use Rattle.std.proofs.lemmas.Bool.{false≢true, cases_Bool, cases_eq, cond-true, cond-false, eq-eqb, ne_eqb, leb-false, le-leb}
+use Rattle.std.specs.List.{flat_map, list_all, All}
+use Rattle.std.proofs.lemmas.Bool.{false≢true, cases_Bool, cases_eq, cond-false, ne_eqb, leb-false, le-leb}
 use Rattle.std.proofs.lemmas.List.Elements.{All-nil, All-cons}
 use Rattle.flash_map.specs.Area.{sector_at}
 use Rattle.slot_list.specs.Items.{last, items_of}
 use Rattle.slot_list.specs.Live.{live_pairs}
 use Rattle.slot_list.specs.Slots.{Slot}
 use Rattle.sector_ring.specs.Area.{next, area_pairs}
-use Rattle.sector_ring.specs.Forms.{AtRest, Collecting, IsForm, pairs_at, rest, to_copy}
+use Rattle.sector_ring.specs.Forms.{AtRest, Collecting, IsForm, pairs_at, rest}
 use Rattle.sector_ring.specs.Reading.{is_sound as ring_sound}
 use Rattle.sector_ring.specs.Rounds.{copies_cost, stored_cost, Collects, IsRound}
 use Rattle.sector_ring.specs.Steps as ring_steps
 use Rattle.sector_ring.proofs.Collects.{close, next_blank, put_nothing}
 use Rattle.sector_ring.proofs.Places.{after, after-within, after-apart, flat_map-agree}
-use Rattle.sector_ring.proofs.Rings.{open-not_closed}
 use Rattle.sector_ring.proofs.Rounding.{round_blank, round_collected}
 use Rattle.zms_cycle.specs.declared.reading.Found.{Found}
 use Rattle.zms_cycle.specs.Changes.{KeepsList, Closes}
-use Rattle.zms_cycle.specs.Sector.{slot_of, is_valid, cycle_of, valid_slots, is_closed, entry_in, entries, has_gc_done, holds_done, cost, capacity, low, data_end, free, fits, is_under, is_sound, pairs}
+use Rattle.zms_cycle.specs.Sector.{slot_of, is_valid, cycle_of, valid_slots, is_closed, entries, has_gc_done, cost, capacity, low, data_end, free, fits, is_under, is_sound, pairs}
 use Rattle.zms_store.specs.Area.{is_begun, is_unused, reading, list_of, damage_of}
 use Rattle.zms_store.specs.Collecting.{ChangesOnly, CollectsAt, TurnsAt}
 use Rattle.zms_store.specs.Spending.{copied}

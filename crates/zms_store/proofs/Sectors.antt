@@ -1,11 +1,10 @@
 -- One sector, as the calls on an area see it.
 use Rattle.std.proofs.Common.{◌≡◌, ℕ, ◌+◌, ◌-◌, ◌*◌, ◌/◌, ◌^◌, ◌<◌, ◌≤◌, min, Bool, true, false, not, ◌&&◌, ◌||◌, cond, eqb, leb, ltb, List, [], ◌∷◌, ◌++◌, length, map, get_or, take, Option, Some, None, refl, sym, ap, ◌∙◌, inl, inr, arith}
-use Rattle.std.specs.Prelude.{fold, sum_by, is_some}
+use Rattle.std.specs.Prelude.{sum_by, is_some}
 use Rattle.std.specs.List.{filter_map, cons_option, list_any, list_all, prefix_len}
-use Rattle.std.specs.Option.{option_map, option_map_or}
-use Rattle.std.proofs.lemmas.Bool.{false≢true, cases_Bool, cases_lt, and_left, and_parts, eq-eqb, ne_eqb, lt-ltb, le-ltb, lt-leb, le-leb, leb-true, not_from_true, not_from_false, not-true, not-false}
+use Rattle.std.specs.Option.{option_map_or}
+use Rattle.std.proofs.lemmas.Bool.{false≢true, cases_Bool, cases_lt, and_left, and_parts, eq-eqb, ne_eqb, lt-ltb, lt-leb, le-leb, not-true}
 use Rattle.std.proofs.lemmas.List.{append-nil}
-use Rattle.std.proofs.lemmas.List.Elements.{filter_map-append}
 use Rattle.std.proofs.lemmas.List.Folds.{list_any-append}
 use Rattle.std.proofs.lemmas.List.FromFn.{length-map-range_with_len, get_or-map-range_with_len}
 use Rattle.std.proofs.lemmas.List.Sums.{fold_push, prefix_len_is, prefix_len_stops}
@@ -17,14 +16,12 @@ use Rattle.slot_list.proofs.SlotCounts.{slots_to_used, used_inside, used_count_f
 use Rattle.sector_ring.specs.Reading.{IsReading}
 use Rattle.zms_cycle.specs.declared.entry.ZEntry.{ZEntry}
 use Rattle.zms_cycle.specs.declared.reading.Found.{Found}
-use Rattle.zms_cycle.specs.declared.reading.SectorState.{SectorState}
 use Rattle.zms_cycle.specs.declared.reading.SectorState.TheVariants.{Blank, Used}
-use Rattle.zms_cycle.specs.Sector.{slot_of, is_valid, cycle_of, valid_slots, holds_close, is_closed, entry_in, entries, holds_done, has_gc_done, capacity, low, data_end, end_of, is_under, has_guard, is_sound, pairs, pair_of}
+use Rattle.zms_cycle.specs.Sector.{slot_of, is_valid, cycle_of, valid_slots, holds_close, is_closed, entry_in, entries, holds_done, has_gc_done, capacity, low, data_end, end_of, is_under, has_guard, is_sound, pair_of}
 use Rattle.zms_cycle.specs.Entries.{decoded, is_special}
 use Rattle.zms_cycle.specs.States.{state_of}
 use Rattle.zms_cycle.proofs.Slots16.{entry_in-is}
 use Rattle.zms_cycle.proofs.Scanning.{entries_to, entries_more}
-use Rattle.zms_store.specs.declared.sector.Marks.{Marks}
 use Rattle.zms_store.specs.Area.{is_begun, is_unused, is_overfull, entry_cost, reading, marks_of, placed_at, IsListed, last_in}
 
 -- What the state says.

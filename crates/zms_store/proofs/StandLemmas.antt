@@ -1,5 +1,5 @@
 -- When a store stands on an area at rest, and what of it that says.
-use Rattle.std.proofs.Common.{◌≡◌, ℕ, ◌<◌, ◌≤◌, Bool, true, false, not, ◌&&◌, length, List, None, refl, sym, ap, subst, ◌∙◌, inl, arith}
+use Rattle.std.proofs.Common.{◌≡◌, ℕ, ◌<◌, ◌≤◌, Bool, true, false, not, ◌&&◌, length, List, None, refl, sym, ap, ◌∙◌, inl, arith}
 use Rattle.std.proofs.lemmas.Bool.{le-ltb}
 use Rattle.flash_sim.specs.Bank.{IsLawful}
 use Rattle.flash_sim.specs.Device.{Device}
@@ -7,13 +7,11 @@ use Rattle.flash_map.specs.declared.area.Area.{Area}
 use Rattle.flash_map.specs.Area.{sectors_of, sector_size}
 use Rattle.sector_ring.specs.Area.{next, is_closed_at, open_sector}
 use Rattle.sector_ring.specs.Forms.{AtRest}
-use Rattle.sector_ring.proofs.RingSteps.{reads}
 use Rattle.sector_ring.proofs.Stays.{open_within}
 use Rattle.sector_ring.proofs.Rings.{next-closed}
 use Rattle.zms_store.specs.declared.store.Zms.{Zms}
-use Rattle.zms_store.specs.declared.sector.Redo.TheVariants.{Nothing}
-use Rattle.zms_store.specs.Area.{is_begun, is_unused, reading, damage_of, redo_of}
-use Rattle.zms_store.specs.Standing.{IsZmsArea, IsUndamaged, StandsOn}
+use Rattle.zms_store.specs.Area.{is_begun, is_unused, reading, damage_of}
+use Rattle.zms_store.specs.Standing.{IsZmsArea, StandsOn}
 use Rattle.zms_cycle.specs.Sector.{is_closed, has_gc_done}
 use Rattle.flash_map.specs.Area.{sector_at}
 use Rattle.zms_store.proofs.CollectSteps.{form_here, rest_from}

@@ -1,5 +1,5 @@
 -- What a store that stands says of its area.
-use Rattle.std.proofs.Common.{◌≡◌, ℕ, ◌<◌, ◌≤◌, true, List, length, arith}
+use Rattle.std.proofs.Common.{◌≡◌, ℕ, ◌<◌, true, arith}
 use Rattle.flash_sim.specs.Bank.{IsLawful}
 use Rattle.flash_sim.specs.Device.{Device}
 use Rattle.flash_map.specs.Area.{sectors_of, sector_at}

@@ -18,12 +18,12 @@ use Rattle.zms_cycle.specs.declared.reading.Found.{Found}
 use Rattle.zms_cycle.specs.Sector.{cycle_of, entries, entry_in, is_valid, slot_of, valid_slots}
 use Rattle.zms_cycle.proofs.Scanning.{entries_to, entries_more}
 use Rattle.zms_store.specs.declared.sector.Placed.{Placed}
-use Rattle.zms_store.specs.Area.{reading, placed_at, counted_in, all_placed, IsListed, IsPlaced}
+use Rattle.zms_store.specs.Area.{reading, placed_at, counted_in, all_placed}
 use Rattle.zms_store.specs.Walk.{entries_within, counted_within, placed_up_to, places_before, IsNextOlder}
 use Rattle.zms_store.proofs.EntryReads.{entry_cases}
 use Rattle.live_items.proofs.LastLemmas.{none_by}
 use Rattle.zms_store.proofs.PlacedLemmas.{among}
-use Rattle.zms_store.proofs.Sectors.{entries_all, few_slots}
+use Rattle.zms_store.proofs.Sectors.{few_slots}
 
 some_first : (o rest : Option Placed) → is_some o ≡ true → option_or o rest ≡ o
 some_first (Some f) rest e = refl

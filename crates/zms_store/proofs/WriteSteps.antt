@@ -1,6 +1,6 @@
 -- Making room: rounds until a value fits.
-use Rattle.std.proofs.Common.{◌≡◌, ℕ, ◌+◌, ◌-◌, ◌*◌, ◌/◌, ◌<◌, ◌≤◌, Bool, true, false, List, [], ◌∷◌, ◌++◌, length, map, Option, Some, None, refl, sym, ap, subst, ◌∙◌, inl, inr, ◌⊎◌, arith}
-use Rattle.std.specs.Prelude.{fold, Result, Ok, Err, OnOk, OnErr}
+use Rattle.std.proofs.Common.{◌≡◌, ℕ, ◌+◌, ◌-◌, ◌*◌, ◌/◌, ◌<◌, ◌≤◌, Bool, true, false, List, [], ◌∷◌, ◌++◌, length, map, Option, Some, None, refl, sym, ap, subst, ◌∙◌, inl, inr, arith}
+use Rattle.std.specs.Prelude.{fold, Result, Ok, Err, OnOk}
 use Rattle.std.specs.List.{flat_map}
 use Rattle.std.proofs.lemmas.Bool.{false≢true, cases_Bool, cases_eq}
 use Rattle.std.proofs.lemmas.List.Sums.{fold_push}
@@ -15,7 +15,7 @@ use Rattle.flash_map.proofs.SpendingBounds.{between_none, between_then, between_
 use Rattle.flash_map.proofs.Touches.{then, untouched}
 use Rattle.slot_list.specs.Live.{live_pairs}
 use Rattle.sector_ring.specs.Area.{next, open_sector, area_pairs}
-use Rattle.sector_ring.specs.Forms.{AtRest, pairs_at, rest, to_copy}
+use Rattle.sector_ring.specs.Forms.{AtRest, pairs_at, rest}
 use Rattle.sector_ring.specs.Rounds.{copies_cost, joined, live_cost, parts, collect_oldest, FindsNoRoom}
 use Rattle.sector_ring.proofs.LiveCost.{live-le}
 use Rattle.sector_ring.proofs.Parts.{parts-list, parts-count}
@@ -24,7 +24,7 @@ use Rattle.sector_ring.proofs.RingSteps.{reads}
 use Rattle.sector_ring.proofs.Rounding.{oldest-is, round-live, no_round, round_more, no_room}
 use Rattle.zms_cycle.specs.Sector.{cost, capacity, free, fits}
 use Rattle.zms_store.specs.declared.store.Zms.{Zms}
-use Rattle.zms_store.specs.Area.{is_unused, reading, list_of}
+use Rattle.zms_store.specs.Area.{is_unused, reading}
 use Rattle.zms_store.specs.Collecting.{TurnsAt}
 use Rattle.zms_store.specs.Ends.{Fits, IsShort}
 use Rattle.zms_store.specs.Spending.{copied, round_units}

@@ -1,5 +1,5 @@
 -- The entries of ZMS, as the laws on live items ask for them.
-use Rattle.std.proofs.Common.{◌≡◌, ℕ, ◌+◌, ◌<◌, ◌≤◌, true, List, length, Some, refl, ap, ◌∙◌, arith}
+use Rattle.std.proofs.Common.{length, refl, ◌∙◌, arith}
 use Rattle.slot_list.proofs.SlotLemmas.{index-slot_at}
 use Rattle.live_items.specs.Entries.{Entries, AreEntries}
 use Rattle.live_items.proofs.SlotEntries.{read-slots}

@@ -1,5 +1,5 @@
 -- How many units calls program, at most.
-use Rattle.std.specs.Prelude.{ℕ, ◌+◌, ◌-◌, ◌*◌, ◌/◌, List, is_some, if◌then◌else◌}
+use Rattle.std.specs.Prelude.{ℕ, ◌+◌, ◌*◌, ◌/◌, List, is_some, if◌then◌else◌}
 use Rattle.flash_map.specs.Area.{sector_at}
 use Rattle.sector_ring.specs.Area.{next, open_sector}
 use Rattle.sector_ring.specs.Forms.{to_copy}

@@ -1,4 +1,4 @@
-use Rattle.std.proofs.Common.{◌≡◌, ℕ, ◌+◌, ◌*◌, ◌/◌, ◌<◌, ◌≤◌, Bool, true, List, [], ◌∷◌, length, refl, sym, ap, subst, ◌∙◌, arith}
+use Rattle.std.proofs.Common.{◌≡◌, ℕ, ◌<◌, ◌≤◌, Bool, true, [], ◌∷◌, length, sym, subst, ◌∙◌, arith}
 use Rattle.std.proofs.lemmas.Result.{on_ok_weaker, on_err_weaker}
 use Rattle.flash_sim.specs.Device.{Device}
 use Rattle.flash_map.specs.declared.area.Area.{Area}
@@ -11,7 +11,7 @@ use Rattle.zms_cycle.specs.Changes.{Empties, StopsEmptying}
 use Rattle.zms_cycle.specs.Sector.{is_closed}
 use Rattle.zms_store.specs.Area.{is_unused}
 use Rattle.zms_store.specs.Collecting.{ChangesOnly}
-use Rattle.zms_store.proofs.Areas.{keeps-on, stopped-keeps, empties_unused, marked-keeps, victim_cut, collected_at, collects-keeps}
+use Rattle.zms_store.proofs.Areas.{keeps-on, stopped-keeps, empties_unused, victim_cut, collected_at, collects-keeps}
 use Rattle.zms_store.proofs.CollectSteps.{has_begun, begin_cut, start_form, start_next, start_none, start_copied, copy_cut, copied_all, mark_room, mark_cut}
 use Rattle.zms_store.proofs.CopyLoop.{either, err_flag, next_within}
 use Rattle.zms_store.proofs.MountLemmas.{length-sectors, next_there}

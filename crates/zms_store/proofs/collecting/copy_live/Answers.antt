@@ -1,4 +1,4 @@
-use Rattle.std.proofs.Common.{◌≡◌, ℕ, ◌+◌, ◌-◌, ◌*◌, ◌/◌, ◌<◌, ◌≤◌, true, List, length, Option, refl, sym, ap, subst, ◌∙◌, arith}
+use Rattle.std.proofs.Common.{◌≡◌, ℕ, ◌+◌, ◌-◌, ◌*◌, ◌/◌, ◌<◌, ◌≤◌, true, length, sym, ap, subst, ◌∙◌, arith}
 use Rattle.flash_sim.specs.Device.{Device}
 use Rattle.flash_map.specs.declared.area.Area.{Area}
 use Rattle.flash_map.specs.Area.{sector_at, sectors_of}
@@ -7,7 +7,6 @@ use Rattle.flash_map.proofs.PieceLemmas.{on_err}
 use Rattle.sector_ring.specs.Area.{next}
 use Rattle.zms_cycle.specs.Sector.{valid_slots, is_sound, free}
 use Rattle.zms_store.specs.declared.sector.Marks.{Marks}
-use Rattle.zms_store.specs.declared.sector.Placed.{Placed}
 use Rattle.zms_store.specs.Collecting.{live_in, CopiesOne, cost_of}
 use Rattle.zms_store.proofs.Areas.{victim-sound}
 use Rattle.zms_store.proofs.CopyLoop.{IsCopying, open_there, sound_there, room_there, listed_there, copying_more, copying_lost, copying_most, copying_start, copying_end, next_within, still_area}

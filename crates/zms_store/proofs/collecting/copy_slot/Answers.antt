@@ -1,8 +1,8 @@
-use Rattle.std.proofs.Common.{◌≡◌, ℕ, ◌+◌, ◌*◌, ◌/◌, List, sym, ap, ◌∙◌, arith}
+use Rattle.std.proofs.Common.{sym, arith}
 use Rattle.std.proofs.lemmas.Result.{on_ok_weaker, on_err_weaker}
 use Rattle.flash_map.specs.Area.{sectors_of, sector_at}
 use Rattle.flash_map.proofs.SpendingBounds.{between_within}
-use Rattle.zms_cycle.specs.Sector.{cost, entry_len}
+use Rattle.zms_cycle.specs.Sector.{entry_len}
 use Rattle.zms_store.proofs.CopyLoop.{either, copies_slot, slot_cost, twice}
 use Rattle.zms_store.proofs.collecting.copy_slot.Goals as goal
 

@@ -1,4 +1,4 @@
-use Rattle.std.proofs.Common.{◌≡◌, ◌+◌, ◌*◌, ◌≤◌, List, ℕ, length, sym, subst}
+use Rattle.std.proofs.Common.{◌+◌, ◌*◌, ◌≤◌, List, ℕ, length, sym, subst}
 use Rattle.zms_store.proofs.Sectors.{read_room}
 use Rattle.flash_map.specs.Area.{sectors_of, sector_at}
 use Rattle.zms_store.proofs.collecting.live_in.Goals as goal

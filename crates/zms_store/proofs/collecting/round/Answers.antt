@@ -1,4 +1,4 @@
-use Rattle.std.proofs.Common.{◌≡◌, ℕ, ◌+◌, ◌*◌, ◌/◌, ◌<◌, ◌≤◌, List, length, refl, sym, ap, subst, ◌∙◌, inl, inr, arith}
+use Rattle.std.proofs.Common.{◌≡◌, ℕ, ◌<◌, ◌≤◌, List, length, sym, ap, subst, ◌∙◌, inl, inr, arith}
 use Rattle.flash_sim.specs.Bank.{bank_at}
 use Rattle.flash_sim.specs.declared.flash.Bank.{Bank}
 use Rattle.flash_sim.specs.Device.{Device}
@@ -10,10 +10,9 @@ use Rattle.sector_ring.specs.Area.{next}
 use Rattle.sector_ring.specs.Forms.{AtRest, Collecting}
 use Rattle.sector_ring.proofs.RingSteps.{reads}
 use Rattle.sector_ring.proofs.Rings.{open-not_closed}
-use Rattle.zms_cycle.specs.Sector.{free}
 use Rattle.zms_store.specs.Area.{reading}
 use Rattle.zms_store.specs.Collecting.{CollectsAt, TurnsAt}
-use Rattle.zms_store.specs.Spending.{copied, redo_units}
+use Rattle.zms_store.specs.Spending.{redo_units}
 use Rattle.zms_store.proofs.Areas.{keeps-on, roomy_of}
 use Rattle.zms_store.proofs.CollectSteps.{keeps_then}
 use Rattle.zms_store.proofs.CopyLoop.{next_within, still_area}

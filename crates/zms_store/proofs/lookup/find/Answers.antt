@@ -1,4 +1,4 @@
-use Rattle.std.proofs.Common.{◌≡◌, ◌+◌, ◌<◌, ◌≤◌, ℕ, List, Option, length, sym, ap, ◌∙◌, arith}
+use Rattle.std.proofs.Common.{◌≡◌, ◌<◌, ℕ, List, Option, length, sym, ap, ◌∙◌, arith}
 use Rattle.std.specs.Option.{option_and_then}
 use Rattle.flash_sim.specs.Device.{Device}
 use Rattle.flash_map.specs.Area.{sectors_of}
@@ -6,7 +6,7 @@ use Rattle.slot_list.specs.Items.{value_of}
 use Rattle.sector_ring.specs.Area.{open_sector}
 use Rattle.sector_ring.proofs.Stays.{open_within}
 use Rattle.zms_store.specs.declared.sector.Placed.{Placed}
-use Rattle.zms_store.specs.Area.{reading, last_placed, placed_bytes}
+use Rattle.zms_store.specs.Area.{reading, placed_bytes}
 use Rattle.zms_store.proofs.PlacedLemmas.{found-value, newest-decides, older-decides}
 use Rattle.zms_store.proofs.MountLemmas.{length-sectors}
 use Rattle.zms_store.proofs.lookup.find.Goals as goal

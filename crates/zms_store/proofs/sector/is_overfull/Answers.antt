@@ -1,7 +1,7 @@
 use Rattle.std.proofs.Common.{◌≡◌, ℕ, ◌+◌, ◌-◌, ◌*◌, not, ◌||◌, Bool, List, length, ltb, refl, sym, ap, ◌∙◌, arith}
 use Rattle.std.specs.Prelude.{sum_by}
 use Rattle.std.specs.List.{list_any}
-use Rattle.zms_cycle.specs.Sector.{valid_slots, is_under}
+use Rattle.zms_cycle.specs.Sector.{is_under}
 use Rattle.zms_cycle.proofs.Scanning.{entries_to}
 use Rattle.zms_store.specs.Area.{entry_cost}
 use Rattle.zms_store.proofs.Sectors.{few_slots, read_room, any_step, sum_step, overfull_is}

@@ -1,4 +1,4 @@
-use Rattle.std.proofs.Common.{refl, sym, ◌∙◌}
+use Rattle.std.proofs.Common.{refl}
 use Rattle.zms_store.proofs.Sectors.{marks_blank, marks_used}
 use Rattle.zms_store.proofs.sector.read_marks.Goals as goal
 

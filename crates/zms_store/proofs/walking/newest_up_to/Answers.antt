@@ -1,4 +1,4 @@
-use Rattle.std.proofs.Common.{ℕ, List, None, length, sym, ◌∙◌}
+use Rattle.std.proofs.Common.{ℕ, List, length, sym, ◌∙◌}
 use Rattle.std.specs.List.{flat_map}
 use Rattle.flash_sim.specs.Device.{Device}
 use Rattle.flash_map.specs.Area.{sectors_of}

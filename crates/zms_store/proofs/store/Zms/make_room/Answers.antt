@@ -1,14 +1,14 @@
-use Rattle.std.proofs.Common.{◌≡◌, ℕ, ◌+◌, ◌-◌, ◌*◌, ◌/◌, ◌<◌, ◌≤◌, true, false, List, length, refl, sym, ap, subst, ◌∙◌, arith}
+use Rattle.std.proofs.Common.{◌≡◌, ℕ, ◌+◌, ◌-◌, ◌*◌, ◌/◌, ◌≤◌, true, sym, subst, ◌∙◌, arith}
 use Rattle.std.proofs.Math.Nat.{mul-le-mul_left}
 use Rattle.flash_sim.specs.Device.{Device}
-use Rattle.flash_map.specs.Area.{sector_at, sector_size, sectors_of}
+use Rattle.flash_map.specs.Area.{sector_size, sectors_of}
 use Rattle.flash_map.proofs.SpendingBounds.{between_within}
 use Rattle.sector_ring.proofs.Parts.{parts-count}
 use Rattle.zms_store.specs.declared.store.Zms.{Zms}
 use Rattle.zms_store.specs.Area.{reading}
 use Rattle.zms_store.proofs.MountLemmas.{length-sectors}
 use Rattle.zms_store.proofs.Standings.{rest-stands}
-use Rattle.zms_store.proofs.WriteSteps.{IsSearching, same_or_unfit, searching_start, searching_more, fits_now, used_now, unfit_now, most_more, items_more, touches_more, nothing_fits}
+use Rattle.zms_store.proofs.WriteSteps.{IsSearching, same_or_unfit, searching_start, searching_more, used_now, unfit_now, most_more, items_more, touches_more, nothing_fits}
 use Rattle.zms_store.proofs.store.Zms.make_room.Goals as goal
 
 pub loop-round-init : goal.loop-round-init

@@ -1,7 +1,7 @@
-use Rattle.std.proofs.Common.{◌≡◌, ℕ, ◌+◌, ◌*◌, ◌/◌, ◌≤◌, false, List, sym, ap, ◌∙◌, arith}
+use Rattle.std.proofs.Common.{sym, ◌∙◌, arith}
 use Rattle.std.proofs.lemmas.Result.{on_ok_weaker}
 use Rattle.flash_sim.specs.Device.{Device}
-use Rattle.flash_map.specs.Area.{sector_at, sectors_of, sector_size}
+use Rattle.flash_map.specs.Area.{sectors_of, sector_size}
 use Rattle.flash_map.proofs.SpendingBounds.{between_none, between_within}
 use Rattle.zms_store.specs.declared.store.Zms.{Zms}
 use Rattle.zms_store.specs.Collecting.{TurnsAt}

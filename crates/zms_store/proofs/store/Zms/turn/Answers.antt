@@ -1,4 +1,3 @@
-use Rattle.std.proofs.Common.{List, ℕ}
 use Rattle.flash_sim.specs.Device.{Device}
 use Rattle.zms_store.proofs.StandLemmas.{stands}
 use Rattle.zms_store.proofs.store.Zms.turn.Goals as goal

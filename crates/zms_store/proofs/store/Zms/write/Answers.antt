@@ -1,4 +1,4 @@
-use Rattle.std.proofs.Common.{◌≡◌, ℕ, ◌+◌, ◌<◌, ◌≤◌, ◌^◌, List, [], true, false, length, refl, sym, ap, ◌∙◌, arith}
+use Rattle.std.proofs.Common.{true, false, length, refl, sym, ◌∙◌, arith}
 use Rattle.flash_sim.specs.Device.{Device}
 use Rattle.zms_store.specs.declared.store.Zms.{Zms}
 use Rattle.zms_store.proofs.WriteEnds.{then_touches, then_undamaged, short-by, long-by, cost-ge, write_held, write_stops, write_full, write_done, write_cut}

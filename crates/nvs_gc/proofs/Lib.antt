@@ -3,9 +3,9 @@ pub mod CollectSteps
 pub mod CopyLemmas
 pub mod CopyLoop
 pub mod EndLemmas
-pub mod LiveLemmas
 pub mod LiveSum
 pub mod Mounting
+pub mod NvsEntries
 pub mod RoundSteps
 pub mod Standings
 pub mod WriteSteps

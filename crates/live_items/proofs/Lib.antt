@@ -1,0 +1,6 @@
+pub mod CopyLemmas
+pub mod LastLemmas
+pub mod LiveLemmas
+pub mod LiveSum
+pub mod NextIds
+pub mod SlotEntries

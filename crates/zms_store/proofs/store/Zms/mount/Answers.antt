@@ -1,0 +1,18 @@
+use Rattle.std.proofs.Common.{ℕ, refl, subst}
+use Rattle.flash_sim.specs.Device.{Device}
+use Rattle.flash_map.specs.Area.{sectors_of}
+use Rattle.flash_map.specs.Spending.{SpendsBetween}
+use Rattle.zms_store.specs.Spending.{redo_units}
+use Rattle.zms_store.proofs.StandLemmas.{stands}
+use Rattle.zms_store.proofs.store.Zms.mount.Goals as goal
+
+pub returns-in-Ok-redo-clause-ends : goal.returns-in-Ok-redo-clause-ends
+returns-in-Ok-redo-clause-ends g c =
+    let a : Device = g.F.Flash.device c.args.flash.now in
+    let d : Device = g.F.Flash.device c.redo.new.flash in (
+      c.in-Ok.ensures.undamaged,
+      stands a d c.args.area c.in-Ok.current c.in-Ok-redo.ensures.touches.banks c.requires c.in-Ok-redo.ensures.rested,
+      refl,
+      c.in-Ok-redo.ensures.items,
+      subst (λ (k : ℕ). SpendsBetween a d 0 (redo_units (sectors_of a c.args.area) k)) c.in-Ok.ensures.current c.in-Ok-redo.ensures.spends,
+    )

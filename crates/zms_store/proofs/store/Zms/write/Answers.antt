@@ -1,0 +1,109 @@
+use Rattle.std.proofs.Common.{true, false, length, refl, sym, ◌∙◌, arith}
+use Rattle.flash_sim.specs.Device.{Device}
+use Rattle.zms_store.specs.declared.store.Zms.{Zms}
+use Rattle.zms_store.proofs.WriteEnds.{then_touches, then_undamaged, short-by, long-by, cost-ge, write_held, write_stops, write_full, write_done, write_cut}
+use Rattle.zms_store.proofs.store.Zms.write.Goals as goal
+
+pub returns-then-is_too_long-clause-ends : goal.returns-then-is_too_long-clause-ends
+returns-then-is_too_long-clause-ends g c =
+    let a : Device = g.F.Flash.device c.args.flash.now in
+    let zms : Zms = c.args.self.now in
+    (long-by a zms.area c.geometry.result (length c.args.bytes.now) c.is_too_long.result c.geometry.ensures c.is_too_long.ensures c.if-is_too_long.true, refl)
+
+pub returns-then-holds-clause-ends : goal.returns-then-holds-clause-ends
+returns-then-holds-clause-ends g c =
+    let a : Device = g.F.Flash.device c.args.flash.now in
+    let zms : Zms = c.args.self.now in
+    let short = short-by a zms.area c.geometry.result (length c.args.bytes.now) c.is_too_long.result c.geometry.ensures c.is_too_long.ensures c.if-is_too_long.false in
+    write_held a zms c.args.id c.args.bytes.now c.requires.some short c.if-holds.ensures
+
+pub overflow_cast-len : goal.overflow_cast-len
+overflow_cast-len g c =
+    let a : Device = g.F.Flash.device c.args.flash.now in
+    let zms : Zms = c.args.self.now in
+    let short = short-by a zms.area c.geometry.result (length c.args.bytes.now) c.is_too_long.result c.geometry.ensures c.is_too_long.ensures c.if-is_too_long.false in
+    let rounded = cost-ge (length c.args.bytes.now) in
+    omega (arith, c.requires.stands.area.lawful.at_most)
+
+pub make_room-requires-clause-short : goal.make_room-requires-clause-short
+make_room-requires-clause-short g c =
+    let a : Device = g.F.Flash.device c.args.flash.now in
+    let zms : Zms = c.args.self.now in
+    short-by a zms.area c.geometry.result (length c.args.bytes.now) c.is_too_long.result c.geometry.ensures c.is_too_long.ensures c.if-is_too_long.false
+
+pub returns-in-Err-clause-ends : goal.returns-in-Err-clause-ends
+returns-in-Err-clause-ends g c =
+    let a : Device = g.F.Flash.device c.args.flash.now in
+    let zms : Zms = c.args.self.now in
+    let d : Device = g.F.Flash.device c.make_room.new.flash in
+    let short = short-by a zms.area c.geometry.result (length c.args.bytes.now) c.is_too_long.result c.geometry.ensures c.is_too_long.ensures c.if-is_too_long.false in
+    let did = c.in-Err.ensures in
+    write_stops a d zms c.args.id c.args.bytes.now short c.if-holds.ensures did.items did.at_most did.unfit
+
+pub returns-in-Err-put-clause-touches : goal.returns-in-Err-put-clause-touches
+returns-in-Err-put-clause-touches g c =
+    let a : Device = g.F.Flash.device c.args.flash.now in
+    let zms : Zms = c.args.self.now in
+    let d : Device = g.F.Flash.device c.make_room.new.flash in
+    let e : Device = g.F.Flash.device c.put.new.flash in
+    let did = c.in-Ok-true.ensures in
+    then_touches a d e zms c.make_room.new.self did.area did.items true did.touches c.in-Err-put.ensures.touches
+
+pub returns-in-Err-put-clause-ends : goal.returns-in-Err-put-clause-ends
+returns-in-Err-put-clause-ends g c =
+    let a : Device = g.F.Flash.device c.args.flash.now in
+    let zms : Zms = c.args.self.now in
+    let d : Device = g.F.Flash.device c.make_room.new.flash in
+    let e : Device = g.F.Flash.device c.put.new.flash in
+    let short = short-by a zms.area c.geometry.result (length c.args.bytes.now) c.is_too_long.result c.geometry.ensures c.is_too_long.ensures c.if-is_too_long.false in
+    let did = c.in-Ok-true.ensures in
+    write_cut a d e zms c.make_room.new.self c.args.id c.args.bytes.now c.requires.some did.area short c.if-holds.ensures did.items did.at_most did.same c.in-Err-put.ensures.lost c.in-Err-put.ensures.spends_lost
+
+pub returns-in-Err-put-clause-undamaged : goal.returns-in-Err-put-clause-undamaged
+returns-in-Err-put-clause-undamaged g c =
+    let a : Device = g.F.Flash.device c.args.flash.now in
+    let zms : Zms = c.args.self.now in
+    let d : Device = g.F.Flash.device c.make_room.new.flash in
+    let e : Device = g.F.Flash.device c.put.new.flash in
+    let did = c.in-Ok-true.ensures in
+    then_undamaged a d e zms c.make_room.new.self did.area did.items c.in-Err-put.ensures.undamaged
+
+pub returns-in-Ok-clause-touches : goal.returns-in-Ok-clause-touches
+returns-in-Ok-clause-touches g c =
+    let a : Device = g.F.Flash.device c.args.flash.now in
+    let zms : Zms = c.args.self.now in
+    let d : Device = g.F.Flash.device c.make_room.new.flash in
+    let e : Device = g.F.Flash.device c.put.new.flash in
+    let did = c.in-Ok-true.ensures in
+    then_touches a d e zms c.make_room.new.self did.area did.items false did.touches c.in-Ok.ensures.touches
+
+pub returns-in-Ok-clause-ends : goal.returns-in-Ok-clause-ends
+returns-in-Ok-clause-ends g c =
+    let a : Device = g.F.Flash.device c.args.flash.now in
+    let zms : Zms = c.args.self.now in
+    let d : Device = g.F.Flash.device c.make_room.new.flash in
+    let e : Device = g.F.Flash.device c.put.new.flash in
+    let short = short-by a zms.area c.geometry.result (length c.args.bytes.now) c.is_too_long.result c.geometry.ensures c.is_too_long.ensures c.if-is_too_long.false in
+    let did = c.in-Ok-true.ensures in
+    write_done a d e zms c.make_room.new.self c.args.id c.args.bytes.now c.requires.some did.area short c.if-holds.ensures did.items did.at_most did.same c.in-Ok.ensures.items c.in-Ok.ensures.spends
+
+pub returns-in-Ok-clause-undamaged : goal.returns-in-Ok-clause-undamaged
+returns-in-Ok-clause-undamaged g c =
+    let a : Device = g.F.Flash.device c.args.flash.now in
+    let zms : Zms = c.args.self.now in
+    let d : Device = g.F.Flash.device c.make_room.new.flash in
+    let e : Device = g.F.Flash.device c.put.new.flash in
+    let did = c.in-Ok-true.ensures in
+    then_undamaged a d e zms c.make_room.new.self did.area did.items c.in-Ok.ensures.undamaged
+
+pub returns-in-Ok-false-clause-ends : goal.returns-in-Ok-false-clause-ends
+returns-in-Ok-false-clause-ends g c =
+    let a : Device = g.F.Flash.device c.args.flash.now in
+    let zms : Zms = c.args.self.now in
+    let d : Device = g.F.Flash.device c.make_room.new.flash in
+    let short = short-by a zms.area c.geometry.result (length c.args.bytes.now) c.is_too_long.result c.geometry.ensures c.is_too_long.ensures c.if-is_too_long.false in
+    let did = c.in-Ok-false.ensures in
+    write_full a d zms c.make_room.new.self c.args.id c.args.bytes.now c.from.result c.live_cost.result did.area short c.if-holds.ensures did.items did.at_most did.same c.requires.stands did.stands (sym did.room ∙ c.in-Ok-false.field-0-test) (did.full c.in-Ok-false.field-0-test) did.live (c.from.ensures ∙ c.cost.ensures.value) c.live_cost.ensures
+
+pub put-requires-clause-fits : goal.put-requires-clause-fits
+put-requires-clause-fits g c = sym c.in-Ok-true.ensures.room ∙ c.in-Ok-true.field-0-test

@@ -1,0 +1,129 @@
+-- How a ZMS area reads: its list of pairs, or its damage.
+use Rattle.std.specs.Prelude.{◌≡◌, ℕ, ◌+◌, ◌-◌, ◌*◌, ◌^◌, ◌<◌, ◌≤◌, min, is_some, Bool, true, not, ◌&&◌, ◌||◌, List, [], map, length, fold, sum_by, Option, Some, None, ◌==◌, nat_lt, nat_le, if◌then◌else◌}
+use Rattle.std.specs.List.{flat_map, list_all, list_any}
+use Rattle.std.specs.Option.{option_or}
+use Rattle.flash_map.specs.declared.faults.Damaged.{Damaged}
+use Rattle.flash_map.specs.declared.faults.Why.TheVariants.{AllClosed, TwoOpen, Overfull}
+use Rattle.flash_map.specs.Area.{sector_at}
+use Rattle.sector_ring.specs.Area.{places, next, previous, round, is_closed_at, counts_at, looked_at, open_sector, area_pairs, first_of_kind}
+use Rattle.sector_ring.specs.Reading.{Reading}
+use Rattle.zms_cycle.specs.declared.reading.Found.{Found}
+use Rattle.zms_cycle.specs.Sector.{slot_of, is_valid, cycle_of, valid_slots, is_closed, entry_in, entries, has_gc_done, cost, capacity, low, data_end, is_under, has_guard, value_of, pairs}
+use Rattle.zms_store.specs.declared.sector.Marks.{Marks}
+use Rattle.zms_store.specs.declared.sector.Placed.{Placed}
+use Rattle.zms_store.specs.declared.sector.Redo.{Redo}
+use Rattle.zms_store.specs.declared.sector.Redo.TheVariants.{Nothing, EmptyNext, CollectAgain}
+
+-- One sector.
+
+-- slot 2 is valid under the sector's cycle
+unfoldable pub is_begun : List ℕ → Bool
+is_begun sector = is_valid (cycle_of sector) (slot_of sector 2)
+
+-- It is not closed, and its slot 2 is not valid. Valid slots under that one count for nothing.
+unfoldable pub is_unused : List ℕ → Bool
+is_unused sector = not (is_begun sector) && not (is_closed sector)
+
+-- what an entry and its value take up; a delete is not counted
+unfoldable pub entry_cost : Found → ℕ
+entry_cost f = if f.entry.len == 0 then 0 else cost f.entry.len
+
+-- a value stands outside whole units or passes the start of the guard slot, or the values cost more than a sector has for them
+unfoldable pub is_overfull : List ℕ → Bool
+is_overfull sector = list_any (λ f. not (is_under (low sector - 16) f)) (entries sector) || nat_lt (capacity (length sector)) (sum_by entry_cost (entries sector))
+
+-- how ZMS reads a sector
+abbrev pub reading : Reading
+reading = record {
+  is_blank = is_unused;
+  is_closed = is_closed;
+  has_gc_done = has_gc_done;
+  pairs = pairs;
+  has_fence = has_guard;
+  is_overfull = is_overfull;
+}
+
+-- what the calls on an area have to know of a sector
+abbrev pub marks_of : List ℕ → Marks
+marks_of sector = record {
+  blank = not (is_some (cycle_of sector));
+  begun = is_begun sector;
+  closed = is_closed sector;
+  gc_done = has_gc_done sector;
+  slots = length (valid_slots sector);
+  data_end = min (data_end sector) (2 ^ 32 - 1);
+}
+
+-- whether a value of this length fits a sector of this size with these marks; a length of 0 is a delete
+abbrev pub fits_with : ℕ → Marks → ℕ → Bool
+fits_with size marks len =
+    let free = size - (2 + marks.slots) * 16 - marks.data_end in
+    if len == 0 then nat_le 32 free else nat_le (cost len + (if marks.gc_done then 2 else 3) * 16) free
+
+-- The area.
+
+-- not the open sector and not closed, it follows a closed one or its slot 2 is valid
+abbrev pub is_second_open : List (List ℕ) → ℕ → ℕ → Bool
+is_second_open sectors open_place place =
+    not (is_closed_at reading sectors place) && (not (place == open_place) && (is_begun (sector_at sectors place) || is_closed_at reading sectors (previous sectors place)))
+
+-- A sector that counts holds more than it may. One that is not in use has its guard slot and no entry.
+abbrev pub is_overfull_at : List (List ℕ) → ℕ → ℕ → Bool
+is_overfull_at sectors open_place place = looked_at reading sectors open_place place && (not (has_guard (sector_at sectors place)) || is_overfull (sector_at sectors place))
+
+-- the first sector of the first kind
+unfoldable pub damage_of : List (List ℕ) → Option Damaged
+damage_of sectors =
+    let open_place = open_sector reading sectors in
+    if list_all (is_closed_at reading sectors) (places sectors) then Some (record { sector = 0; why = AllClosed })
+    else option_or (first_of_kind TwoOpen (is_second_open sectors open_place) sectors) (first_of_kind Overfull (is_overfull_at sectors open_place) sectors)
+
+-- ids with their bytes, from the oldest to the newest
+abbrev pub list_of : List (List ℕ) → List (ℕ × List ℕ)
+list_of sectors = area_pairs reading sectors (open_sector reading sectors)
+
+-- What a mount has to do with this sector open. The next sector is closed only while a collection lasts.
+abbrev pub redo_of : List (List ℕ) → ℕ → Redo
+redo_of sectors place = if is_closed_at reading sectors (next sectors place) then (if has_gc_done (sector_at sectors place) then EmptyNext else CollectAgain) else Nothing
+
+-- Entries at their places.
+
+abbrev pub placed_at : ℕ → Found → Placed
+placed_at place f = record { sector = place; slot = f.slot; entry = f.entry }
+
+-- the entries of a sector with their places, where it counts with this one open
+abbrev pub counted_in : List (List ℕ) → ℕ → ℕ → List Placed
+counted_in sectors current place = if counts_at reading sectors current place then map (placed_at place) (entries (sector_at sectors place)) else []
+
+-- the entries of the list, with their places
+abbrev pub all_placed : List (List ℕ) → List Placed
+all_placed sectors =
+    let current = open_sector reading sectors in
+    flat_map (counted_in sectors current) (round (length sectors) current)
+
+abbrev pub last_of : ℕ → List Placed → Option Placed
+last_of id placed = fold (λ last p. if p.entry.id == id then Some p else last) None placed
+
+-- the last entry of an id in one sector
+abbrev pub last_in : ℕ → List Found → Option Found
+last_in id found = fold (λ last f. if f.entry.id == id then Some f else last) None found
+
+-- an entry that is read from this slot of the sector
+pub record IsListed (sector : List ℕ) (p : Placed) : Type 0 where
+  pub from : 2 ≤ p.slot
+  pub listed : p.slot < length (valid_slots sector) + 2
+  pub entry : entry_in (slot_of sector p.slot) ≡ Some (record { slot = p.slot; entry = p.entry })
+
+-- an entry of a sector that counts with this one open
+pub record IsPlaced (sectors : List (List ℕ)) (current : ℕ) (p : Placed) : Type 0 where
+  pub within : p.sector < length sectors
+  pub counts : counts_at reading sectors current p.sector ≡ true
+  pub listed : IsListed (sector_at sectors p.sector) p
+
+-- the last entry of an id, a delete too
+abbrev pub last_placed : List (List ℕ) → ℕ → Option Placed
+last_placed sectors id = last_of id (all_placed sectors)
+
+-- the value of an entry
+abbrev pub placed_bytes : List (List ℕ) → Placed → List ℕ
+placed_bytes sectors p = value_of (sector_at sectors p.sector) p.entry

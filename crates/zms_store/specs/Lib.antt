@@ -1,0 +1,7 @@
+pub mod Area
+pub mod Collecting
+pub mod Ends
+pub mod Sought
+pub mod Spending
+pub mod Standing
+pub mod Walk

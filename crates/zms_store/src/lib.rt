@@ -1,0 +1,23 @@
+//! A ZMS store in the sectors of an area.
+#![tactic(auto)]
+
+#[tactic(auto, using(flash_map::proofs::Touches::then))]
+mod collecting;
+mod lookup;
+mod mounting;
+mod places;
+mod reading;
+mod sector;
+#[tactic(auto, using(flash_map::proofs::Touches::then))]
+mod store;
+mod walking;
+#[tactic(auto, using(flash_map::proofs::Touches::then))]
+mod writing;
+
+pub use sector::Placed;
+pub use store::Zms;
+
+#[cfg(test)]
+mod script_tests;
+#[cfg(test)]
+mod tests;

@@ -1,0 +1,238 @@
+// Reading items.
+ghost use Rattle.std.specs.Prelude.{◌≡◌, ◌+◌, ◌^◌, ◌<◌, ◌≤◌, length, IfSome, IsTrue};
+ghost use Rattle.std.specs.Option.{option_map};
+ghost use Rattle.std.specs.FinMap as map;
+ghost use Rattle.flash_map.specs.Area.{sectors_of, sector_at};
+ghost use Rattle.sector_ring.specs.Area.{open_sector};
+ghost use Rattle.sector_ring.specs.Rounds.{copies_cost, live_cost};
+ghost use Rattle.live_items.specs.NextIds.{is_between, Follows, IsAtMost, IsLeastOf};
+ghost use Rattle.zms_cycle.specs.Sector.{cost, is_sound, pairs, valid_slots};
+ghost use Rattle.zms_store.specs.Area.{reading, all_placed, IsListed, IsPlaced, placed_bytes};
+ghost use Rattle.zms_store.specs.Collecting.{live_in, live_to, cost_of};
+ghost use Rattle.zms_store.specs.Ends.{IsNextId};
+ghost use Rattle.zms_store.specs.Standing.{IsZmsArea, StandsOn, list_on, items_on};
+ghost use Rattle.zms_store.specs.Walk.{IsNextOlder};
+
+use crate::collecting::live_in;
+use crate::lookup::find;
+use crate::places::{marks_at, sector_of};
+use crate::sector::{Placed, cost, read_marks};
+use crate::store::Zms;
+use crate::walking::walk;
+use flash_map::{Area, area_view, geometry};
+use flash_sim::{Flash, Steps};
+use std::sync::ledger::Ledger;
+use zms_cycle::{FIRST, Found, SLOT, entry_in, offset_of};
+
+// The value of an entry: it stands in the entry's tail, or at the entry's offset.
+pub fn value_at<'a, F: Flash, L: Ledger>(
+    flash: &'a F,
+    area: &Area,
+    placed: &Placed,
+    steps: &mut Steps<L>,
+) -> &'a [u8]
+    requires area { IsZmsArea (F.device flash.now).banks area.now }
+    requires inside { placed.now.sector < area.now.sectors }
+    requires listed { let d = F.device flash.now in IsListed (sector_at (sectors_of d area.now) placed.now.sector) placed.now }
+    requires sound { let d = F.device flash.now in IsTrue (is_sound (sector_at (sectors_of d area.now) placed.now.sector)) }
+    ensures { let d = F.device flash.now in result.now ≡ placed_bytes (sectors_of d area.now) placed.now }
+{
+    let len = u32::from(placed.entry.len);
+    if len > 8 {
+        let offset = offset_of(&placed.entry);
+        return area_view(flash, area, placed.sector, offset, len, steps);
+    }
+    let start = geometry(flash, area).sector - (placed.slot + 1) * SLOT as u32;
+    area_view(flash, area, placed.sector, start + 8, len, steps)
+}
+
+// Whether an id is behind `after` and less than `least`, where there are such.
+fn is_between(id: u32, after: Option<u32>, least: Option<u32>) -> bool
+    ensures { result ≡ is_between id after least }
+{
+    after.is_none_or(|after| after < id) && least.is_none_or(|least| id < least)
+}
+
+// What the live entry in a slot costs, if there is one.
+fn slot_live_cost<F: Flash, L: Ledger>(
+    flash: &F,
+    area: &Area,
+    current: u32,
+    place: u32,
+    slot: u32,
+    steps: &mut Steps<L>,
+) -> u64
+    requires area { IsZmsArea (F.device flash.now).banks area.now }
+    requires current { let d = F.device flash.now in current ≡ open_sector reading (sectors_of d area.now) }
+    requires inside { place < area.now.sectors }
+    requires from { 2 ≤ slot }
+    requires listed { let d = F.device flash.now in slot < length (valid_slots (sector_at (sectors_of d area.now) place)) + 2 }
+    ensures cost { let d = F.device flash.now in result ≡ cost_of (live_in (sectors_of d area.now) place slot) }
+    ensures small { result < 2 ^ 18 }
+{
+    match live_in(flash, area, current, place, slot, steps) {
+        Some(placed) => u64::from(cost(placed.entry.len)),
+        None => 0,
+    }
+}
+
+// What the live entries of one sector cost.
+fn sector_live_cost<F: Flash, L: Ledger>(
+    flash: &F,
+    area: &Area,
+    current: u32,
+    place: u32,
+    steps: &mut Steps<L>,
+) -> u64
+    requires area { IsZmsArea (F.device flash.now).banks area.now }
+    requires current { let d = F.device flash.now in current ≡ open_sector reading (sectors_of d area.now) }
+    requires inside { place < area.now.sectors }
+    requires sound { let d = F.device flash.now in IsTrue (is_sound (sector_at (sectors_of d area.now) place)) }
+    ensures cost { let d = F.device flash.now in
+        result ≡ copies_cost cost (live_to (sectors_of d area.now) place (length (valid_slots (sector_at (sectors_of d area.now) place)))) }
+    ensures small { result ≤ 2 ^ 33 }
+{
+    let slots = marks_at(flash, area, place, steps).slots;
+    let mut live = 0;
+    for slot in FIRST as u32..FIRST as u32 + slots {
+        live += slot_live_cost(flash, area, current, place, slot, steps);
+    }
+    live
+}
+
+impl Zms {
+    /// The bytes of an item: none where the id has no entry, or its last one is a delete.
+    pub fn get<'a, F: Flash, L: Ledger>(
+        &self,
+        flash: &'a F,
+        id: u32,
+        steps: &mut Steps<L>,
+    ) -> Option<&'a [u8]>
+        requires { StandsOn (F.device flash.now) self.now }
+        ensures { option_map (λ bytes. bytes.now) result ≡ map.get (items_on (F.device flash.now) self.now.area) id }
+    {
+        let placed = find(flash, &self.area, self.current, id, steps)?;
+        if placed.entry.len == 0 {
+            return None;
+        }
+        Some(value_at(flash, &self.area, &placed, steps))
+    }
+
+    // The id, where it is behind `after`, less than `least` and has a value; else `least`.
+    fn lesser<F: Flash, L: Ledger>(
+        &self,
+        flash: &F,
+        id: u32,
+        after: Option<u32>,
+        least: Option<u32>,
+        steps: &mut Steps<L>,
+    ) -> Option<u32>
+        requires stands { StandsOn (F.device flash.now) self.now }
+        requires some { IfSome least (Follows (items_on (F.device flash.now) self.now.area) after) }
+        ensures some { IfSome result (Follows (items_on (F.device flash.now) self.now.area) after) }
+        ensures kept { IfSome least (IsAtMost result) }
+        ensures id { Follows (items_on (F.device flash.now) self.now.area) after id → IsAtMost result id }
+    {
+        if !is_between(id, after, least) {
+            return least;
+        }
+        if self.get(flash, id, steps).is_some() {
+            Some(id)
+        } else {
+            least
+        }
+    }
+
+    // The same for the id of an entry, if there is one.
+    fn lesser_of<F: Flash, L: Ledger>(
+        &self,
+        flash: &F,
+        found: Option<Found>,
+        after: Option<u32>,
+        least: Option<u32>,
+        steps: &mut Steps<L>,
+    ) -> Option<u32>
+        requires stands { StandsOn (F.device flash.now) self.now }
+        requires some { IfSome least (Follows (items_on (F.device flash.now) self.now.area) after) }
+        ensures some { IfSome result (Follows (items_on (F.device flash.now) self.now.area) after) }
+        ensures kept { IfSome least (IsAtMost result) }
+        ensures id { IfSome found (λ f. Follows (items_on (F.device flash.now) self.now.area) after f.entry.id → IsAtMost result f.entry.id) }
+    {
+        match found {
+            Some(found) => self.lesser(flash, found.entry.id, after, least, steps),
+            None => least,
+        }
+    }
+
+    // The least of `least` and of the ids that the entries of a sector have, are behind `after` and have a value.
+    fn next_in<F: Flash, L: Ledger>(
+        &self,
+        flash: &F,
+        place: u32,
+        after: Option<u32>,
+        least: Option<u32>,
+        steps: &mut Steps<L>,
+    ) -> Option<u32>
+        requires stands { StandsOn (F.device flash.now) self.now }
+        requires inside { place < self.now.area.sectors }
+        requires some { IfSome least (Follows (items_on (F.device flash.now) self.now.area) after) }
+        ensures some { IfSome result (Follows (items_on (F.device flash.now) self.now.area) after) }
+        ensures kept { IfSome least (IsAtMost result) }
+        ensures least { let d = F.device flash.now in
+            IsLeastOf (items_on d self.now.area) after (pairs (sector_at (sectors_of d self.now.area) place)) result }
+    {
+        let mut next = least;
+        let bytes = sector_of(flash, &self.area, place, steps);
+        let slots = read_marks(bytes).slots;
+        for slot in FIRST as u32..FIRST as u32 + slots {
+            next = self.lesser_of(flash, entry_in(bytes, slot), after, next, steps);
+        }
+        next
+    }
+
+    /// The least id behind this one that has a value, or the least of all.
+    pub fn next_id<F: Flash, L: Ledger>(
+        &self,
+        flash: &F,
+        after: Option<u32>,
+        steps: &mut Steps<L>,
+    ) -> Option<u32>
+        requires { StandsOn (F.device flash.now) self.now }
+        ensures { IsNextId (items_on (F.device flash.now) self.now.area) after result }
+    {
+        let mut least = None;
+        for place in 0..self.area.sectors {
+            least = self.next_in(flash, place, after, least, steps);
+        }
+        least
+    }
+
+    /// What all items cost, in bytes: the value of each, padded, and its entry.
+    pub fn live_cost<F: Flash, L: Ledger>(&self, flash: &F, steps: &mut Steps<L>) -> u64
+        requires { StandsOn (F.device flash.now) self.now }
+        ensures { let d = F.device flash.now in result ≡ live_cost cost (list_on d self.now.area) }
+    {
+        let mut live = 0;
+        for place in 0..self.area.sectors {
+            live += sector_live_cost(flash, &self.area, self.current, place, steps);
+        }
+        live
+    }
+
+    /// The next older entry of the list: the one before the entry in this sector and slot, or the newest one where no
+    /// place is given. Deletes are among them. `None` comes exactly at the front of the list.
+    pub fn walk<F: Flash, L: Ledger>(
+        &self,
+        flash: &F,
+        after: Option<(u32, u32)>,
+        steps: &mut Steps<L>,
+    ) -> Option<Placed>
+        requires stands { StandsOn (F.device flash.now) self.now }
+        requires inside { IfSome after (λ place. place.0 < self.now.area.sectors) }
+
+        ensures older { let d = F.device flash.now in IsNextOlder (all_placed (sectors_of d self.now.area)) after result }
+        ensures placed { let d = F.device flash.now in IfSome result (λ p. IsPlaced (sectors_of d self.now.area) self.now.current p) }
+    {
+        walk(flash, &self.area, self.current, after, steps)
+    }
+}

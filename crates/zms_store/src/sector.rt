@@ -1,0 +1,207 @@
+// How one sector reads, over its bytes, and entries at their places.
+ghost use Rattle.std.specs.Prelude.{◌≡◌, ◌^◌, ◌<◌, ◌≤◌, ◌||◌, not, nat_lt, length, false, IfSome};
+ghost use Rattle.std.specs.Option.{option_map, option_map_or};
+ghost use Rattle.zms_cycle.specs.Sector.{valid_slots, entries, has_guard, is_under, cost, capacity};
+ghost use Rattle.zms_store.specs.Area.{marks_of, fits_with, is_overfull, entry_cost, placed_at, last_in, IsListed};
+
+use flash_map::padded;
+use zms_cycle::{
+    FIRST, Found, SLOT, SectorState, ZEntry, data_len, entry_in, offset_of, read_sector,
+};
+
+/// What a mount has to do before the area is at rest.
+#[derive(Clone, Copy, Debug, PartialEq, Eq)]
+pub enum Redo {
+    Nothing,
+    /// The next sector is the victim of a collection that is done but for its emptying.
+    EmptyNext,
+    /// The open sector is that of a collection that was cut.
+    CollectAgain,
+}
+
+/// An entry that counts, and where it stands in the area.
+#[derive(Clone, Copy, Debug, PartialEq, Eq)]
+pub struct Placed {
+    pub sector: u32,
+    pub slot: u32,
+    pub entry: ZEntry,
+}
+
+/// What the calls on an area have to know of a sector.
+#[derive(Clone, Copy, Debug, PartialEq, Eq)]
+pub struct Marks {
+    /// The sector has no cycle yet.
+    pub blank: bool,
+    /// Slot 2 is valid.
+    pub begun: bool,
+    pub closed: bool,
+    pub gc_done: bool,
+    /// How many slots from slot 2 on are valid.
+    pub slots: u32,
+    /// Where the next value goes, in bytes; the last number of 32 bits stands for all above it.
+    pub data_end: u32,
+}
+
+impl Marks {
+    /// Whether slot 2 is valid or the sector is closed.
+    pub fn in_use(&self) -> bool
+        ensures { result ≡ (self.now.begun || self.now.closed) }
+    {
+        self.begun || self.closed
+    }
+}
+
+/// The marks of a sector.
+pub fn read_marks(sector: &[u8]) -> Marks
+    requires long { 48 ≤ length sector.now }
+    requires short { length sector.now ≤ 2 ^ 15 }
+    ensures { result ≡ marks_of sector.now }
+{
+    match read_sector(sector) {
+        SectorState::Blank => Marks {
+            blank: true,
+            begun: false,
+            closed: false,
+            gc_done: false,
+            slots: 0,
+            data_end: 0,
+        },
+        SectorState::Used {
+            closed,
+            slots,
+            data_end,
+            gc_done,
+            ..
+        } => Marks {
+            blank: false,
+            begun: slots > 0,
+            closed,
+            gc_done,
+            slots,
+            data_end,
+        },
+    }
+}
+
+/// The entry in this sector of the area.
+pub fn placed_in(found: Found, sector: u32) -> Placed
+    ensures { result ≡ placed_at sector found }
+{
+    Placed {
+        sector,
+        slot: found.slot,
+        entry: found.entry,
+    }
+}
+
+/// What a value of this length and its entry take up.
+pub fn cost(len: u16) -> u32
+    ensures value { result ≡ cost len }
+    ensures small { result < 2 ^ 18 }
+{
+    SLOT as u32 + data_len(len)
+}
+
+/// What a sector of this size has for values and entries.
+pub fn capacity(size: u32) -> u32
+    ensures { result ≡ capacity size }
+{
+    size.saturating_sub(80)
+}
+
+/// Whether a value of this length and its entry cost more than a sector of this size has for them.
+pub fn is_too_long(size: u32, len: usize) -> bool
+    requires { size < 2 ^ 16 }
+    ensures { result ≡ nat_lt (capacity size) (cost len) }
+{
+    len > 0xFFFF || capacity(size) < cost(len as u16)
+}
+
+/// Whether a value of this length fits a sector of this size. A length of 0 is a delete.
+pub fn fits(size: u32, marks: &Marks, len: u16) -> bool
+    ensures { result ≡ fits_with size marks.now len }
+{
+    let used = (FIRST as u64 + u64::from(marks.slots)) * SLOT as u64;
+    let free = u64::from(size)
+        .saturating_sub(used)
+        .saturating_sub(u64::from(marks.data_end));
+    if len == 0 {
+        return 32 <= free;
+    }
+    let spare = if marks.gc_done { 2 } else { 3 };
+    u64::from(cost(len)) + spare * SLOT as u64 <= free
+}
+
+/// What an entry and its value take up, if there is one that has a value.
+#[tactic(auto, unfolding(crate::specs::Area::entry_cost))]
+pub fn cost_of(found: &Option<Found>) -> u64
+    ensures value { result ≡ option_map_or entry_cost found.now 0 }
+    ensures small { result < 2 ^ 18 }
+{
+    match found {
+        Some(found) if found.entry.len > 0 => u64::from(cost(found.entry.len)),
+        _ => 0,
+    }
+}
+
+/// Whether an entry's value stands outside whole units or ends above the limit.
+#[tactic(auto, unfolding(zms_cycle::specs::Sector::is_under))]
+fn passes(found: &Option<Found>, limit: u64) -> bool
+    ensures { result ≡ option_map_or (λ f. not (is_under limit f)) found.now false }
+{
+    match found {
+        Some(found) if found.entry.len > 8 => {
+            let offset = offset_of(&found.entry);
+            let padded = padded(SLOT as u32, u32::from(found.entry.len));
+            offset % 16 != 0 || limit < u64::from(offset) + u64::from(padded)
+        }
+        _ => false,
+    }
+}
+
+/// Whether there is a guard slot under this many valid slots.
+pub fn has_guard(sector: &[u8], slots: u32) -> bool
+    requires short { length sector.now ≤ 2 ^ 15 }
+    requires slots { slots ≡ length (valid_slots sector.now) }
+    ensures { result ≡ has_guard sector.now }
+{
+    (u64::from(slots) + 3) * 16 <= sector.len() as u64
+}
+
+/// Whether a sector with this many valid slots holds more than it may.
+pub fn is_overfull(sector: &[u8], slots: u32) -> bool
+    requires short { length sector.now ≤ 2 ^ 15 }
+    requires slots { slots ≡ length (valid_slots sector.now) }
+    ensures { result ≡ is_overfull sector.now }
+{
+    let size = sector.len() as u64;
+    let limit = size.saturating_sub((u64::from(slots) + 3) * 16);
+    let mut over = false;
+    let mut costs = 0;
+    for slot in FIRST as u32..FIRST as u32 + slots {
+        let found = entry_in(sector, slot);
+        over |= passes(&found, limit);
+        costs += cost_of(&found);
+    }
+    over || size.saturating_sub(80) < costs
+}
+
+/// The last entry of the id in a sector with this many valid slots, a delete too. The sector has this number.
+pub fn find_in(sector: &[u8], slots: u32, place: u32, id: u32) -> Option<Placed>
+    requires short { length sector.now ≤ 2 ^ 15 }
+    requires slots { slots ≡ length (valid_slots sector.now) }
+    ensures last { result ≡ option_map (placed_at place) (last_in id (entries sector.now)) }
+    ensures listed { IfSome result (λ p. IsListed sector.now p) }
+    ensures sector { IfSome result (λ p. p.sector ≡ place) }
+{
+    let mut count = slots;
+    while count > 0 {
+        if let Some(found) = entry_in(sector, count + 1) {
+            if found.entry.id == id {
+                return Some(placed_in(found, place));
+            }
+        }
+        count -= 1;
+    }
+    None
+}

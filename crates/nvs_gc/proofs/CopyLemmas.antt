@@ -200,7 +200,7 @@ module _ (unit : ℕ) (old new : List (List ℕ)) (place : ℕ) (form : Collecti
   victim_same : sector_at new (next old place) ≡ sector_at old (next old place)
   victim_same = else_same (next old place) (after-apart (length old) place form.ring.within form.ring.several)
 
-  all_same : all_found unit new ≡ all_found unit old
+  pub all_same : all_found unit new ≡ all_found unit old
   all_same =
       all-collecting unit new place there_after
       ∙ ap (λ (k : ℕ). map (found_at k) (entries unit (sector_at new k)) ++ later unit new place there_after) next_same

@@ -3,9 +3,11 @@ pub mod CollectSteps
 pub mod CopyLemmas
 pub mod CopyLoop
 pub mod EndLemmas
+pub mod LastSlots
 pub mod LiveLemmas
 pub mod LiveSum
 pub mod Mounting
+pub mod NextIds
 pub mod RoundSteps
 pub mod Standings
 pub mod WriteSteps

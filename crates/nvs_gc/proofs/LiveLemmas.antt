@@ -132,7 +132,7 @@ live-list sectors all front (f ∷ back) tail is apart long =
 
 -- ---- the entries of one sector
 
-index-slot_at : (unit : ℕ) (b : List ℕ) (k : ℕ) → (slot_at unit b k).index ≡ k
+pub index-slot_at : (unit : ℕ) (b : List ℕ) (k : ℕ) → (slot_at unit b k).index ≡ k
 unfolding shared.slot_at
 index-slot_at unit b k = refl
 

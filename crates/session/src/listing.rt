@@ -151,7 +151,32 @@ fn last_entries<F: Flash, L: Ledger>(
     Ok(last)
 }
 
-// The bytes of an entry, if there is one and it is no delete.
+fn entry_of(last: &BTreeMap<u16, Found>, id: u16) -> Option<Found>
+    ensures { result ≡ tree.get nat_cmp last.now id }
+{
+    last.get(&id).copied()
+}
+
+// The bytes of an entry: none of a delete.
+fn bytes_of<'a, F: Flash, L: Ledger>(
+    flash: &'a F,
+    area: &Area,
+    found: &Found,
+    steps: &mut Steps<L>,
+) -> Option<&'a [u8]>
+    requires area { IsNvsArea (F.device flash.now).banks area.now }
+    requires in_area { IsInArea area.now.sectors (sector_size (F.device flash.now) area.now) found.now }
+    ensures { option_map (λ bytes. bytes.now) result ≡ value_of (found_bytes (sectors_of (F.device flash.now) area.now) found.now) }
+{
+    if found.entry.len == 0 {
+        return None;
+    }
+    let offset = u32::from(found.entry.offset);
+    let len = u32::from(found.entry.len);
+    Some(area_view(flash, area, found.sector, offset, len, steps))
+}
+
+// The same, if there is one.
 fn value_at<'a, F: Flash, L: Ledger>(
     flash: &'a F,
     area: &Area,
@@ -160,16 +185,12 @@ fn value_at<'a, F: Flash, L: Ledger>(
 ) -> Option<&'a [u8]>
     requires area { IsNvsArea (F.device flash.now).banks area.now }
     requires in_area { IfSome found (IsInArea area.now.sectors (sector_size (F.device flash.now) area.now)) }
-    ensures { let d = F.device flash.now in
-        option_map (λ bytes. bytes.now) result ≡ option_and_then (λ f. value_of (found_bytes (sectors_of d area.now) f)) found }
+    ensures { option_map (λ bytes. bytes.now) result ≡ option_and_then (λ f. value_of (found_bytes (sectors_of (F.device flash.now) area.now) f)) found }
 {
-    let found = found?;
-    if found.entry.len == 0 {
-        return None;
+    match found {
+        Some(found) => bytes_of(flash, area, &found, steps),
+        None => None,
     }
-    let offset = u32::from(found.entry.offset);
-    let len = u32::from(found.entry.len);
-    Some(area_view(flash, area, found.sector, offset, len, steps))
 }
 
 // Puts an item behind the others, if there is one.
@@ -201,7 +222,7 @@ fn list<F: Flash, L: Ledger>(
     let last = last_entries(alloc, flash, area, scan, steps)?;
     let mut all = Vec::new(alloc);
     for id in 0..ID_END {
-        let found = value_at(flash, area, last.get(&id).copied(), steps);
+        let found = value_at(flash, area, entry_of(&last, id), steps);
         put(alloc, &mut all, id, found)?;
     }
     Ok(all)

@@ -23,7 +23,7 @@ pub value_at-found-requires-clause-in_area : goal.value_at-found-requires-clause
 value_at-found-requires-clause-in_area g c =
     let d : Device = g.F.Flash.device c.args.flash.now in
     let area = c.args.area.now in
-    let found : c.copied.result ≡ last_found (unit_of d area) (sectors_of d area) c.loop-id.id = c.copied.ensures ∙ c.get.ensures.value ∙ c.in_ok-last.ensures c.loop-id.id in
+    let found : c.entry_of.result ≡ last_found (unit_of d area) (sectors_of d area) c.loop-id.id = c.entry_of.ensures ∙ c.in_ok-last.ensures c.loop-id.id in
     subst (λ (o : Option Found). IfSome o (IsInArea area.sectors (sector_size d area))) (sym found) (last_found-in d area c.loop-id.id (g.met.F.Flash.is_lawful c.args.flash.now) c.requires.area.lawful.in_bank (omega (arith, c.requires.area.lawful.several)))
 
 pub loop-id-preserved : goal.loop-id-preserved
@@ -32,7 +32,7 @@ loop-id-preserved g c =
     let unit : ℕ = unit_of d c.args.area.now in
     let sectors : List (List ℕ) = sectors_of d c.args.area.now in
     let items = (items_in unit sectors) in
-    let found : c.copied.result ≡ last_found unit sectors c.loop-id.id = c.copied.ensures ∙ c.get.ensures.value ∙ c.in_ok-last.ensures c.loop-id.id in
+    let found : c.entry_of.result ≡ last_found unit sectors c.loop-id.id = c.entry_of.ensures ∙ c.in_ok-last.ensures c.loop-id.id in
     let value = option_map (λ bytes. bytes.now) c.value_at-found.result in
     let same : option_map (λ bytes. bytes.now) c.value_at-found.result ≡ map.get (items_in unit sectors) c.loop-id.id =
     c.value_at-found.ensures ∙ ap (λ (o : Option Found). option_and_then (λ f. value_of (found_bytes sectors f)) o) found ∙ sym (get-items_of (list_of unit sectors) c.loop-id.id ∙ found-value unit sectors c.loop-id.id) in

@@ -23,16 +23,17 @@ use Rattle.nvs_store.specs.declared.scan.Found.{Found}
 use Rattle.nvs_store.specs.declared.scan.Scan.{Scan}
 use Rattle.nvs_store.specs.Geometry.{slot_size, cost, capacity}
 use Rattle.nvs_store.specs.Sector.{low, data_end, used_slots, is_closed, has_gc_done}
-use Rattle.nvs_store.specs.Scans.{reading, scan_of, scan_at, free, found_bytes, ChangesOnly, AddsPairAt, StopsAddingAt}
+use Rattle.nvs_store.specs.Scans.{reading, scan_of, scan_at, all_found, free, found_bytes, ChangesOnly, AddsPairAt, StopsAddingAt}
 use Rattle.nvs_store.proofs.Appending.{scan_there, open_is}
 use Rattle.nvs_store.proofs.MountLemmas.{length-sectors}
 use Rattle.nvs_store.proofs.Putting.{slot_size-is}
 use Rattle.nvs_store.proofs.SlotReads.{slot_widths}
 use Rattle.nvs_store.proofs.Views.{unit_is}
 use Rattle.nvs_gc.specs.Collecting.{live_in, live_to, pair_of_found, HasCopied, StopsCopying, KeepsMarks, CopiesOne, cost_of}
+use Rattle.nvs_gc.specs.Latest.{Tells}
 use Rattle.nvs_gc.specs.Spending.{copied}
 use Rattle.nvs_gc.proofs.Areas.{same_unit, stopped, has_stopped, none_copied, one_copied, only_then, copied-le}
-use Rattle.nvs_gc.proofs.CopyLemmas.{to_none, to_some, to_less, to_cost, copies-are, live-bytes, live_same, used_same, bytes_same}
+use Rattle.nvs_gc.proofs.CopyLemmas.{to_none, to_some, to_less, to_cost, copies-are, live-bytes, all_same, live_same, used_same, bytes_same}
 
 -- ---- a cut copy leaves the marks of the open sector
 
@@ -92,6 +93,11 @@ module _ (a d : Device) (area : Area) (place n : ℕ) (scan : Scan) (is-unit : I
 
   pub live_there : (slot : ℕ) → live_in (unit_of d area) (sectors_of d area) (next (sectors_of a area) place) slot ≡ live_in (unit_of a area) (sectors_of a area) (next (sectors_of a area) place) slot
   live_there slot = ap (λ (u : ℕ). live_in u (sectors_of d area) victim slot) unit_same ∙ live_same (unit_of a area) (sectors_of a area) (sectors_of d area) place form stops slot
+
+  -- the list stays, and with it what is known of each id's last entry
+  pub last_there : (chosen : ℕ) (slots : List ℕ) → Tells chosen slots (all_found (unit_of a area) (sectors_of a area)) → Tells chosen slots (all_found (unit_of d area) (sectors_of d area))
+  last_there chosen slots tells =
+      subst (Tells chosen slots) (sym (ap (λ (u : ℕ). all_found u (sectors_of d area)) unit_same ∙ all_same (unit_of a area) (sectors_of a area) (sectors_of d area) place form stops)) tells
 
   pub used_there : used_slots (unit_of d area) (sector_at (sectors_of d area) (next (sectors_of a area) place)) ≡ used_slots (unit_of a area) (sector_at (sectors_of a area) (next (sectors_of a area) place))
   used_there = ap (λ (u : ℕ). used_slots u (sector_at (sectors_of d area) victim)) unit_same ∙ used_same (unit_of a area) (sectors_of a area) (sectors_of d area) place form stops

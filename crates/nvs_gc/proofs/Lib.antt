@@ -3,8 +3,10 @@ pub mod CollectSteps
 pub mod CopyLemmas
 pub mod CopyLoop
 pub mod EndLemmas
+pub mod LastSlots
 pub mod LiveSum
 pub mod Mounting
+pub mod NextIds
 pub mod NvsEntries
 pub mod RoundSteps
 pub mod Standings

@@ -1,5 +1,6 @@
 -- How the calls of a store end.
 use Rattle.std.specs.Prelude.{◌≡◌, ◌⊎◌, ℕ, ◌-◌, ◌*◌, ◌^◌, ◌<◌, ◌≤◌, Bool, true, false, List, length, Option, Some, None, IsTrue, Result, Ok, Err}
+use Rattle.std.specs.List.{All}
 use Rattle.std.specs.FinMap.{get, insert, remove}
 use Rattle.flash_sim.specs.Device.{Device}
 use Rattle.flash_sim.specs.declared.flash.PowerLost.{PowerLost as Lost}
@@ -12,6 +13,7 @@ use Rattle.flash_map.specs.Area.{unit_of, sector_size, sectors_of}
 use Rattle.flash_map.specs.Spending.{Spends, SpendsAtMost}
 use Rattle.slot_list.specs.Items.{Items}
 use Rattle.sector_ring.specs.Rounds.{live_cost}
+use Rattle.nvs_store.specs.declared.scan.Placed.{Placed}
 use Rattle.nvs_store.specs.Geometry.{cost, capacity}
 use Rattle.nvs_store.specs.Scans.{damage_of, fits}
 use Rattle.nvs_gc.specs.declared.nvs.Nvs.{Nvs}
@@ -49,6 +51,14 @@ IsBehind (Some after) id = after < id
 abbrev pub IsNextId : Items → Option ℕ → Option ℕ → Type 0
 IsNextId items after None = (id : ℕ) → id < 2 ^ 16 → IsBehind after id → get items id ≡ None
 IsNextId items after (Some next) = IsBehind after next × (get items next ≡ None → ⊥) × ((id : ℕ) → IsBehind after id → id < next → get items id ≡ None)
+
+-- the entry's id is not from `first` on and before `end`
+abbrev pub IsNotBetween : ℕ → ℕ → Placed → Type 0
+IsNotBetween first end placed = first ≤ placed.entry.id → end ≤ placed.entry.id
+
+-- and none of these entries has such an id
+abbrev pub HasNoneBetween : ℕ → ℕ → List Placed → Type 0
+HasNoneBetween first end placed = All (IsNotBetween first end) placed
 
 -- ---- writing
 

@@ -11,15 +11,17 @@ ghost use Rattle.flash_map.specs.Area.{sector_at};
 ghost use Rattle.nvs_store.specs.declared.scan.Redo.TheVariants.{Nothing, CollectAgain};
 ghost use Rattle.nvs_store.specs.Geometry.{slot_size, cost};
 ghost use Rattle.nvs_store.specs.Sector.{used_slots};
-ghost use Rattle.nvs_store.specs.Scans.{reading, scan_of, free, IsInArea};
-ghost use Rattle.nvs_gc.specs.Collecting.{is_live, live_in, HasCopied, StopsCopying, Empties, KeepsMarks, CopiesOne, cost_of, CollectsAt, TurnsAt};
+ghost use Rattle.nvs_store.specs.Scans.{reading, scan_of, all_found, free, IsInArea};
+ghost use Rattle.nvs_gc.specs.Collecting.{live_in, HasCopied, StopsCopying, Empties, KeepsMarks, CopiesOne, cost_of, CollectsAt, TurnsAt};
+ghost use Rattle.nvs_gc.specs.Latest.{Tells};
 ghost use Rattle.nvs_gc.specs.Spending.{copied, redo_units, round_units};
 ghost use Rattle.nvs_gc.specs.Standing.{IsNvsArea, IsUndamaged, KeepsItems};
 
+use crate::latest::{LastSlots, last_slots};
 use flash_map::{Area, area_erase};
 use flash_sim::{Flash, PowerLost, Steps};
 use nvs_store::{
-    Found, Redo, Scan, copy_entry, entry_in, find, is_blank, mount_scan, next, put_close, put_done,
+    Found, Redo, Scan, copy_entry, entry_in, is_blank, mount_scan, next, put_close, put_done,
     used_slots,
 };
 use std::sync::ledger::Ledger;
@@ -36,45 +38,26 @@ fn scan_again<F: Flash, L: Ledger>(flash: &F, area: &Area, steps: &mut Steps<L>)
     }
 }
 
-// Whether an entry of the list is the last of its id and has data.
-pub fn is_live<F: Flash, L: Ledger>(
-    flash: &F,
-    area: &Area,
-    scan: &Scan,
-    found: &Found,
-    steps: &mut Steps<L>,
-) -> bool
-    requires area { IsNvsArea (F.device flash.now).banks area.now }
-    requires scan { let d = F.device flash.now in scan.now ≡ scan_of (unit_of d area.now) (sectors_of d area.now) }
-    ensures { let d = F.device flash.now in result ≡ is_live (unit_of d area.now) (sectors_of d area.now) found.now }
-{
-    match find(flash, area, scan, found.entry.id, steps) {
-        Some(last) => {
-            last.sector == found.sector && last.slot == found.slot && found.entry.len > 0
-        }
-        None => false,
-    }
-}
-
-// The live entry in a used slot.
+// The live entry in a used slot: it is the last of its id in the list, and has data.
 pub fn live_in<F: Flash, L: Ledger>(
     flash: &F,
     area: &Area,
-    scan: &Scan,
+    last: &LastSlots,
     place: u32,
     slot: u32,
     steps: &mut Steps<L>,
 ) -> Option<Found>
     requires area { IsNvsArea (F.device flash.now).banks area.now }
-    requires scan { let d = F.device flash.now in scan.now ≡ scan_of (unit_of d area.now) (sectors_of d area.now) }
     requires inside { place < area.now.sectors }
+    requires some { 0 < slot }
     requires used { let d = F.device flash.now in slot ≤ length (used_slots (unit_of d area.now) (sector_at (sectors_of d area.now) place)) }
+    requires last { let d = F.device flash.now in Tells place last.now.slots (all_found (unit_of d area.now) (sectors_of d area.now)) }
     ensures found { let d = F.device flash.now in result ≡ live_in (unit_of d area.now) (sectors_of d area.now) place slot }
     ensures in_area { IfSome result (IsInArea area.now.sectors (sector_size (F.device flash.now) area.now)) }
     ensures place { IfSome result (λ found. found.sector ≡ place) }
 {
     let found = entry_in(flash, area, place, slot, steps)?;
-    if is_live(flash, area, scan, &found, steps) {
+    if last.is_live(&found) {
         Some(found)
     } else {
         None
@@ -86,6 +69,7 @@ fn copy_slot<F: Flash, L: Ledger>(
     flash: &mut F,
     area: &Area,
     scan: &mut Scan,
+    last: &LastSlots,
     victim: u32,
     slot: u32,
     steps: &mut Steps<L>,
@@ -94,6 +78,8 @@ fn copy_slot<F: Flash, L: Ledger>(
     requires scan { let d = F.device flash.old in scan.old ≡ scan_of (unit_of d area.now) (sectors_of d area.now) }
     requires inside { victim < area.now.sectors }
     requires other { victim ≡ scan.old.current → ⊥ }
+    requires some { 0 < slot }
+    requires last { let d = F.device flash.old in Tells victim last.now.slots (all_found (unit_of d area.now) (sectors_of d area.now)) }
     requires used { let d = F.device flash.old in slot ≤ length (used_slots (unit_of d area.now) (sector_at (sectors_of d area.now) victim)) }
     requires free { let d = F.device flash.old in let unit = unit_of d area.now in cost_of unit (live_in unit (sectors_of d area.now) victim slot) + 3 * slot_size unit ≤ free scan.old }
     ensures touches { Touches (area.now ∷ []) (F.device flash.old) (F.device flash.new) (is_err result) }
@@ -103,7 +89,7 @@ fn copy_slot<F: Flash, L: Ledger>(
     ensures lost { let d = F.device flash.old in OnErr result (KeepsMarks (unit_of d area.now) (sectors_of d area.now) (sectors_of (F.device flash.new) area.now) scan.old.current) }
     ensures spent_at_most { let d = F.device flash.old in let unit = unit_of d area.now in OnErr result (SpendsAtMost d (F.device flash.new) (cost_of unit (live_in unit (sectors_of d area.now) victim slot) / unit)) }
 {
-    match live_in(flash, area, scan, victim, slot, steps) {
+    match live_in(flash, area, last, victim, slot, steps) {
         Some(found) => copy_entry(flash, area, scan, &found, steps),
         None => Ok(()),
     }
@@ -132,8 +118,9 @@ fn copy_live<F: Flash, L: Ledger>(
     ensures spent_at_most { let d = F.device flash.old in let unit = unit_of d area.now in OnErr result (SpendsAtMost d (F.device flash.new) (copied unit (sectors_of d area.now) scan.old.current / unit)) }
 {
     let used = used_slots(flash, area, victim, steps);
+    let last = last_slots(flash, area, scan, victim, steps);
     for slot in 1..used + 1 {
-        copy_slot(flash, area, scan, victim, slot, steps)?;
+        copy_slot(flash, area, scan, &last, victim, slot, steps)?;
     }
     Ok(())
 }

@@ -3,10 +3,12 @@
 #![tactic(auto)]
 
 mod collecting;
+mod latest;
 mod nvs;
 mod reading;
 mod writing;
 
+pub use latest::is_hidden;
 pub use nvs::Nvs;
 
 #[cfg(test)]

@@ -1,21 +1,27 @@
 // All items of an area.
-ghost use Rattle.std.specs.Prelude.{◌≡◌, ◌<◌, ◌++◌, option_map, IfOk, OnOk, IfErr};
-ghost use Rattle.std.specs.FinMap as map;
-ghost use Rattle.std.specs.Option.{option_to_list};
-ghost use Rattle.flash_map.specs.Area.{unit_of, sectors_of};
-ghost use Rattle.nvs_store.specs.Scans.{scan_of};
+ghost use Rattle.std.specs.Prelude.{◌≡◌, ℕ, ◌<◌, ◌≤◌, ◌-◌, ◌∷◌, [], ◌++◌, length, map, option_map, IfSome, IfOk, OnOk, IfErr};
+ghost use Rattle.std.specs.BTreeMap as tree;
+ghost use Rattle.std.specs.List.{flat_map, range_with_len};
+ghost use Rattle.std.specs.Option.{option_and_then, option_to_list};
+ghost use Rattle.std.specs.Ordering.{nat_cmp};
+ghost use Rattle.flash_map.specs.Area.{unit_of, sector_at, sector_size, sectors_of};
+ghost use Rattle.slot_list.specs.Items.{value_of};
+ghost use Rattle.nvs_store.specs.Sector.{slot_at, used_slots, counting_entry, entries};
+ghost use Rattle.nvs_store.specs.Scans.{scan_of, found_at, counted_in, found_bytes, last_found, IsInArea};
 ghost use Rattle.nvs_gc.specs.Standing.{IsNvsArea};
 ghost use Rattle.session.specs.Contents.{items_in};
 ghost use Rattle.session.specs.Fault.{IsFault};
-ghost use Rattle.session.specs.Listing.{item_of, listed};
+ghost use Rattle.session.specs.Listing.{Notes, item_of, listed};
 ghost use Rattle.session.specs.Standing.{IsSound};
 
 use crate::run::SessionFault;
 use flash_map::{Area, area_view};
 use flash_sim::{Flash, NoMemory, Steps};
-use nvs_store::{Scan, find, mount_scan};
+use nvs_gc::is_hidden;
+use nvs_store::{Found, Scan, entry_in, mount_scan, used_slots};
 use script_lines::Bytes;
 use std::alloc::Global;
+use std::collections::BTreeMap;
 use std::marker::Brand;
 use std::sync::ledger::{Blank, Ledger};
 
@@ -29,25 +35,162 @@ pub struct Item {
 // The ids end here.
 const ID_END: u16 = 65535;
 
-// The value of an item.
-fn value_in<'a, F: Flash, L: Ledger>(
-    flash: &'a F,
+// Takes an entry as the last one of its id.
+fn note(last: &mut BTreeMap<u16, Found>, found: Found) -> Result<(), NoMemory>
+    ensures { OnOk result (Notes last.old last.new (found ∷ [])) }
+{
+    last.insert(found.entry.id, found)?;
+    Ok(())
+}
+
+// Takes the entry in a slot so, if there is one.
+fn note_slot<F: Flash, L: Ledger>(
+    flash: &F,
+    area: &Area,
+    place: u32,
+    slot: u32,
+    last: &mut BTreeMap<u16, Found>,
+    steps: &mut Steps<L>,
+) -> Result<(), NoMemory>
+    requires area { IsNvsArea (F.device flash.now).banks area.now }
+    requires inside { place < area.now.sectors }
+    requires used { let d = F.device flash.now in slot ≤ length (used_slots (unit_of d area.now) (sector_at (sectors_of d area.now) place)) }
+    ensures { let d = F.device flash.now in
+        OnOk result (Notes last.old last.new (option_to_list (option_map (found_at place) (counting_entry (unit_of d area.now) (slot_at (unit_of d area.now) (sector_at (sectors_of d area.now) place) slot))))) }
+{
+    match entry_in(flash, area, place, slot, steps) {
+        Some(found) => note(last, found),
+        None => Ok(()),
+    }
+}
+
+// Takes the entries of a sector so, in slot order.
+fn note_sector<F: Flash, L: Ledger>(
+    flash: &F,
+    area: &Area,
+    place: u32,
+    last: &mut BTreeMap<u16, Found>,
+    steps: &mut Steps<L>,
+) -> Result<(), NoMemory>
+    requires area { IsNvsArea (F.device flash.now).banks area.now }
+    requires inside { place < area.now.sectors }
+    ensures { let d = F.device flash.now in
+        OnOk result (Notes last.old last.new (map (found_at place) (entries (unit_of d area.now) (sector_at (sectors_of d area.now) place)))) }
+{
+    let used = used_slots(flash, area, place, steps);
+    for slot in 1..used + 1 {
+        note_slot(flash, area, place, slot, last, steps)?;
+    }
+    Ok(())
+}
+
+// Takes those of a sector so, where it counts.
+fn note_counting<F: Flash, L: Ledger>(
+    flash: &F,
     area: &Area,
     scan: &Scan,
-    id: u16,
+    place: u32,
+    last: &mut BTreeMap<u16, Found>,
+    steps: &mut Steps<L>,
+) -> Result<(), NoMemory>
+    requires area { IsNvsArea (F.device flash.now).banks area.now }
+    requires scan { let d = F.device flash.now in scan.now ≡ scan_of (unit_of d area.now) (sectors_of d area.now) }
+    requires current { scan.now.current < area.now.sectors }
+    requires inside { place < area.now.sectors }
+    ensures { let d = F.device flash.now in
+        OnOk result (Notes last.old last.new (counted_in (unit_of d area.now) (sectors_of d area.now) scan.now.current place)) }
+{
+    if is_hidden(area, scan, place) {
+        Ok(())
+    } else {
+        note_sector(flash, area, place, last, steps)
+    }
+}
+
+// Takes those of the sectors from `first` to the one before `end` so.
+fn note_among<F: Flash, L: Ledger>(
+    flash: &F,
+    area: &Area,
+    scan: &Scan,
+    first: u32,
+    end: u32,
+    last: &mut BTreeMap<u16, Found>,
+    steps: &mut Steps<L>,
+) -> Result<(), NoMemory>
+    requires area { IsNvsArea (F.device flash.now).banks area.now }
+    requires scan { let d = F.device flash.now in scan.now ≡ scan_of (unit_of d area.now) (sectors_of d area.now) }
+    requires current { scan.now.current < area.now.sectors }
+    requires order { first ≤ end }
+    requires inside { end ≤ area.now.sectors }
+    ensures { let d = F.device flash.now in
+        OnOk result (Notes last.old last.new (flat_map (counted_in (unit_of d area.now) (sectors_of d area.now) scan.now.current) (range_with_len first (end - first)))) }
+{
+    for place in first..end {
+        note_counting(flash, area, scan, place, last, steps)?;
+    }
+    Ok(())
+}
+
+// The last entry of each id, by one walk over the area's list, from the oldest entry to the newest.
+fn last_entries<F: Flash, L: Ledger>(
+    alloc: Global,
+    flash: &F,
+    area: &Area,
+    scan: &Scan,
+    steps: &mut Steps<L>,
+) -> Result<BTreeMap<u16, Found>, NoMemory>
+    requires area { IsNvsArea (F.device flash.now).banks area.now }
+    requires scan { let d = F.device flash.now in scan.now ≡ scan_of (unit_of d area.now) (sectors_of d area.now) }
+    ensures { let d = F.device flash.now in
+        IfOk result (λ last. (id : ℕ) → tree.get nat_cmp last id ≡ last_found (unit_of d area.now) (sectors_of d area.now) id) }
+{
+    let mut last = BTreeMap::new(alloc);
+    let older = scan.current + 1;
+    note_among(flash, area, scan, older, area.sectors, &mut last, steps)?;
+    note_among(flash, area, scan, 0, older, &mut last, steps)?;
+    Ok(last)
+}
+
+fn entry_of(last: &BTreeMap<u16, Found>, id: u16) -> Option<Found>
+    ensures { result ≡ tree.get nat_cmp last.now id }
+{
+    last.get(&id).copied()
+}
+
+// The bytes of an entry: none of a delete.
+fn bytes_of<'a, F: Flash, L: Ledger>(
+    flash: &'a F,
+    area: &Area,
+    found: &Found,
     steps: &mut Steps<L>,
 ) -> Option<&'a [u8]>
     requires area { IsNvsArea (F.device flash.now).banks area.now }
-    requires scan { let d = F.device flash.now in scan.now ≡ scan_of (unit_of d area.now) (sectors_of d area.now) }
-    ensures { option_map (λ bytes. bytes.now) result ≡ map.get (items_in (unit_of (F.device flash.now) area.now) (sectors_of (F.device flash.now) area.now)) id }
+    requires in_area { IsInArea area.now.sectors (sector_size (F.device flash.now) area.now) found.now }
+    ensures { option_map (λ bytes. bytes.now) result ≡ value_of (found_bytes (sectors_of (F.device flash.now) area.now) found.now) }
 {
-    let found = find(flash, area, scan, id, steps)?;
     if found.entry.len == 0 {
         return None;
     }
     let offset = u32::from(found.entry.offset);
     let len = u32::from(found.entry.len);
     Some(area_view(flash, area, found.sector, offset, len, steps))
+}
+
+// The same, if there is one.
+fn value_at<'a, F: Flash, L: Ledger>(
+    flash: &'a F,
+    area: &Area,
+    found: Option<Found>,
+    steps: &mut Steps<L>,
+) -> Option<&'a [u8]>
+    requires area { IsNvsArea (F.device flash.now).banks area.now }
+    requires in_area { IfSome found (IsInArea area.now.sectors (sector_size (F.device flash.now) area.now)) }
+    ensures { option_map (λ bytes. bytes.now) result ≡ option_and_then (λ f. value_of (found_bytes (sectors_of (F.device flash.now) area.now) f)) found }
+{
+    match found {
+        Some(found) => bytes_of(flash, area, &found, steps),
+        None => None,
+    }
 }
 
 // Puts an item behind the others, if there is one.
@@ -64,6 +207,7 @@ fn put(alloc: Global, all: &mut Vec<Item>, id: u16, found: Option<&[u8]>) -> Res
     }
 }
 
+// All items of an area with this scan.
 fn list<F: Flash, L: Ledger>(
     alloc: Global,
     flash: &F,
@@ -75,9 +219,10 @@ fn list<F: Flash, L: Ledger>(
     requires scan { let d = F.device flash.now in scan.now ≡ scan_of (unit_of d area.now) (sectors_of d area.now) }
     ensures { let d = F.device flash.now in IfOk result (λ all. all.items ≡ listed (items_in (unit_of d area.now) (sectors_of d area.now))) }
 {
+    let last = last_entries(alloc, flash, area, scan, steps)?;
     let mut all = Vec::new(alloc);
     for id in 0..ID_END {
-        let found = value_in(flash, area, scan, id, steps);
+        let found = value_at(flash, area, entry_of(&last, id), steps);
         put(alloc, &mut all, id, found)?;
     }
     Ok(all)

@@ -15,7 +15,7 @@ use Rattle.nvs_store.proofs.MountLemmas.{length-sectors}
 use Rattle.nvs_store.proofs.SlotReads.{slot_widths}
 use Rattle.nvs_store.proofs.Views.{unit_is}
 use Rattle.nvs_gc.specs.Collecting.{live_in, CopiesOne, cost_of}
-use Rattle.nvs_gc.proofs.CopyLoop.{IsCopying, room_there, copying_more, copying_lost, copying_most, copying_start, copying_end}
+use Rattle.nvs_gc.proofs.CopyLoop.{IsCopying, last_there, room_there, copying_more, copying_lost, copying_most, copying_start, copying_end}
 use Rattle.nvs_gc.proofs.collecting.copy_live.Goals as goal
 
 pub used_slots-used-requires-clause-inside : goal.used_slots-used-requires-clause-inside
@@ -37,6 +37,14 @@ loop-slot-init g c =
     let widths = slot_widths (unit_of a area) is-unit in
     let long = length-sector a area (g.met.F.Flash.is_lawful c.args.flash.now) lawful.in_bank c.args.scan.now.current (omega (arith, ring.within)) in
     copying_start a area c.args.scan.now.current is-unit c.requires.collecting c.args.scan.now c.requires.scan refl c.requires.blank (omega (arith, lawful.at_least, widths.no_more))
+
+pub copy_slot-requires-clause-last : goal.copy_slot-requires-clause-last
+copy_slot-requires-clause-last g c =
+    let a : Device = g.F.Flash.device c.args.flash.now in
+    let d : Device = g.F.Flash.device c.loop-slot.flash in
+    let area : Area = c.args.area.now in
+    let is-unit = unit_is a area (g.met.F.Flash.is_lawful c.args.flash.now) c.requires.area.lawful.in_bank in
+    last_there a d area c.args.scan.now.current (c.loop-slot.slot - 1) c.loop-slot.scan is-unit c.requires.collecting c.loop-slot.invariant c.args.victim c.last_slots-last.result.slots c.last_slots-last.ensures
 
 pub copy_slot-requires-clause-inside : goal.copy_slot-requires-clause-inside
 copy_slot-requires-clause-inside g c =

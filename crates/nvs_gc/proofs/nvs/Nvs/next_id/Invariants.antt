@@ -1,7 +1,14 @@
-use Rattle.std.proofs.Common.{◌≡◌, ℕ, ◌<◌, ◌≤◌, None}
+use Rattle.std.proofs.Common.{◌≡◌, ℕ, ◌-◌, ◌^◌, ◌<◌, ◌≤◌, None}
 use Rattle.std.specs.FinMap as map
 use Rattle.nvs_gc.specs.Standing.{items_on}
 use Rattle.nvs_gc.proofs.nvs.Nvs.next_id.Given as goal
 
-abbrev pub invariant-loop-id : goal.invariant-loop-id
-invariant-loop-id g l = (k : ℕ) → l.first ≤ k → k < l.id → map.get (items_on (g.F.Flash.device l.flash) l.self.area) k ≡ None
+abbrev pub invariant-loop-next : goal.invariant-loop-next
+invariant-loop-next g l = record {
+  no_more : l.next ≤ 2 ^ 16;
+  from : l.next < 2 ^ 16 → l.first ≤ l.next;
+  none_before : (k : ℕ) → l.first ≤ k → k < l.next → map.get (items_on (g.F.Flash.device l.flash) l.self.area) k ≡ None;
+}
+
+abbrev pub decreases-loop-next : goal.decreases-loop-next
+decreases-loop-next g l = 2 ^ 16 - l.next

@@ -1,0 +1,188 @@
+-- The last entry of each id, one entry after another.
+use Rattle.std.proofs.Common.{◌≡◌, ℕ, ◌+◌, ◌-◌, ◌^◌, ◌<◌, ◌≤◌, Bool, true, false, not, ◌&&◌, cond, eqb, ltb, List, [], ◌∷◌, ◌++◌, length, map, Option, Some, None, refl, sym, ap, subst, ◌∙◌, inl, inr, append_assoc, arith}
+use Rattle.std.specs.Prelude.{fold, replicate, slice_set, slice_index}
+use Rattle.std.specs.List.{cons_option, flat_map, range_with_len}
+use Rattle.std.specs.Option.{option_map, option_map_or, option_and_then, option_to_list}
+use Rattle.std.proofs.lemmas.Bool.{cases_Bool, eqb-true, ne_eqb, eq-eqb, false≢true}
+use Rattle.std.proofs.lemmas.List.{map-append, append-nil, length-replicate, length-set, get_or-replicate, get_or-set_other}
+use Rattle.std.proofs.lemmas.Grind.{get_or-set_at}
+use Rattle.std.proofs.lemmas.List.Concat.{flat_map-append, flat_map-cons}
+use Rattle.std.proofs.lemmas.List.Sums.{fold_push}
+use Rattle.sector_ring.specs.Area.{next, round, is_closed_at, counts_at, open_sector}
+use Rattle.flash_map.specs.Area.{sector_at}
+use Rattle.sector_ring.proofs.Places.{range-append, range_one}
+use Rattle.nvs_store.specs.declared.scan.Found.{Found}
+use Rattle.nvs_store.specs.declared.scan.Placed.{Placed}
+use Rattle.nvs_store.specs.declared.scan.Redo.{Redo}
+use Rattle.nvs_store.specs.declared.scan.Redo.TheVariants.{Nothing, EraseNext, CollectAgain}
+use Rattle.nvs_store.specs.declared.scan.Scan.{Scan}
+use Rattle.nvs_store.specs.Geometry.{slot_size}
+use Rattle.nvs_store.specs.Sector.{slot_at, counting_entry, has_gc_done}
+use Rattle.nvs_store.specs.Scans.{reading, redo_of, scan_of, found_at, counted_in, all_found, last_of}
+use Rattle.nvs_store.proofs.Appending.{open_is, scan_there, next_open}
+use Rattle.nvs_store.proofs.FoundLemmas.{among}
+use Rattle.nvs_store.proofs.Lookups.{entries_to, entries_to_more}
+use Rattle.nvs_store.proofs.Marks.{counting_entry_counts}
+use Rattle.nvs_store.proofs.MountLemmas.{counts_closed, counts_open}
+use Rattle.nvs_gc.specs.Collecting.{is_live, live_in}
+use Rattle.nvs_gc.specs.Latest.{slot_in, Tells}
+use Rattle.slot_list.proofs.SlotLemmas.{index-slot_at}
+
+-- ---- which sector counts for nothing
+
+redo_tells : (unit : ℕ) (sectors : List (List ℕ)) (scan : Scan) → scan ≡ scan_of unit sectors → scan.redo ≡ redo_of unit sectors scan.current
+redo_tells unit sectors scan is = ap (λ (s : Scan). s.redo) (scan_there unit sectors scan is)
+
+erases_by : (closed done : Bool) (redo : Redo) → redo ≡ EraseNext → redo ≡ cond closed (cond done EraseNext CollectAgain) Nothing → (closed ≡ true) × (done ≡ true)
+erases_by true true redo is tells = (refl, refl)
+erases_by true false redo is tells = absurd (cc)
+erases_by false done redo is tells = absurd (cc)
+
+collects_by : (closed done : Bool) (redo : Redo) → redo ≡ CollectAgain → redo ≡ cond closed (cond done EraseNext CollectAgain) Nothing → (closed ≡ true) × (done ≡ false)
+collects_by true false redo is tells = (refl, refl)
+collects_by true true redo is tells = absurd (cc)
+collects_by false done redo is tells = absurd (cc)
+
+pub counts_all : (unit : ℕ) (sectors : List (List ℕ)) (scan : Scan) (place : ℕ) → scan ≡ scan_of unit sectors → scan.redo ≡ Nothing → counts_at (reading unit) sectors scan.current place ≡ true
+counts_all unit sectors scan place is redo = sym (counts_open unit sectors scan.current place (next_open unit sectors scan is redo))
+
+pub counts_but_victim : (unit : ℕ) (sectors : List (List ℕ)) (scan : Scan) (place hidden : ℕ) → scan ≡ scan_of unit sectors → scan.redo ≡ EraseNext → hidden ≡ next sectors scan.current → counts_at (reading unit) sectors scan.current place ≡ not (eqb place hidden)
+counts_but_victim unit sectors scan place hidden is redo at =
+    let shut = erases_by (is_closed_at (reading unit) sectors (next sectors scan.current)) (has_gc_done unit (sector_at sectors scan.current)) scan.redo redo (redo_tells unit sectors scan is) in
+    sym (counts_closed unit sectors scan.current place hidden true shut.0 shut.1 at)
+
+pub counts_but_open : (unit : ℕ) (sectors : List (List ℕ)) (scan : Scan) (place : ℕ) → scan ≡ scan_of unit sectors → scan.redo ≡ CollectAgain → counts_at (reading unit) sectors scan.current place ≡ not (eqb place scan.current)
+counts_but_open unit sectors scan place is redo =
+    let shut = collects_by (is_closed_at (reading unit) sectors (next sectors scan.current)) (has_gc_done unit (sector_at sectors scan.current)) scan.redo redo (redo_tells unit sectors scan is) in
+    sym (counts_closed unit sectors scan.current place scan.current false shut.0 shut.1 refl)
+
+-- ---- one entry more
+
+pub tells_none : (place n : ℕ) → n ≡ 2 ^ 16 → Tells place (replicate n 0) []
+tells_none place n is = record { long = length-replicate n 0 ∙ is; slot = λ id below. get_or-replicate n id 0 0 (omega arith) }
+
+last_push : (id : ℕ) (before : List Found) (f : Found) (here : Bool) → eqb f.entry.id id ≡ here → last_of id (before ++ f ∷ []) ≡ cond here (Some f) (last_of id before)
+last_push id before f here is = fold_push (λ last f. cond (eqb f.entry.id id) (Some f) last) None before f ∙ ap (λ (t : Bool). cond t (Some f) (last_of id before)) is
+
+pub tells_put : (place : ℕ) (slots : List ℕ) (before : List Found) (f : Found) (slot : ℕ) → f.entry.id < 2 ^ 16 → slot ≡ slot_in place (Some f) → Tells place slots before → Tells place (slice_set slots f.entry.id slot) (before ++ f ∷ [])
+tells_put place slots before f slot below at tells = record {
+  long = length-set slots f.entry.id slot ∙ tells.long;
+  slot = λ id inside. elim (cases_Bool (eqb f.entry.id id)) [
+    | inl same ↦
+        let is : f.entry.id ≡ id = eqb-true f.entry.id id same in
+        let long = tells.long in
+        get_or-set_at slots f.entry.id id slot 0 (sym is) (omega arith) ∙ at ∙ ap (slot_in place) (sym (last_push id before f true same))
+    | inr other ↦
+        let apart : id ≡ f.entry.id → ⊥ = λ (e : id ≡ f.entry.id). false≢true (sym other ∙ eq-eqb f.entry.id id (sym e)) in
+        get_or-set_other slots f.entry.id id slot 0 apart ∙ tells.slot id inside ∙ ap (slot_in place) (sym (last_push id before f false other))
+  ];
+}
+
+-- the slot that is put for an entry is not above its own
+pub slot_few : (place : ℕ) (f : Found) → slot_in place (Some f) ≤ f.slot
+slot_few place f = by_place (eqb f.sector place)
+  where
+    by_place : (here : Bool) → cond here f.slot 0 ≤ f.slot
+    by_place true = omega arith
+    by_place false = omega arith
+
+pub tells_same : (place : ℕ) (slots : List ℕ) (before : List Found) (o : Option Found) → None ≡ o → Tells place slots before → Tells place slots (before ++ option_to_list o)
+tells_same place slots before o is tells = subst (λ (o : Option Found). Tells place slots (before ++ option_to_list o)) is (subst (Tells place slots) (sym (append-nil before)) tells)
+
+pub tells_one : (chosen : ℕ) (slots : List ℕ) (before : List Found) (f : Found) (slot : ℕ) (o : Option Found) → Some f ≡ o → f.entry.id < 2 ^ 16 → slot ≡ slot_in chosen (Some f) → Tells chosen slots before → Tells chosen (slice_set slots f.entry.id slot) (before ++ option_to_list o)
+tells_one chosen slots before f slot o is below at tells = subst (λ (o : Option Found). Tells chosen (slice_set slots f.entry.id slot) (before ++ option_to_list o)) is (tells_put chosen slots before f slot below at tells)
+
+-- ---- slot by slot, and sector by sector
+
+slot_more : (unit place : ℕ) (b : List ℕ) (n k : ℕ) → k ≡ n + 1
+    → map (found_at place) (entries_to unit b n) ++ option_to_list (option_map (found_at place) (counting_entry unit (slot_at unit b k))) ≡ map (found_at place) (entries_to unit b (n + 1))
+slot_more unit place b n k at =
+    ap (λ (j : ℕ). map (found_at place) (entries_to unit b n) ++ option_to_list (option_map (found_at place) (counting_entry unit (slot_at unit b j)))) at
+    ∙ ap (λ (xs : List Found). map (found_at place) (entries_to unit b n) ++ xs) (one (counting_entry unit (slot_at unit b (n + 1))))
+    ∙ sym (map-append (found_at place) (entries_to unit b n) (cons_option (counting_entry unit (slot_at unit b (n + 1))) []))
+    ∙ ap (map (found_at place)) (sym (entries_to_more unit b n))
+  where
+    one : (o : Option Placed) → option_to_list (option_map (found_at place) o) ≡ map (found_at place) (cons_option o [])
+    one None = refl
+    one (Some p) = refl
+
+pub tells_slot : (chosen : ℕ) (slots : List ℕ) (before : List Found) (unit place : ℕ) (b : List ℕ) (n k : ℕ) → k ≡ n + 1
+    → Tells chosen slots ((before ++ map (found_at place) (entries_to unit b n)) ++ option_to_list (option_map (found_at place) (counting_entry unit (slot_at unit b k)))) → Tells chosen slots (before ++ map (found_at place) (entries_to unit b (n + 1)))
+tells_slot chosen slots before unit place b n k at tells =
+    subst (Tells chosen slots)
+    (append_assoc before (map (found_at place) (entries_to unit b n)) (option_to_list (option_map (found_at place) (counting_entry unit (slot_at unit b k)))) ∙ ap (λ (xs : List Found). before ++ xs) (slot_more unit place b n k at)) tells
+
+among_more : (unit : ℕ) (sectors : List (List ℕ)) (current first place : ℕ) → first ≤ place → among unit sectors current first (place - first) ++ counted_in unit sectors current place ≡ among unit sectors current first (place + 1 - first)
+among_more unit sectors current first place low =
+    let width : place + 1 - first ≡ place - first + 1 = omega arith in
+    let at : first + (place - first) ≡ place = omega arith in
+    sym (ap (λ (n : ℕ). among unit sectors current first n) width
+    ∙ ap (flat_map (counted_in unit sectors current)) (range-append first (place - first) 1 ∙ ap (λ (xs : List ℕ). range_with_len first (place - first) ++ xs) (range_one (first + (place - first)) ∙ ap (λ (k : ℕ). k ∷ []) at))
+    ∙ flat_map-append (counted_in unit sectors current) (range_with_len first (place - first)) (place ∷ [])
+    ∙ ap (λ (xs : List Found). among unit sectors current first (place - first) ++ xs) (flat_map-cons (counted_in unit sectors current) place [] ∙ append-nil (counted_in unit sectors current place)))
+
+pub tells_sector : (chosen : ℕ) (slots : List ℕ) (before : List Found) (unit : ℕ) (sectors : List (List ℕ)) (current first place : ℕ) → first ≤ place
+    → Tells chosen slots ((before ++ among unit sectors current first (place - first)) ++ counted_in unit sectors current place) → Tells chosen slots (before ++ among unit sectors current first (place + 1 - first))
+tells_sector chosen slots before unit sectors current first place low tells =
+    subst (Tells chosen slots)
+    (append_assoc before (among unit sectors current first (place - first)) (counted_in unit sectors current place) ∙ ap (λ (xs : List Found). before ++ xs) (among_more unit sectors current first place low)) tells
+
+-- The sectors behind the open one, and then those up to it, are the list.
+pub tells_all : (chosen : ℕ) (slots : List ℕ) (unit : ℕ) (sectors : List (List ℕ)) (scan : Scan) (count : ℕ) → count ≡ length sectors → scan ≡ scan_of unit sectors
+    → Tells chosen slots (among unit sectors scan.current (scan.current + 1) (count - (scan.current + 1)) ++ among unit sectors scan.current 0 (scan.current + 1 - 0)) → Tells chosen slots (all_found unit sectors)
+tells_all chosen slots unit sectors scan count long is tells =
+    let width : scan.current + 1 - 0 ≡ scan.current + 1 = omega arith in
+    subst (Tells chosen slots)
+    (ap (λ (n : ℕ). among unit sectors scan.current (scan.current + 1) (count - (scan.current + 1)) ++ among unit sectors scan.current 0 n) width
+    ∙ ap (λ (n : ℕ). among unit sectors scan.current (scan.current + 1) (n - (scan.current + 1)) ++ among unit sectors scan.current 0 (scan.current + 1)) long
+    ∙ sym (ap (λ (k : ℕ). flat_map (counted_in unit sectors k) (round (length sectors) k)) (open_is unit sectors scan is)
+    ∙ flat_map-append (counted_in unit sectors scan.current) (range_with_len (scan.current + 1) (length sectors - (scan.current + 1))) (range_with_len 0 (scan.current + 1))))
+    tells
+
+-- ---- which entry is live
+
+zero_apart : (slot : ℕ) → 1 ≤ slot → eqb 0 slot ≡ false
+zero_apart slot some = ne_eqb 0 slot (λ (e : 0 ≡ slot). omega arith)
+
+at_by : (place slot len : ℕ) (o : Option Found) → 1 ≤ slot
+    → (eqb (slot_in place o) slot && ltb 0 len) ≡ option_map_or (λ last. eqb last.sector place && eqb last.slot slot && ltb 0 len) o false
+at_by place slot len None some = ap (λ (t : Bool). t && ltb 0 len) (zero_apart slot some)
+at_by place slot len (Some g) some = by_place (eqb g.sector place)
+  where
+    by_place : (here : Bool) → (eqb (cond here g.slot 0) slot && ltb 0 len) ≡ (here && eqb g.slot slot && ltb 0 len)
+    by_place true = refl
+    by_place false = ap (λ (t : Bool). t && ltb 0 len) (zero_apart slot some)
+
+-- The table's test of an entry is whether it is live.
+live_test : (unit : ℕ) (sectors : List (List ℕ)) (place : ℕ) (slots : List ℕ) (f : Found) → 1 ≤ f.slot → f.sector ≡ place → f.entry.id < 2 ^ 16 → Tells place slots (all_found unit sectors)
+    → (eqb (slice_index slots f.entry.id) f.slot && ltb 0 f.entry.len) ≡ is_live unit sectors f
+live_test unit sectors place slots f some at below tells =
+    ap (λ (n : ℕ). eqb n f.slot && ltb 0 f.entry.len) (tells.slot f.entry.id below)
+    ∙ at_by place f.slot f.entry.len (last_of f.entry.id (all_found unit sectors)) some
+    ∙ ap (λ (n : ℕ). option_map_or (λ last. eqb last.sector n && eqb last.slot f.slot && ltb 0 f.entry.len) (last_of f.entry.id (all_found unit sectors)) false) (sym at)
+
+-- ---- a slot's entry with its place
+
+pub found_place : (unit : ℕ) (b : List ℕ) (place slot : ℕ) (f : Found) → Some f ≡ option_map (found_at place) (counting_entry unit (slot_at unit b slot)) → (f.sector ≡ place) × (f.slot ≡ slot)
+found_place unit b place slot f is =
+    elim (counting_entry_counts unit (slot_at unit b slot)) [
+      | inl none ↦ absurd (some_none f (is ∙ ap (option_map (found_at place)) none))
+      | inr (p, some, counted, at) ↦
+          let same : f ≡ found_at place p = same_found f (found_at place p) (is ∙ ap (option_map (found_at place)) some) in
+          (ap (λ (g : Found). g.sector) same, ap (λ (g : Found). g.slot) same ∙ at ∙ index-slot_at (slot_size unit) b slot)
+    ]
+  where
+    some_none : (f : Found) → Some f ≡ None → ⊥
+    some_none f e = cc
+
+    same_found : (f g : Found) → Some f ≡ Some g → f ≡ g
+    same_found f g e = cc
+
+-- the live entry in a slot, by the table's test
+pub live_is : (unit : ℕ) (sectors : List (List ℕ)) (place slot : ℕ) (slots : List ℕ) (f : Found) (live : Bool) → 0 < slot → f.entry.id < 2 ^ 16 → Tells place slots (all_found unit sectors)
+    → Some f ≡ option_map (found_at place) (counting_entry unit (slot_at unit (sector_at sectors place) slot)) → live ≡ (eqb (slice_index slots f.entry.id) f.slot && ltb 0 f.entry.len) → cond live (Some f) None ≡ live_in unit sectors place slot
+live_is unit sectors place slot slots f live some below tells is test =
+    let there = found_place unit (sector_at sectors place) place slot f is in
+    let slot_is = there.1 in
+    ap (λ (t : Bool). cond t (Some f) None) (test ∙ live_test unit sectors place slots f (omega arith) there.0 below tells)
+    ∙ ap (option_and_then (λ found. cond (is_live unit sectors found) (Some found) None)) is

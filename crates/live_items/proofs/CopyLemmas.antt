@@ -180,7 +180,7 @@ module _ {Entry Placed : Type 0} (k : Entries Entry Placed) (are : AreEntries k)
   pub victim_same : sector_at new (next old place) ≡ sector_at old (next old place)
   victim_same = same (next old place) (after-apart (length old) place before.ring.within before.ring.several)
 
-  all_same : all_placed k new ≡ all_placed k old
+  pub all_same : all_placed k new ≡ all_placed k old
   all_same =
       all-collecting k are new place now
       ∙ ap (λ (j : ℕ). map (k.placed_at j) (k.entries (sector_at new j)) ++ later k are new place now) next_same

@@ -9,7 +9,7 @@ use Rattle.live_items.proofs.CopyLemmas as laws
 use Rattle.nvs_store.specs.declared.scan.Found.{Found}
 use Rattle.nvs_store.specs.Geometry.{cost}
 use Rattle.nvs_store.specs.Sector.{used_slots}
-use Rattle.nvs_store.specs.Scans.{reading, found_bytes}
+use Rattle.nvs_store.specs.Scans.{reading, found_bytes, all_found}
 use Rattle.nvs_gc.specs.Collecting.{live_in, StopsCopying, pair_of_found, live_to, cost_of}
 use Rattle.nvs_gc.proofs.Areas.{stopped, only_length, only_else}
 use Rattle.nvs_gc.proofs.NvsEntries.{nvs, are_nvs, bytes_len}
@@ -56,6 +56,9 @@ module _ (unit : ℕ) (old new : List (List ℕ)) (place : ℕ) (form : Collecti
 
   else_same : (j : ℕ) → (j ≡ place → ⊥) → sector_at new j ≡ sector_at old j
   else_same j apart = only_else old new place j stops.only apart
+
+  pub all_same : all_found unit new ≡ all_found unit old
+  all_same = laws.all_same (nvs unit) (are_nvs unit) old new place form there_after long_after else_same
 
   pub live_same : (slot : ℕ) → live_in unit new (next old place) slot ≡ live_in unit old (next old place) slot
   live_same slot = laws.live_same (nvs unit) (are_nvs unit) old new place form there_after long_after else_same slot

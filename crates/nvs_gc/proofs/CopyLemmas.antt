@@ -1,5 +1,5 @@
 -- What the copies of a collection are, entry by entry, and what they cost: the laws on live items, for NVS.
-use Rattle.std.proofs.Common.{◌≡◌, ℕ, ◌+◌, ◌<◌, ◌≤◌, ◌⊎◌, List, ◌∷◌, [], ◌++◌, length, Option, Some, None, refl, sym, ap, ◌∙◌, inl, inr, arith}
+use Rattle.std.proofs.Common.{◌≡◌, ℕ, ◌+◌, ◌≤◌, List, ◌∷◌, [], ◌++◌, length, Option, Some, None, refl, ap, ◌∙◌}
 use Rattle.flash_map.specs.Area.{sector_at}
 use Rattle.sector_ring.specs.Area.{next}
 use Rattle.sector_ring.specs.Forms.{Collecting, to_copy}
@@ -9,7 +9,7 @@ use Rattle.live_items.proofs.CopyLemmas as laws
 use Rattle.nvs_store.specs.declared.scan.Found.{Found}
 use Rattle.nvs_store.specs.Geometry.{cost}
 use Rattle.nvs_store.specs.Sector.{used_slots}
-use Rattle.nvs_store.specs.Scans.{reading, all_found, found_bytes}
+use Rattle.nvs_store.specs.Scans.{reading, found_bytes, all_found}
 use Rattle.nvs_gc.specs.Collecting.{live_in, StopsCopying, pair_of_found, live_to, cost_of}
 use Rattle.nvs_gc.proofs.Areas.{stopped, only_length, only_else}
 use Rattle.nvs_gc.proofs.NvsEntries.{nvs, are_nvs, bytes_len}

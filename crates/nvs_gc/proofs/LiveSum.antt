@@ -1,5 +1,5 @@
 -- What all live pairs cost, sector by sector.
-use Rattle.std.proofs.Common.{◌≡◌, ℕ, ◌<◌, List, length, refl}
+use Rattle.std.proofs.Common.{◌≡◌, ℕ, List, length, refl}
 use Rattle.std.specs.Prelude.{sum_by}
 use Rattle.std.specs.List.{range_with_len}
 use Rattle.flash_map.specs.Area.{sector_at}

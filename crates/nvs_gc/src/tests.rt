@@ -166,6 +166,20 @@ fn too_long<B: Bench, L: Ledger, R: Abort>(
     assert_eq!(rt; refused, Err(WriteFault::TooLong));
 }
 
+// Item 1 is deleted, and item 2 has a value.
+fn next_is_behind_a_delete<B: Bench, L: Ledger, R: Abort>(
+    rt: &R,
+    bench: &B,
+    nvs: &Nvs,
+    steps: &mut Steps<L>,
+)
+    requires stands { StandsOn (B.device bench.now) nvs.now }
+{
+    assert_eq!(rt; nvs.next_id(bench, None, steps), Some(2));
+    assert_eq!(rt; nvs.next_id(bench, Some(1), steps), Some(2));
+    assert_eq!(rt; nvs.next_id(bench, Some(2), steps), None);
+}
+
 fn full<B: Bench, L: Ledger, R: Abort>(
     rt: &R,
     alloc: Global,
@@ -180,6 +194,7 @@ fn full<B: Bench, L: Ledger, R: Abort>(
     wrote_long(rt, bench, &mut nvs, 2, 71, steps)?;
     deleted(rt, bench, &mut nvs, 0, steps)?;
     nvs.close_and_collect(bench, steps)?;
+    next_is_behind_a_delete(rt, bench, &nvs, steps);
     too_long(rt, bench, &mut nvs, steps);
     Ok(())
 }

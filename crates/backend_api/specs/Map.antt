@@ -1,0 +1,36 @@
+-- Settings as a finite map from names to values.
+use Rattle.std.specs.Prelude.{◌≡◌, ℕ, ◌^◌, ◌<◌, ◌≤◌, Bool, true, List, length, All, Option, Some, None, find}
+use Rattle.std.specs.FinMap.{FinMap, get, keys, values, len}
+use Rattle.std.specs.Ordering.{nat_cmp, is_lt}
+use Rattle.std.specs.Cmp.Lexicographic.{slice_cmp}
+use Rattle.setting_name.specs.Name.{IsName}
+
+-- from names to values, in the byte order of the names
+abbrev pub Map : Type 0
+Map = FinMap (slice_cmp nat_cmp) (List ℕ)
+
+-- 1 to 256 bytes
+abbrev pub IsValue : List ℕ → Type 0
+IsValue bytes = (1 ≤ length bytes) × (length bytes ≤ 256)
+
+-- lawful names and values throughout, and fewer pairs than 2^32
+pub record IsSettings (settings : Map) : Type 0 where
+  pub names : All IsName (keys settings)
+  pub values : All IsValue (values settings)
+  pub few : len settings < 2 ^ 32
+
+-- the name has just this value
+abbrev pub IsStored : Map → List ℕ → List ℕ → Type 0
+IsStored settings name value = get settings name ≡ Some value
+
+abbrev pub IsAbsent : Map → List ℕ → Type 0
+IsAbsent settings name = get settings name ≡ None
+
+-- greater than this name in byte order, where there is one
+abbrev pub is_behind : Option (List ℕ) → List ℕ → Bool
+is_behind None name = true
+is_behind (Some after) name = is_lt (slice_cmp nat_cmp after name)
+
+-- the least name behind this one, or the least of all
+abbrev pub next_name : Map → Option (List ℕ) → Option (List ℕ)
+next_name settings after = find (is_behind after) (keys settings)

@@ -1,0 +1,24 @@
+-- The numbers of room of a backend. They depend on the lengths of names and values and on the geometry of the area alone.
+use Rattle.std.specs.Prelude.{ℕ, ◌+◌, ◌-◌, ◌*◌, ◌<◌, Bool, List}
+use Rattle.backend_api.specs.Map.{Map}
+
+-- in bytes
+pub record Room : Type 0 where
+  -- what one sector has for data
+  pub cap : ℕ
+  -- what all settings cost
+  pub cost : Map → ℕ
+  -- what a put of this name and value needs
+  pub need : Map → List ℕ → List ℕ → ℕ
+  -- and the greatest cost of one write of it
+  pub largest : Map → List ℕ → List ℕ → ℕ
+  -- the name would be one too many
+  pub too_many : Map → List ℕ → Bool
+
+-- One of the sectors is kept free. The others could be so full that the put finds no place in any of them.
+abbrev pub HasNoRoom : Room → ℕ → Map → List ℕ → List ℕ → Type 0
+HasNoRoom room sectors settings name value = (sectors - 1) * (room.cap - room.largest settings name value) < room.cost settings + room.need settings name value
+
+-- the most units and erases of one command, by the sectors of the area and the units of a sector
+abbrev pub most_units : ℕ → ℕ → ℕ
+most_units sectors units = 12 * sectors * (units + 3)

@@ -1,10 +1,10 @@
 // The store, mounting, and closing with a collection.
 ghost use Rattle.std.specs.Prelude.{◌≡◌, ◌∷◌, [], true, false, is_err, OnOk, OnErr};
-ghost use Rattle.flash_map.specs.Area.{sector_size, sectors_of};
+ghost use Rattle.flash_map.specs.Area.{sector_size, sectors_of, sector_bytes};
 ghost use Rattle.flash_map.specs.Spending.{SpendsBetween};
 ghost use Rattle.flash_map.specs.Touches.{Touches};
 ghost use Rattle.sector_ring.specs.Area.{is_blank_at};
-ghost use Rattle.zms_store.specs.Area.{reading};
+ghost use Rattle.zms_store.specs.Area.{reading, is_begun};
 ghost use Rattle.zms_store.specs.Collecting.{TurnsAt};
 ghost use Rattle.zms_store.specs.Ends.{mount_lost, MountEnds};
 ghost use Rattle.zms_store.specs.Spending.{round_units};
@@ -83,6 +83,9 @@ impl Zms {
         ensures stands { OnOk result (StandsOn (F.device flash.new) self.new) }
         ensures units { let d = F.device flash.old in
             SpendsBetween d (F.device flash.new) 0 (round_units (sectors_of d self.old.area) self.old.current) }
+        ensures turns { let d = F.device flash.old in is_begun (sector_bytes d self.old.area self.old.current) ≡ true
+            → OnOk result (TurnsAt (sector_size d self.old.area) (sectors_of d self.old.area) (sectors_of (F.device flash.new) self.old.area) self.old.current) }
+        ensures unused { let d = F.device flash.old in is_begun (sector_bytes d self.old.area self.old.current) ≡ false → F.device flash.new ≡ d }
 
         ensures down { OnErr result (self.new.up ≡ false) }
     {

@@ -30,7 +30,7 @@ collecting-used d ring on collecting =
     fits ∙ length-states (unit_of d ring.area) (sectors_of d ring.area) ∙ count-sectors d ring.area
 
 -- the places as they are from the sector after the first on
-turned-next : (n from k : ℕ) → from < n → k + 1 < n → turned n (turned n from 1) k ≡ turned n from (k + 1)
+pub turned-next : (n from k : ℕ) → from < n → k + 1 < n → turned n (turned n from 1) k ≡ turned n from (k + 1)
 turned-next n from k f lt = elim (cases_lt (from + 1) n) [
   | inl low ↦
       let one : turned n from 1 ≡ from + 1 = turned-low n from 1 low in

@@ -24,3 +24,4 @@ pub mod CollectLemmas
 pub mod AppendLemmas
 pub mod OthersLemmas
 pub mod CostLemmas
+pub mod FewLemmas

@@ -1,0 +1,15 @@
+pub mod Blank
+pub mod BodyOf
+pub mod Collected
+pub mod CopySteps
+pub mod CostSteps
+pub mod Ends
+pub mod LookupSteps
+pub mod NameSteps
+pub mod PartLists
+pub mod PutsCosts
+pub mod PutSteps
+pub mod RingLists
+pub mod SectorLists
+pub mod TryLemmas
+pub mod WalkLemmas

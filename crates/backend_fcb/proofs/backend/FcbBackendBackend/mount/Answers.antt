@@ -1,0 +1,61 @@
+use Rattle.std.proofs.Common.{◌≡◌, None, sym, ap, subst, ◌∙◌}
+use Rattle.flash_sim.specs.Device.{Device}
+use Rattle.flash_map.specs.declared.area.Area.{Area}
+use Rattle.flash_map.specs.declared.area.Geometry.{Geometry}
+use Rattle.flash_map.specs.Area.{unit_of, sectors_of}
+use Rattle.fcb_ring.specs.Standing.{KeepsEntries}
+use Rattle.fcb_ring.proofs.AppendLemmas.{unit-after}
+use Rattle.fcb_ring.specs.Rings.{first_damage}
+use Rattle.fcb_ring.specs.Standing.{states_on}
+use Rattle.settings_list.specs.Numbers.{reserve}
+use Rattle.std.specs.Option.{option_map}
+use Rattle.backend_fcb.specs.Reading.{first_overfull}
+use Rattle.backend_fcb.specs.Standing.{IsReady, damage_on}
+use Rattle.backend_fcb.proofs.Ends.{ring-area, ready-stands, damage-none, overfull-not}
+use Rattle.backend_fcb.proofs.PutsCosts.{overfull_at, undamaged-kept}
+use Rattle.backend_fcb.proofs.backend.FcbBackendBackend.mount.Goals as goal
+
+pub returns-in-Ok-finish-clause-sound : goal.returns-in-Ok-finish-clause-sound
+returns-in-Ok-finish-clause-sound g c none =
+    let d : Device = g.F.Flash.device c.args.flash.now in
+    let e : Device = g.F.Flash.device c.finish.new.flash in
+    let area : Area = c.args.area in
+    let ring = ring-area d area c.requires.lawful c.requires.serves in
+    let same : c.in-Ok.ring.area ≡ area = c.in-Ok.ensures.ring.0 in
+    let did = c.in-Ok-finish.ensures in
+    let kept : KeepsEntries d e area = subst (λ (x : Area). KeepsEntries d e x) same did.list in
+    undamaged-kept d e area (g.met.F.Flash.is_lawful c.args.flash.now) (g.met.F.Flash.is_lawful c.finish.new.flash) ring did.touches.banks kept none
+
+pub returns-in-Err-finish-clause-sound : goal.returns-in-Err-finish-clause-sound
+returns-in-Err-finish-clause-sound g c none =
+    let d : Device = g.F.Flash.device c.args.flash.now in
+    let e : Device = g.F.Flash.device c.finish.new.flash in
+    let area : Area = c.args.area in
+    let ring = ring-area d area c.requires.lawful c.requires.serves in
+    let same : c.in-Ok.ring.area ≡ area = c.in-Ok.ensures.ring.0 in
+    let did = c.in-Err-finish.ensures in
+    let kept : KeepsEntries d e area = subst (λ (x : Area). KeepsEntries d e x) same did.list in
+    undamaged-kept d e area (g.met.F.Flash.is_lawful c.args.flash.now) (g.met.F.Flash.is_lawful c.finish.new.flash) ring did.touches.banks kept none
+
+pub returns-in-Ok-finish-clause-stands : goal.returns-in-Ok-finish-clause-stands
+returns-in-Ok-finish-clause-stands g c =
+    let d : Device = g.F.Flash.device c.args.flash.now in
+    let e : Device = g.F.Flash.device c.finish.new.flash in
+    let area : Area = c.args.area in
+    let ring = ring-area d area c.requires.lawful c.requires.serves in
+    let same : c.in-Ok.ring.area ≡ area = c.in-Ok.ensures.ring.0 in
+    let did = c.in-Ok-finish.ensures in
+    let kept : KeepsEntries d e area = subst (λ (x : Area). KeepsEntries d e x) same did.list in
+    let first : first_damage (states_on d area) ≡ None = c.in-Ok.ensures.damaged in
+    let costs = overfull-not d area (sym c.in_default.is ∙ c.first_overfull.ensures ∙ ap (λ (x : Area). option_map overfull_at (first_overfull (unit_of d x) (sectors_of d x))) same) in
+    let none : damage_on d area ≡ None = damage-none d area first costs in
+    let undamaged = undamaged-kept d e area (g.met.F.Flash.is_lawful c.args.flash.now) (g.met.F.Flash.is_lawful c.finish.new.flash) ring did.touches.banks kept none in
+    let unit : c.geometry-unit.result.unit ≡ unit_of d area = ap (λ (x : Geometry). x.unit) c.geometry-unit.ensures in
+    let new-area : c.finish.new.self.area ≡ area = did.area ∙ same in
+    let ready : IsReady e c.finish.new.self = record {
+      stands = did.stands;
+      ready = did.ready;
+      reserve = did.reserve ∙ c.in-Ok.ensures.ring.1 ∙ c.reserve.ensures ∙ ap reserve (unit ∙ sym (unit-after d e area c.finish.new.self.area did.touches.banks new-area));
+      undamaged = subst (λ (x : Area). damage_on e x ≡ None) (sym new-area) undamaged;
+    } in
+    ready-stands e c.finish.new.self area new-area c.requires.serves ready

@@ -1,0 +1,137 @@
+use Rattle.std.proofs.Common.{◌≡◌, ℕ, ◌+◌, ◌-◌, ◌*◌, ◌/◌, List, length, ap, subst, ◌∙◌, arith}
+use Rattle.std.specs.FinMap.{entries}
+use Rattle.std.specs.List.{sum_by}
+use Rattle.flash_sim.specs.Device.{Device}
+use Rattle.flash_map.specs.declared.area.Area.{Area}
+use Rattle.flash_map.specs.declared.area.Geometry.{Geometry}
+use Rattle.flash_map.specs.Area.{unit_of, sector_size}
+use Rattle.flash_map.proofs.SpendingLemmas.{most_weaker}
+use Rattle.fcb_ring.specs.declared.ring.Ring.{Ring}
+use Rattle.fcb_ring.specs.Writing.{record_cost}
+use Rattle.fcb_ring.proofs.AppendLemmas.{unit-after}
+use Rattle.backend_api.specs.Room.{most_units}
+use Rattle.backend_fcb.specs.Changing.{HasNoPlace, collect_units}
+use Rattle.settings_list.specs.Numbers.{pair_cost}
+use Rattle.settings_list.specs.Settings.{body_of, setting_of, with_setting}
+use Rattle.backend_fcb.specs.Standing.{settings_on}
+use Rattle.settings_list.proofs.BodyLemmas.{length-body_of}
+use Rattle.backend_fcb.proofs.Ends.{stands-ready, ready-stands, sets-same, sets-new, finds-no_space, few-rounds}
+use Rattle.backend_fcb.proofs.backend.FcbBackendBackend.set.Goals as goal
+
+pub returns-then-holds-clause-ends : goal.returns-then-holds-clause-ends
+returns-then-holds-clause-ends g c =
+    let d : Device = g.F.Flash.device c.args.flash.now in
+    let ring : Ring = c.args.self.now.ring in
+    let area : Area = c.args.self.now.ring.area in
+    let name : List ℕ = c.args.name.now in
+    let value : List ℕ = c.args.value.now in
+    sets-same d area name value (unit_of d area) (sector_size d area) (c.holds.ensures.yes_it c.if-holds.true)
+
+pub returns-in-Ok-clause-ends : goal.returns-in-Ok-clause-ends
+returns-in-Ok-clause-ends g c =
+    let d : Device = g.F.Flash.device c.args.flash.now in
+    let ring : Ring = c.args.self.now.ring in
+    let area : Area = c.args.self.now.ring.area in
+    let name : List ℕ = c.args.name.now in
+    let value : List ℕ = c.args.value.now in
+    let e : Device = g.F.Flash.device c.put.new.flash in
+    let body : c.as_slice.result.now ≡ body_of c.args.name.now c.args.value.now = c.as_slice.ensures.value ∙ c.body_of-body.ensures.items in
+    let other = c.holds.ensures.not_it c.if-holds.false in
+    let sectors : c.geometry-geometry.result.sectors ≡ area.sectors = ap (λ (x : Geometry). x.sectors) c.geometry-geometry.ensures ∙ ap (λ (x : Area). x.sectors) c.area.ensures in
+    let few = few-rounds d ring (c.geometry-geometry.result.sectors - 1) (omega (arith, c.requires.lawful.several)) in
+    let ends = c.in-Ok.ensures.ends in
+    sets-new d e area name value (unit_of d area) (sector_size d area) c.body_of-body.ensures.name c.requires.some c.requires.short other (ends.1 ∙ ap (λ (b : List ℕ). with_setting (settings_on d area) (setting_of b)) body) ends.2
+
+pub returns-in-Ok-clause-at_most : goal.returns-in-Ok-clause-at_most
+returns-in-Ok-clause-at_most g c =
+    let d : Device = g.F.Flash.device c.args.flash.now in
+    let ring : Ring = c.args.self.now.ring in
+    let area : Area = c.args.self.now.ring.area in
+    let name : List ℕ = c.args.name.now in
+    let value : List ℕ = c.args.value.now in
+    let e : Device = g.F.Flash.device c.put.new.flash in
+    let body : c.as_slice.result.now ≡ body_of c.args.name.now c.args.value.now = c.as_slice.ensures.value ∙ c.body_of-body.ensures.items in
+    let other = c.holds.ensures.not_it c.if-holds.false in
+    let sectors : c.geometry-geometry.result.sectors ≡ area.sectors = ap (λ (x : Geometry). x.sectors) c.geometry-geometry.ensures ∙ ap (λ (x : Area). x.sectors) c.area.ensures in
+    let few = few-rounds d ring (c.geometry-geometry.result.sectors - 1) (omega (arith, c.requires.lawful.several)) in
+    most_weaker d e ((c.geometry-geometry.result.sectors - 1 + 1) * collect_units d ring) (most_units area.sectors (sector_size d area / unit_of d area)) few c.in-Ok.ensures.at_most
+
+pub returns-in-Err-PowerLost-clause-at_most : goal.returns-in-Err-PowerLost-clause-at_most
+returns-in-Err-PowerLost-clause-at_most g c =
+    let d : Device = g.F.Flash.device c.args.flash.now in
+    let ring : Ring = c.args.self.now.ring in
+    let area : Area = c.args.self.now.ring.area in
+    let name : List ℕ = c.args.name.now in
+    let value : List ℕ = c.args.value.now in
+    let e : Device = g.F.Flash.device c.put.new.flash in
+    let body : c.as_slice.result.now ≡ body_of c.args.name.now c.args.value.now = c.as_slice.ensures.value ∙ c.body_of-body.ensures.items in
+    let other = c.holds.ensures.not_it c.if-holds.false in
+    let sectors : c.geometry-geometry.result.sectors ≡ area.sectors = ap (λ (x : Geometry). x.sectors) c.geometry-geometry.ensures ∙ ap (λ (x : Area). x.sectors) c.area.ensures in
+    let few = few-rounds d ring (c.geometry-geometry.result.sectors - 1) (omega (arith, c.requires.lawful.several)) in
+    most_weaker d e ((c.geometry-geometry.result.sectors - 1 + 1) * collect_units d ring) (most_units area.sectors (sector_size d area / unit_of d area)) few c.in-Err-PowerLost.ensures.at_most
+
+pub unreachable-requires : goal.unreachable-requires
+unreachable-requires g c =
+    let d : Device = g.F.Flash.device c.args.flash.now in
+    let ring : Ring = c.args.self.now.ring in
+    let area : Area = c.args.self.now.ring.area in
+    let name : List ℕ = c.args.name.now in
+    let value : List ℕ = c.args.value.now in
+    let e : Device = g.F.Flash.device c.put.new.flash in
+    let body : c.as_slice.result.now ≡ body_of c.args.name.now c.args.value.now = c.as_slice.ensures.value ∙ c.body_of-body.ensures.items in
+    let other = c.holds.ensures.not_it c.if-holds.false in
+    let sectors : c.geometry-geometry.result.sectors ≡ area.sectors = ap (λ (x : Geometry). x.sectors) c.geometry-geometry.ensures ∙ ap (λ (x : Area). x.sectors) c.area.ensures in
+    let few = few-rounds d ring (c.geometry-geometry.result.sectors - 1) (omega (arith, c.requires.lawful.several)) in
+    rw c.in-Err-TooLong.field-0-is at c.in-Err-TooLong.ensures.ends
+
+pub returns-in-Err-Full-clause-ends : goal.returns-in-Err-Full-clause-ends
+returns-in-Err-Full-clause-ends g c =
+    let d : Device = g.F.Flash.device c.args.flash.now in
+    let ring : Ring = c.args.self.now.ring in
+    let area : Area = c.args.self.now.ring.area in
+    let name : List ℕ = c.args.name.now in
+    let value : List ℕ = c.args.value.now in
+    let e : Device = g.F.Flash.device c.put.new.flash in
+    let body : c.as_slice.result.now ≡ body_of c.args.name.now c.args.value.now = c.as_slice.ensures.value ∙ c.body_of-body.ensures.items in
+    let other = c.holds.ensures.not_it c.if-holds.false in
+    let sectors : c.geometry-geometry.result.sectors ≡ area.sectors = ap (λ (x : Geometry). x.sectors) c.geometry-geometry.ensures ∙ ap (λ (x : Area). x.sectors) c.area.ensures in
+    let few = few-rounds d ring (c.geometry-geometry.result.sectors - 1) (omega (arith, c.requires.lawful.several)) in
+    let full : HasNoPlace d e ring c.put.new.ring (length c.as_slice.result.now) ring.reserve (c.geometry-geometry.result.sectors - 1) = rw c.in-Err-Full.field-0-is at c.in-Err-Full.ensures.ends in
+    let is-full : HasNoPlace d e ring c.put.new.ring (length (body_of c.args.name.now c.args.value.now)) ring.reserve (c.geometry-geometry.result.sectors - 1) = subst (λ (b : List ℕ). HasNoPlace d e ring c.put.new.ring (length b) ring.reserve (c.geometry-geometry.result.sectors - 1)) body full in
+    let unit : c.geometry-geometry.result.unit ≡ unit_of d area = ap (λ (x : Geometry). x.unit) c.geometry-geometry.ensures ∙ ap (λ (x : Area). unit_of d x) c.area.ensures in
+    let len : c.len.result ≡ length name + 1 + length value = c.len.ensures.value ∙ ap length c.body_of-body.ensures.items ∙ length-body_of name value in
+    let settings : settings_on e c.put.new.ring.area ≡ settings_on d area = ap (λ (x : Area). settings_on e x) c.in-Err-Full.ensures.area ∙ full.settings in
+    let new-unit : unit_of e c.put.new.ring.area ≡ unit_of d area = unit-after d e area c.put.new.ring.area c.in-Err-Full.ensures.touches.banks c.in-Err-Full.ensures.area in
+    finds-no_space d e ring c.put.new.ring name value ring.reserve (c.geometry-geometry.result.sectors - 1) c.from.result c.live_cost.result (stands-ready d c.args.self.now c.requires.lawful c.requires.stands) other c.requires.stands.reserve (omega (arith, c.requires.lawful.several)) is-full
+    (c.from.ensures ∙ c.record_cost.ensures.cost ∙ ap (λ (u : ℕ). record_cost u c.len.result) unit ∙ ap (record_cost (unit_of d area)) len)
+    (c.live_cost.ensures ∙ ap (sum_by (pair_cost (unit_of e c.put.new.ring.area))) (ap entries settings) ∙ ap (λ (u : ℕ). sum_by (pair_cost u) (entries (settings_on d area))) new-unit)
+
+pub returns-in-Err-Full-clause-at_most : goal.returns-in-Err-Full-clause-at_most
+returns-in-Err-Full-clause-at_most g c =
+    let d : Device = g.F.Flash.device c.args.flash.now in
+    let ring : Ring = c.args.self.now.ring in
+    let area : Area = c.args.self.now.ring.area in
+    let name : List ℕ = c.args.name.now in
+    let value : List ℕ = c.args.value.now in
+    let e : Device = g.F.Flash.device c.put.new.flash in
+    let body : c.as_slice.result.now ≡ body_of c.args.name.now c.args.value.now = c.as_slice.ensures.value ∙ c.body_of-body.ensures.items in
+    let other = c.holds.ensures.not_it c.if-holds.false in
+    let sectors : c.geometry-geometry.result.sectors ≡ area.sectors = ap (λ (x : Geometry). x.sectors) c.geometry-geometry.ensures ∙ ap (λ (x : Area). x.sectors) c.area.ensures in
+    let few = few-rounds d ring (c.geometry-geometry.result.sectors - 1) (omega (arith, c.requires.lawful.several)) in
+    most_weaker d e ((c.geometry-geometry.result.sectors - 1 + 1) * collect_units d ring) (most_units area.sectors (sector_size d area / unit_of d area)) few c.in-Err-Full.ensures.at_most
+
+pub returns-in-Err-Full-clause-stands : goal.returns-in-Err-Full-clause-stands
+returns-in-Err-Full-clause-stands g c =
+    let d : Device = g.F.Flash.device c.args.flash.now in
+    let ring : Ring = c.args.self.now.ring in
+    let area : Area = c.args.self.now.ring.area in
+    let name : List ℕ = c.args.name.now in
+    let value : List ℕ = c.args.value.now in
+    let e : Device = g.F.Flash.device c.put.new.flash in
+    let body : c.as_slice.result.now ≡ body_of c.args.name.now c.args.value.now = c.as_slice.ensures.value ∙ c.body_of-body.ensures.items in
+    let other = c.holds.ensures.not_it c.if-holds.false in
+    let sectors : c.geometry-geometry.result.sectors ≡ area.sectors = ap (λ (x : Geometry). x.sectors) c.geometry-geometry.ensures ∙ ap (λ (x : Area). x.sectors) c.area.ensures in
+    let few = few-rounds d ring (c.geometry-geometry.result.sectors - 1) (omega (arith, c.requires.lawful.several)) in
+    let full : HasNoPlace d e ring c.put.new.ring (length c.as_slice.result.now) ring.reserve (c.geometry-geometry.result.sectors - 1) = rw c.in-Err-Full.field-0-is at c.in-Err-Full.ensures.ends in
+    let is-full : HasNoPlace d e ring c.put.new.ring (length (body_of c.args.name.now c.args.value.now)) ring.reserve (c.geometry-geometry.result.sectors - 1) = subst (λ (b : List ℕ). HasNoPlace d e ring c.put.new.ring (length b) ring.reserve (c.geometry-geometry.result.sectors - 1)) body full in
+    λ up. ready-stands e c.put.new.ring area c.in-Err-Full.ensures.area c.requires.stands.role full.ready

@@ -1,0 +1,393 @@
+use Rattle.std.proofs.Common.{◌≡◌, ◌+◌, [], ◌∷◌, true, false, subst, ◌∙◌}
+use Rattle.std.proofs.lemmas.Bool.{eqb-true}
+use Rattle.flash_sim.specs.Device.{Device}
+use Rattle.flash_map.specs.declared.area.Area.{Area}
+use Rattle.flash_map.specs.Touches.{Touches}
+use Rattle.flash_map.proofs.SpendingLemmas.{spends_most}
+use Rattle.flash_map.proofs.Touches.{then}
+use Rattle.fcb_ring.specs.declared.ring.Ring.{Ring}
+use Rattle.fcb_ring.specs.Standing.{KeepsEntries}
+use Rattle.fcb_ring.proofs.AppendLemmas.{is_err_by}
+use Rattle.backend_fcb.proofs.CopySteps.{keeps-then}
+use Rattle.backend_fcb.proofs.PutsCosts.{undamaged-kept}
+use Rattle.backend_fcb.proofs.Collected.{Begun, Copied, Ended, settings-kept, begun-undamaged, begun-end, begun-fresh, collected, collected-undamaged, collected-ready, collected-settings, after-used, begin-units, stop-units, end-units, copied-now}
+use Rattle.backend_fcb.proofs.collecting.collect.Goals as goal
+
+pub returns-in_err-begin_collect-clause-settings : goal.returns-in_err-begin_collect-clause-settings
+returns-in_err-begin_collect-clause-settings g c =
+    let a : Device = g.F.Flash.device c.args.flash.now in
+    let before : Ring = c.args.ring.now in
+    let lawful = g.met.F.Flash.is_lawful c.args.flash.now in
+    let b : Device = g.F.Flash.device c.begin_collect.new.flash in
+    settings-kept a b before.area c.in_err-begin_collect.ensures.list
+
+pub returns-in_err-begin_collect-clause-undamaged : goal.returns-in_err-begin_collect-clause-undamaged
+returns-in_err-begin_collect-clause-undamaged g c =
+    let a : Device = g.F.Flash.device c.args.flash.now in
+    let before : Ring = c.args.ring.now in
+    let lawful = g.met.F.Flash.is_lawful c.args.flash.now in
+    let b : Device = g.F.Flash.device c.begin_collect.new.flash in
+    undamaged-kept a b before.area lawful (g.met.F.Flash.is_lawful c.begin_collect.new.flash) c.requires.ready.stands.area c.in_err-begin_collect.ensures.touches.banks c.in_err-begin_collect.ensures.list c.requires.ready.undamaged
+
+pub returns-in_err-begin_collect-clause-at_most : goal.returns-in_err-begin_collect-clause-at_most
+returns-in_err-begin_collect-clause-at_most g c =
+    let a : Device = g.F.Flash.device c.args.flash.now in
+    let before : Ring = c.args.ring.now in
+    let lawful = g.met.F.Flash.is_lawful c.args.flash.now in
+    let b : Device = g.F.Flash.device c.begin_collect.new.flash in
+    begin-units a b before lawful c.requires.ready.stands c.in_err-begin_collect.ensures.bound
+
+pub copy_live-requires-clause-undamaged : goal.copy_live-requires-clause-undamaged
+copy_live-requires-clause-undamaged g c =
+    let a : Device = g.F.Flash.device c.args.flash.now in
+    let before : Ring = c.args.ring.now in
+    let lawful = g.met.F.Flash.is_lawful c.args.flash.now in
+    let b : Device = g.F.Flash.device c.begin_collect.new.flash in
+    let ring : Ring = c.begin_collect.new.self in
+    let one = c.in_ok-begin_collect.ensures in
+    let begun : Begun a b before ring = record { banks = one.touches.banks; list = one.list; others = one.others; area = one.area; reserve = one.reserve; stands = one.stands; stage = one.collecting; goes_on = one.goes_on; end = one.end; fresh = one.no_copies } in
+    begun-undamaged a b before ring begun lawful (g.met.F.Flash.is_lawful c.begin_collect.new.flash) c.requires.ready
+
+pub copy_live-requires-clause-no_copies : goal.copy_live-requires-clause-no_copies
+copy_live-requires-clause-no_copies g c =
+    let a : Device = g.F.Flash.device c.args.flash.now in
+    let before : Ring = c.args.ring.now in
+    let lawful = g.met.F.Flash.is_lawful c.args.flash.now in
+    let b : Device = g.F.Flash.device c.begin_collect.new.flash in
+    let ring : Ring = c.begin_collect.new.self in
+    let one = c.in_ok-begin_collect.ensures in
+    let begun : Begun a b before ring = record { banks = one.touches.banks; list = one.list; others = one.others; area = one.area; reserve = one.reserve; stands = one.stands; stage = one.collecting; goes_on = one.goes_on; end = one.end; fresh = one.no_copies } in
+    begun-fresh a b before ring begun
+
+pub copy_live-requires-clause-end : goal.copy_live-requires-clause-end
+copy_live-requires-clause-end g c =
+    let a : Device = g.F.Flash.device c.args.flash.now in
+    let before : Ring = c.args.ring.now in
+    let lawful = g.met.F.Flash.is_lawful c.args.flash.now in
+    let b : Device = g.F.Flash.device c.begin_collect.new.flash in
+    let ring : Ring = c.begin_collect.new.self in
+    let one = c.in_ok-begin_collect.ensures in
+    let begun : Begun a b before ring = record { banks = one.touches.banks; list = one.list; others = one.others; area = one.area; reserve = one.reserve; stands = one.stands; stage = one.collecting; goes_on = one.goes_on; end = one.end; fresh = one.no_copies } in
+    begun-end a b before ring begun
+
+pub returns-in_err-copy_live-clause-settings : goal.returns-in_err-copy_live-clause-settings
+returns-in_err-copy_live-clause-settings g c =
+    let a : Device = g.F.Flash.device c.args.flash.now in
+    let before : Ring = c.args.ring.now in
+    let lawful = g.met.F.Flash.is_lawful c.args.flash.now in
+    let b : Device = g.F.Flash.device c.begin_collect.new.flash in
+    let ring : Ring = c.begin_collect.new.self in
+    let one = c.in_ok-begin_collect.ensures in
+    let begun : Begun a b before ring = record { banks = one.touches.banks; list = one.list; others = one.others; area = one.area; reserve = one.reserve; stands = one.stands; stage = one.collecting; goes_on = one.goes_on; end = one.end; fresh = one.no_copies } in
+    let d : Device = g.F.Flash.device c.copy_live.new.flash in
+    let now : Ring = c.copy_live.new.ring in
+    let two = c.in_err-copy_live.ensures in
+    let kept : KeepsEntries a d before.area = keeps-then a b d before.area one.list (subst (λ (x : Area). KeepsEntries b d x) one.area two.list) in
+    settings-kept a d before.area kept
+
+pub returns-in_err-copy_live-clause-undamaged : goal.returns-in_err-copy_live-clause-undamaged
+returns-in_err-copy_live-clause-undamaged g c =
+    let a : Device = g.F.Flash.device c.args.flash.now in
+    let before : Ring = c.args.ring.now in
+    let lawful = g.met.F.Flash.is_lawful c.args.flash.now in
+    let b : Device = g.F.Flash.device c.begin_collect.new.flash in
+    let ring : Ring = c.begin_collect.new.self in
+    let one = c.in_ok-begin_collect.ensures in
+    let begun : Begun a b before ring = record { banks = one.touches.banks; list = one.list; others = one.others; area = one.area; reserve = one.reserve; stands = one.stands; stage = one.collecting; goes_on = one.goes_on; end = one.end; fresh = one.no_copies } in
+    let d : Device = g.F.Flash.device c.copy_live.new.flash in
+    let now : Ring = c.copy_live.new.ring in
+    let two = c.in_err-copy_live.ensures in
+    let kept : KeepsEntries a d before.area = keeps-then a b d before.area one.list (subst (λ (x : Area). KeepsEntries b d x) one.area two.list) in
+    undamaged-kept a d before.area lawful (g.met.F.Flash.is_lawful c.copy_live.new.flash) c.requires.ready.stands.area (two.touches.banks ∙ one.touches.banks) kept c.requires.ready.undamaged
+
+pub returns-in_err-copy_live-clause-at_most : goal.returns-in_err-copy_live-clause-at_most
+returns-in_err-copy_live-clause-at_most g c =
+    let a : Device = g.F.Flash.device c.args.flash.now in
+    let before : Ring = c.args.ring.now in
+    let lawful = g.met.F.Flash.is_lawful c.args.flash.now in
+    let b : Device = g.F.Flash.device c.begin_collect.new.flash in
+    let ring : Ring = c.begin_collect.new.self in
+    let one = c.in_ok-begin_collect.ensures in
+    let begun : Begun a b before ring = record { banks = one.touches.banks; list = one.list; others = one.others; area = one.area; reserve = one.reserve; stands = one.stands; stage = one.collecting; goes_on = one.goes_on; end = one.end; fresh = one.no_copies } in
+    let d : Device = g.F.Flash.device c.copy_live.new.flash in
+    let now : Ring = c.copy_live.new.ring in
+    let two = c.in_err-copy_live.ensures in
+    let kept : KeepsEntries a d before.area = keeps-then a b d before.area one.list (subst (λ (x : Area). KeepsEntries b d x) one.area two.list) in
+    stop-units a b before ring lawful c.requires.ready.stands begun one.units d now two.stops
+
+pub end_collect-requires-clause-stands : goal.end_collect-requires-clause-stands
+end_collect-requires-clause-stands g c =
+    let a : Device = g.F.Flash.device c.args.flash.now in
+    let before : Ring = c.args.ring.now in
+    let lawful = g.met.F.Flash.is_lawful c.args.flash.now in
+    let b : Device = g.F.Flash.device c.begin_collect.new.flash in
+    let ring : Ring = c.begin_collect.new.self in
+    let one = c.in_ok-begin_collect.ensures in
+    let begun : Begun a b before ring = record { banks = one.touches.banks; list = one.list; others = one.others; area = one.area; reserve = one.reserve; stands = one.stands; stage = one.collecting; goes_on = one.goes_on; end = one.end; fresh = one.no_copies } in
+    let d : Device = g.F.Flash.device c.copy_live.new.flash in
+    let now : Ring = c.copy_live.new.ring in
+    let two = c.in_ok-copy_live.ensures in
+    let copied : Copied b d ring now = record { banks = two.touches.banks; list = two.list; others = two.others; area = two.area; reserve = two.reserve; copies = two.copies } in
+    let copies = copied-now b d ring now one.stands one.collecting two.copies in
+    copies.1.stands
+
+pub end_collect-requires-clause-collecting : goal.end_collect-requires-clause-collecting
+end_collect-requires-clause-collecting g c =
+    let a : Device = g.F.Flash.device c.args.flash.now in
+    let before : Ring = c.args.ring.now in
+    let lawful = g.met.F.Flash.is_lawful c.args.flash.now in
+    let b : Device = g.F.Flash.device c.begin_collect.new.flash in
+    let ring : Ring = c.begin_collect.new.self in
+    let one = c.in_ok-begin_collect.ensures in
+    let begun : Begun a b before ring = record { banks = one.touches.banks; list = one.list; others = one.others; area = one.area; reserve = one.reserve; stands = one.stands; stage = one.collecting; goes_on = one.goes_on; end = one.end; fresh = one.no_copies } in
+    let d : Device = g.F.Flash.device c.copy_live.new.flash in
+    let now : Ring = c.copy_live.new.ring in
+    let two = c.in_ok-copy_live.ensures in
+    let copied : Copied b d ring now = record { banks = two.touches.banks; list = two.list; others = two.others; area = two.area; reserve = two.reserve; copies = two.copies } in
+    let copies = copied-now b d ring now one.stands one.collecting two.copies in
+    copies.1.stage
+
+pub returns-in_err-end_collect-clause-touches : goal.returns-in_err-end_collect-clause-touches
+returns-in_err-end_collect-clause-touches g c =
+    let a : Device = g.F.Flash.device c.args.flash.now in
+    let before : Ring = c.args.ring.now in
+    let lawful = g.met.F.Flash.is_lawful c.args.flash.now in
+    let b : Device = g.F.Flash.device c.begin_collect.new.flash in
+    let ring : Ring = c.begin_collect.new.self in
+    let one = c.in_ok-begin_collect.ensures in
+    let begun : Begun a b before ring = record { banks = one.touches.banks; list = one.list; others = one.others; area = one.area; reserve = one.reserve; stands = one.stands; stage = one.collecting; goes_on = one.goes_on; end = one.end; fresh = one.no_copies } in
+    let d : Device = g.F.Flash.device c.copy_live.new.flash in
+    let now : Ring = c.copy_live.new.ring in
+    let two = c.in_ok-copy_live.ensures in
+    let copied : Copied b d ring now = record { banks = two.touches.banks; list = two.list; others = two.others; area = two.area; reserve = two.reserve; copies = two.copies } in
+    let copies = copied-now b d ring now one.stands one.collecting two.copies in
+    let e : Device = g.F.Flash.device c.end_collect.new.flash in
+    let three = c.in_err-end_collect.ensures in
+    let kept : KeepsEntries a e before.area = keeps-then a d e before.area (keeps-then a b d before.area one.list (subst (λ (x : Area). KeepsEntries b d x) one.area two.list)) (subst (λ (x : Area). KeepsEntries d e x) (two.area ∙ one.area) three.list) in
+    is_err_by c.from_residual-in_err-end_collect.result (Touches (before.area ∷ []) a e) c.from_residual-in_err-end_collect.ensures.0
+    (then (then one.touches (subst (λ (x : Area). Touches (x ∷ []) b d false) one.area two.touches)) (subst (λ (x : Area). Touches (x ∷ []) d e true) (two.area ∙ one.area) three.touches))
+
+pub returns-in_err-end_collect-clause-settings : goal.returns-in_err-end_collect-clause-settings
+returns-in_err-end_collect-clause-settings g c =
+    let a : Device = g.F.Flash.device c.args.flash.now in
+    let before : Ring = c.args.ring.now in
+    let lawful = g.met.F.Flash.is_lawful c.args.flash.now in
+    let b : Device = g.F.Flash.device c.begin_collect.new.flash in
+    let ring : Ring = c.begin_collect.new.self in
+    let one = c.in_ok-begin_collect.ensures in
+    let begun : Begun a b before ring = record { banks = one.touches.banks; list = one.list; others = one.others; area = one.area; reserve = one.reserve; stands = one.stands; stage = one.collecting; goes_on = one.goes_on; end = one.end; fresh = one.no_copies } in
+    let d : Device = g.F.Flash.device c.copy_live.new.flash in
+    let now : Ring = c.copy_live.new.ring in
+    let two = c.in_ok-copy_live.ensures in
+    let copied : Copied b d ring now = record { banks = two.touches.banks; list = two.list; others = two.others; area = two.area; reserve = two.reserve; copies = two.copies } in
+    let copies = copied-now b d ring now one.stands one.collecting two.copies in
+    let e : Device = g.F.Flash.device c.end_collect.new.flash in
+    let three = c.in_err-end_collect.ensures in
+    let kept : KeepsEntries a e before.area = keeps-then a d e before.area (keeps-then a b d before.area one.list (subst (λ (x : Area). KeepsEntries b d x) one.area two.list)) (subst (λ (x : Area). KeepsEntries d e x) (two.area ∙ one.area) three.list) in
+    settings-kept a e before.area kept
+
+pub returns-in_err-end_collect-clause-undamaged : goal.returns-in_err-end_collect-clause-undamaged
+returns-in_err-end_collect-clause-undamaged g c =
+    let a : Device = g.F.Flash.device c.args.flash.now in
+    let before : Ring = c.args.ring.now in
+    let lawful = g.met.F.Flash.is_lawful c.args.flash.now in
+    let b : Device = g.F.Flash.device c.begin_collect.new.flash in
+    let ring : Ring = c.begin_collect.new.self in
+    let one = c.in_ok-begin_collect.ensures in
+    let begun : Begun a b before ring = record { banks = one.touches.banks; list = one.list; others = one.others; area = one.area; reserve = one.reserve; stands = one.stands; stage = one.collecting; goes_on = one.goes_on; end = one.end; fresh = one.no_copies } in
+    let d : Device = g.F.Flash.device c.copy_live.new.flash in
+    let now : Ring = c.copy_live.new.ring in
+    let two = c.in_ok-copy_live.ensures in
+    let copied : Copied b d ring now = record { banks = two.touches.banks; list = two.list; others = two.others; area = two.area; reserve = two.reserve; copies = two.copies } in
+    let copies = copied-now b d ring now one.stands one.collecting two.copies in
+    let e : Device = g.F.Flash.device c.end_collect.new.flash in
+    let three = c.in_err-end_collect.ensures in
+    let kept : KeepsEntries a e before.area = keeps-then a d e before.area (keeps-then a b d before.area one.list (subst (λ (x : Area). KeepsEntries b d x) one.area two.list)) (subst (λ (x : Area). KeepsEntries d e x) (two.area ∙ one.area) three.list) in
+    undamaged-kept a e before.area lawful (g.met.F.Flash.is_lawful c.end_collect.new.flash) c.requires.ready.stands.area (three.touches.banks ∙ two.touches.banks ∙ one.touches.banks) kept c.requires.ready.undamaged
+
+pub returns-in_err-end_collect-clause-at_most : goal.returns-in_err-end_collect-clause-at_most
+returns-in_err-end_collect-clause-at_most g c =
+    let a : Device = g.F.Flash.device c.args.flash.now in
+    let before : Ring = c.args.ring.now in
+    let lawful = g.met.F.Flash.is_lawful c.args.flash.now in
+    let b : Device = g.F.Flash.device c.begin_collect.new.flash in
+    let ring : Ring = c.begin_collect.new.self in
+    let one = c.in_ok-begin_collect.ensures in
+    let begun : Begun a b before ring = record { banks = one.touches.banks; list = one.list; others = one.others; area = one.area; reserve = one.reserve; stands = one.stands; stage = one.collecting; goes_on = one.goes_on; end = one.end; fresh = one.no_copies } in
+    let d : Device = g.F.Flash.device c.copy_live.new.flash in
+    let now : Ring = c.copy_live.new.ring in
+    let two = c.in_ok-copy_live.ensures in
+    let copied : Copied b d ring now = record { banks = two.touches.banks; list = two.list; others = two.others; area = two.area; reserve = two.reserve; copies = two.copies } in
+    let copies = copied-now b d ring now one.stands one.collecting two.copies in
+    let e : Device = g.F.Flash.device c.end_collect.new.flash in
+    let three = c.in_err-end_collect.ensures in
+    let kept : KeepsEntries a e before.area = keeps-then a d e before.area (keeps-then a b d before.area one.list (subst (λ (x : Area). KeepsEntries b d x) one.area two.list)) (subst (λ (x : Area). KeepsEntries d e x) (two.area ∙ one.area) three.list) in
+    end-units a b before ring lawful c.requires.ready.stands begun one.units d e now copies.0 (g.met.F.Flash.is_lawful c.copy_live.new.flash) two.touches.banks two.area copies.1 three.bound
+
+pub returns-clause-touches : goal.returns-clause-touches
+returns-clause-touches g c =
+    let a : Device = g.F.Flash.device c.args.flash.now in
+    let before : Ring = c.args.ring.now in
+    let lawful = g.met.F.Flash.is_lawful c.args.flash.now in
+    let b : Device = g.F.Flash.device c.begin_collect.new.flash in
+    let ring : Ring = c.begin_collect.new.self in
+    let one = c.in_ok-begin_collect.ensures in
+    let begun : Begun a b before ring = record { banks = one.touches.banks; list = one.list; others = one.others; area = one.area; reserve = one.reserve; stands = one.stands; stage = one.collecting; goes_on = one.goes_on; end = one.end; fresh = one.no_copies } in
+    let d : Device = g.F.Flash.device c.copy_live.new.flash in
+    let now : Ring = c.copy_live.new.ring in
+    let two = c.in_ok-copy_live.ensures in
+    let copied : Copied b d ring now = record { banks = two.touches.banks; list = two.list; others = two.others; area = two.area; reserve = two.reserve; copies = two.copies } in
+    let copies = copied-now b d ring now one.stands one.collecting two.copies in
+    let e : Device = g.F.Flash.device c.end_collect.new.flash in
+    let after : Ring = c.end_collect.new.self in
+    let three = c.in_ok-end_collect.ensures in
+    let ended : Ended d e now after = record { banks = three.touches.banks; others = three.others; area = three.area; reserve = three.reserve; stands = three.stands; ready = three.ready; end = three.end; oldest = three.ends.oldest; used = three.ends.used } in
+    let left : before.used + 1 ≡ before.area.sectors = eqb-true (before.used + 1) before.area.sectors c.requires.left in
+    then (then one.touches (subst (λ (x : Area). Touches (x ∷ []) b d false) one.area two.touches)) (subst (λ (x : Area). Touches (x ∷ []) d e false) (two.area ∙ one.area) three.touches)
+
+pub returns-clause-area : goal.returns-clause-area
+returns-clause-area g c =
+    let a : Device = g.F.Flash.device c.args.flash.now in
+    let before : Ring = c.args.ring.now in
+    let lawful = g.met.F.Flash.is_lawful c.args.flash.now in
+    let b : Device = g.F.Flash.device c.begin_collect.new.flash in
+    let ring : Ring = c.begin_collect.new.self in
+    let one = c.in_ok-begin_collect.ensures in
+    let begun : Begun a b before ring = record { banks = one.touches.banks; list = one.list; others = one.others; area = one.area; reserve = one.reserve; stands = one.stands; stage = one.collecting; goes_on = one.goes_on; end = one.end; fresh = one.no_copies } in
+    let d : Device = g.F.Flash.device c.copy_live.new.flash in
+    let now : Ring = c.copy_live.new.ring in
+    let two = c.in_ok-copy_live.ensures in
+    let copied : Copied b d ring now = record { banks = two.touches.banks; list = two.list; others = two.others; area = two.area; reserve = two.reserve; copies = two.copies } in
+    let copies = copied-now b d ring now one.stands one.collecting two.copies in
+    let e : Device = g.F.Flash.device c.end_collect.new.flash in
+    let after : Ring = c.end_collect.new.self in
+    let three = c.in_ok-end_collect.ensures in
+    let ended : Ended d e now after = record { banks = three.touches.banks; others = three.others; area = three.area; reserve = three.reserve; stands = three.stands; ready = three.ready; end = three.end; oldest = three.ends.oldest; used = three.ends.used } in
+    let left : before.used + 1 ≡ before.area.sectors = eqb-true (before.used + 1) before.area.sectors c.requires.left in
+    three.area ∙ two.area ∙ one.area
+
+pub returns-clause-settings : goal.returns-clause-settings
+returns-clause-settings g c =
+    let a : Device = g.F.Flash.device c.args.flash.now in
+    let before : Ring = c.args.ring.now in
+    let lawful = g.met.F.Flash.is_lawful c.args.flash.now in
+    let b : Device = g.F.Flash.device c.begin_collect.new.flash in
+    let ring : Ring = c.begin_collect.new.self in
+    let one = c.in_ok-begin_collect.ensures in
+    let begun : Begun a b before ring = record { banks = one.touches.banks; list = one.list; others = one.others; area = one.area; reserve = one.reserve; stands = one.stands; stage = one.collecting; goes_on = one.goes_on; end = one.end; fresh = one.no_copies } in
+    let d : Device = g.F.Flash.device c.copy_live.new.flash in
+    let now : Ring = c.copy_live.new.ring in
+    let two = c.in_ok-copy_live.ensures in
+    let copied : Copied b d ring now = record { banks = two.touches.banks; list = two.list; others = two.others; area = two.area; reserve = two.reserve; copies = two.copies } in
+    let copies = copied-now b d ring now one.stands one.collecting two.copies in
+    let e : Device = g.F.Flash.device c.end_collect.new.flash in
+    let after : Ring = c.end_collect.new.self in
+    let three = c.in_ok-end_collect.ensures in
+    let ended : Ended d e now after = record { banks = three.touches.banks; others = three.others; area = three.area; reserve = three.reserve; stands = three.stands; ready = three.ready; end = three.end; oldest = three.ends.oldest; used = three.ends.used } in
+    let left : before.used + 1 ≡ before.area.sectors = eqb-true (before.used + 1) before.area.sectors c.requires.left in
+    collected-settings a b d e before ring now after c.requires.ready left lawful begun copied ended
+
+pub returns-clause-undamaged : goal.returns-clause-undamaged
+returns-clause-undamaged g c =
+    let a : Device = g.F.Flash.device c.args.flash.now in
+    let before : Ring = c.args.ring.now in
+    let lawful = g.met.F.Flash.is_lawful c.args.flash.now in
+    let b : Device = g.F.Flash.device c.begin_collect.new.flash in
+    let ring : Ring = c.begin_collect.new.self in
+    let one = c.in_ok-begin_collect.ensures in
+    let begun : Begun a b before ring = record { banks = one.touches.banks; list = one.list; others = one.others; area = one.area; reserve = one.reserve; stands = one.stands; stage = one.collecting; goes_on = one.goes_on; end = one.end; fresh = one.no_copies } in
+    let d : Device = g.F.Flash.device c.copy_live.new.flash in
+    let now : Ring = c.copy_live.new.ring in
+    let two = c.in_ok-copy_live.ensures in
+    let copied : Copied b d ring now = record { banks = two.touches.banks; list = two.list; others = two.others; area = two.area; reserve = two.reserve; copies = two.copies } in
+    let copies = copied-now b d ring now one.stands one.collecting two.copies in
+    let e : Device = g.F.Flash.device c.end_collect.new.flash in
+    let after : Ring = c.end_collect.new.self in
+    let three = c.in_ok-end_collect.ensures in
+    let ended : Ended d e now after = record { banks = three.touches.banks; others = three.others; area = three.area; reserve = three.reserve; stands = three.stands; ready = three.ready; end = three.end; oldest = three.ends.oldest; used = three.ends.used } in
+    let left : before.used + 1 ≡ before.area.sectors = eqb-true (before.used + 1) before.area.sectors c.requires.left in
+    collected-undamaged a b d e before ring now after c.requires.ready left lawful begun copied ended (g.met.F.Flash.is_lawful c.end_collect.new.flash)
+
+pub returns-clause-at_most : goal.returns-clause-at_most
+returns-clause-at_most g c =
+    let a : Device = g.F.Flash.device c.args.flash.now in
+    let before : Ring = c.args.ring.now in
+    let lawful = g.met.F.Flash.is_lawful c.args.flash.now in
+    let b : Device = g.F.Flash.device c.begin_collect.new.flash in
+    let ring : Ring = c.begin_collect.new.self in
+    let one = c.in_ok-begin_collect.ensures in
+    let begun : Begun a b before ring = record { banks = one.touches.banks; list = one.list; others = one.others; area = one.area; reserve = one.reserve; stands = one.stands; stage = one.collecting; goes_on = one.goes_on; end = one.end; fresh = one.no_copies } in
+    let d : Device = g.F.Flash.device c.copy_live.new.flash in
+    let now : Ring = c.copy_live.new.ring in
+    let two = c.in_ok-copy_live.ensures in
+    let copied : Copied b d ring now = record { banks = two.touches.banks; list = two.list; others = two.others; area = two.area; reserve = two.reserve; copies = two.copies } in
+    let copies = copied-now b d ring now one.stands one.collecting two.copies in
+    let e : Device = g.F.Flash.device c.end_collect.new.flash in
+    let after : Ring = c.end_collect.new.self in
+    let three = c.in_ok-end_collect.ensures in
+    let ended : Ended d e now after = record { banks = three.touches.banks; others = three.others; area = three.area; reserve = three.reserve; stands = three.stands; ready = three.ready; end = three.end; oldest = three.ends.oldest; used = three.ends.used } in
+    let left : before.used + 1 ≡ before.area.sectors = eqb-true (before.used + 1) before.area.sectors c.requires.left in
+    end-units a b before ring lawful c.requires.ready.stands begun one.units d e now copies.0 (g.met.F.Flash.is_lawful c.copy_live.new.flash) two.touches.banks two.area copies.1 (spends_most d e 1 three.units)
+
+pub returns-clause-ready : goal.returns-clause-ready
+returns-clause-ready g c =
+    let a : Device = g.F.Flash.device c.args.flash.now in
+    let before : Ring = c.args.ring.now in
+    let lawful = g.met.F.Flash.is_lawful c.args.flash.now in
+    let b : Device = g.F.Flash.device c.begin_collect.new.flash in
+    let ring : Ring = c.begin_collect.new.self in
+    let one = c.in_ok-begin_collect.ensures in
+    let begun : Begun a b before ring = record { banks = one.touches.banks; list = one.list; others = one.others; area = one.area; reserve = one.reserve; stands = one.stands; stage = one.collecting; goes_on = one.goes_on; end = one.end; fresh = one.no_copies } in
+    let d : Device = g.F.Flash.device c.copy_live.new.flash in
+    let now : Ring = c.copy_live.new.ring in
+    let two = c.in_ok-copy_live.ensures in
+    let copied : Copied b d ring now = record { banks = two.touches.banks; list = two.list; others = two.others; area = two.area; reserve = two.reserve; copies = two.copies } in
+    let copies = copied-now b d ring now one.stands one.collecting two.copies in
+    let e : Device = g.F.Flash.device c.end_collect.new.flash in
+    let after : Ring = c.end_collect.new.self in
+    let three = c.in_ok-end_collect.ensures in
+    let ended : Ended d e now after = record { banks = three.touches.banks; others = three.others; area = three.area; reserve = three.reserve; stands = three.stands; ready = three.ready; end = three.end; oldest = three.ends.oldest; used = three.ends.used } in
+    let left : before.used + 1 ≡ before.area.sectors = eqb-true (before.used + 1) before.area.sectors c.requires.left in
+    collected-ready a b d e before ring now after c.requires.ready left lawful begun copied ended (g.met.F.Flash.is_lawful c.end_collect.new.flash)
+
+pub returns-clause-collects : goal.returns-clause-collects
+returns-clause-collects g c =
+    let a : Device = g.F.Flash.device c.args.flash.now in
+    let before : Ring = c.args.ring.now in
+    let lawful = g.met.F.Flash.is_lawful c.args.flash.now in
+    let b : Device = g.F.Flash.device c.begin_collect.new.flash in
+    let ring : Ring = c.begin_collect.new.self in
+    let one = c.in_ok-begin_collect.ensures in
+    let begun : Begun a b before ring = record { banks = one.touches.banks; list = one.list; others = one.others; area = one.area; reserve = one.reserve; stands = one.stands; stage = one.collecting; goes_on = one.goes_on; end = one.end; fresh = one.no_copies } in
+    let d : Device = g.F.Flash.device c.copy_live.new.flash in
+    let now : Ring = c.copy_live.new.ring in
+    let two = c.in_ok-copy_live.ensures in
+    let copied : Copied b d ring now = record { banks = two.touches.banks; list = two.list; others = two.others; area = two.area; reserve = two.reserve; copies = two.copies } in
+    let copies = copied-now b d ring now one.stands one.collecting two.copies in
+    let e : Device = g.F.Flash.device c.end_collect.new.flash in
+    let after : Ring = c.end_collect.new.self in
+    let three = c.in_ok-end_collect.ensures in
+    let ended : Ended d e now after = record { banks = three.touches.banks; others = three.others; area = three.area; reserve = three.reserve; stands = three.stands; ready = three.ready; end = three.end; oldest = three.ends.oldest; used = three.ends.used } in
+    let left : before.used + 1 ≡ before.area.sectors = eqb-true (before.used + 1) before.area.sectors c.requires.left in
+    collected a b d e before ring now after c.requires.ready left lawful begun copied ended
+
+pub returns-clause-used : goal.returns-clause-used
+returns-clause-used g c =
+    let a : Device = g.F.Flash.device c.args.flash.now in
+    let before : Ring = c.args.ring.now in
+    let lawful = g.met.F.Flash.is_lawful c.args.flash.now in
+    let b : Device = g.F.Flash.device c.begin_collect.new.flash in
+    let ring : Ring = c.begin_collect.new.self in
+    let one = c.in_ok-begin_collect.ensures in
+    let begun : Begun a b before ring = record { banks = one.touches.banks; list = one.list; others = one.others; area = one.area; reserve = one.reserve; stands = one.stands; stage = one.collecting; goes_on = one.goes_on; end = one.end; fresh = one.no_copies } in
+    let d : Device = g.F.Flash.device c.copy_live.new.flash in
+    let now : Ring = c.copy_live.new.ring in
+    let two = c.in_ok-copy_live.ensures in
+    let copied : Copied b d ring now = record { banks = two.touches.banks; list = two.list; others = two.others; area = two.area; reserve = two.reserve; copies = two.copies } in
+    let copies = copied-now b d ring now one.stands one.collecting two.copies in
+    let e : Device = g.F.Flash.device c.end_collect.new.flash in
+    let after : Ring = c.end_collect.new.self in
+    let three = c.in_ok-end_collect.ensures in
+    let ended : Ended d e now after = record { banks = three.touches.banks; others = three.others; area = three.area; reserve = three.reserve; stands = three.stands; ready = three.ready; end = three.end; oldest = three.ends.oldest; used = three.ends.used } in
+    let left : before.used + 1 ≡ before.area.sectors = eqb-true (before.used + 1) before.area.sectors c.requires.left in
+    after-used a b d e before ring now after c.requires.ready left lawful begun copied ended

@@ -1,0 +1,5 @@
+pub mod Changing
+pub mod Laws
+pub mod Reading
+pub mod Standing
+pub mod Walking

@@ -1,0 +1,131 @@
+// Looking records up.
+ghost use Rattle.std.specs.Prelude.{◌≡◌, ◌≤◌, Contains, option_map};
+ghost use Rattle.flash_map.specs.Area.{unit_of, sector_size};
+ghost use Rattle.fcb_ring.specs.Standing.{StandsOn as RingStandsOn, entries_on, record_places};
+ghost use Rattle.settings_list.specs.Last.{last_value as last_value_of};
+ghost use Rattle.settings_list.specs.Live.{has_name, value_for};
+ghost use Rattle.settings_list.specs.Numbers.{room};
+ghost use Rattle.settings_list.specs.Settings.{setting_of};
+ghost use Rattle.backend_fcb.specs.Standing.{bodies_on, settings_on};
+ghost use Rattle.backend_fcb.specs.Walking.{TellsNamedBehind, TellsLive, TellsCost};
+
+use crate::record::{put_cost, setting_in};
+use fcb_ring::{RecordAt, Ring};
+use flash_map::geometry;
+use flash_sim::{Flash, Steps};
+use std::sync::ledger::Ledger;
+
+// The value that a body gives to this name, where it is of the name; no bytes where it takes the value away.
+fn value_for<'a>(body: &'a [u8], name: &[u8]) -> Option<&'a [u8]>
+    ensures { option_map (λ value. value.now) result ≡ value_for name.now (setting_of body.now) }
+{
+    match setting_in(body) {
+        Some(setting) if setting.name == name => Some(setting.value),
+        _ => None,
+    }
+}
+
+// The value that the last record of a name gives it; no bytes where it takes it away.
+pub(crate) fn last_value<'a, F: Flash, L: Ledger>(
+    ring: &Ring,
+    flash: &'a F,
+    name: &[u8],
+    steps: &mut Steps<L>,
+) -> Option<&'a [u8]>
+    requires { RingStandsOn (F.device flash.now) ring.now }
+    ensures { option_map (λ value. value.now) result ≡ last_value_of name.now (bodies_on (F.device flash.now) ring.now.area) }
+{
+    let mut found = None;
+    let mut at = ring.next(flash, None, steps);
+    while let Some(entry) = at {
+        let value = value_for(ring.body(flash, &entry, steps), name);
+        found = value.or(found);
+        at = ring.next(flash, Some(entry), steps);
+    }
+    found
+}
+
+// Whether a body is a setting of this name.
+fn is_of(body: &[u8], name: &[u8]) -> bool
+    ensures { result ≡ has_name name.now (setting_of body.now) }
+{
+    match setting_in(body) {
+        Some(setting) => setting.name == name,
+        None => false,
+    }
+}
+
+// Whether a record behind this one is of the name.
+fn is_named_behind<F: Flash, L: Ledger>(
+    ring: &Ring,
+    flash: &F,
+    entry: RecordAt,
+    name: &[u8],
+    steps: &mut Steps<L>,
+) -> bool
+    requires stands { RingStandsOn (F.device flash.now) ring.now }
+    requires listed { Contains (record_places (entries_on (F.device flash.now) ring.now.area)) entry }
+    ensures { TellsNamedBehind (entries_on (F.device flash.now) ring.now.area) entry name.now result }
+{
+    let mut at = ring.next(flash, Some(entry), steps);
+    while let Some(later) = at {
+        if is_of(ring.body(flash, &later, steps), name) {
+            return true;
+        }
+        at = ring.next(flash, Some(later), steps);
+    }
+    false
+}
+
+// Whether a record is the last of its name, and has a value.
+pub(crate) fn is_live<F: Flash, L: Ledger>(
+    ring: &Ring,
+    flash: &F,
+    entry: RecordAt,
+    steps: &mut Steps<L>,
+) -> bool
+    requires stands { RingStandsOn (F.device flash.now) ring.now }
+    requires listed { Contains (record_places (entries_on (F.device flash.now) ring.now.area)) entry }
+    ensures { TellsLive (entries_on (F.device flash.now) ring.now.area) entry result }
+{
+    match setting_in(ring.body(flash, &entry, steps)) {
+        Some(setting) => {
+            !setting.value.is_empty() && !is_named_behind(ring, flash, entry, setting.name, steps)
+        }
+        None => false,
+    }
+}
+
+// What a record costs, in bytes, if it is the last of its name and has a value.
+fn live_cost_of<F: Flash, L: Ledger>(
+    ring: &Ring,
+    flash: &F,
+    entry: RecordAt,
+    steps: &mut Steps<L>,
+) -> u32
+    requires stands { RingStandsOn (F.device flash.now) ring.now }
+    requires listed { Contains (record_places (entries_on (F.device flash.now) ring.now.area)) entry }
+    ensures cost { TellsCost (unit_of (F.device flash.now) ring.now.area) (entries_on (F.device flash.now) ring.now.area) entry result }
+    ensures small { result ≤ 400 }
+{
+    if is_live(ring, flash, entry, steps) {
+        let unit = geometry(flash, ring.area()).unit;
+        put_cost(unit, ring.body(flash, &entry, steps))
+    } else {
+        0
+    }
+}
+
+// What all settings cost, in bytes.
+pub(crate) fn live_cost<F: Flash, L: Ledger>(ring: &Ring, flash: &F, steps: &mut Steps<L>) -> u64
+    requires { RingStandsOn (F.device flash.now) ring.now }
+    ensures { let d = F.device flash.now in result ≡ (room (unit_of d ring.now.area) (sector_size d ring.now.area)).cost (settings_on d ring.now.area) }
+{
+    let mut live = 0;
+    let mut at = ring.next(flash, None, steps);
+    while let Some(entry) = at {
+        live += u64::from(live_cost_of(ring, flash, entry, steps));
+        at = ring.next(flash, Some(entry), steps);
+    }
+    live
+}

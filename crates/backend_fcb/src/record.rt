@@ -1,0 +1,96 @@
+// The bodies of records.
+ghost use Rattle.std.specs.Prelude.{◌≡◌, ◌==◌, ◌+◌, ◌<◌, ◌≤◌, length, position, option_map, IfSome};
+ghost use Rattle.flash_map.specs.Units.{IsUnit, padded};
+ghost use Rattle.setting_name.specs.Name.{IsName};
+ghost use Rattle.settings_list.specs.Numbers.{reserve, cap, put_cost, pair_cost};
+ghost use Rattle.settings_list.specs.Settings.{setting_of, body_of};
+
+use arrayvec::ArrayVec;
+use flash_map::{Geometry, padded};
+use setting_name::Name;
+
+// The most bytes of a body: a name of 64 bytes, `=` and a value of 256.
+pub(crate) const BODY: usize = 321;
+
+const MAX_VALUE: usize = 256;
+
+// What a record says: the name has the value, or none where there are no bytes.
+#[derive(Clone, Copy, Debug)]
+pub(crate) struct Setting<'a> {
+    pub(crate) name: &'a [u8],
+    pub(crate) value: &'a [u8],
+}
+
+// Where the first `=` of a body stands.
+fn first_equals(body: &[u8]) -> Option<usize>
+    ensures place { result ≡ position (λ byte. byte == 0x3D) body.now }
+    ensures within { IfSome result (λ place. place < length body.now) }
+{
+    body.iter().position(|byte| *byte == b'=')
+}
+
+// What a body says, where it is a lawful name, `=` and a value.
+pub(crate) fn setting_in(body: &[u8]) -> Option<Setting<'_>>
+    ensures { option_map (λ setting. (setting.name.now, setting.value.now)) result ≡ setting_of body.now }
+{
+    let end = first_equals(body)?;
+    let name = &body[..end];
+    let value = &body[end + 1..];
+    if Name::read(name).is_err() || value.len() > MAX_VALUE {
+        return None;
+    }
+    Some(Setting { name, value })
+}
+
+// The name, `=` and the value.
+pub(crate) fn body_of(name: &Name, value: &[u8]) -> ArrayVec<u8, BODY>
+    requires { length value.now ≤ 256 }
+    ensures items { result.items ≡ body_of name.now value.now }
+    ensures name { IsName name.now }
+{
+    let mut body = ArrayVec::new();
+    let _name_fits = body.try_extend_from_slice(name.bytes());
+    body.push(b'=');
+    let _value_fits = body.try_extend_from_slice(value);
+    body
+}
+
+// What a record with a body of this length costs, in bytes.
+pub(crate) fn record_cost(unit: u32, len: usize) -> u32
+    requires unit { IsUnit unit }
+    requires len { len ≤ 321 }
+    ensures cost { result ≡ unit + padded unit len + unit }
+{
+    unit + padded(unit, len as u32) + unit
+}
+
+// What a record with this body costs, where it puts a value.
+pub(crate) fn put_cost(unit: u32, body: &[u8]) -> u32
+    requires { IsUnit unit }
+    ensures cost { result ≡ put_cost unit body.now }
+    ensures small { result ≤ 400 }
+{
+    match setting_in(body) {
+        Some(setting) if !setting.value.is_empty() => record_cost(unit, body.len()),
+        _ => 0,
+    }
+}
+
+// The room that each sector keeps for a delete of a name of 64 bytes.
+pub(crate) fn reserve(unit: u32) -> u32
+    requires { IsUnit unit }
+    ensures { result ≡ reserve unit }
+{
+    record_cost(unit, 65)
+}
+
+// What the header and the reserve leave of a sector.
+pub(crate) fn cap(geometry: Geometry) -> u32
+    requires unit { IsUnit geometry.unit }
+    ensures { result ≡ cap geometry.unit geometry.sector }
+{
+    geometry
+        .sector
+        .saturating_sub(padded(geometry.unit, 8))
+        .saturating_sub(reserve(geometry.unit))
+}

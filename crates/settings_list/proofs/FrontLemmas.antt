@@ -1,0 +1,250 @@
+-- The settings from the oldest record on: what one record more in front makes of them.
+use Rattle.std.proofs.Common.{◌≡◌, ℕ, ◌+◌, ◌≤◌, Bool, true, false, cond, not, ◌&&◌, ◌==◌, List, [], ◌∷◌, ◌++◌, length, Option, Some, None, Ordering, Less, Equal, Greater, is_eq, bytes_eq, nat_cmp, All, is_some, refl, sym, ap, subst, ◌∙◌, inl, inr, arith}
+use Rattle.std.specs.Prelude.{map, sum_by}
+use Rattle.std.specs.Cmp.Lexicographic.{slice_cmp}
+use Rattle.std.specs.FinMap as maps
+use Rattle.std.specs.FinMap.Entries.{by_order}
+use Rattle.std.proofs.lemmas.Bool.{cases_Bool, cond-true, cond-false, false≢true}
+use Rattle.std.proofs.lemmas.Cmp.{nat_list_cmp_total}
+use Rattle.std.proofs.lemmas.List.{append-nil}
+use Rattle.std.proofs.lemmas.List.Elements.{All-nil, All-cons, All-head, All-tail}
+use Rattle.std.proofs.lemmas.List.Sums.{sum_by-cons}
+use Rattle.std.proofs.lemmas.Map.Lookups.{exact_bytes}
+use Rattle.std.proofs.lemmas.Slice.Eq.{bytes_eq-Decides}
+use Rattle.slot_list.specs.Items.{last}
+use Rattle.slot_list.proofs.LivePairs.{last-is, last-append, absent, present}
+use Rattle.setting_name.specs.Name.{IsName}
+use Rattle.backend_api.specs.Map.{Map, IsValue, IsSettings}
+use Rattle.settings_list.specs.Settings.{setting_of, settings_of}
+use Rattle.settings_list.specs.Last.{found_by, last_value, stored}
+use Rattle.settings_list.specs.Live.{names, is_live, is_live_by, live_bodies}
+use Rattle.settings_list.specs.Numbers.{pair_cost}
+use Rattle.fcb_ring.specs.Writing.{record_cost}
+use Rattle.settings_list.specs.Rounds.{bodies_cost}
+use Rattle.settings_list.proofs.BodyLemmas.{setting-says, settings-none}
+use Rattle.settings_list.proofs.Coded.{code, pairs_of, pairs-append, names-coded, value_by, last-coded}
+use Rattle.settings_list.proofs.LastLemmas.{tie, get-settings_of, same_settings}
+use Rattle.settings_list.proofs.LiveLemmas.{LiveSetting, live-says}
+
+-- ---- where the last record of a name stands
+
+-- among the later ones
+pub last-later : (name : List ℕ) (xs ys : List (List ℕ)) → names name ys ≡ true → stored (last_value name (xs ++ ys)) ≡ stored (last_value name ys)
+last-later name xs ys named =
+    last-coded name (xs ++ ys)
+    ∙ ap value_by (ap (λ ps. last ps (code name)) (pairs-append xs ys)
+    ∙ last-append (pairs_of xs) (pairs_of ys) (code name)
+    ∙ present (code name) (last (pairs_of xs) (code name)) None (pairs_of ys) (sym (names-coded name ys) ∙ named)
+    ∙ sym (last-is (pairs_of ys) (code name)))
+    ∙ sym (last-coded name ys)
+
+-- before them
+pub last-earlier : (name : List ℕ) (xs ys : List (List ℕ)) → names name ys ≡ false → stored (last_value name (xs ++ ys)) ≡ stored (last_value name xs)
+last-earlier name xs ys none =
+    last-coded name (xs ++ ys)
+    ∙ ap value_by (ap (λ ps. last ps (code name)) (pairs-append xs ys)
+    ∙ last-append (pairs_of xs) (pairs_of ys) (code name)
+    ∙ absent (code name) (last (pairs_of xs) (code name)) (pairs_of ys) (sym (names-coded name ys) ∙ none))
+    ∙ sym (last-coded name xs)
+
+-- nowhere
+pub last-nowhere : (name : List ℕ) (ys : List (List ℕ)) → names name ys ≡ false → stored (last_value name ys) ≡ None
+last-nowhere name ys none =
+    last-coded name ys ∙ ap value_by (last-is (pairs_of ys) (code name) ∙ absent (code name) None (pairs_of ys) (sym (names-coded name ys) ∙ none))
+
+last-one : (name body : List ℕ) → last_value name (body ∷ []) ≡ found_by name None (setting_of body)
+unfolding last_value
+last-one name body = refl
+
+-- ---- a record in front that is not live
+
+gone_value : (s t : Bool) → (not s && not t) ≡ false → t ≡ false → s ≡ true
+gone_value true t dead none = refl
+gone_value false true dead none = absurd (false≢true (sym none))
+gone_value false false dead none = absurd (false≢true (sym dead))
+
+dead-finds : (name : List ℕ) (rest : List (List ℕ)) (setting : Option (List ℕ × List ℕ)) → is_live_by setting rest ≡ false → names name rest ≡ false → stored (found_by name None setting) ≡ None
+dead-finds name rest None dead none = refl
+dead-finds name rest (Some (other, value)) dead none =
+    elim (cases_Bool (bytes_eq other name)) [
+      | inl here ↦
+          let unnamed : names other rest ≡ false = ap (λ text. names text rest) ((bytes_eq-Decides other name).0 here) ∙ none in
+          let gone : (length value == 0) ≡ true = gone_value (length value == 0) (names other rest) dead unnamed in
+          ap (λ (t : Bool). stored (cond t (Some value) None)) here ∙ ap (λ (t : Bool). cond t None (Some value)) gone
+      | inr apart ↦ ap (λ (t : Bool). stored (cond t (Some value) None)) apart
+    ]
+
+pub settings-dead : (body : List ℕ) (rest : List (List ℕ)) → is_live body rest ≡ false → settings_of (body ∷ rest) ≡ settings_of rest
+settings-dead body rest dead =
+    same_settings (body ∷ rest) rest
+    (λ name.
+    elim (cases_Bool (names name rest)) [
+      | inl named ↦ last-later name (body ∷ []) rest named
+      | inr none ↦ last-earlier name (body ∷ []) rest none ∙ ap stored (last-one name body) ∙ dead-finds name rest (setting_of body) dead none ∙ sym (last-nowhere name rest none)
+    ])
+
+-- ---- a record in front that is live
+
+pub live-absent : (body : List ℕ) (rest : List (List ℕ)) (live : LiveSetting body rest) → maps.get (settings_of rest) live.name ≡ None
+live-absent body rest live = get-settings_of rest live.name ∙ last-nowhere live.name rest live.last
+
+pub settings-live : (body : List ℕ) (rest : List (List ℕ)) (live : LiveSetting body rest) → settings_of (body ∷ rest) ≡ maps.insert (settings_of rest) live.name live.value
+settings-live body rest live =
+    maps.same_map nat_list_cmp_total exact_bytes (settings_of (body ∷ rest)) (maps.insert (settings_of rest) live.name live.value)
+    (λ q. get-settings_of (body ∷ rest) q ∙ at q
+    ∙ sym (maps.get-insert nat_list_cmp_total (settings_of rest) live.name live.value q
+    ∙ ap (λ (t : Bool). cond t (Some live.value) (maps.get (settings_of rest) q)) (tie q live.name)
+    ∙ ap (λ (o : Option (List ℕ)). cond (bytes_eq live.name q) (Some live.value) o) (get-settings_of rest q)))
+  where
+    has : stored (Some live.value) ≡ Some live.value
+    has = ap (λ (t : Bool). cond t None (Some live.value)) live.bytes
+
+    one : (q : List ℕ) (t : Bool) → bytes_eq live.name q ≡ t → stored (cond t (Some live.value) None) ≡ cond t (Some live.value) None
+    one q true is = has
+    one q false is = refl
+
+    at : (q : List ℕ) → stored (last_value q (body ∷ rest)) ≡ cond (bytes_eq live.name q) (Some live.value) (stored (last_value q rest))
+    at q =
+        elim (cases_Bool (names q rest)) [
+          | inl named ↦
+              let apart : bytes_eq live.name q ≡ false =
+              elim (cases_Bool (bytes_eq live.name q)) [
+                | inl here ↦ absurd (false≢true (sym live.last ∙ ap (λ text. names text rest) ((bytes_eq-Decides live.name q).0 here) ∙ named))
+                | inr other ↦ other
+              ] in
+              last-later q (body ∷ []) rest named ∙ sym (ap (λ (t : Bool). cond t (Some live.value) (stored (last_value q rest))) apart)
+          | inr none ↦
+              last-earlier q (body ∷ []) rest none ∙ ap stored (last-one q body ∙ ap (found_by q None) live.says)
+              ∙ one q (bytes_eq live.name q) refl
+              ∙ ap (λ (o : Option (List ℕ)). cond (bytes_eq live.name q) (Some live.value) o) (sym (last-nowhere q rest none))
+        ]
+
+-- ---- the entries of a map after one item more
+
+module _ {K X : Type 0} (R : K → K → Ordering) where
+  some_none : (v : X) → Some v ≡ None → ⊥
+  some_none v e = cc
+
+  pub put-sum : (f : K × X → ℕ) (k : K) (v : X) (es : List (K × X)) → maps.find R k es ≡ None → sum_by f (maps.put R k v es) ≡ f (k, v) + sum_by f es
+  put-sum f k v [] none = sum_by-cons f (k, v) []
+  put-sum f k v (e ∷ es) none =
+      elim (R k e.0) as (λ (o : Ordering). R k e.0 ≡ o → sum_by f (by_order o ((k, v) ∷ e ∷ es) ((e.0, v) ∷ es) (e ∷ maps.put R k v es)) ≡ f (k, v) + sum_by f (e ∷ es)) [
+        | Less ↦ λ is. sum_by-cons f (k, v) (e ∷ es)
+        | Equal ↦ λ is. absurd (some_none e.1 (sym (ap (λ (o : Ordering). cond (is_eq o) (Some e.1) (maps.find R k es)) is) ∙ none))
+        | Greater ↦ λ is.
+            let later : maps.find R k es ≡ None = sym (ap (λ (o : Ordering). cond (is_eq o) (Some e.1) (maps.find R k es)) is) ∙ none in
+            let ih = put-sum f k v es later in
+            let more = sum_by-cons f e (maps.put R k v es) in
+            let all = sum_by-cons f e es in
+            omega arith
+      ] refl
+
+  pub put-keys : (P : K → Type 0) (k : K) (v : X) (es : List (K × X)) → P k → All P (map (λ e. e.0) es) → All P (map (λ e. e.0) (maps.put R k v es))
+  put-keys P k v [] here all = All-cons P k [] here (All-nil P)
+  put-keys P k v (e ∷ es) here all =
+      elim (R k e.0) as (λ (o : Ordering). All P (map (λ x. x.0) (by_order o ((k, v) ∷ e ∷ es) ((e.0, v) ∷ es) (e ∷ maps.put R k v es)))) [
+        | Less ↦ All-cons P k (e.0 ∷ map (λ x. x.0) es) here all
+        | Equal ↦ all
+        | Greater ↦
+            All-cons P e.0 (map (λ x. x.0) (maps.put R k v es)) (All-head P e.0 (map (λ x. x.0) es) all) (put-keys P k v es here (All-tail P e.0 (map (λ x. x.0) es) all))
+      ]
+
+  pub put-values : (P : X → Type 0) (k : K) (v : X) (es : List (K × X)) → P v → All P (map (λ e. e.1) es) → All P (map (λ e. e.1) (maps.put R k v es))
+  put-values P k v [] here all = All-cons P v [] here (All-nil P)
+  put-values P k v (e ∷ es) here all =
+      elim (R k e.0) as (λ (o : Ordering). All P (map (λ x. x.1) (by_order o ((k, v) ∷ e ∷ es) ((e.0, v) ∷ es) (e ∷ maps.put R k v es)))) [
+        | Less ↦ All-cons P v (e.1 ∷ map (λ x. x.1) es) here all
+        | Equal ↦ All-cons P v (map (λ x. x.1) es) here (All-tail P e.1 (map (λ x. x.1) es) all)
+        | Greater ↦
+            All-cons P e.1 (map (λ x. x.1) (maps.put R k v es)) (All-head P e.1 (map (λ x. x.1) es) all) (put-values P k v es here (All-tail P e.1 (map (λ x. x.1) es) all))
+      ]
+
+no_entries : {A : Type 0} (es : List A) → length es ≡ 0 → es ≡ []
+no_entries [] e = refl
+no_entries (x ∷ es) e = absurd (omega arith)
+
+pub entries-none : maps.entries (settings_of []) ≡ []
+entries-none =
+    let none : length (maps.entries (settings_of [])) ≡ 0 = ap (λ (m : Map). length (maps.entries m)) settings-none ∙ sym (maps.len-entries (maps.empty {X = List ℕ} {R = slice_cmp nat_cmp})) ∙ maps.len-empty (slice_cmp nat_cmp) (List ℕ) in
+    no_entries (maps.entries (settings_of [])) none
+
+pub entries-live : (body : List ℕ) (rest : List (List ℕ)) (live : LiveSetting body rest)
+    → maps.entries (settings_of (body ∷ rest)) ≡ maps.put (slice_cmp nat_cmp) live.name live.value (maps.entries (settings_of rest))
+entries-live body rest live = ap maps.entries (settings-live body rest live) ∙ maps.entries-insert nat_list_cmp_total (settings_of rest) live.name live.value
+
+-- ---- what the settings cost
+
+-- what a record in front adds to the records that are live
+pub live-front : (body : List ℕ) (rest : List (List ℕ)) → live_bodies (body ∷ rest) [] ≡ cond (is_live body rest) (body ∷ live_bodies rest []) (live_bodies rest [])
+unfolding live_bodies
+live-front body rest = ap (λ later. cond (is_live body later) (body ∷ live_bodies rest []) (live_bodies rest [])) (append-nil rest)
+
+live-cost : (unit : ℕ) (body : List ℕ) (rest : List (List ℕ)) (live : LiveSetting body rest) → sum_by (pair_cost unit) (maps.entries (settings_of (body ∷ rest))) ≡ pair_cost unit (live.name, live.value) + sum_by (pair_cost unit) (maps.entries (settings_of rest))
+live-cost unit body rest live =
+    ap (sum_by (pair_cost unit)) (entries-live body rest live)
+    ∙ put-sum (slice_cmp nat_cmp) (pair_cost unit) live.name live.value (maps.entries (settings_of rest)) (sym (maps.get-entries (settings_of rest) live.name) ∙ live-absent body rest live)
+
+-- The settings cost what the records cost that are the last of their name and have a value.
+pub settings-cost : (unit : ℕ) (bodies : List (List ℕ)) → sum_by (pair_cost unit) (maps.entries (settings_of bodies)) ≡ bodies_cost unit (live_bodies bodies [])
+unfolding live_bodies
+settings-cost unit [] = ap (sum_by (pair_cost unit)) entries-none
+settings-cost unit (body ∷ rest) =
+    elim (cases_Bool (is_live body rest)) [
+      | inl live ↦
+          let says = live-says body rest live in
+          let long : length body ≡ length says.name + 1 + length says.value = (setting-says body says.name says.value says.says).long in
+          live-cost unit body rest says
+          ∙ ap (λ n. record_cost unit n + sum_by (pair_cost unit) (maps.entries (settings_of rest))) (sym long)
+          ∙ ap (λ n. record_cost unit (length body) + n) (settings-cost unit rest)
+          ∙ sym (sum_by-cons (λ b. record_cost unit (length b)) body (live_bodies rest []))
+          ∙ sym (ap (bodies_cost unit) (live-front body rest ∙ cond-true (is_live body rest) (body ∷ live_bodies rest []) (live_bodies rest []) live))
+      | inr dead ↦
+          ap (λ (m : Map). sum_by (pair_cost unit) (maps.entries m)) (settings-dead body rest dead) ∙ settings-cost unit rest
+          ∙ sym (ap (bodies_cost unit) (live-front body rest ∙ cond-false (is_live body rest) (body ∷ live_bodies rest []) (live_bodies rest []) dead))
+    ]
+
+-- ---- what the settings are
+
+pub settings-few : (bodies : List (List ℕ)) → maps.len (settings_of bodies) ≤ length bodies
+settings-few [] = let none = ap length entries-none in let long = maps.len-entries (settings_of []) in omega arith
+settings-few (body ∷ rest) =
+    let ih = settings-few rest in
+    elim (cases_Bool (is_live body rest)) [
+      | inl live ↦
+          let says = live-says body rest live in
+          let more = ap maps.len (settings-live body rest says) ∙ maps.len-insert nat_list_cmp_total (settings_of rest) says.name says.value in
+          let none = ap (λ (o : Option (List ℕ)). cond (is_some o) (maps.len (settings_of rest)) (maps.len (settings_of rest) + 1)) (live-absent body rest says) in
+          omega arith
+      | inr dead ↦ let same = ap maps.len (settings-dead body rest dead) in omega arith
+    ]
+
+pub settings-names : (bodies : List (List ℕ)) → All IsName (maps.keys (settings_of bodies))
+settings-names [] = subst (λ (es : List (List ℕ × List ℕ)). All IsName (map (λ e. e.0) es)) (sym entries-none) (All-nil IsName)
+settings-names (body ∷ rest) =
+    elim (cases_Bool (is_live body rest)) [
+      | inl live ↦
+          let says = live-says body rest live in
+          subst (λ (es : List (List ℕ × List ℕ)). All IsName (map (λ e. e.0) es)) (sym (entries-live body rest says))
+          (put-keys (slice_cmp nat_cmp) IsName says.name says.value (maps.entries (settings_of rest)) (setting-says body says.name says.value says.says).lawful (settings-names rest))
+      | inr dead ↦ subst (λ (m : Map). All IsName (maps.keys m)) (sym (settings-dead body rest dead)) (settings-names rest)
+    ]
+
+some_bytes : (value : List ℕ) → (length value == 0) ≡ false → 1 ≤ length value
+some_bytes [] bytes = absurd (false≢true (sym bytes))
+some_bytes (byte ∷ rest) bytes = omega arith
+
+pub settings-values : (bodies : List (List ℕ)) → All IsValue (maps.values (settings_of bodies))
+settings-values [] = subst (λ (es : List (List ℕ × List ℕ)). All IsValue (map (λ e. e.1) es)) (sym entries-none) (All-nil IsValue)
+settings-values (body ∷ rest) =
+    elim (cases_Bool (is_live body rest)) [
+      | inl live ↦
+          let says = live-says body rest live in
+          let short = (setting-says body says.name says.value says.says).short in
+          subst (λ (es : List (List ℕ × List ℕ)). All IsValue (map (λ e. e.1) es)) (sym (entries-live body rest says))
+          (put-values (slice_cmp nat_cmp) IsValue says.name says.value (maps.entries (settings_of rest)) (some_bytes says.value says.bytes, short) (settings-values rest))
+      | inr dead ↦ subst (λ (m : Map). All IsValue (maps.values m)) (sym (settings-dead body rest dead)) (settings-values rest)
+    ]
+
+-- few records are settings with lawful names and values
+pub is-settings : (bodies : List (List ℕ)) → length bodies ≤ 2097152 → IsSettings (settings_of bodies)
+is-settings bodies few = record { names = settings-names bodies; values = settings-values bodies; few = (let le = settings-few bodies in omega arith) }

@@ -1,0 +1,276 @@
+-- The next name of the settings is the least name of the live records that is behind the one given.
+use Rattle.std.proofs.Common.{◌≡◌, ℕ, Bool, true, false, cond, ◌&&◌, ◌||◌, T, List, [], ◌∷◌, ◌++◌, Option, Some, None, is_some, Ordering, Less, Equal, Greater, is_eq, is_lt, bytes_eq, nat_cmp, fold, find, refl, sym, ap, subst, ◌∙◌, inl, inr}
+use Rattle.std.specs.Prelude.{map}
+use Rattle.std.specs.List.{list_any}
+use Rattle.std.specs.Ordering.{eq_by_cmp}
+use Rattle.std.specs.Cmp.Lexicographic.{slice_cmp}
+use Rattle.std.specs.FinMap as maps
+use Rattle.std.specs.FinMap.Entries.{below_all}
+use Rattle.std.proofs.lemmas.Bool.{cases_Bool, cond-true, cond-false, false≢true, or_left, or_right, or_cases}
+use Rattle.std.proofs.lemmas.Cmp.{nat_list_cmp_total, tied_itself}
+use Rattle.std.proofs.lemmas.List.Sums.{fold_push}
+use Rattle.std.proofs.lemmas.Map.Lookups.{exact_bytes}
+use Rattle.std.proofs.lemmas.Slice.Eq.{bytes_eq-Decides}
+use Rattle.backend_api.specs.Map.{Map, is_behind, next_name}
+use Rattle.settings_list.specs.Settings.{setting_of, settings_of}
+use Rattle.settings_list.specs.Least.{is_before, least_by, least_of}
+use Rattle.settings_list.specs.Live.{has_name, names, is_live, live_bodies}
+use Rattle.settings_list.proofs.BodyLemmas.{settings-none}
+use Rattle.settings_list.proofs.FrontLemmas.{settings-dead, settings-live, live-front}
+use Rattle.settings_list.proofs.LastLemmas.{tie}
+use Rattle.settings_list.proofs.LiveLemmas.{live-says, copies-live, copies-dead}
+
+abbrev cmp : List ℕ → List ℕ → Ordering
+cmp = slice_cmp nat_cmp
+
+-- Of the names that pass, this is the least behind the one given; or none is behind it.
+abbrev pub IsLeast : Option (List ℕ) → (List ℕ → Bool) → Option (List ℕ) → Type 0
+IsLeast after has None = (name : List ℕ) → has name ≡ true → is_behind after name ≡ false
+IsLeast after has (Some least) = (has least ≡ true) × (is_behind after least ≡ true) × ((name : List ℕ) → has name ≡ true → is_behind after name ≡ true → is_lt (slice_cmp nat_cmp name least) ≡ false)
+
+pub least-same : (after : Option (List ℕ)) (has other : List ℕ → Bool) (o : Option (List ℕ)) → ((name : List ℕ) → has name ≡ other name) → IsLeast after has o → IsLeast after other o
+least-same after has other None same least = λ name is. least name (same name ∙ is)
+least-same after has other (Some name) same least = (sym (same name) ∙ least.0, least.1, λ text is. least.2 text (same text ∙ is))
+
+-- ---- the least name in a list of names that rise
+
+is_Equal : (o : Ordering) → is_eq o ≡ true → o ≡ Equal
+is_Equal Less e = absurd (false≢true e)
+is_Equal Equal e = refl
+is_Equal Greater e = absurd (false≢true e)
+
+same_text : (x y : List ℕ) → eq_by_cmp cmp x y ≡ true → x ≡ y
+same_text x y ties = exact_bytes x y (is_Equal (cmp x y) ties)
+
+first_of_both : (a b : Bool) → T (a && b) → T a
+first_of_both true b h = tt
+first_of_both false b h = h
+
+second_of_both : (a b : Bool) → T (a && b) → T b
+second_of_both true b h = h
+second_of_both false b h = absurd h
+
+is_true : (t : Bool) → T t → t ≡ true
+is_true true h = refl
+is_true false h = absurd h
+
+module _ {X : Type 0} where
+  abbrev has_key : List (List ℕ × X) → List ℕ → Bool
+  has_key es name = list_any (eq_by_cmp cmp name) (map (λ e. e.0) es)
+
+  above : (x q : List ℕ) (es : List (List ℕ × X)) → T (below_all cmp x es) → has_key es q ≡ true → is_lt (cmp x q) ≡ true
+  above x q [] below has = absurd (false≢true has)
+  above x q (e ∷ es) below has =
+      elim (or_cases (eq_by_cmp cmp q e.0) (has_key es q) has) [
+        | inl here ↦
+            ap (λ text. is_lt (cmp x text)) (same_text q e.0 here) ∙ is_true (is_lt (cmp x e.0)) (first_of_both (is_lt (cmp x e.0)) (below_all cmp x es) below)
+        | inr later ↦ above x q es (second_of_both (is_lt (cmp x e.0)) (below_all cmp x es) below) later
+      ]
+
+  itself : (e : List ℕ × X) (es : List (List ℕ × X)) → has_key (e ∷ es) e.0 ≡ true
+  itself e es = or_left (eq_by_cmp cmp e.0 e.0) (has_key es e.0) (ap is_eq (tied_itself nat_list_cmp_total e.0))
+
+  later : (e : List ℕ × X) (es : List (List ℕ × X)) (name : List ℕ) → has_key es name ≡ true → has_key (e ∷ es) name ≡ true
+  later e es name has = or_right (eq_by_cmp cmp name e.0) (has_key es name) has
+
+  -- the first key is behind, so it is the least
+  first-least : (after : Option (List ℕ)) (e : List ℕ × X) (es : List (List ℕ × X)) (o : Option (List ℕ)) → T (below_all cmp e.0 es) → is_behind after e.0 ≡ true → IsLeast after (has_key (e ∷ es)) o → Some e.0 ≡ o
+  first-least after e es None below behind least = absurd (false≢true (sym (least e.0 (itself e es)) ∙ behind))
+  first-least after e es (Some name) below behind least =
+      elim (or_cases (eq_by_cmp cmp name e.0) (has_key es name) least.0) [
+        | inl here ↦ ap (λ text. Some text) (sym (same_text name e.0 here))
+        | inr has ↦ absurd (false≢true (sym (least.2 e.0 (itself e es) behind) ∙ above e.0 name es below has))
+      ]
+
+  -- the first key is not behind, so the least is among the others
+  rest-least : (after : Option (List ℕ)) (e : List ℕ × X) (es : List (List ℕ × X)) (o : Option (List ℕ)) → is_behind after e.0 ≡ false → IsLeast after (has_key (e ∷ es)) o → IsLeast after (has_key es) o
+  rest-least after e es None before least = λ name has. least name (later e es name has)
+  rest-least after e es (Some name) before least =
+      elim (or_cases (eq_by_cmp cmp name e.0) (has_key es name) least.0) [
+        | inl here ↦ absurd (false≢true (sym before ∙ ap (is_behind after) (sym (same_text name e.0 here)) ∙ least.1))
+        | inr has ↦ (has, least.1, λ text is. least.2 text (later e es text is))
+      ]
+
+  find-least : (after : Option (List ℕ)) (es : List (List ℕ × X)) (o : Option (List ℕ)) → T (maps.is_sorted cmp es) → IsLeast after (has_key es) o → find (is_behind after) (map (λ e. e.0) es) ≡ o
+  find-least after [] None sorted least = refl
+  find-least after [] (Some name) sorted least = absurd (false≢true least.0)
+  find-least after (e ∷ es) o sorted least =
+      let below = first_of_both (below_all cmp e.0 es) (maps.is_sorted cmp es) sorted in
+      let rises = second_of_both (below_all cmp e.0 es) (maps.is_sorted cmp es) sorted in
+      elim (cases_Bool (is_behind after e.0)) [
+        | inl behind ↦
+            cond-true (is_behind after e.0) (Some e.0) (find (is_behind after) (map (λ x. x.0) es)) behind ∙ first-least after e es o below behind least
+        | inr before ↦
+            cond-false (is_behind after e.0) (Some e.0) (find (is_behind after) (map (λ x. x.0) es)) before ∙ find-least after es o rises (rest-least after e es o before least)
+      ]
+
+-- The next name of a map is the least of its keys behind the one given, where it has one there.
+pub next-least : (m : Map) (after : Option (List ℕ)) (o : Option (List ℕ)) → IsLeast after (maps.contains_key m) o → next_name m after ≡ o
+next-least m after o least = find-least after (maps.entries m) o (maps.entries_sorted m) (least-same after (maps.contains_key m) (has_key (maps.entries m)) o (maps.contains_key-keys m) least)
+
+-- ---- the names of the settings
+
+live-key : (m : Map) (name value q : List ℕ) → maps.contains_key (maps.insert m name value) q ≡ (bytes_eq name q || maps.contains_key m q)
+live-key m name value q =
+    ap is_some (maps.get-insert nat_list_cmp_total m name value q ∙ ap (λ (t : Bool). cond t (Some value) (maps.get m q)) (tie q name)) ∙ at (bytes_eq name q)
+  where
+    at : (t : Bool) → is_some (cond t (Some value) (maps.get m q)) ≡ (t || is_some (maps.get m q))
+    at true = refl
+    at false = refl
+
+-- a name has a value where a live record names it
+pub settings-keys : (bodies : List (List ℕ)) (q : List ℕ) → maps.contains_key (settings_of bodies) q ≡ names q (live_bodies bodies [])
+unfolding live_bodies
+settings-keys [] q = ap (λ (m : Map). maps.contains_key m q) settings-none ∙ ap is_some (maps.get-empty cmp q)
+settings-keys (body ∷ rest) q =
+    elim (cases_Bool (is_live body rest)) [
+      | inl live ↦
+          let says = live-says body rest live in
+          ap (λ (m : Map). maps.contains_key m q) (settings-live body rest says)
+          ∙ live-key (settings_of rest) says.name says.value q
+          ∙ ap (λ t. bytes_eq says.name q || t) (settings-keys rest q)
+          ∙ sym (ap (λ setting. has_name q setting || names q (live_bodies rest [])) says.says)
+          ∙ sym (ap (names q) (live-front body rest ∙ cond-true (is_live body rest) (body ∷ live_bodies rest []) (live_bodies rest []) live))
+      | inr dead ↦
+          ap (λ (m : Map). maps.contains_key m q) (settings-dead body rest dead) ∙ settings-keys rest q
+          ∙ sym (ap (names q) (live-front body rest ∙ cond-false (is_live body rest) (body ∷ live_bodies rest []) (live_bodies rest []) dead))
+    ]
+
+-- ---- the least name of records
+
+or_none : (t : Bool) → t ≡ (t || false)
+or_none true = refl
+or_none false = refl
+
+or_assoc : (r s t : Bool) → ((r || s) || t) ≡ (r || (s || t))
+or_assoc true s t = refl
+or_assoc false s t = refl
+
+is_Less : (o : Ordering) → is_lt o ≡ true → o ≡ Less
+is_Less Less e = refl
+is_Less Equal e = absurd (false≢true e)
+is_Less Greater e = absurd (false≢true e)
+
+-- a name below one that is below a third is below the third
+not_below : (x y z : List ℕ) → is_lt (cmp y z) ≡ true → is_lt (cmp x z) ≡ false → is_lt (cmp x y) ≡ false
+not_below x y z less not_less =
+    elim (cases_Bool (is_lt (cmp x y))) [
+      | inl below ↦ absurd (false≢true (sym not_less ∙ ap is_lt (nat_list_cmp_total.trans x y z (is_Less (cmp x y) below) (is_Less (cmp y z) less))))
+      | inr other ↦ other
+    ]
+
+module _ (after : Option (List ℕ)) (has : List ℕ → Bool) (other : List ℕ) where
+  abbrev more : List ℕ → Bool
+  more name = has name || bytes_eq other name
+
+  -- the name is not behind
+  least-before : (o : Option (List ℕ)) → is_behind after other ≡ false → IsLeast after has o → IsLeast after more o
+  least-before None before least = λ name is.
+      elim (or_cases (has name) (bytes_eq other name) is) [
+        | inl old ↦ least name old
+        | inr here ↦ ap (is_behind after) (sym ((bytes_eq-Decides other name).0 here)) ∙ before
+      ]
+  least-before (Some text) before least = (
+    or_left (has text) (bytes_eq other text) least.0,
+    least.1,
+    λ name is behind.
+        elim (or_cases (has name) (bytes_eq other name) is) [
+          | inl old ↦ least.2 name old behind
+          | inr here ↦ absurd (false≢true (sym before ∙ ap (is_behind after) ((bytes_eq-Decides other name).0 here) ∙ behind))
+        ],
+  )
+
+  at_itself : (name : List ℕ) → bytes_eq other name ≡ true → is_lt (cmp name other) ≡ false
+  at_itself name here = ap (λ text. is_lt (cmp text other)) (sym ((bytes_eq-Decides other name).0 here)) ∙ ap is_lt (tied_itself nat_list_cmp_total other)
+
+  -- the name is behind, and less than the least so far
+  least-new : (o : Option (List ℕ)) → is_behind after other ≡ true → is_before other o ≡ true → IsLeast after has o → IsLeast after more (Some other)
+  least-new None behind less least = (
+    or_right (has other) (bytes_eq other other) ((bytes_eq-Decides other other).1 refl),
+    behind,
+    λ name is behind'.
+        elim (or_cases (has name) (bytes_eq other name) is) [
+          | inl old ↦ absurd (false≢true (sym (least name old) ∙ behind'))
+          | inr here ↦ at_itself name here
+        ],
+  )
+  least-new (Some text) behind less least = (
+    or_right (has other) (bytes_eq other other) ((bytes_eq-Decides other other).1 refl),
+    behind,
+    λ name is behind'.
+        elim (or_cases (has name) (bytes_eq other name) is) [
+          | inl old ↦ not_below name other text less (least.2 name old behind')
+          | inr here ↦ at_itself name here
+        ],
+  )
+
+  -- the name is not less than the least so far
+  least-old : (o : Option (List ℕ)) → is_before other o ≡ false → IsLeast after has o → IsLeast after more o
+  least-old None less least = absurd (false≢true (sym less))
+  least-old (Some text) less least = (
+    or_left (has text) (bytes_eq other text) least.0,
+    least.1,
+    λ name is behind.
+        elim (or_cases (has name) (bytes_eq other name) is) [
+          | inl old ↦ least.2 name old behind
+          | inr here ↦ ap (λ x. is_lt (cmp x text)) (sym ((bytes_eq-Decides other name).0 here)) ∙ less
+        ],
+  )
+
+  least-more : (o : Option (List ℕ)) → IsLeast after has o → IsLeast after more (cond (is_behind after other && is_before other o) (Some other) o)
+  least-more o least =
+      elim (cases_Bool (is_behind after other)) [
+        | inr before ↦ subst (λ (t : Bool). IsLeast after more (cond (t && is_before other o) (Some other) o)) (sym before) (least-before o before least)
+        | inl behind ↦
+            elim (cases_Bool (is_before other o)) [
+              | inl less ↦
+                  subst (λ (t : Bool). IsLeast after more (cond (t && is_before other o) (Some other) o)) (sym behind)
+                  (subst (λ (t : Bool). IsLeast after more (cond t (Some other) o)) (sym less) (least-new o behind less least))
+              | inr no_less ↦
+                  subst (λ (t : Bool). IsLeast after more (cond (t && is_before other o) (Some other) o)) (sym behind)
+                  (subst (λ (t : Bool). IsLeast after more (cond t (Some other) o)) (sym no_less) (least-old o no_less least))
+            ]
+      ]
+
+least-step : (after : Option (List ℕ)) (has : List ℕ → Bool) (o : Option (List ℕ)) (setting : Option (List ℕ × List ℕ)) → IsLeast after has o
+    → IsLeast after (λ name. has name || has_name name setting) (least_by after o setting)
+least-step after has o None least = least-same after has (λ name. has name || false) o (λ name. or_none (has name)) least
+least-step after has o (Some (other, value)) least = least-more after has other o least
+
+least-from : (after : Option (List ℕ)) (has : List ℕ → Bool) (o : Option (List ℕ)) (bodies : List (List ℕ)) → IsLeast after has o
+    → IsLeast after (λ name. has name || names name bodies) (fold (λ least body. least_by after least (setting_of body)) o bodies)
+least-from after has o [] least = least-same after has (λ name. has name || false) o (λ name. or_none (has name)) least
+least-from after has o (body ∷ rest) least =
+    least-same after (λ name. (has name || has_name name (setting_of body)) || names name rest) (λ name. has name || names name (body ∷ rest))
+    (fold (λ now b. least_by after now (setting_of b)) (least_by after o (setting_of body)) rest)
+    (λ name. or_assoc (has name) (has_name name (setting_of body)) (names name rest))
+    (least-from after (λ name. has name || has_name name (setting_of body)) (least_by after o (setting_of body)) rest (least-step after has o (setting_of body) least))
+
+pub least-is : (after : Option (List ℕ)) (bodies : List (List ℕ)) → IsLeast after (λ name. names name bodies) (least_of after bodies)
+unfolding least_of
+least-is after bodies = least-from after (λ name. false) None bodies (λ name is. absurd (false≢true is))
+
+-- What a loop finds that goes through all records, and keeps the least name of the live ones behind the one given.
+pub next-found : (bodies : List (List ℕ)) (after : Option (List ℕ)) → next_name (settings_of bodies) after ≡ least_of after (live_bodies bodies [])
+next-found bodies after =
+    next-least (settings_of bodies) after (least_of after (live_bodies bodies []))
+    (least-same after (λ name. names name (live_bodies bodies [])) (maps.contains_key (settings_of bodies)) (least_of after (live_bodies bodies [])) (λ name. sym (settings-keys bodies name))
+    (least-is after (live_bodies bodies [])))
+
+-- ---- record by record
+
+pub least-none : (after : Option (List ℕ)) → least_of after [] ≡ None
+unfolding least_of
+least-none after = refl
+
+pub least-push : (after : Option (List ℕ)) (bodies : List (List ℕ)) (body : List ℕ) → least_of after (bodies ++ body ∷ []) ≡ least_by after (least_of after bodies) (setting_of body)
+unfolding least_of
+least-push after bodies body = fold_push (λ least b. least_by after least (setting_of b)) None bodies body
+
+pub least-live : (after : Option (List ℕ)) (done : List (List ℕ)) (body : List ℕ) (later : List (List ℕ)) → is_live body later ≡ true
+    → least_of after (live_bodies (done ++ body ∷ []) later) ≡ least_by after (least_of after (live_bodies done (body ∷ later))) (setting_of body)
+least-live after done body later live = ap (least_of after) (copies-live done body later live) ∙ least-push after (live_bodies done (body ∷ later)) body
+
+pub least-dead : (after : Option (List ℕ)) (done : List (List ℕ)) (body : List ℕ) (later : List (List ℕ)) → is_live body later ≡ false
+    → least_of after (live_bodies (done ++ body ∷ []) later) ≡ least_of after (live_bodies done (body ∷ later))
+least-dead after done body later dead = ap (least_of after) (copies-dead done body later dead)

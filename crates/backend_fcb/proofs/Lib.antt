@@ -11,5 +11,6 @@ pub mod PutsCosts
 pub mod PutSteps
 pub mod RingLists
 pub mod SectorLists
+pub mod TestBanks
 pub mod TryLemmas
 pub mod WalkLemmas

@@ -1,11 +1,12 @@
 // Lines of sets and deletes that look random. What they spend, and what is left, is what an independent program does.
-ghost use Rattle.std.specs.Prelude.{◌≡◌, ◌<◌, ◌≤◌};
+ghost use Rattle.std.specs.Prelude.{◌≡◌, ◌<◌, ◌≤◌, length, OnOk};
+ghost use Rattle.flash_map.specs.Units.{IsUnit};
+ghost use Rattle.backend_fcb.specs.Standing.{StandsOn};
 
 use crate::FcbBackend;
 use crate::tests::mounted;
 use backend_api::{Backend, SetFault};
-use flash_map::MountFault;
-use flash_sim::{Bench, FlatSim, PowerLost, Steps};
+use flash_sim::{Bench, FlatSim, Steps};
 use setting_name::Name;
 use std::alloc::Global;
 use std::marker::Brand;
@@ -15,28 +16,23 @@ use std::test::Fail;
 
 // How a line ends: the units and erases that it spends; the bytes that it needs, those of all settings, and what it spends.
 #[derive(Clone, Copy, Debug, PartialEq, Eq)]
-enum End {
+pub(crate) enum End {
     Spent(u64),
     NoSpace(u64, u64, u64),
-    Fails,
 }
 
 // A name, how many bytes it is given, and how that ends. No bytes are a delete.
-type Line = (usize, usize, End);
+type Line = (usize, u8, End);
 
 #[derive(Clone, Copy)]
 struct Script {
-    unit: u32,
-    sectors: u32,
     lines: [Line; 15],
     // for each name the line that gave it its value, from 1 on, and the bytes of that; none has no bytes
-    left: [(u8, usize); 4],
+    left: [(u8, u8); 4],
 }
 
 const SCRIPTS: [Script; 6] = [
     Script {
-        unit: 4,
-        sectors: 2,
         lines: [
             (1, 17, End::Spent(10)),
             (2, 0, End::Spent(0)),
@@ -57,8 +53,6 @@ const SCRIPTS: [Script; 6] = [
         left: [(10, 98), (12, 127), (0, 0), (7, 59)],
     },
     Script {
-        unit: 8,
-        sectors: 2,
         lines: [
             (0, 0, End::Spent(0)),
             (2, 79, End::Spent(15)),
@@ -79,8 +73,6 @@ const SCRIPTS: [Script; 6] = [
         left: [(0, 0), (13, 115), (12, 144), (0, 0)],
     },
     Script {
-        unit: 16,
-        sectors: 2,
         lines: [
             (1, 34, End::Spent(6)),
             (2, 122, End::Spent(11)),
@@ -101,8 +93,6 @@ const SCRIPTS: [Script; 6] = [
         left: [(0, 0), (15, 67), (0, 0), (6, 39)],
     },
     Script {
-        unit: 4,
-        sectors: 3,
         lines: [
             (1, 185, End::Spent(52)),
             (3, 24, End::Spent(24)),
@@ -123,8 +113,6 @@ const SCRIPTS: [Script; 6] = [
         left: [(7, 7), (0, 0), (15, 80), (13, 141)],
     },
     Script {
-        unit: 8,
-        sectors: 3,
         lines: [
             (2, 177, End::Spent(27)),
             (0, 199, End::Spent(29)),
@@ -145,8 +133,6 @@ const SCRIPTS: [Script; 6] = [
         left: [(11, 2), (15, 99), (1, 177), (0, 0)],
     },
     Script {
-        unit: 16,
-        sectors: 3,
         lines: [
             (0, 67, End::Spent(8)),
             (0, 0, End::Spent(3)),
@@ -180,28 +166,64 @@ fn name_of(name: usize) -> Result<Name, Fail> {
     Ok(Name::read(text)?)
 }
 
-fn carry_out<B: Bench, L: Ledger>(
+// Gives a name a value, where there is room.
+pub(crate) fn try_set<B: Bench, L: Ledger>(
     backend: &mut FcbBackend,
     bench: &mut B,
     name: &Name,
     value: &[u8],
     steps: &mut Steps<L>,
-) -> End {
+) -> Result<End, Fail>
+    requires stands { StandsOn (B.device bench.old) backend.old }
+    requires some { 0 < length value.now }
+    requires short { length value.now ≤ 256 }
+    ensures { OnOk result (StandsOn (B.device bench.new) backend.new) }
+{
     let start = bench.spent();
-    let ended = if value.is_empty() {
-        match backend.delete(bench, name, steps) {
-            Ok(()) => Ok(()),
-            Err(PowerLost) => Err(SetFault::PowerLost),
-        }
-    } else {
-        backend.set(bench, name, value, steps)
-    };
-    let spent = bench.spent() - start;
-    match ended {
-        Ok(()) => End::Spent(spent),
-        Err(SetFault::NoSpace { need, live }) => End::NoSpace(need, live, spent),
-        Err(SetFault::TooManyNames | SetFault::PowerLost) => End::Fails,
+    match backend.set(bench, name, value, steps) {
+        Ok(()) => Ok(End::Spent(bench.spent() - start)),
+        Err(SetFault::NoSpace { need, live }) => Ok(End::NoSpace(
+            need,
+            live,
+            bench.spent() - start,
+        )),
+        Err(SetFault::TooManyNames) => Err(SetFault::TooManyNames)?,
+        Err(SetFault::PowerLost) => Err(SetFault::PowerLost)?,
     }
+}
+
+fn delete<B: Bench, L: Ledger>(
+    backend: &mut FcbBackend,
+    bench: &mut B,
+    name: &Name,
+    steps: &mut Steps<L>,
+) -> Result<End, Fail>
+    requires { StandsOn (B.device bench.old) backend.old }
+    ensures { OnOk result (StandsOn (B.device bench.new) backend.new) }
+{
+    let start = bench.spent();
+    backend.delete(bench, name, steps)?;
+    Ok(End::Spent(bench.spent() - start))
+}
+
+// Gives a name so many bytes of this value, or takes its value away.
+fn carry_out<B: Bench, L: Ledger>(
+    backend: &mut FcbBackend,
+    bench: &mut B,
+    name: usize,
+    fill: u8,
+    len: u8,
+    steps: &mut Steps<L>,
+) -> Result<End, Fail>
+    requires { StandsOn (B.device bench.old) backend.old }
+    ensures { OnOk result (StandsOn (B.device bench.new) backend.new) }
+{
+    let name = name_of(name)?;
+    if len == 0 {
+        return delete(backend, bench, &name, steps);
+    }
+    let value = [fill; 256];
+    try_set(backend, bench, &name, &value[..len as usize], steps)
 }
 
 fn carries_out<B: Bench, L: Ledger, R: Abort>(
@@ -210,32 +232,51 @@ fn carries_out<B: Bench, L: Ledger, R: Abort>(
     bench: &mut B,
     lines: &[Line; 15],
     steps: &mut Steps<L>,
-) -> Result<(), Fail> {
-    for (k, (name, len, end)) in lines.iter().enumerate() {
-        let value = [k as u8 + 1; 256];
-        let name = name_of(*name)?;
-        let ended = carry_out(backend, bench, &name, &value[..*len], steps);
-        assert_eq!(rt; ended, *end, "in line {k}");
+) -> Result<(), Fail>
+    requires { StandsOn (B.device bench.old) backend.old }
+    ensures { OnOk result (StandsOn (B.device bench.new) backend.new) }
+{
+    for k in 0..15u8 {
+        let (name, len, end) = lines[k as usize];
+        let ended = carry_out(backend, bench, name, k + 1, len, steps)?;
+        assert_eq!(rt; ended, end, "in line {k}");
     }
     Ok(())
+}
+
+// Whether a name has so many bytes of this value; none is no value.
+fn has<B: Bench, L: Ledger>(
+    backend: &FcbBackend,
+    bench: &B,
+    name: usize,
+    fill: u8,
+    len: u8,
+    steps: &mut Steps<L>,
+) -> Result<bool, Fail>
+    requires { StandsOn (B.device bench.now) backend.now }
+{
+    let name = name_of(name)?;
+    let value = [fill; 256];
+    let expected = if len == 0 {
+        None
+    } else {
+        Some(&value[..len as usize])
+    };
+    Ok(backend.get(bench, &name, steps) == expected)
 }
 
 fn leaves<B: Bench, L: Ledger, R: Abort>(
     rt: &R,
     backend: &FcbBackend,
     bench: &B,
-    left: &[(u8, usize); 4],
+    left: &[(u8, u8); 4],
     steps: &mut Steps<L>,
-) -> Result<(), Fail> {
-    for (k, (fill, len)) in left.iter().enumerate() {
-        let value = [*fill; 256];
-        let expected = if *len == 0 {
-            None
-        } else {
-            Some(&value[..*len])
-        };
-        let name = name_of(k)?;
-        assert_eq!(rt; backend.get(bench, &name, steps), expected, "of name {k}");
+) -> Result<(), Fail>
+    requires { StandsOn (B.device bench.now) backend.now }
+{
+    for k in 0..4usize {
+        let (fill, len) = left[k];
+        assert!(rt; has(backend, bench, k, fill, len, steps)?, "of name {k}");
     }
     Ok(())
 }
@@ -244,10 +285,16 @@ fn run<B: Bench, L: Ledger, R: Abort>(
     rt: &R,
     alloc: Global,
     bench: &mut B,
+    unit: u32,
+    sectors: u32,
     script: &Script,
     steps: &mut Steps<L>,
-) -> Result<(), Fail> {
-    let mut backend = mounted(alloc, bench, script.unit, script.sectors, steps)?;
+) -> Result<(), Fail>
+    requires unit { IsUnit unit }
+    requires several { 2 ≤ sectors }
+    requires few { sectors ≤ 3 }
+{
+    let mut backend = mounted(alloc, bench, unit, sectors, steps)?;
     carries_out(rt, &mut backend, bench, &script.lines, steps)?;
     leaves(rt, &backend, bench, &script.left, steps)
 }
@@ -264,10 +311,12 @@ fn exercise<B: Bench, L: Ledger, R: Abort>(
     requires some { 0 < L.parts }
 {
     let mut steps = Steps::<L>::new(blank);
-    for script in &SCRIPTS {
-        run(rt, alloc, bench, script, &mut steps)?;
-    }
-    Ok(())
+    run(rt, alloc, bench, 4, 2, &SCRIPTS[0], &mut steps)?;
+    run(rt, alloc, bench, 8, 2, &SCRIPTS[1], &mut steps)?;
+    run(rt, alloc, bench, 16, 2, &SCRIPTS[2], &mut steps)?;
+    run(rt, alloc, bench, 4, 3, &SCRIPTS[3], &mut steps)?;
+    run(rt, alloc, bench, 8, 3, &SCRIPTS[4], &mut steps)?;
+    run(rt, alloc, bench, 16, 3, &SCRIPTS[5], &mut steps)
 }
 
 #[test]

@@ -1,5 +1,5 @@
 -- What each step of a collection leaves of an area: its form, its items, its room.
-use Rattle.std.proofs.Common.{◌≡◌, ℕ, ◌+◌, ◌-◌, ◌*◌, ◌^◌, ◌<◌, ◌≤◌, true, false, List, [], ◌∷◌, ◌++◌, length, set, None, refl, sym, ap, subst, ◌∙◌, inl, inr, ◌⊎◌, arith}
+use Rattle.std.proofs.Common.{◌≡◌, ℕ, ◌+◌, ◌*◌, ◌≤◌, true, List, [], ◌∷◌, ◌++◌, length, set, None, refl, sym, ap, subst, ◌∙◌, inl, inr, arith}
 use Rattle.std.specs.List.{flat_map}
 use Rattle.std.proofs.lemmas.List.{length-set, set-set, set-get_or}
 use Rattle.std.proofs.lemmas.List.Sums.{sum_by_push}
@@ -12,20 +12,19 @@ use Rattle.flash_map.specs.Units.{IsUnit}
 use Rattle.slot_list.specs.Items.{last, SameItems, items_of}
 use Rattle.slot_list.specs.Slots.{is_erased}
 use Rattle.slot_list.proofs.ItemLemmas as items
-use Rattle.sector_ring.specs.Area.{next, open_sector, area_pairs}
-use Rattle.sector_ring.specs.Forms.{AtRest, Collecting, Collected, IsForm, pairs_at, rest, to_copy}
+use Rattle.sector_ring.specs.Area.{next, area_pairs}
+use Rattle.sector_ring.specs.Forms.{Collecting, Collected, IsForm, pairs_at, rest, to_copy}
 use Rattle.sector_ring.specs.Rounds.{copies_cost, Collects}
 use Rattle.sector_ring.specs.Steps as ring_steps
 use Rattle.sector_ring.proofs.Collects.{put_copy}
-use Rattle.sector_ring.proofs.Lists.{there, elsewhere}
+use Rattle.sector_ring.proofs.Lists.{elsewhere}
 use Rattle.sector_ring.proofs.LiveCost.{live-le, stored-le}
-use Rattle.sector_ring.proofs.Places.{after, after-apart, after-within}
+use Rattle.sector_ring.proofs.Places.{after-apart, after-within}
 use Rattle.sector_ring.proofs.RingSteps.{reads}
-use Rattle.sector_ring.proofs.Rings.{open-not_closed}
 use Rattle.sector_ring.proofs.Rounding.{marked_copies, collection}
 use Rattle.nvs_store.specs.Geometry.{slot_size, cost, capacity}
-use Rattle.nvs_store.specs.Sector.{pairs, pairs_cost, low, data_end, is_closed, has_gc_done, is_sound, AddsPair, KeepsList, MarksDone}
-use Rattle.nvs_store.specs.Scans.{reading, list_of, damage_of, ChangesOnly, AddsPairAt, StopsAddingAt, MarksDoneAt, StopsMarkingAt}
+use Rattle.nvs_store.specs.Sector.{pairs, pairs_cost, low, data_end, has_gc_done, is_sound}
+use Rattle.nvs_store.specs.Scans.{reading, list_of, damage_of, ChangesOnly, AddsPairAt, MarksDoneAt}
 use Rattle.nvs_store.proofs.Blank.{blank-closed, blank-not_done, blank-pairs, reads-blank}
 use Rattle.nvs_store.proofs.ScanLemmas.{blank-low, blank-data_end}
 use Rattle.nvs_store.proofs.Sound.{sound-costs}

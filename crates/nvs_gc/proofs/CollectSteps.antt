@@ -1,23 +1,22 @@
 -- From the copies of a collection to its end, on a flash.
-use Rattle.std.proofs.Common.{◌≡◌, ℕ, ◌+◌, ◌-◌, ◌*◌, ◌/◌, ◌<◌, ◌≤◌, true, false, List, [], ◌∷◌, length, set, replicate, None, refl, sym, ap, subst, ◌∙◌, inl, inr, ◌⊎◌, arith}
+use Rattle.std.proofs.Common.{◌≡◌, ℕ, ◌+◌, ◌*◌, ◌/◌, ◌<◌, ◌≤◌, true, List, length, set, replicate, None, sym, ap, subst, ◌∙◌, inl, inr, arith}
 use Rattle.std.specs.Prelude.{Result, Ok, Err, OnOk, OnErr}
 use Rattle.flash_sim.specs.Bank.{IsLawful, bank_at}
 use Rattle.flash_sim.specs.declared.flash.Bank.{Bank}
 use Rattle.flash_sim.specs.Device.{Device, Erases, FailsToErase}
 use Rattle.flash_map.specs.declared.area.Area.{Area}
-use Rattle.flash_map.specs.Area.{IsLawfulArea, unit_of, sector_at, sector_size, sectors_of}
+use Rattle.flash_map.specs.Area.{unit_of, sector_at, sector_size, sectors_of}
 use Rattle.flash_map.specs.Lawful.{IsLawfulFor}
 use Rattle.flash_map.specs.Spending.{Spends, SpendsAtMost}
 use Rattle.flash_map.specs.Units.{IsUnit}
 use Rattle.flash_map.proofs.Places.{length-sector}
-use Rattle.flash_map.proofs.SpendingLemmas.{spends_then, spends_then_most, most_weaker, spends_most}
+use Rattle.flash_map.proofs.SpendingLemmas.{spends_then, spends_then_most, most_weaker}
 use Rattle.slot_list.specs.Items.{items_of}
-use Rattle.slot_list.specs.Slots.{is_erased}
 use Rattle.sector_ring.specs.Area.{next}
 use Rattle.sector_ring.specs.Forms.{Collecting, to_copy}
 use Rattle.sector_ring.proofs.Places.{after-within}
 use Rattle.nvs_store.specs.declared.scan.Scan.{Scan}
-use Rattle.nvs_store.specs.Geometry.{slot_size, cost, capacity}
+use Rattle.nvs_store.specs.Geometry.{slot_size, capacity}
 use Rattle.nvs_store.specs.Sector.{low, data_end, pairs, pairs_cost, is_sound}
 use Rattle.nvs_store.specs.Scans.{reading, list_of, damage_of, scan_of, scan_at, free, MarksDoneAt, StopsMarkingAt}
 use Rattle.nvs_store.proofs.Appending.{scan_there}
@@ -25,10 +24,10 @@ use Rattle.nvs_store.proofs.MountLemmas.{length-sectors}
 use Rattle.nvs_store.proofs.ScanLemmas.{erased-replicate}
 use Rattle.nvs_store.proofs.SlotReads.{slot_widths}
 use Rattle.nvs_store.proofs.Views.{unit_is}
-use Rattle.nvs_gc.specs.Collecting.{HasCopied, StopsCopying, KeepsMarks, CollectsAt}
+use Rattle.nvs_gc.specs.Collecting.{HasCopied, KeepsMarks, CollectsAt}
 use Rattle.nvs_gc.specs.Spending.{copied}
 use Rattle.nvs_gc.specs.Standing.{KeepsItems}
-use Rattle.nvs_gc.proofs.Areas.{same_unit, keeps-by, keeps-on, stopped-keeps, has_stopped, HasMarked, one_marked, marked-keeps, marks_sound, collected_at, copied-le}
+use Rattle.nvs_gc.proofs.Areas.{same_unit, keeps-by, keeps-on, stopped-keeps, has_stopped, one_marked, marked-keeps, marks_sound, collected_at, copied-le}
 use Rattle.nvs_gc.proofs.CopyLoop.{marks_stopped, units_more, copies-whole}
 
 pub same_size : (a d : Device) (area : Area) → d.banks ≡ a.banks → sector_size d area ≡ sector_size a area

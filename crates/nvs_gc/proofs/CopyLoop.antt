@@ -1,15 +1,13 @@
 -- The copies of a collection, one slot of the victim after the other.
-use Rattle.std.proofs.Common.{◌≡◌, ℕ, ◌+◌, ◌-◌, ◌*◌, ◌/◌, ◌%◌, ◌<◌, ◌≤◌, Bool, true, false, List, [], ◌∷◌, ◌++◌, length, Option, Some, None, refl, sym, ap, subst, ◌∙◌, inl, inr, ◌⊎◌, arith}
+use Rattle.std.proofs.Common.{◌≡◌, ℕ, ◌+◌, ◌*◌, ◌/◌, ◌%◌, ◌<◌, ◌≤◌, true, false, List, [], ◌∷◌, length, Option, Some, None, refl, sym, ap, subst, ◌∙◌, inl, inr, ◌⊎◌, arith}
 use Rattle.std.proofs.Math.Nat.{zero-mod}
 use Rattle.std.proofs.lemmas.List.Sums.{sum_by-cons}
-use Rattle.flash_sim.specs.Bank.{IsLawful}
 use Rattle.flash_sim.specs.Device.{Device}
 use Rattle.flash_map.specs.declared.area.Area.{Area}
-use Rattle.flash_map.specs.Area.{IsLawfulArea, unit_of, sector_at, sector_size, sectors_of}
+use Rattle.flash_map.specs.Area.{unit_of, sector_at, sectors_of}
 use Rattle.flash_map.specs.Spending.{Spends, SpendsAtMost}
 use Rattle.flash_map.specs.Touches.{Touches}
 use Rattle.flash_map.specs.Units.{IsUnit, padded}
-use Rattle.flash_map.proofs.Places.{length-sector}
 use Rattle.flash_map.proofs.Rounding.{by_unit, padding}
 use Rattle.flash_map.proofs.SpendingLemmas.{spends_none, spends_then, spends_then_most, units_le}
 use Rattle.flash_map.proofs.Touches.{then, untouched}
@@ -18,18 +16,14 @@ use Rattle.sector_ring.specs.Area.{next, open_sector}
 use Rattle.sector_ring.proofs.RingSteps.{reads}
 use Rattle.sector_ring.specs.Forms.{Collecting, to_copy}
 use Rattle.sector_ring.specs.Rounds.{copies_cost}
-use Rattle.sector_ring.proofs.Places.{after, after-apart, after-within}
 use Rattle.nvs_store.specs.declared.scan.Found.{Found}
 use Rattle.nvs_store.specs.declared.scan.Scan.{Scan}
 use Rattle.nvs_store.specs.Geometry.{slot_size, cost, capacity}
-use Rattle.nvs_store.specs.Sector.{low, data_end, used_slots, is_closed, has_gc_done}
-use Rattle.nvs_store.specs.Scans.{reading, scan_of, scan_at, all_found, free, found_bytes, ChangesOnly, AddsPairAt, StopsAddingAt}
-use Rattle.nvs_store.proofs.Appending.{scan_there, open_is}
-use Rattle.nvs_store.proofs.MountLemmas.{length-sectors}
+use Rattle.nvs_store.specs.Sector.{low, data_end, used_slots}
+use Rattle.nvs_store.specs.Scans.{reading, scan_of, scan_at, all_found, free, found_bytes, AddsPairAt, StopsAddingAt}
+use Rattle.nvs_store.proofs.Appending.{scan_there}
 use Rattle.nvs_store.proofs.Putting.{slot_size-is}
-use Rattle.nvs_store.proofs.SlotReads.{slot_widths}
-use Rattle.nvs_store.proofs.Views.{unit_is}
-use Rattle.nvs_gc.specs.Collecting.{live_in, live_to, pair_of_found, HasCopied, StopsCopying, KeepsMarks, CopiesOne, cost_of}
+use Rattle.nvs_gc.specs.Collecting.{live_in, live_to, HasCopied, StopsCopying, KeepsMarks, CopiesOne, cost_of}
 use Rattle.nvs_gc.specs.Latest.{Tells}
 use Rattle.nvs_gc.specs.Spending.{copied}
 use Rattle.nvs_gc.proofs.Areas.{same_unit, stopped, has_stopped, none_copied, one_copied, only_then, copied-le}

@@ -1,12 +1,11 @@
 -- How writing and deleting end.
-use Rattle.std.proofs.Common.{◌≡◌, ℕ, ◌+◌, ◌-◌, ◌*◌, ◌/◌, ◌<◌, ◌≤◌, Bool, true, false, cond, eqb, List, [], ◌∷◌, ◌++◌, length, Option, Some, None, refl, sym, ap, subst, ◌∙◌, inl, inr, ◌⊎◌, arith}
+use Rattle.std.proofs.Common.{◌≡◌, ℕ, ◌+◌, ◌*◌, ◌/◌, Bool, true, false, cond, eqb, List, [], ◌∷◌, ◌++◌, Option, Some, None, refl, sym, ap, subst, ◌∙◌, inl, inr, ◌⊎◌, arith}
 use Rattle.std.specs.Prelude.{Result, Ok, Err, OnOk, OnErr, option_map, is_some, is_err}
 use Rattle.std.specs.FinMap as map
-use Rattle.std.proofs.lemmas.Bool.{false≢true, cases_Bool, cond-true, cond-false, ne_eqb, eqb-true}
+use Rattle.std.proofs.lemmas.Bool.{cases_Bool, eqb-true}
 use Rattle.flash_sim.specs.Device.{Device}
 use Rattle.flash_sim.specs.declared.flash.PowerLost.{PowerLost as Lost}
 use Rattle.flash_map.specs.declared.area.Area.{Area}
-use Rattle.flash_map.specs.Area.{unit_of, sector_size}
 use Rattle.flash_map.specs.Spending.{Spends, SpendsAtMost}
 use Rattle.flash_map.specs.Touches.{Touches}
 use Rattle.flash_map.proofs.SpendingLemmas.{spends_none, spends_most, most_weaker}
@@ -16,9 +15,9 @@ use Rattle.slot_list.proofs.ItemLemmas.{items_of-push, get-items_of, same_map}
 use Rattle.slot_list.proofs.Pairs.{last-push}
 use Rattle.nvs_store.specs.Geometry.{cost}
 use Rattle.nvs_gc.specs.declared.nvs.Nvs.{Nvs}
-use Rattle.nvs_gc.specs.Ends.{Holds, Fits, IsShort, Writes, StopsWriting, Deletes, StopsDeleting, DeleteEnds}
+use Rattle.nvs_gc.specs.Ends.{Fits, Deletes, StopsDeleting, DeleteEnds}
 use Rattle.nvs_gc.specs.Spending.{sector_units, entry_units, most_units}
-use Rattle.nvs_gc.specs.Standing.{StandsOn, IsUndamaged, KeepsItems, list_on, items_on}
+use Rattle.nvs_gc.specs.Standing.{IsUndamaged, KeepsItems, list_on, items_on}
 use Rattle.nvs_gc.proofs.Areas.{same_unit}
 use Rattle.nvs_gc.proofs.WriteSteps.{most_then}
 

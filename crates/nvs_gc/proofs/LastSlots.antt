@@ -1,6 +1,6 @@
 -- The last entry of each id, one entry after another.
 use Rattle.std.proofs.Common.{◌≡◌, ℕ, ◌+◌, ◌-◌, ◌^◌, ◌<◌, ◌≤◌, Bool, true, false, not, ◌&&◌, cond, eqb, ltb, List, [], ◌∷◌, ◌++◌, length, map, Option, Some, None, refl, sym, ap, subst, ◌∙◌, inl, inr, append_assoc, arith}
-use Rattle.std.specs.Prelude.{fold, replicate, slice_set, slice_index}
+use Rattle.std.specs.Prelude.{replicate, slice_set, slice_index}
 use Rattle.std.specs.List.{cons_option, flat_map, range_with_len}
 use Rattle.std.specs.Option.{option_map, option_map_or, option_and_then, option_to_list}
 use Rattle.std.proofs.lemmas.Bool.{cases_Bool, eqb-true, ne_eqb, eq-eqb, false≢true}
@@ -8,7 +8,7 @@ use Rattle.std.proofs.lemmas.List.{map-append, append-nil, length-replicate, len
 use Rattle.std.proofs.lemmas.Grind.{get_or-set_at}
 use Rattle.std.proofs.lemmas.List.Concat.{flat_map-append, flat_map-cons}
 use Rattle.std.proofs.lemmas.List.Sums.{fold_push}
-use Rattle.sector_ring.specs.Area.{next, round, is_closed_at, counts_at, open_sector}
+use Rattle.sector_ring.specs.Area.{next, round, is_closed_at, counts_at}
 use Rattle.flash_map.specs.Area.{sector_at}
 use Rattle.sector_ring.proofs.Places.{range-append, range_one}
 use Rattle.nvs_store.specs.declared.scan.Found.{Found}

@@ -1,18 +1,14 @@
 -- Which form an area has by what a mount has to do, and what a mount leaves.
-use Rattle.std.proofs.Common.{◌≡◌, ℕ, ◌+◌, ◌-◌, ◌*◌, ◌/◌, ◌<◌, ◌≤◌, Bool, true, false, cond, List, [], ◌∷◌, length, set, replicate, None, refl, sym, ap, subst, ◌∙◌, inl, inr, ◌⊎◌, arith}
+use Rattle.std.proofs.Common.{◌≡◌, ℕ, ◌+◌, ◌*◌, ◌/◌, ◌<◌, ◌≤◌, true, false, cond, List, length, set, replicate, None, refl, sym, ap, subst, ◌∙◌, inl, inr, arith}
 use Rattle.std.proofs.lemmas.Bool.{le-ltb}
-use Rattle.flash_sim.specs.Bank.{IsLawful}
 use Rattle.flash_sim.specs.Device.{Device}
 use Rattle.flash_map.specs.declared.area.Area.{Area}
-use Rattle.flash_map.specs.Area.{unit_of, sector_at, sector_size, sectors_of}
-use Rattle.flash_map.specs.Lawful.{IsLawfulFor}
+use Rattle.flash_map.specs.Area.{unit_of, sector_at, sectors_of}
 use Rattle.flash_map.specs.Spending.{Spends, SpendsAtMost}
-use Rattle.flash_map.specs.Units.{IsUnit}
-use Rattle.flash_map.proofs.Places.{length-sector}
-use Rattle.flash_map.proofs.SpendingLemmas.{spends_then, spends_then_most, most_weaker}
+use Rattle.flash_map.proofs.SpendingLemmas.{spends_then, spends_then_most}
 use Rattle.slot_list.specs.Items.{last, items_of}
 use Rattle.slot_list.specs.Slots.{is_erased}
-use Rattle.sector_ring.specs.Area.{next, open_sector, area_pairs}
+use Rattle.sector_ring.specs.Area.{next, area_pairs}
 use Rattle.sector_ring.specs.Forms.{AtRest, Collecting, Collected, IsForm, to_copy}
 use Rattle.sector_ring.specs.Rounds.{copies_cost, Collects}
 use Rattle.sector_ring.proofs.Collects.{put_copy, erase_victim}
@@ -22,21 +18,19 @@ use Rattle.sector_ring.proofs.RingSteps.{reads}
 use Rattle.sector_ring.proofs.Rings.{next-closed}
 use Rattle.sector_ring.proofs.Rounding.{collects_from}
 use Rattle.sector_ring.proofs.Undamaged.{form-of}
-use Rattle.nvs_store.specs.declared.scan.Redo.{Redo}
 use Rattle.nvs_store.specs.declared.scan.Redo.TheVariants.{Nothing, EraseNext, CollectAgain}
 use Rattle.nvs_store.specs.declared.scan.Scan.{Scan}
 use Rattle.nvs_store.specs.Geometry.{slot_size, cost}
-use Rattle.nvs_store.specs.Sector.{low, data_end, pairs, has_gc_done}
-use Rattle.nvs_store.specs.Scans.{reading, redo_of, scan_of, damage_of, list_of, ChangesOnly}
+use Rattle.nvs_store.specs.Sector.{low, has_gc_done}
+use Rattle.nvs_store.specs.Scans.{reading, redo_of, scan_of, damage_of, list_of}
 use Rattle.nvs_store.proofs.Appending.{open_is}
 use Rattle.nvs_store.proofs.Blank.{blank-closed, blank-not_done, reads-blank}
-use Rattle.nvs_store.proofs.MountLemmas.{redo_is, length-sectors}
+use Rattle.nvs_store.proofs.MountLemmas.{redo_is}
 use Rattle.nvs_store.proofs.ScanLemmas.{erased-replicate}
 use Rattle.nvs_gc.specs.Collecting.{Empties, CollectsAt}
 use Rattle.nvs_gc.specs.Spending.{copied, redo_units}
-use Rattle.nvs_gc.specs.Standing.{KeepsItems, IsUndamaged}
+use Rattle.nvs_gc.specs.Standing.{KeepsItems}
 use Rattle.nvs_gc.proofs.Areas.{same_unit, keeps-by, keeps-on}
-use Rattle.nvs_gc.proofs.CollectSteps.{collected-keeps}
 
 -- ---- what a mount has to do, by the form
 

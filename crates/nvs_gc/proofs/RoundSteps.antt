@@ -1,8 +1,7 @@
 -- A whole round of close and collect, and the room that it leaves.
-use Rattle.std.proofs.Common.{◌≡◌, ℕ, ◌+◌, ◌-◌, ◌*◌, ◌/◌, ◌<◌, ◌≤◌, Bool, true, false, cond, eqb, leb, List, [], ◌∷◌, length, set, None, refl, sym, ap, subst, ◌∙◌, inl, inr, ◌⊎◌, arith}
-use Rattle.std.specs.List.{flat_map, range_with_len, All}
-use Rattle.std.proofs.lemmas.Bool.{false≢true, cases_Bool, cases_eq, cond-true, cond-false, eq-eqb, ne_eqb, leb-false, le-leb}
-use Rattle.std.proofs.lemmas.List.{length-set}
+use Rattle.std.proofs.Common.{◌≡◌, ℕ, ◌+◌, ◌*◌, ◌/◌, ◌<◌, ◌≤◌, Bool, true, false, cond, eqb, leb, List, [], ◌∷◌, length, None, sym, ap, subst, ◌∙◌, inl, inr, ◌⊎◌, arith}
+use Rattle.std.specs.List.{flat_map, All}
+use Rattle.std.proofs.lemmas.Bool.{false≢true, cases_Bool, cases_eq, cond-true, cond-false, ne_eqb, leb-false, le-leb}
 use Rattle.std.proofs.lemmas.List.Elements.{All-nil, All-cons}
 use Rattle.std.specs.Prelude.{Result, OnOk, OnErr}
 use Rattle.std.proofs.lemmas.Result.{on_ok_weaker, on_err_weaker}
@@ -20,13 +19,12 @@ use Rattle.flash_map.proofs.SpendingLemmas.{units_le, spends_then, spends_then_m
 use Rattle.slot_list.specs.Items.{last, items_of}
 use Rattle.slot_list.specs.Live.{live_pairs}
 use Rattle.slot_list.specs.Slots.{is_erased}
-use Rattle.sector_ring.specs.Area.{next, open_sector, area_pairs}
-use Rattle.sector_ring.specs.Forms.{AtRest, Collecting, IsForm, pairs_at, rest, to_copy}
+use Rattle.sector_ring.specs.Area.{next, area_pairs}
+use Rattle.sector_ring.specs.Forms.{AtRest, Collecting, IsForm, pairs_at, rest}
 use Rattle.sector_ring.specs.Rounds.{copies_cost, Collects, IsRound}
 use Rattle.sector_ring.specs.Steps as ring_steps
 use Rattle.sector_ring.proofs.Collects.{close, next_blank}
-use Rattle.sector_ring.proofs.Lists.{there, elsewhere}
-use Rattle.sector_ring.proofs.Places.{after, after-within, after-apart, All-range, flat_map-agree}
+use Rattle.sector_ring.proofs.Places.{after, after-within, after-apart, flat_map-agree}
 use Rattle.sector_ring.proofs.RingSteps.{reads}
 use Rattle.sector_ring.proofs.Rings.{next-closed}
 use Rattle.sector_ring.proofs.Rounding.{round_blank, round_collected}
@@ -35,8 +33,8 @@ use Rattle.nvs_store.specs.declared.scan.Redo.TheVariants.{Nothing, CollectAgain
 use Rattle.nvs_store.specs.declared.scan.Scan.{Scan}
 use Rattle.nvs_store.specs.Geometry.{slot_size, cost, capacity}
 use Rattle.nvs_store.specs.Sector.{pairs, low, data_end, has_gc_done, is_closed, is_sound}
-use Rattle.nvs_store.specs.Scans.{reading, scan_of, scan_at, fits, free, list_of, damage_of, ChangesOnly, ClosesAt}
-use Rattle.nvs_store.proofs.Blank.{blank-closed, blank-not_done, blank-pairs, reads-blank}
+use Rattle.nvs_store.specs.Scans.{reading, scan_of, scan_at, fits, free, list_of, damage_of, ClosesAt}
+use Rattle.nvs_store.proofs.Blank.{blank-closed, blank-not_done, reads-blank}
 use Rattle.nvs_store.proofs.ScanLemmas.{blank-low, blank-data_end}
 use Rattle.nvs_store.proofs.MountLemmas.{length-sectors}
 use Rattle.nvs_store.proofs.SlotReads.{slot_widths}
@@ -48,7 +46,7 @@ use Rattle.nvs_gc.proofs.Areas.{same_unit, keeps-by, keeps-on, only_length, only
 use Rattle.nvs_gc.specs.Standing.{KeepsItems}
 use Rattle.nvs_gc.proofs.CollectSteps.{same_size}
 use Rattle.nvs_gc.proofs.Mounting.{redo-at_rest, redo-collecting, scan-place, scan-redo, keeps-same}
-use Rattle.nvs_gc.proofs.CopyLoop.{units_more, copies-whole, slot-whole}
+use Rattle.nvs_gc.proofs.CopyLoop.{units_more, slot-whole}
 
 -- ---- what fits
 

@@ -1,13 +1,11 @@
 -- What a store that stands says of its area.
-use Rattle.std.proofs.Common.{◌≡◌, ℕ, ◌+◌, ◌-◌, ◌<◌, ◌≤◌, cond, eqb, take, drop, true, false, List, length, Some, None, sym, ap, subst, ◌∙◌, arith}
+use Rattle.std.proofs.Common.{◌≡◌, ℕ, ◌+◌, ◌-◌, ◌<◌, ◌≤◌, eqb, take, drop, false, List, length, Some, None, ap, arith}
 use Rattle.std.specs.Prelude.{slice_range}
 use Rattle.std.proofs.lemmas.Bool.{ne_eqb, cond-false}
-use Rattle.std.proofs.lemmas.List.{length-take-le, length-drop}
 use Rattle.std.proofs.lemmas.List.Edits.{length-between}
 use Rattle.flash_sim.specs.Device.{Device}
 use Rattle.flash_map.specs.Area.{unit_of, sectors_of}
 use Rattle.slot_list.specs.Items.{value_of}
-use Rattle.sector_ring.specs.Area.{open_sector}
 use Rattle.sector_ring.specs.Forms.{AtRest}
 use Rattle.sector_ring.proofs.Stays.{open_within}
 use Rattle.nvs_store.specs.Scans.{reading}

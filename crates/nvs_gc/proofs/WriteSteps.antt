@@ -1,6 +1,6 @@
 -- Making room, and putting a pair, on a flash.
-use Rattle.std.proofs.Common.{◌≡◌, ℕ, zero, suc, ◌+◌, ◌-◌, ◌*◌, ◌/◌, ◌^◌, ◌<◌, ◌≤◌, Bool, true, false, cond, eqb, leb, List, [], ◌∷◌, ◌++◌, length, map, set, Option, Some, None, refl, sym, ap, subst, ◌∙◌, inl, inr, ◌⊎◌, arith}
-use Rattle.std.specs.Prelude.{fold, Result, Ok, Err, OnOk, OnErr}
+use Rattle.std.proofs.Common.{◌≡◌, ℕ, ◌+◌, ◌-◌, ◌*◌, ◌/◌, ◌<◌, ◌≤◌, Bool, true, false, cond, eqb, leb, List, [], ◌∷◌, ◌++◌, length, map, Option, Some, None, refl, sym, ap, subst, ◌∙◌, inl, inr, ◌⊎◌, arith}
+use Rattle.std.specs.Prelude.{fold, Result, Ok, Err, OnOk}
 use Rattle.std.specs.List.{flat_map}
 use Rattle.std.proofs.lemmas.Bool.{false≢true, cases_Bool, cases_eq, cond-true, cond-false, eq-eqb, ne_eqb, leb-true}
 use Rattle.std.proofs.lemmas.List.Sums.{fold_push}
@@ -8,20 +8,18 @@ use Rattle.flash_sim.specs.Bank.{IsLawful}
 use Rattle.flash_sim.specs.declared.flash.Bank.{Bank}
 use Rattle.flash_sim.specs.Device.{Device}
 use Rattle.flash_map.specs.declared.area.Area.{Area}
-use Rattle.flash_map.specs.Area.{IsLawfulArea, unit_of, sector_at, sector_size, sectors_of}
-use Rattle.flash_map.specs.Lawful.{IsLawfulFor}
+use Rattle.flash_map.specs.Area.{unit_of, sector_at, sector_size, sectors_of}
 use Rattle.flash_map.specs.Spending.{Spends, SpendsAtMost}
 use Rattle.flash_map.specs.Touches.{Touches}
 use Rattle.flash_map.specs.Units.{IsUnit}
 use Rattle.flash_map.proofs.Places.{length-sector}
 use Rattle.flash_map.proofs.SpendingLemmas.{spends_none, spends_then, spends_most, most_weaker}
 use Rattle.flash_map.proofs.Touches.{then, untouched}
-use Rattle.flash_map.proofs.Plans.{counted_counted}
 use Rattle.slot_list.specs.Items.{items_of, with_pair}
 use Rattle.slot_list.specs.Slots.{is_erased}
 use Rattle.slot_list.proofs.ItemLemmas.{items_of-push}
-use Rattle.sector_ring.specs.Area.{next, open_sector, area_pairs}
-use Rattle.sector_ring.specs.Forms.{AtRest, pairs_at, rest, to_copy}
+use Rattle.sector_ring.specs.Area.{next, area_pairs}
+use Rattle.sector_ring.specs.Forms.{AtRest, pairs_at, rest}
 use Rattle.sector_ring.specs.Rounds.{copies_cost, joined, live_cost, parts, collect_oldest, FindsNoRoom}
 use Rattle.slot_list.specs.Live.{live_pairs}
 use Rattle.sector_ring.specs.Steps as ring_steps
@@ -31,11 +29,10 @@ use Rattle.sector_ring.proofs.Parts.{parts-list, parts-count}
 use Rattle.sector_ring.proofs.Places.{after-within}
 use Rattle.sector_ring.proofs.RingSteps.{reads}
 use Rattle.sector_ring.proofs.Rounding.{oldest-is, round-live, no_round, round_more, no_room}
-use Rattle.nvs_store.specs.declared.scan.Redo.TheVariants.{Nothing}
 use Rattle.nvs_store.specs.declared.scan.Scan.{Scan}
 use Rattle.nvs_store.specs.Geometry.{slot_size, cost, capacity}
-use Rattle.nvs_store.specs.Sector.{low, is_sound, pairs}
-use Rattle.nvs_store.specs.Scans.{reading, scan_of, scan_at, fits, free, list_of, damage_of, ChangesOnly, AddsPairAt}
+use Rattle.nvs_store.specs.Sector.{low, is_sound}
+use Rattle.nvs_store.specs.Scans.{reading, scan_of, fits, free, list_of, damage_of, AddsPairAt}
 use Rattle.nvs_store.proofs.Appending.{scan_there}
 use Rattle.nvs_store.proofs.Blank.{reads-blank}
 use Rattle.nvs_store.proofs.MountLemmas.{length-sectors}
@@ -45,13 +42,13 @@ use Rattle.nvs_store.proofs.Views.{unit_is}
 use Rattle.nvs_gc.specs.declared.nvs.Nvs.{Nvs}
 use Rattle.nvs_gc.specs.Collecting.{TurnsAt}
 use Rattle.nvs_gc.specs.Ends.{Fits, IsShort}
-use Rattle.nvs_gc.specs.Spending.{copied, round_units, sector_units}
+use Rattle.nvs_gc.specs.Spending.{round_units, sector_units}
 use Rattle.nvs_gc.specs.Standing.{IsNvsArea, StandsOn, IsUndamaged, KeepsItems, list_on, items_on}
 use Rattle.nvs_gc.proofs.Areas.{same_unit}
 use Rattle.nvs_gc.proofs.CollectSteps.{same_size}
 use Rattle.nvs_gc.proofs.Mounting.{scan-place, scan-rested}
 use Rattle.nvs_gc.proofs.RoundSteps.{blank-room, units-round}
-use Rattle.nvs_gc.proofs.Standings.{several-sectors, rest-stands, current-inside}
+use Rattle.nvs_gc.proofs.Standings.{rest-stands, current-inside}
 
 pub ok_both : {T E : Type 0} (P Q : Type 0) (r : Result T E) → OnOk r P → OnOk r Q → OnOk r (P × Q)
 ok_both P Q (Ok x) p q = (p, q)

@@ -1,15 +1,15 @@
 -- How far a collection has come, and what its steps make of an area.
-use Rattle.std.specs.Prelude.{◌≡◌, ◌⊎◌, ℕ, ◌+◌, ◌-◌, ◌*◌, ◌<◌, ◌≤◌, Bool, true, false, ◌&&◌, List, ◌∷◌, [], length, map, Option, Some, None, ◌==◌, nat_lt, if◌then◌else◌}
+use Rattle.std.specs.Prelude.{◌≡◌, ℕ, ◌+◌, ◌*◌, ◌<◌, ◌≤◌, Bool, true, false, ◌&&◌, List, length, map, Option, Some, None, ◌==◌, nat_lt, if◌then◌else◌}
 use Rattle.std.specs.List.{filter_map, range_with_len}
 use Rattle.std.specs.Option.{option_and_then, option_map, option_map_or}
 use Rattle.flash_map.specs.Area.{sector_at}
 use Rattle.slot_list.specs.Slots.{is_erased}
-use Rattle.sector_ring.specs.Area.{next, open_sector}
+use Rattle.sector_ring.specs.Area.{next}
 use Rattle.sector_ring.specs.Forms.{to_copy, pairs_at}
 use Rattle.sector_ring.specs.Rounds.{copies_cost, Collects, IsRound}
 use Rattle.nvs_store.specs.declared.scan.Found.{Found}
 use Rattle.nvs_store.specs.Geometry.{slot_size, cost, capacity}
-use Rattle.nvs_store.specs.Sector.{slot_at, counting_entry, used_slots, pairs, low, data_end, is_closed, has_gc_done}
+use Rattle.nvs_store.specs.Sector.{slot_at, counting_entry, pairs, low, data_end, is_closed, has_gc_done}
 use Rattle.nvs_store.specs.Scans.{reading, scan_of, fits, found_at, found_bytes, last_found, ChangesOnly, AddsPairAt}
 
 -- the entry is the last of its id in the list, and has data

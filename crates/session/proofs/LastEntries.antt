@@ -1,6 +1,5 @@
 -- The last entry of each id, one entry after another.
 use Rattle.std.proofs.Common.{◌≡◌, ℕ, ◌+◌, ◌-◌, ◌≤◌, Bool, cond, eqb, List, [], ◌∷◌, ◌++◌, length, map, Option, Some, None, refl, sym, ap, subst, ◌∙◌, arith}
-use Rattle.std.specs.Prelude.{fold}
 use Rattle.std.specs.BTreeMap as tree
 use Rattle.std.specs.BTreeMap.{BTreeMap}
 use Rattle.std.specs.List.{cons_option, flat_map, range_with_len}
@@ -11,14 +10,13 @@ use Rattle.std.proofs.lemmas.Bool.Decides.{nat_tests}
 use Rattle.std.proofs.lemmas.List.{map-append, append-nil}
 use Rattle.std.proofs.lemmas.List.Concat.{flat_map-append, flat_map-cons}
 use Rattle.std.proofs.lemmas.List.Sums.{fold-append}
-use Rattle.flash_map.specs.Area.{sector_at}
-use Rattle.sector_ring.specs.Area.{round, open_sector}
+use Rattle.sector_ring.specs.Area.{round}
 use Rattle.sector_ring.proofs.Places.{range-append, range_one}
 use Rattle.nvs_store.specs.declared.scan.Found.{Found}
 use Rattle.nvs_store.specs.declared.scan.Placed.{Placed}
 use Rattle.nvs_store.specs.declared.scan.Scan.{Scan}
 use Rattle.nvs_store.specs.Sector.{slot_at, counting_entry}
-use Rattle.nvs_store.specs.Scans.{reading, scan_of, found_at, counted_in, last_found}
+use Rattle.nvs_store.specs.Scans.{scan_of, found_at, counted_in, last_found}
 use Rattle.nvs_store.proofs.Appending.{open_is}
 use Rattle.nvs_store.proofs.FoundLemmas.{among}
 use Rattle.nvs_store.proofs.Lookups.{entries_to, entries_to_more}

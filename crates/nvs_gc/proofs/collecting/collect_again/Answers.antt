@@ -1,7 +1,7 @@
-use Rattle.std.proofs.Common.{◌≡◌, ℕ, ◌+◌, ◌/◌, ◌<◌, List, true, length, refl, sym, ap, subst, ◌∙◌, inl, inr, arith}
+use Rattle.std.proofs.Common.{◌≡◌, ℕ, ◌+◌, ◌/◌, true, sym, subst, ◌∙◌, inl, inr, arith}
 use Rattle.flash_sim.specs.Device.{Device}
 use Rattle.flash_map.specs.declared.area.Area.{Area}
-use Rattle.flash_map.specs.Area.{unit_of, sector_at, sector_size, sectors_of}
+use Rattle.flash_map.specs.Area.{unit_of, sector_at, sectors_of}
 use Rattle.flash_map.specs.Spending.{Spends, SpendsAtMost}
 use Rattle.flash_map.proofs.PieceLemmas.{on_err}
 use Rattle.flash_map.proofs.Places.{length-sector}
@@ -11,7 +11,7 @@ use Rattle.flash_map.proofs.Sequence.{lawful_after}
 use Rattle.slot_list.specs.Slots.{is_erased}
 use Rattle.sector_ring.specs.Forms.{Collecting}
 use Rattle.nvs_store.specs.Geometry.{slot_size}
-use Rattle.nvs_store.specs.Scans.{reading, scan_of}
+use Rattle.nvs_store.specs.Scans.{reading}
 use Rattle.nvs_store.proofs.MountLemmas.{length-sectors}
 use Rattle.nvs_gc.specs.Collecting.{CollectsAt}
 use Rattle.nvs_gc.specs.Spending.{copied}

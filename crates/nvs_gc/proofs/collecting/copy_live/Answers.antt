@@ -1,9 +1,8 @@
-use Rattle.std.proofs.Common.{◌≡◌, ℕ, ◌+◌, ◌-◌, ◌*◌, ◌/◌, ◌<◌, ◌≤◌, List, length, refl, sym, ap, subst, ◌∙◌, arith}
+use Rattle.std.proofs.Common.{◌≡◌, ℕ, ◌+◌, ◌-◌, ◌*◌, ◌/◌, ◌≤◌, length, refl, sym, ap, subst, ◌∙◌, arith}
 use Rattle.flash_sim.specs.Device.{Device}
 use Rattle.flash_map.specs.declared.area.Area.{Area}
-use Rattle.flash_map.specs.Area.{unit_of, sector_at, sector_size, sectors_of}
+use Rattle.flash_map.specs.Area.{unit_of, sector_at, sectors_of}
 use Rattle.flash_map.specs.Spending.{Spends, SpendsAtMost}
-use Rattle.flash_map.specs.Units.{IsUnit}
 use Rattle.flash_map.proofs.PieceLemmas.{on_err}
 use Rattle.flash_map.proofs.Places.{length-sector}
 use Rattle.sector_ring.specs.Area.{next}

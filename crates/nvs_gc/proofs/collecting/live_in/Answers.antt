@@ -1,9 +1,7 @@
-use Rattle.std.proofs.Common.{◌≡◌, ℕ, ◌^◌, ◌<◌, ◌∙◌, Bool, true, false, cond, List, Some, None, ap, sym, arith}
-use Rattle.std.specs.Option.{option_and_then}
+use Rattle.std.proofs.Common.{◌∙◌, Bool, cond, Some, None, ap, sym, arith}
 use Rattle.flash_sim.specs.Device.{Device}
-use Rattle.flash_map.specs.Area.{unit_of, sector_at, sectors_of}
+use Rattle.flash_map.specs.Area.{unit_of, sectors_of}
 use Rattle.nvs_store.specs.declared.scan.Found.{Found}
-use Rattle.nvs_gc.specs.Collecting.{is_live}
 use Rattle.nvs_gc.proofs.LastSlots.{live_is}
 use Rattle.nvs_gc.proofs.collecting.live_in.Goals as goal
 

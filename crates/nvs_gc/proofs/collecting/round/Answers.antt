@@ -1,11 +1,9 @@
-use Rattle.std.proofs.Common.{◌≡◌, ℕ, ◌≤◌, ◌<◌, ◌/◌, List, length, sym, ap, subst, ◌∙◌, inr, arith}
-use Rattle.std.specs.Prelude.{OnOk, OnErr}
+use Rattle.std.proofs.Common.{◌/◌, inr, arith}
 use Rattle.flash_sim.specs.Device.{Device}
 use Rattle.flash_map.specs.declared.area.Area.{Area}
-use Rattle.flash_map.specs.Area.{unit_of, sector_size, sectors_of}
+use Rattle.flash_map.specs.Area.{unit_of, sectors_of}
 use Rattle.flash_map.proofs.PieceLemmas.{on_err}
 use Rattle.flash_map.proofs.SpendingLemmas.{most_weaker}
-use Rattle.flash_map.proofs.Touches.{then}
 use Rattle.sector_ring.proofs.Rings.{open-not_closed}
 use Rattle.nvs_store.specs.Geometry.{slot_size}
 use Rattle.nvs_store.specs.Scans.{reading}
@@ -13,7 +11,7 @@ use Rattle.nvs_store.proofs.MountLemmas.{length-sectors}
 use Rattle.nvs_store.proofs.Views.{unit_is}
 use Rattle.nvs_gc.specs.Spending.{round_units}
 use Rattle.nvs_gc.proofs.Mounting.{rest-there}
-use Rattle.nvs_gc.proofs.RoundSteps.{round_keeps, keeps_round, round_turns, round_spent, round_most, close_lost, units-close}
+use Rattle.nvs_gc.proofs.RoundSteps.{keeps_round, round_turns, round_spent, round_most, close_lost, units-close}
 use Rattle.nvs_gc.proofs.collecting.round.Goals as goal
 
 pub put_close-requires-clause-free : goal.put_close-requires-clause-free

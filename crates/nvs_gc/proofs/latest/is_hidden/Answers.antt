@@ -1,7 +1,5 @@
-use Rattle.std.proofs.Common.{ℕ, ◌∙◌, List, ap, sym}
-use Rattle.std.specs.Prelude.{not}
+use Rattle.std.proofs.Common.{ℕ, ◌∙◌, ap, sym}
 use Rattle.nvs_gc.proofs.LastSlots.{counts_all, counts_but_victim, counts_but_open}
-use Rattle.sector_ring.specs.Area.{next}
 use Rattle.sector_ring.proofs.Places.{after}
 use Rattle.nvs_gc.proofs.latest.is_hidden.Goals as goal
 

@@ -1,8 +1,7 @@
-use Rattle.std.proofs.Common.{◌≡◌, ℕ, ◌-◌, ◌++◌, List, sym, ap, subst, arith}
+use Rattle.std.proofs.Common.{◌≡◌, ℕ, ◌-◌, ◌++◌, List, sym, subst, arith}
 use Rattle.std.proofs.lemmas.List.{append-nil}
 use Rattle.flash_sim.specs.Device.{Device}
 use Rattle.flash_map.specs.Area.{unit_of, sectors_of}
-use Rattle.nvs_store.specs.declared.scan.Found.{Found}
 use Rattle.nvs_store.proofs.FoundLemmas.{among}
 use Rattle.nvs_gc.specs.Latest.{Tells}
 use Rattle.nvs_gc.proofs.LastSlots.{tells_sector}

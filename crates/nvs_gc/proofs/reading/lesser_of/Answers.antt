@@ -1,4 +1,4 @@
-use Rattle.std.proofs.Common.{ℕ, ◌≤◌, List, ap, arith}
+use Rattle.std.proofs.Common.{ℕ, List, arith}
 use Rattle.flash_sim.specs.Device.{Device}
 use Rattle.flash_map.specs.Area.{unit_of, sector_at, sectors_of}
 use Rattle.nvs_store.specs.Sector.{slot_at, counting_entry}

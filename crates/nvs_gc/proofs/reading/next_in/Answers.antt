@@ -1,8 +1,7 @@
-use Rattle.std.proofs.Common.{◌≡◌, ℕ, ◌+◌, ◌-◌, ◌<◌, ◌≤◌, List, subst, ap, ◌∙◌, arith}
+use Rattle.std.proofs.Common.{◌≡◌, ℕ, ◌+◌, ◌-◌, List, subst, arith}
 use Rattle.std.proofs.lemmas.List.Elements.{All-nil}
 use Rattle.flash_sim.specs.Device.{Device}
 use Rattle.flash_map.specs.Area.{unit_of, sector_at, sectors_of}
-use Rattle.nvs_store.specs.declared.scan.Placed.{Placed}
 use Rattle.nvs_store.proofs.Lookups.{entries_to, entries_to_used}
 use Rattle.nvs_gc.specs.Ends.{IsNotBetween, HasNoneBetween}
 use Rattle.nvs_gc.proofs.NextIds.{from_then, none_more}

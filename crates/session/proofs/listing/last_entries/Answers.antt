@@ -1,4 +1,4 @@
-use Rattle.std.proofs.Common.{◌≡◌, ℕ, ◌+◌, ◌<◌, List, length, sym, arith}
+use Rattle.std.proofs.Common.{◌≡◌, ℕ, ◌<◌, List, length, sym, arith}
 use Rattle.flash_sim.specs.Device.{Device}
 use Rattle.flash_map.specs.Area.{unit_of, sectors_of}
 use Rattle.sector_ring.specs.Area.{open_sector}
@@ -7,7 +7,6 @@ use Rattle.nvs_store.specs.Scans.{reading}
 use Rattle.nvs_store.proofs.Appending.{open_is}
 use Rattle.nvs_store.proofs.MountLemmas.{length-sectors}
 use Rattle.session.proofs.LastEntries.{notes_all}
-use Rattle.session.proofs.listing.last_entries.Given.{Over}
 use Rattle.session.proofs.listing.last_entries.Goals as goal
 
 pub overflow_add-older : goal.overflow_add-older

@@ -1,4 +1,4 @@
-use Rattle.std.proofs.Common.{◌≡◌, ◌∷◌, drop, true}
+use Rattle.std.proofs.Common.{◌∷◌, drop}
 use Rattle.script_lines.specs.declared.line.Line.TheVariants.{Mount}
 use Rattle.session.specs.Standing.{IsSound, IsReady}
 use Rattle.session.proofs.SoFar.{SoFar}

@@ -1,11 +1,9 @@
-use Rattle.std.proofs.Common.{◌≡◌, ℕ, List, [], not, sym, ap, ◌∙◌}
-use Rattle.std.specs.Prelude.{option_map, is_err}
+use Rattle.std.proofs.Common.{not, ap, ◌∙◌}
+use Rattle.std.specs.Prelude.{is_err}
 use Rattle.flash_sim.specs.Device.{Device}
-use Rattle.flash_map.specs.Touches.{Touches}
 use Rattle.std.specs.FinMap as map
 use Rattle.nvs_gc.specs.declared.nvs.Nvs.{Nvs}
 use Rattle.nvs_gc.specs.Standing.{items_on}
-use Rattle.flash_map.proofs.PieceLemmas.{on_err}
 use Rattle.nvs_gc.proofs.EndLemmas.{then_undamaged, then_touches, delete_absent, delete_stops, delete_ends, gets_none, gets_some, err_standing, err_down}
 use Rattle.nvs_gc.proofs.nvs.Nvs.delete.Goals as goal
 

@@ -1,6 +1,6 @@
 use Rattle.std.proofs.Common.{◌≡◌, ◌+◌, ◌∙◌, Some, List, ℕ, sym, ap, arith}
 use Rattle.std.specs.Prelude.{slice_range}
-use Rattle.flash_map.specs.Area.{unit_of, sectors_of, sector_at}
+use Rattle.flash_map.specs.Area.{sectors_of, sector_at}
 use Rattle.flash_map.proofs.Places.{length-sector}
 use Rattle.slot_list.proofs.ItemLemmas.{get-items_of}
 use Rattle.nvs_gc.specs.Standing.{list_on}

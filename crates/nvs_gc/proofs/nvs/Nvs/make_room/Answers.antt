@@ -1,16 +1,14 @@
-use Rattle.std.proofs.Common.{◌≡◌, ℕ, ◌+◌, ◌-◌, ◌*◌, ◌<◌, ◌≤◌, true, false, List, length, refl, sym, ap, subst, ◌∙◌, arith}
+use Rattle.std.proofs.Common.{◌≡◌, ℕ, ◌+◌, ◌-◌, ◌*◌, ◌≤◌, true, sym, ap, subst, ◌∙◌, arith}
 use Rattle.std.proofs.Math.Nat.{mul-le-mul_left}
 use Rattle.flash_sim.specs.Device.{Device}
-use Rattle.flash_map.specs.declared.area.Area.{Area}
 use Rattle.flash_map.specs.declared.area.Geometry.{Geometry}
 use Rattle.flash_map.specs.Area.{unit_of, sectors_of}
 use Rattle.flash_map.proofs.SpendingLemmas.{most_weaker}
 use Rattle.sector_ring.proofs.Parts.{parts-count}
-use Rattle.sector_ring.specs.Rounds.{parts}
 use Rattle.nvs_store.specs.Scans.{reading, fits}
 use Rattle.nvs_store.proofs.MountLemmas.{length-sectors}
 use Rattle.nvs_gc.specs.declared.nvs.Nvs.{Nvs}
-use Rattle.nvs_gc.specs.Spending.{round_units, sector_units}
+use Rattle.nvs_gc.specs.Spending.{sector_units}
 use Rattle.nvs_gc.proofs.Standings.{rest-stands}
 use Rattle.nvs_gc.proofs.WriteSteps.{IsSearching, same_or_unfit, searching_start, searching_more, fits_now, used_now, unfit_now, most_more, items_more, touches_more, nothing_fits}
 use Rattle.nvs_gc.proofs.nvs.Nvs.make_room.Goals as goal

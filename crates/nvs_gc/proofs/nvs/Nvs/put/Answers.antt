@@ -1,4 +1,3 @@
-use Rattle.std.proofs.Common.{List, ℕ}
 use Rattle.flash_sim.specs.Device.{Device}
 use Rattle.flash_map.proofs.PieceLemmas.{on_err}
 use Rattle.nvs_gc.proofs.WriteSteps.{undamaged_put, items_put, items_lost, stands_put}

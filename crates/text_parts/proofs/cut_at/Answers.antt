@@ -1,6 +1,6 @@
 use Rattle.std.proofs.Common.{◌==◌, ◌∙◌, sym}
-use Rattle.script_lines.proofs.PartLemmas.{cut_none, cut_some}
-use Rattle.script_lines.proofs.parts.cut_at.Goals as goal
+use Rattle.text_parts.proofs.PartLemmas.{cut_none, cut_some}
+use Rattle.text_parts.proofs.cut_at.Goals as goal
 
 pub returns-in-Some-clause-first : goal.returns-in-Some-clause-first
 returns-in-Some-clause-first c =

@@ -1,0 +1,65 @@
+-- The entries of NVS, as the laws on live items ask for them.
+use Rattle.std.proofs.Common.{◌≡◌, ℕ, ◌+◌, ◌-◌, true, List, length, Some, None, refl, sym, ap, ◌∙◌, inl, inr, arith}
+use Rattle.std.specs.Prelude.{slice_range}
+use Rattle.std.proofs.lemmas.List.Edits.{length-between}
+use Rattle.slot_list.proofs.SlotLemmas.{index-slot_at, start-slot_at}
+use Rattle.live_items.specs.Entries.{Entries, AreEntries}
+use Rattle.live_items.proofs.SlotEntries.{read-slots}
+use Rattle.nvs_store.specs.declared.scan.Found.{Found}
+use Rattle.nvs_store.specs.declared.scan.Placed.{Placed}
+use Rattle.nvs_store.specs.Geometry.{slot_size, cost}
+use Rattle.nvs_store.specs.Sector.{slot_at, is_used, counting_entry, entries, used_slots}
+use Rattle.nvs_store.specs.Scans.{reading, found_at}
+use Rattle.nvs_store.proofs.Marks.{counting_entry_counts, counting_entry_under}
+
+abbrev pub nvs : ℕ → Entries Placed Found
+nvs unit = record {
+  reading = reading unit;
+  entries = entries unit;
+  in_slot = λ b n. counting_entry unit (slot_at unit b n);
+  first = 1;
+  slots = λ b. length (used_slots unit b);
+  is_sound = λ b. true;
+  placed_at = found_at;
+  sector = λ f. f.sector;
+  slot = λ f. f.slot;
+  id = λ f. f.entry.id;
+  len = λ f. f.entry.len;
+  bytes = λ b f. slice_range b f.entry.offset (f.entry.offset + f.entry.len);
+  cost = cost unit;
+}
+
+none_some : {X : Type 0} {x : X} → None ≡ Some x → ⊥
+none_some e = cc
+
+some_is : {X : Type 0} (x y : X) → Some x ≡ Some y → x ≡ y
+some_is x y e = cc
+
+slot_is : (unit : ℕ) (b : List ℕ) (n : ℕ) (e : Placed) → counting_entry unit (slot_at unit b n) ≡ Some e → e.slot ≡ n
+slot_is unit b n e some =
+    elim (counting_entry_counts unit (slot_at unit b n)) [
+      | inl none ↦ absurd (none_some (sym none ∙ some))
+      | inr (f, is, counted, at) ↦ sym (ap (λ (p : Placed). p.slot) (some_is f e (sym is ∙ some))) ∙ at ∙ index-slot_at (slot_size unit) b n
+    ]
+
+pub bytes_len : (unit : ℕ) (b : List ℕ) (n : ℕ) (e : Placed) → counting_entry unit (slot_at unit b n) ≡ Some e → length (slice_range b e.entry.offset (e.entry.offset + e.entry.len)) ≡ e.entry.len
+bytes_len unit b n e some =
+    elim (counting_entry_under unit (slot_at unit b n)) [
+      | inl none ↦ absurd (none_some (sym none ∙ some))
+      | inr (f, is, under) ↦
+          let start = start-slot_at (slot_size unit) b n in
+          let same : f ≡ e = some_is f e (sym is ∙ some) in
+          let offset : f.entry.offset ≡ e.entry.offset = ap (λ (p : Placed). p.entry.offset) same in
+          let len : f.entry.len ≡ e.entry.len = ap (λ (p : Placed). p.entry.len) same in
+          let long : length (slice_range b e.entry.offset (e.entry.offset + e.entry.len)) ≡ e.entry.offset + e.entry.len - e.entry.offset = length-between b e.entry.offset (e.entry.offset + e.entry.len) (omega arith) in
+          omega arith
+    ]
+
+pub are_nvs : (unit : ℕ) → AreEntries (nvs unit)
+are_nvs unit = record {
+  listed = λ b. read-slots (counting_entry unit) is_used 1 (slot_size unit) b;
+  sector = λ place e. refl;
+  slot = λ b place n e some. slot_is unit b n e some;
+  pairs = λ b place. refl;
+  long = λ b place n e sound from listed some. bytes_len unit b n e some;
+}

@@ -18,13 +18,6 @@ SpendsSome old new = (units : ℕ) × (0 < units) × Spends old new units
 
 -- ---- mounting
 
--- the answer says that power was lost
-abbrev pub mount_lost : {T : Type 0} → Result T MountFault → Bool
-mount_lost (Ok state) = false
-mount_lost (Err (HasDamage damaged)) = false
-mount_lost (Err MountLost) = true
-mount_lost (Err NoMemory) = false
-
 -- The area shows the damage, and then nothing changed; or it shows none. Memory is taken before the first unit.
 abbrev pub MountEnds : {T : Type 0} → Option Damaged → Device → Device → Result T MountFault → Type 0
 MountEnds damage old new (Ok state) = damage ≡ None

@@ -1,4 +1,5 @@
 pub mod Ends
+pub mod Formats
 pub mod Map
 pub mod OneSetting
 pub mod OneSettingLaws

@@ -35,13 +35,13 @@ has_setting sector = nat_le (name_length sector) 64 && nat_le 1 (value_length se
 unfoldable pub setting_in : List ℕ → Option (List ℕ × List ℕ)
 setting_in sector = if has_setting sector then Some (name_in sector, value_in sector) else None
 
-abbrev pub settings_of : Option (List ℕ × List ℕ) → Map
-settings_of None = empty
-settings_of (Some (name, value)) = insert empty name value
+abbrev pub only_setting : Option (List ℕ × List ℕ) → Map
+only_setting None = empty
+only_setting (Some (name, value)) = insert empty name value
 
 -- what the first sector holds
 abbrev pub settings_in : List (List ℕ) → Map
-settings_in sectors = settings_of (setting_in (sector_at sectors 0))
+settings_in sectors = only_setting (setting_in (sector_at sectors 0))
 
 -- a name other than this one has a value
 abbrev pub has_other : Map → List ℕ → Bool

@@ -17,7 +17,7 @@ use Rattle.flash_map.proofs.Places.{length-sector}
 use Rattle.setting_name.specs.Name.{IsName, is_name}
 use Rattle.setting_name.proofs.NameTest.{is_name-sound}
 use Rattle.backend_api.specs.Map.{Map, IsValue, IsSettings}
-use Rattle.backend_api.specs.OneSetting.{settings_in, settings_of, setting_in, has_setting, name_in, value_in, name_length, value_length}
+use Rattle.backend_api.specs.OneSetting.{settings_in, only_setting, setting_in, has_setting, name_in, value_in, name_length, value_length}
 
 no_settings : Map
 no_settings = empty
@@ -64,7 +64,7 @@ one-lawful name value m is lawful valued =
       few = let n : len m ≡ 1 = len-entries m ∙ ap length one in omega arith;
     }
 
-held-lawful : (sector : List ℕ) → 336 ≤ length sector → IsSettings (settings_of (setting_in sector))
+held-lawful : (sector : List ℕ) → 336 ≤ length sector → IsSettings (only_setting (setting_in sector))
 unfolding setting_in
 held-lawful sector long = elim (cases_Bool (has_setting sector)) [
   | inl is ↦
@@ -74,8 +74,8 @@ held-lawful sector long = elim (cases_Bool (has_setting sector)) [
       let some : 1 ≤ value_length sector = at_most _ _ second.1 in
       let most : value_length sector ≤ 256 = at_most _ _ third.1 in
       let valued : length (value_in sector) ≡ value_length sector = omega (arith, length-take {A = ℕ}, length-drop {A = ℕ}) in
-      one-lawful (name_in sector) (value_in sector) _ (ap settings_of (cond-true (has_setting sector) _ _ is)) (is_name-sound (name_in sector) last.1) (omega arith, omega arith)
-  | inr isnt ↦ empty-lawful _ (ap settings_of (cond-false (has_setting sector) _ _ isnt))
+      one-lawful (name_in sector) (value_in sector) _ (ap only_setting (cond-true (has_setting sector) _ _ is)) (is_name-sound (name_in sector) last.1) (omega arith, omega arith)
+  | inr isnt ↦ empty-lawful _ (ap only_setting (cond-false (has_setting sector) _ _ isnt))
 ]
 
 -- lawful names and values throughout

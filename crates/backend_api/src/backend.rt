@@ -1,5 +1,5 @@
 // The trait of a backend.
-ghost use Rattle.std.specs.Prelude.{◌≡◌, ◌/◌, ◌<◌, ◌≤◌, ◌∷◌, [], ℕ, Bool, List, length, replicate, true, false, is_err, Option, None, option_map, IfOk, OnOk};
+ghost use Rattle.std.specs.Prelude.{◌≡◌, ◌/◌, ◌<◌, ◌≤◌, ◌∷◌, [], ℕ, Bool, List, length, replicate, true, false, is_err, Option, None, option_map, count_by, IfOk, OnOk, OnErr};
 ghost use Rattle.std.specs.FinMap as finite;
 ghost use Rattle.flash_sim.specs.Bank.{IsLawful};
 ghost use Rattle.flash_sim.specs.Device.{Device};
@@ -8,11 +8,13 @@ ghost use Rattle.flash_map.specs.declared.area.Area.{Area as area_type};
 ghost use Rattle.flash_map.specs.declared.faults.Damaged.{Damaged as damaged_type};
 ghost use Rattle.flash_map.specs.Area.{unit_of, sector_size, sectors_of};
 ghost use Rattle.flash_map.specs.Lawful.{IsLawfulFor};
-ghost use Rattle.flash_map.specs.Spending.{SpendsAtMost};
+ghost use Rattle.flash_map.specs.Spending.{Spends, SpendsAtMost};
 ghost use Rattle.flash_map.specs.Touches.{Touches};
-ghost use Rattle.backend_api.specs.Map.{Map, IsSettings, next_name};
+ghost use Rattle.backend_api.specs.Map.{Map, IsSettings, value_limit, next_name};
 ghost use Rattle.backend_api.specs.Room.{Room, most_units};
-ghost use Rattle.backend_api.specs.Ends.{mount_lost, MountEnds, set_lost, SetEnds, DeleteEnds};
+ghost use Rattle.flash_map.specs.Faults.{mount_lost};
+ghost use Rattle.backend_api.specs.Formats.{is_written, blanked_up_to};
+ghost use Rattle.backend_api.specs.Ends.{MountEnds, set_lost, SetEnds, DeleteEnds};
 
 use flash_map::{Area, MountFault};
 use flash_sim::{Flash, PowerLost, Steps};
@@ -23,7 +25,8 @@ use std::sync::ledger::Ledger;
 /// Why a setting was not stored.
 #[derive(Clone, Copy, Debug, PartialEq, Eq)]
 pub enum SetFault {
-    /// No round of collections makes room: the bytes that the put needs, and those of all settings.
+    /// There is no room by the backend's numbers (`HasNoRoom`): the bytes that the put needs, and those that all settings
+    /// cost.
     NoSpace { need: u64, live: u64 },
     /// The name would be one too many.
     TooManyNames,
@@ -101,7 +104,7 @@ pub trait Backend: Drop {
         requires lawful { IsLawfulFor (F.device flash.old).banks (mounted_on self.old) }
         requires stands { let d = F.device flash.old in stands self.old (unit_of d (mounted_on self.old)) (sectors_of d (mounted_on self.old)) }
         requires some { 0 < length value.now }
-        requires short { length value.now ≤ 256 }
+        requires short { length value.now ≤ value_limit (mounted_on self.old) }
 
         ensures touches { Touches (mounted_on self.old ∷ []) (F.device flash.old) (F.device flash.new) (set_lost result) }
         ensures area { mounted_on self.new ≡ mounted_on self.old }
@@ -159,7 +162,11 @@ pub trait Backend: Drop {
         ensures touches { Touches (area.now ∷ []) (F.device flash.old) (F.device flash.new) (is_err result) }
         ensures blank { let d = F.device flash.old in OnOk result (sectors_of (F.device flash.new) area.now ≡ replicate area.now.sectors (replicate (sector_size d area.now) 0xFF)) }
         ensures sound { let e = F.device flash.new in OnOk result (damage area.now.role (unit_of e area.now) (sectors_of e area.now) ≡ None) }
-        ensures empty { let e = F.device flash.new in OnOk result (contents area.now.role (unit_of e area.now) (sectors_of e area.now) ≡ finite.empty) };
+        ensures empty { let e = F.device flash.new in OnOk result (contents area.now.role (unit_of e area.now) (sectors_of e area.now) ≡ finite.empty) }
+        ensures units { let d = F.device flash.old in OnOk result (Spends d (F.device flash.new) (count_by is_written (sectors_of d area.now))) }
+
+        ensures part { OnErr result ((n : ℕ) × (sectors_of (F.device flash.new) area.now ≡ blanked_up_to n (sectors_of (F.device flash.old) area.now))) }
+        ensures units_lost { let d = F.device flash.old in OnErr result (SpendsAtMost d (F.device flash.new) (count_by is_written (sectors_of d area.now))) };
 
     /// Whether no call answered that power was lost.
     fn is_up(&self) -> bool

@@ -3,10 +3,12 @@
 #![tactic(auto)]
 
 mod backend;
+mod names;
 mod one_setting;
 mod record;
 
 pub use backend::{Backend, SetFault};
+pub use names::is_behind;
 pub use one_setting::OneSetting;
 
 #[cfg(test)]

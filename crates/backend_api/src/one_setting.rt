@@ -1,16 +1,17 @@
 // A small backend, with which users of the trait can be tried.
-ghost use Rattle.std.specs.Prelude.{◌≡◌, ◌↔◌, ◌+◌, ◌*◌, ◌/◌, ◌<◌, ◌≤◌, ◌∷◌, [], ℕ, is_err, length, replicate, option_map, None, true, false, not, refl, OnOk, OnErr, IsTrue, if◌then◌else◌, slice_set};
+ghost use Rattle.std.specs.Prelude.{◌≡◌, ◌↔◌, ◌<◌, ◌∷◌, [], is_err, replicate, option_map, None, true, false, not, refl, OnOk, OnErr, IsTrue, if◌then◌else◌, slice_set};
 ghost use Rattle.flash_map.specs.declared.area.Role.TheVariants.{Zms};
-ghost use Rattle.flash_map.specs.Area.{sectors_of, sector_size, sector_at, sector_bytes};
+ghost use Rattle.flash_map.specs.Area.{sectors_of, sector_size, sector_bytes};
 ghost use Rattle.flash_map.specs.Spending.{Spends, SpendsAtMost};
 ghost use Rattle.flash_map.specs.Touches.{Touches};
-ghost use Rattle.backend_api.specs.Map.{IsStored, is_behind};
+ghost use Rattle.backend_api.specs.Formats.{is_written};
+ghost use Rattle.backend_api.specs.Map.{IsStored};
 ghost use Rattle.backend_api.specs.OneSettingLaws.{lawful_settings};
 ghost use Rattle.backend_api.specs.OneSetting.{setting_in, settings_in, has_other, room, IsOwnArea};
 
 use crate::record::{RECORD, Setting, record_of, setting_in};
-use crate::{Backend, SetFault};
-use flash_map::{Area, MountFault, area_erase, area_program, area_view, geometry};
+use crate::{Backend, SetFault, is_behind};
+use flash_map::{Area, MountFault, area_erase, area_program, area_view, is_erased, sector_view};
 use flash_sim::{Flash, PowerLost, Steps};
 use setting_name::Name;
 use std::alloc::Global;
@@ -36,22 +37,6 @@ fn held<'a, F: Flash, L: Ledger>(
     setting_in(area_view(flash, area, 0, 0, RECORD as u32, steps))
 }
 
-// Whether the name comes after the given one, where one is given.
-fn is_behind(after: Option<&Name>, name: &Name) -> bool
-    ensures { result ≡ is_behind (option_map (λ after. after.now) after.entry) name.now }
-{
-    match after {
-        Some(after) => after < name,
-        None => true,
-    }
-}
-
-fn is_erased(bytes: &[u8]) -> bool
-    ensures { IsTrue result → bytes.now ≡ replicate (length bytes.now) 0xFF }
-{
-    bytes.iter().all(|byte| *byte == 0xFF)
-}
-
 // Erases a sector, where it is not all FF.
 fn blank<F: Flash, L: Ledger>(
     flash: &mut F,
@@ -64,9 +49,12 @@ fn blank<F: Flash, L: Ledger>(
 
     ensures touches { Touches (area.now ∷ []) (F.device flash.old) (F.device flash.new) (is_err result) }
     ensures blank { let d = F.device flash.old in OnOk result (sectors_of (F.device flash.new) area.now ≡ slice_set (sectors_of d area.now) sector (replicate (sector_size d area.now) 0xFF)) }
+    ensures units { let d = F.device flash.old in OnOk result (Spends d (F.device flash.new) (if is_written (sector_bytes d area.now sector) then 1 else 0)) }
+
+    ensures same { OnErr result (sectors_of (F.device flash.new) area.now ≡ sectors_of (F.device flash.old) area.now) }
+    ensures bound { OnErr result (SpendsAtMost (F.device flash.old) (F.device flash.new) 0) }
 {
-    let size = geometry(flash, area).sector;
-    if is_erased(area_view(flash, area, sector, 0, size, steps)) {
+    if is_erased(sector_view(flash, area, sector, steps)) {
         return Ok(());
     }
     area_erase(flash, area, sector)
@@ -204,7 +192,7 @@ impl Backend for OneSetting {
     ) -> Option<Name> {
         let setting = held(flash, &self.area, steps)?;
         let name = Name::read(setting.name).ok()?;
-        if is_behind(after, &name) {
+        if is_behind(setting.name, after) {
             Some(name)
         } else {
             None

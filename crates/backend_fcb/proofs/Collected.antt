@@ -1,8 +1,6 @@
 -- A whole collection, from the ring before it to the one after it.
 use Rattle.std.proofs.Common.{◌≡◌, ◌≢◌, ℕ, zero, suc, ◌+◌, ◌-◌, ◌*◌, ◌/◌, ◌<◌, ◌≤◌, min, false, List, [], ◌∷◌, ◌++◌, length, map, None, refl, sym, ap, subst, ◌∙◌, arith}
 use Rattle.std.specs.List.{range_with_len, flat_map, sum_by, All}
-use Rattle.std.proofs.lemmas.List.{append-nil}
-use Rattle.std.proofs.lemmas.List.Concat.{flat_map-append}
 use Rattle.std.proofs.lemmas.List.Elements.{All-nil, All-cons, All-head, All-tail, All-append}
 use Rattle.flash_sim.specs.Bank.{IsLawful}
 use Rattle.flash_sim.specs.Device.{Device}
@@ -27,7 +25,9 @@ use Rattle.fcb_ring.proofs.RingLemmas.{turned-zero}
 use Rattle.backend_fcb.specs.Changing.{Copies, CopiesLive, Collects, StopsCopying, parts_on, collect_units}
 use Rattle.settings_list.specs.Live.{live_bodies}
 use Rattle.settings_list.specs.Numbers.{cap, reserve, put_cost}
-use Rattle.settings_list.specs.Rounds.{joined, bodies_cost}
+use Rattle.sector_ring.specs.Rounds.{joined}
+use Rattle.sector_ring.proofs.NoRoom.{joined-push}
+use Rattle.settings_list.specs.Rounds.{bodies_cost}
 use Rattle.settings_list.specs.Settings.{settings_of}
 use Rattle.backend_fcb.specs.Standing.{damage_on, settings_on, IsReady}
 use Rattle.settings_list.proofs.Coded.{settings-collected}
@@ -261,9 +261,8 @@ module _ (a b c e : Device) (before ring now after : Ring) (ready : IsReady a be
 
   pub collected-settings : settings_on e before.area ≡ settings_on a before.area
   collected-settings =
-      let joined-last : joined (others ++ live ∷ []) ≡ joined others ++ live = flat_map-append (λ (part : List (List ℕ)). part) others (live ∷ []) ∙ ap (λ (l : List (List ℕ)). joined others ++ l) (append-nil live) in
       ap (λ (x : Area). settings_on e x) (sym after-area)
-      ∙ ap settings_of (sym (joined-on e after ended.stands (ready-none after ended.ready) free-after) ∙ ap joined new-is ∙ joined-last)
+      ∙ ap settings_of (sym (joined-on e after ended.stands (ready-none after ended.ready) free-after) ∙ ap joined new-is ∙ joined-push others live)
       ∙ settings-collected victim (joined others)
       ∙ ap settings_of (ap joined (sym old-is) ∙ joined-on a before ready.stands (ready-none before ready.ready) (omega arith))
 

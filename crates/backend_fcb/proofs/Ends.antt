@@ -30,6 +30,7 @@ use Rattle.backend_fcb.specs.Changing.{HasNoPlace, parts_on, collect_units}
 use Rattle.settings_list.specs.Last.{last_value, stored}
 use Rattle.settings_list.specs.Numbers.{cap, reserve, room, pair_cost, put_cost, cost_by}
 use Rattle.backend_fcb.specs.Reading.{first_overfull}
+use Rattle.sector_ring.specs.Rounds.{joined}
 use Rattle.settings_list.specs.Rounds.{FindsNoRoom}
 use Rattle.settings_list.specs.Settings.{body_of, setting_of, with_setting, settings_of}
 use Rattle.backend_fcb.specs.Standing.{Stands, damage_on, settings_on, bodies_on, IsReady}
@@ -130,10 +131,10 @@ sets-new d e area name value unit size lawful some short other settings spends =
   spends = λ _. spends;
 }
 
-pub finds-no_space : (d e : Device) (ring after : Ring) (name value : List ℕ) (kept rounds need live : ℕ) → IsReady d ring → (IsStored (settings_on d ring.area) name value → ⊥) → kept ≡ reserve (unit_of d ring.area) → rounds + 1 ≡ ring.area.sectors
+pub finds-no_space : (d e : Device) (ring after : Ring) (name value : List ℕ) (kept rounds need live : ℕ) → IsReady d ring → (IsStored (settings_on d ring.area) name value → ⊥) → kept ≡ reserve (unit_of d ring.area) → rounds + 1 ≡ ring.area.sectors → after.area ≡ ring.area
     → HasNoPlace d e ring after (length (body_of name value)) kept rounds → need ≡ pair_cost (unit_of d ring.area) (name, value) → live ≡ (room (unit_of d ring.area) (sector_size d ring.area)).cost (settings_on d ring.area)
     → FindsNoSpace (room (unit_of d ring.area) (sector_size d ring.area)) ring.area.sectors (settings_on d ring.area) (settings_on e ring.area) name value need live
-finds-no_space d e ring after name value kept rounds need live ready other keeps all full need-is live-is = record {
+finds-no_space d e ring after name value kept rounds need live ready other keeps all area full need-is live-is = record {
   free = refl;
   other = other;
   full =
@@ -149,7 +150,9 @@ finds-no_space d e ring after name value kept rounds need live ready other keeps
       subst (λ (n : ℕ). FindsNoRoom (unit_of d ring.area) (pair_cost (unit_of d ring.area) (name, value)) n (parts_on d ring) (parts_on e after) rounds) capacity one in
       let three : FindsNoRoom (unit_of d ring.area) (pair_cost (unit_of d ring.area) (name, value)) (cap (unit_of d ring.area) (sector_size d ring.area)) (parts_on d ring) (parts_on e after) (length (parts_on d ring)) =
       subst (λ (n : ℕ). FindsNoRoom (unit_of d ring.area) (pair_cost (unit_of d ring.area) (name, value)) (cap (unit_of d ring.area) (sector_size d ring.area)) (parts_on d ring) (parts_on e after) n) len two in
-      subst (λ (m : Map). HasNoRoom (room (unit_of d ring.area) (sector_size d ring.area)) ring.area.sectors m name value) (ap settings_of (joined-on d ring ready.stands none free))
+      let same : settings_of (joined (parts_on e after)) ≡ settings_on d ring.area =
+      ap settings_of (joined-on e after full.ready.stands (ready-none after full.ready.ready) (ready-used e after full.ready.stands full.ready.ready)) ∙ ap (λ (x : Area). settings_on e x) area ∙ full.settings in
+      subst (λ (m : Map). HasNoRoom (room (unit_of d ring.area) (sector_size d ring.area)) ring.area.sectors m name value) same
       (rounds-no_room (unit_of d ring.area) (sector_size d ring.area) ring.area.sectors (parts_on d ring) (parts_on e after) name value three (omega (arith, ready.stands.area.lawful.several)) (omega arith));
   needs = need-is;
   lives = live-is;

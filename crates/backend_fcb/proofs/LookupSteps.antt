@@ -9,11 +9,11 @@ use Rattle.std.proofs.lemmas.List.{append-nil}
 use Rattle.fcb_ring.specs.declared.record.RecordAt.{RecordAt}
 use Rattle.fcb_ring.specs.Entries.{bodies}
 use Rattle.fcb_ring.specs.Standing.{record_places, IsNext}
-use Rattle.settings_list.specs.Last.{found_by, last_value}
+use Rattle.settings_list.specs.Last.{last_value}
 use Rattle.settings_list.specs.Live.{has_name, names, is_live_by, value_for}
 use Rattle.settings_list.specs.Settings.{setting_of}
 use Rattle.backend_fcb.specs.Walking.{TellsNamedBehind, TellsLive}
-use Rattle.settings_list.proofs.LastLemmas.{last_value-none, last_value-push}
+use Rattle.settings_list.proofs.LastLemmas.{found_by, last_value-none, last_value-push}
 use Rattle.settings_list.proofs.LiveLemmas.{names-append}
 use Rattle.backend_fcb.proofs.SectorLists.{bodies-append}
 use Rattle.backend_fcb.proofs.WalkLemmas.{Entry, IsAt, start, step, first-of, body-is, none-of, all-done, next-behind, listed, split}

@@ -9,13 +9,13 @@ use Rattle.fcb_ring.specs.declared.record.RecordAt.{RecordAt}
 use Rattle.fcb_ring.specs.Entries.{bodies}
 use Rattle.fcb_ring.specs.Standing.{IsNext}
 use Rattle.backend_api.specs.Map.{is_behind, next_name}
-use Rattle.settings_list.specs.Least.{is_before, least_by, least_of}
+use Rattle.settings_list.specs.Least.{is_before}
 use Rattle.settings_list.specs.Live.{is_live, live_bodies}
 use Rattle.settings_list.specs.Settings.{setting_of, settings_of}
 use Rattle.backend_fcb.specs.Walking.{TellsLive, TellsName, name_if, is_between, name_between}
 use Rattle.settings_list.proofs.LiveLemmas.{copies-none}
 use Rattle.backend_fcb.proofs.LookupSteps.{Reads}
-use Rattle.settings_list.proofs.NextLemmas.{least-none, least-live, least-dead, next-found}
+use Rattle.settings_list.proofs.NextLemmas.{least_by, least_of, least-none, least-live, least-dead, next-found}
 use Rattle.backend_fcb.proofs.SectorLists.{bodies-append}
 use Rattle.backend_fcb.proofs.WalkLemmas.{Entry, IsAt, start, step, first-of, body-is, none-of, all-done}
 

@@ -13,7 +13,7 @@ use Rattle.fcb_ring.proofs.RingLemmas.{by_distance, turned-within}
 use Rattle.backend_fcb.specs.Changing.{parts_on}
 use Rattle.settings_list.specs.Numbers.{cap, put_cost}
 use Rattle.backend_fcb.specs.Reading.{puts_cost}
-use Rattle.settings_list.specs.Rounds.{joined}
+use Rattle.sector_ring.specs.Rounds.{joined}
 use Rattle.backend_fcb.specs.Standing.{bodies_on}
 use Rattle.backend_fcb.proofs.PutsCosts.{CostsFit, costs-at, costs-from, puts-of, puts-none}
 use Rattle.backend_fcb.proofs.RingLists.{part_at, entries-parts, of-part, of-other, within}

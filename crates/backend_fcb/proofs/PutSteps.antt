@@ -19,10 +19,12 @@ use Rattle.backend_api.specs.Map.{Map}
 use Rattle.backend_fcb.specs.Changing.{Collects, HasNoPlace, IsFull, PutEnds, TryEnds, parts_on, collect_units}
 use Rattle.settings_list.specs.Live.{live_bodies}
 use Rattle.settings_list.specs.Numbers.{cap, put_cost}
-use Rattle.settings_list.specs.Rounds.{joined, bodies_cost, FindsNoRoom}
+use Rattle.sector_ring.specs.Rounds.{joined}
+use Rattle.settings_list.specs.Rounds.{bodies_cost, FindsNoRoom}
 use Rattle.settings_list.specs.Settings.{setting_of, with_setting}
 use Rattle.backend_fcb.specs.Standing.{settings_on, IsReady}
-use Rattle.settings_list.proofs.NoRoom.{no_round, round_more}
+use Rattle.sector_ring.proofs.NoRoom.{no_round, round_more}
+use Rattle.settings_list.proofs.NoRoom.{settings_rounds}
 use Rattle.backend_fcb.proofs.PartLists.{count-parts}
 use Rattle.backend_fcb.proofs.RingLists.{ready-none}
 
@@ -52,7 +54,7 @@ searching-start a ring len kept ready = record {
   settings = refl;
   used = refl;
   spent = (0, omega arith, spends_none a);
-  none = λ full. no_round (unit_of a ring.area) (record_cost (unit_of a ring.area) len) (room_for a ring kept) (parts_on a ring);
+  none = λ full. no_round live_bodies (bodies_cost (unit_of a ring.area)) (settings_rounds (unit_of a ring.area)) (record_cost (unit_of a ring.area) len) (room_for a ring kept) (parts_on a ring);
   end = λ some. absurd (omega arith);
 }
 
@@ -114,7 +116,7 @@ module _ (a d : Device) (before now : Ring) (len kept rounds : ℕ) (so_far : Is
             subst (λ (s : ℕ). s < after.end + record_cost (unit_of a before.area) len + kept) size-e (subst (λ (u : ℕ). sector_size e after.area < after.end + record_cost u len + kept) unit-e full-e) in
             let count : length (parts_on a before) ≡ before.used = count-parts a before start.stands (ready-none before start.ready) (ready-used a before start.stands start.ready) in
             subst (λ (parts : List (List (List ℕ))). FindsNoRoom (unit_of a before.area) (record_cost (unit_of a before.area) len) (room_for a before kept) (parts_on a before) parts (rounds + 1)) (sym collects.new_parts)
-            (round_more (unit_of a before.area) (record_cost (unit_of a before.area) len) (room_for a before kept) (parts_on a before) rounds collects.victim collects.others
+            (round_more live_bodies (bodies_cost (unit_of a before.area)) (settings_rounds (unit_of a before.area)) (record_cost (unit_of a before.area) len) (room_for a before kept) (parts_on a before) rounds collects.victim collects.others
             (subst (λ (parts : List (List (List ℕ))). FindsNoRoom (unit_of a before.area) (record_cost (unit_of a before.area) len) (room_for a before kept) (parts_on a before) parts rounds) collects.old_parts (so_far.none full))
             (omega (arith, count)) (omega (arith, end)));
         end = λ positive. omega (arith, end, within);

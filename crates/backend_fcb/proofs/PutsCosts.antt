@@ -16,9 +16,10 @@ use Rattle.fcb_ring.specs.declared.record.RecordAt.{RecordAt}
 use Rattle.fcb_ring.specs.Entries.{states, entries, bodies, HasEntries}
 use Rattle.fcb_ring.specs.Rings.{first_damage}
 use Rattle.fcb_ring.specs.Standing.{IsRingArea, KeepsEntries, entries_on}
-use Rattle.fcb_ring.specs.Writing.{record_cost, list_cost}
+use Rattle.fcb_ring.specs.Writing.{record_cost}
 use Rattle.fcb_ring.proofs.AppendLemmas.{unit-after, size-after}
 use Rattle.fcb_ring.proofs.AreaLemmas.{HasSize, has_size, count-sectors, area_after}
+use Rattle.fcb_ring.proofs.CostLemmas.{list_cost}
 use Rattle.fcb_ring.proofs.PlaceLemmas.{find_first, find_nothing, found_none}
 use Rattle.settings_list.specs.Numbers.{cap, cost_by, put_cost}
 use Rattle.backend_fcb.specs.Reading.{puts_cost, first_overfull, damage_of}

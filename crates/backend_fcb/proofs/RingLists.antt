@@ -14,9 +14,8 @@ use Rattle.fcb_ring.specs.Records.{records_end}
 use Rattle.fcb_ring.specs.Rings.{state_at, turned}
 use Rattle.fcb_ring.specs.SectorStates.{state_of}
 use Rattle.fcb_ring.specs.Standing.{StandsOn, entries_on, uncounted}
-use Rattle.fcb_ring.specs.Writing.{list_cost}
 use Rattle.fcb_ring.proofs.AreaLemmas.{has_size, count-sectors, length-states, state-at, sector_is}
-use Rattle.fcb_ring.proofs.CostLemmas.{entries-cost}
+use Rattle.fcb_ring.proofs.CostLemmas.{list_cost, entries-cost}
 use Rattle.fcb_ring.proofs.LayLemmas.{end-after-header}
 use Rattle.fcb_ring.proofs.RingLemmas.{turned-within, turned-zero, turned-same}
 use Rattle.fcb_ring.proofs.StandLemmas.{entries-are}

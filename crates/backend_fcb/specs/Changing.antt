@@ -18,7 +18,8 @@ use Rattle.fcb_ring.specs.declared.writing.AppendFault.TheVariants.{Full, TooLon
 use Rattle.backend_api.specs.Ends.{SpendsSome}
 use Rattle.settings_list.specs.Live.{is_live, live_bodies}
 use Rattle.settings_list.specs.Numbers.{cap}
-use Rattle.settings_list.specs.Rounds.{joined, bodies_cost, FindsNoRoom}
+use Rattle.sector_ring.specs.Rounds.{joined}
+use Rattle.settings_list.specs.Rounds.{bodies_cost, FindsNoRoom}
 use Rattle.settings_list.specs.Settings.{setting_of, with_setting}
 use Rattle.backend_fcb.specs.Standing.{settings_on, IsReady}
 

@@ -12,10 +12,10 @@ ghost use Rattle.backend_fcb.specs.Laws.{reads_settings};
 use crate::lookup::{last_value, live_cost};
 use crate::mounting::first_overfull;
 use crate::names::next_name;
-use crate::record::{body_of, record_cost, reserve};
+use crate::record::{body_of, reserve};
 use crate::writing::put;
 use backend_api::{Backend, SetFault};
-use fcb_ring::{AppendFault, Ring};
+use fcb_ring::{AppendFault, Ring, record_cost};
 use flash_map::{Area, MountFault, geometry};
 use flash_sim::{Flash, PowerLost, Steps};
 use setting_name::Name;
@@ -124,7 +124,7 @@ impl Backend for FcbBackend {
             Err(AppendFault::PowerLost) => Err(SetFault::PowerLost),
             Err(AppendFault::TooLong) => unreachable!(),
             Err(AppendFault::Full) => Err(SetFault::NoSpace {
-                need: u64::from(record_cost(geometry.unit, body.len())),
+                need: u64::from(record_cost(geometry.unit, body.len() as u32)),
                 live: live_cost(&self.ring, flash, steps),
             }),
         }

@@ -1,5 +1,5 @@
 // Collecting the oldest sector.
-ghost use Rattle.std.specs.Prelude.{◌≡◌, ◌+◌, ◌∷◌, [], true, false, is_err, None, Contains, OnOk, OnErr};
+ghost use Rattle.std.specs.Prelude.{◌≡◌, ◌∷◌, [], true, false, is_err, None, Contains, OnOk, OnErr};
 ghost use Rattle.flash_map.specs.Area.{unit_of};
 ghost use Rattle.flash_map.specs.Spending.{SpendsAtMost};
 ghost use Rattle.flash_map.specs.Touches.{Touches};

@@ -1,5 +1,5 @@
 // Looking at costs before a mount goes on.
-ghost use Rattle.std.specs.Prelude.{◌≡◌, ℕ, ◌+◌, ◌<◌, slice_index, option_map};
+ghost use Rattle.std.specs.Prelude.{◌≡◌, ℕ, ◌<◌, slice_index, option_map};
 ghost use Rattle.flash_map.specs.Area.{unit_of, sectors_of};
 ghost use Rattle.flash_map.specs.declared.faults.Why.TheVariants.{Overfull};
 ghost use Rattle.fcb_ring.specs.Standing.{StandsOn as RingStandsOn, entries_on};

@@ -8,20 +8,11 @@ ghost use Rattle.backend_fcb.specs.Walking.{TellsName};
 
 use crate::lookup::is_live;
 use crate::record::setting_in;
+use backend_api::is_behind;
 use fcb_ring::{RecordAt, Ring};
 use flash_sim::{Flash, Steps};
 use setting_name::Name;
 use std::sync::ledger::Ledger;
-
-// Whether a name is greater than the other, where there is one.
-fn is_behind(name: &[u8], after: Option<&Name>) -> bool
-    ensures { result ≡ is_behind (option_map (λ other. other.now) after.entry) name.now }
-{
-    match after {
-        Some(after) => after.bytes().cmp(name).is_lt(),
-        None => true,
-    }
-}
 
 // Whether a name is less than the other, where there is one.
 fn is_before(name: &[u8], before: Option<&Name>) -> bool

@@ -1,11 +1,12 @@
 // The bodies of records.
-ghost use Rattle.std.specs.Prelude.{◌≡◌, ◌==◌, ◌+◌, ◌<◌, ◌≤◌, length, position, option_map, IfSome};
-ghost use Rattle.flash_map.specs.Units.{IsUnit, padded};
+ghost use Rattle.std.specs.Prelude.{◌≡◌, ◌==◌, ◌<◌, ◌≤◌, length, position, option_map, IfSome};
+ghost use Rattle.flash_map.specs.Units.{IsUnit};
 ghost use Rattle.setting_name.specs.Name.{IsName};
-ghost use Rattle.settings_list.specs.Numbers.{reserve, cap, put_cost, pair_cost};
+ghost use Rattle.settings_list.specs.Numbers.{reserve, cap, put_cost};
 ghost use Rattle.settings_list.specs.Settings.{setting_of, body_of};
 
 use arrayvec::ArrayVec;
+use fcb_ring::record_cost;
 use flash_map::{Geometry, padded};
 use setting_name::Name;
 
@@ -55,15 +56,6 @@ pub(crate) fn body_of(name: &Name, value: &[u8]) -> ArrayVec<u8, BODY>
     body
 }
 
-// What a record with a body of this length costs, in bytes.
-pub(crate) fn record_cost(unit: u32, len: usize) -> u32
-    requires unit { IsUnit unit }
-    requires len { len ≤ 321 }
-    ensures cost { result ≡ unit + padded unit len + unit }
-{
-    unit + padded(unit, len as u32) + unit
-}
-
 // What a record with this body costs, where it puts a value.
 pub(crate) fn put_cost(unit: u32, body: &[u8]) -> u32
     requires { IsUnit unit }
@@ -71,7 +63,7 @@ pub(crate) fn put_cost(unit: u32, body: &[u8]) -> u32
     ensures small { result ≤ 400 }
 {
     match setting_in(body) {
-        Some(setting) if !setting.value.is_empty() => record_cost(unit, body.len()),
+        Some(setting) if !setting.value.is_empty() => record_cost(unit, body.len() as u32),
         _ => 0,
     }
 }

@@ -14,7 +14,7 @@ pub enum Command<'a> {
         script: &'a str,
         out: &'a str,
     },
-    /// Prints the names that the image in the file `image` holds.
+    /// Prints the items that the image in the file `image` holds.
     Dump {
         image: &'a str,
     },

@@ -1,5 +1,5 @@
 -- An append that opens the next sector first: what the first call left, and then the second.
-use Rattle.std.proofs.Common.{◌≡◌, ℕ, ◌+◌, ◌-◌, ◌*◌, ◌/◌, ◌<◌, ◌≤◌, ◌≢◌, ltb, leb, Bool, true, false, cond, eqb, not, ◌||◌, List, [], ◌∷◌, ◌++◌, length, inl, inr, refl, sym, ap, subst, ◌∙◌, arith, Result, Ok, Err, is_err}
+use Rattle.std.proofs.Common.{◌≡◌, ℕ, ◌+◌, ◌-◌, ◌/◌, ◌<◌, ◌≤◌, ◌≢◌, ltb, leb, Bool, true, false, cond, eqb, List, [], ◌∷◌, ◌++◌, inl, inr, sym, ap, subst, ◌∙◌, arith, Result, Ok, Err, is_err}
 use Rattle.std.specs.Result.{IsErr}
 use Rattle.std.proofs.lemmas.Bool.{ne_eqb, eq-eqb, both_ways, and_parts, ltb-true, leb-true}
 use Rattle.flash_sim.specs.Bank.{bank_at}
@@ -8,17 +8,16 @@ use Rattle.flash_sim.specs.declared.flash.Bank.{Bank}
 use Rattle.flash_map.specs.declared.area.Area.{Area}
 use Rattle.flash_map.specs.Area.{unit_of, sector_size, sectors_of}
 use Rattle.flash_map.specs.Spending.{Spends, SpendsAtMost}
-use Rattle.flash_map.specs.Touches.{Touches}
 use Rattle.flash_map.specs.Units.{padded}
 use Rattle.flash_map.proofs.SpendingLemmas.{spends_then, spends_then_most, most_weaker}
 use Rattle.fcb_ring.specs.declared.record.RecordAt.{RecordAt}
 use Rattle.fcb_ring.specs.declared.ring.Ring.{Ring}
 use Rattle.fcb_ring.specs.declared.ring.Stage.{Stage}
 use Rattle.fcb_ring.specs.declared.ring.Stage.TheVariants.{Ready}
-use Rattle.fcb_ring.specs.Changing.{newest_place, next_place, PutsRecord, AddsRecord, CutList, IsHeaderLoss, CutAppend, append_units, GoesOn, IsReady, IsDown, has_room, is_scratch_left}
+use Rattle.fcb_ring.specs.Changing.{newest_place, next_place, PutsRecord, AddsRecord, CutList, CutAppend, append_units, GoesOn, has_room, is_scratch_left}
 use Rattle.fcb_ring.specs.Entries.{states, HasEntries}
 use Rattle.fcb_ring.specs.Rings.{turned}
-use Rattle.fcb_ring.specs.Standing.{StandsOn, FitsStage, entries_on, KeepsEntries, is_up}
+use Rattle.fcb_ring.specs.Standing.{StandsOn, FitsStage, entries_on, KeepsEntries}
 use Rattle.fcb_ring.specs.Writing.{record_cost}
 use Rattle.fcb_ring.proofs.AreaLemmas.{count-sectors, length-states}
 

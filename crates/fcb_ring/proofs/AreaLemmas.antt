@@ -1,7 +1,6 @@
 -- The sectors of an area on which a ring may stand.
-use Rattle.std.proofs.Common.{◌≡◌, ℕ, ◌+◌, ◌-◌, ◌%◌, ◌<◌, ◌≤◌, List, [], length, inl, inr, sym, ap, subst, ◌∙◌, arith}
-use Rattle.std.specs.Prelude.{slice_range}
-use Rattle.std.proofs.lemmas.List.{take_all, get_or-map, length-map}
+use Rattle.std.proofs.Common.{◌≡◌, ℕ, ◌%◌, ◌<◌, ◌≤◌, List, [], length, inl, inr, sym, ap, subst, ◌∙◌, arith}
+use Rattle.std.proofs.lemmas.List.{get_or-map, length-map}
 use Rattle.flash_sim.specs.Bank.{IsLawful}
 use Rattle.flash_sim.specs.Device.{Device}
 use Rattle.flash_sim.specs.declared.flash.Bank.{Bank}
@@ -44,9 +43,6 @@ has_size d area lawful ring = record {
   several = omega (arith, count-sectors d area, ring.lawful.several);
   few = omega (arith, count-sectors d area, ring.lawful.few);
 }
-
-pub whole_range : (sector : List ℕ) (size : ℕ) → length sector ≡ size → slice_range sector 0 (0 + size) ≡ sector
-whole_range sector size long = take_all (0 + size - 0) sector (omega arith)
 
 -- the state at a place is that of its sector
 pub state-at : (unit : ℕ) (sectors : List (List ℕ)) (place : ℕ) → place < length sectors → state_at (states unit sectors) place ≡ state_of unit (sector_at sectors place)

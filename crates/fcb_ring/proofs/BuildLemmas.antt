@@ -1,11 +1,11 @@
 -- A record that is built part by part.
-use Rattle.std.proofs.Common.{◌≡◌, ℕ, ◌+◌, ◌-◌, ◌/◌, ◌%◌, ◌<◌, ◌≤◌, List, [], ◌∷◌, ◌++◌, length, get_or, take, drop, replicate, inl, inr, refl, sym, ap, ◌∙◌, append_assoc, arith}
+use Rattle.std.proofs.Common.{◌≡◌, ℕ, ◌+◌, ◌-◌, ◌/◌, ◌%◌, ◌<◌, ◌≤◌, List, [], ◌∷◌, ◌++◌, length, get_or, replicate, inl, inr, ap, ◌∙◌, append_assoc, arith}
 use Rattle.std.proofs.lemmas.Bool.{cases_lt, cases_eq, lt-ltb, le-ltb}
 use Rattle.std.proofs.lemmas.List.{length-append, get_or_past}
 use Rattle.crc8_entry.specs.Crc.{crc}
 use Rattle.flash_map.specs.Units.{IsUnit, padded}
 use Rattle.flash_map.proofs.Rounding.{padding}
-use Rattle.fcb_ring.specs.Writing.{filled, length_field, record_image, record_cost, header_image}
+use Rattle.fcb_ring.specs.Writing.{filled, length_field, record_image, record_cost}
 use Rattle.fcb_ring.proofs.RecordLemmas.{crc_of_two}
 use Rattle.fcb_ring.proofs.ImageLemmas.{IsField, field_is, length-filled, small_padded}
 

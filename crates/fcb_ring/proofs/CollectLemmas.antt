@@ -1,7 +1,7 @@
 -- A ring that collects, and the area once the oldest sector is erased.
-use Rattle.std.proofs.Common.{◌≡◌, ℕ, zero, suc, ◌+◌, ◌-◌, ◌%◌, ◌<◌, ◌≤◌, min, true, false, List, [], ◌∷◌, ◌++◌, length, set, replicate, None, inl, inr, refl, sym, ap, subst, ◌∙◌, arith}
+use Rattle.std.proofs.Common.{◌≡◌, ℕ, zero, suc, ◌+◌, ◌-◌, ◌%◌, ◌<◌, min, List, [], ◌++◌, length, set, replicate, None, inl, inr, refl, sym, ap, subst, ◌∙◌, arith}
 use Rattle.std.specs.List.{range_with_len, flat_map}
-use Rattle.std.proofs.lemmas.Bool.{cases_lt, cases_eq}
+use Rattle.std.proofs.lemmas.Bool.{cases_lt}
 use Rattle.std.proofs.lemmas.List.{append-nil, length-set, get_or-set_same, get_or-set_other}
 use Rattle.std.proofs.lemmas.Grind.{flat_map-append}
 use Rattle.flash_sim.specs.Bank.{IsLawful}
@@ -17,7 +17,7 @@ use Rattle.fcb_ring.specs.Changing.{newest_place, sector_list, EndsCollection}
 use Rattle.fcb_ring.specs.Entries.{states, sector_entries, entries, HasEntries}
 use Rattle.fcb_ring.specs.Rings.{state_at, turned, first_damage, IsRing, AreClean}
 use Rattle.fcb_ring.specs.SectorStates.{state_of}
-use Rattle.fcb_ring.specs.Standing.{Stands, StandsOn, FitsStage, IsWritten, entries_on, KeepsEntries, uncounted}
+use Rattle.fcb_ring.specs.Standing.{Stands, StandsOn, FitsStage, entries_on, KeepsEntries, uncounted}
 use Rattle.fcb_ring.proofs.PlaceLemmas.{All-range, range-append, flat_map-agree}
 use Rattle.fcb_ring.proofs.RingLemmas.{turned-low, turned-high, turned-within, turned-zero, turned-same, undamaged}
 use Rattle.fcb_ring.proofs.AreaLemmas.{HasSize, has_size, count-sectors, area_after, state-at, length-states}

@@ -1,5 +1,5 @@
 -- What the records of a sector cost.
-use Rattle.std.proofs.Common.{◌≡◌, ℕ, zero, suc, ◌+◌, ◌-◌, ◌<◌, ◌≤◌, Bool, true, false, cond, List, [], ◌∷◌, length, length-drop, map, take, drop, Option, Some, None, refl, sym, ap, subst, ◌∙◌, arith}
+use Rattle.std.proofs.Common.{◌≡◌, ℕ, zero, suc, ◌+◌, ◌-◌, ◌≤◌, Bool, true, false, cond, List, [], ◌∷◌, length, length-drop, map, drop, Option, Some, None, refl, sym, ap, subst, ◌∙◌, arith}
 use Rattle.std.specs.Prelude.{slice_range}
 use Rattle.std.specs.List.{filter, sum_by}
 use Rattle.std.specs.Option.{option_map_or}
@@ -9,10 +9,15 @@ use Rattle.flash_map.specs.Units.{IsUnit, padded}
 use Rattle.flash_map.proofs.Rounding.{padding}
 use Rattle.fcb_ring.specs.declared.record.Record.{Record}
 use Rattle.fcb_ring.specs.declared.record.RecordAt.{RecordAt}
-use Rattle.fcb_ring.specs.Records.{record_of, record_at, walk, walk_end, records, records_end}
+use Rattle.fcb_ring.specs.Records.{record_at, walk, last_end, records, records_end}
 use Rattle.fcb_ring.specs.Entries.{entry_of, sector_entries}
-use Rattle.fcb_ring.specs.Writing.{record_cost, list_cost}
+use Rattle.fcb_ring.specs.Writing.{record_cost}
 use Rattle.fcb_ring.proofs.RecordLemmas.{read, end-fields, body-of}
+use Rattle.fcb_ring.proofs.Walks.{walk_end}
+
+-- the bytes that the records of a list take
+abbrev pub list_cost : ℕ → List (RecordAt × List ℕ) → ℕ
+list_cost unit list = sum_by (λ entry. record_cost unit (length entry.1)) list
 
 range-long : (l : List ℕ) (from n : ℕ) → from + n ≤ length l → length (slice_range l from (from + n)) ≡ n
 range-long l from n fits = length-take-le (from + n - from) (drop from l) (omega (arith, length-drop from l)) ∙ omega arith
@@ -46,7 +51,7 @@ module _ (unit place : ℕ) (s : List ℕ) (is_unit : IsUnit unit) where
   costs (suc n) at = by (λ k. costs n k) (record_at unit s at) refl
     where
       by : ((k : ℕ) → k + taken (walk (record_at unit s) n k) ≤ walk_end (record_at unit s) n k) → (o : Option Record) → record_at unit s at ≡ o
-          → at + taken (option_map_or (λ r. r ∷ walk (record_at unit s) n r.end) o []) ≤ option_map_or (λ r. walk_end (record_at unit s) n r.end) o at
+          → at + taken (option_map_or (λ r. r ∷ walk (record_at unit s) n r.end) o []) ≤ last_end at (option_map_or (λ r. r ∷ walk (record_at unit s) n r.end) o [])
       by rest None e = omega arith
       by rest (Some r) e =
           let h = one r at e in

@@ -1,12 +1,26 @@
 -- Small areas, read by the definitions. The answers are those of an independent reading in Python.
-use Rattle.std.proofs.Common.{◌≡◌, ℕ, List, [], ◌∷◌, refl}
+use Rattle.std.proofs.Common.{◌≡◌, ℕ, List, [], ◌∷◌, Option, Some, None, refl}
 use Rattle.crc8_entry.specs.Crc.{crc, extended, bits_of}
 use Rattle.flash_map.specs.Units.{padded}
+use Rattle.flash_map.specs.declared.faults.Damaged.{Damaged}
 use Rattle.flash_map.specs.declared.faults.Why.TheVariants.{BadHeader, BadSequence, Overfull, Dirty}
 use Rattle.fcb_ring.specs.Records.{body_len, field_width, has_record, checks_at, record_of, record_at, records, records_end}
 use Rattle.fcb_ring.specs.SectorStates.{is_torn, id_of, state_of}
 use Rattle.fcb_ring.specs.Rings.{turned, oldest_place, second_start, counts, counting, first_damage}
-use Rattle.fcb_ring.specs.Entries.{area_list, sector_entries, entries, IsDamaged, Lists}
+use Rattle.fcb_ring.specs.Entries.{states, sector_entries, entries, bodies}
+
+-- how an area reads
+data AreaList : Type 0 where
+  IsDamaged : Damaged → AreaList
+  Lists : List (List ℕ) → AreaList
+
+abbrev list_or : Option Damaged → List (List ℕ) → AreaList
+list_or None list = Lists list
+list_or (Some damaged) list = IsDamaged damaged
+
+-- the area's list
+abbrev area_list : ℕ → List (List ℕ) → AreaList
+area_list unit sectors = list_or (first_damage (states unit sectors)) (bodies (entries unit sectors))
 
 abbrev sector_1 : List ℕ
 sector_1 = 255 ∷ 255 ∷ 255 ∷ 255 ∷ 255 ∷ 255 ∷ 255 ∷ 255 ∷ 255 ∷ 255 ∷ 255 ∷ 255 ∷ 255 ∷ 255 ∷ 255 ∷ 255 ∷ 255 ∷ 255 ∷ 255 ∷ 255 ∷ 255 ∷ 255 ∷ 255 ∷ 255 ∷ 255 ∷ 255 ∷ 255 ∷ 255 ∷ 255 ∷ 255 ∷ 255 ∷ 255 ∷ 255 ∷ 255 ∷ 255 ∷ 255 ∷ 255 ∷ 255 ∷ 255 ∷ 255 ∷ 255 ∷ 255 ∷ 255 ∷ 255 ∷ 255 ∷ 255 ∷ 255 ∷ 255 ∷ []

@@ -2,7 +2,8 @@
 use Rattle.std.proofs.Common.{◌≡◌, ℕ, ◌+◌, ◌-◌, ◌<◌, ◌≤◌, Bool, true, not, cond, List, [], ◌∷◌, ◌++◌, length, map, set, take, drop, replicate, inl, inr, sym, ap, ◌∙◌, append_assoc, arith}
 use Rattle.std.proofs.lemmas.Bool.{cases_Bool, cond-true, cond-false, not_from_true, not_from_false}
 use Rattle.std.proofs.lemmas.List.{set-get_or, take_all, drop_all, append-nil, length-map, length-take-le, get_or-append_right, get_or-drop, set-append_right, drop_more, map_more}
-use Rattle.fcb_ring.specs.SectorStates.{is_erased, blanked, blanked_up_to}
+use Rattle.flash_map.specs.Units.{is_erased}
+use Rattle.fcb_ring.specs.SectorStates.{blanked, blanked_up_to}
 use Rattle.flash_map.specs.Area.{sector_at}
 use Rattle.fcb_ring.proofs.LayLemmas.{erased_is}
 

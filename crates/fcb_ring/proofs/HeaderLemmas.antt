@@ -1,18 +1,19 @@
 -- A sector that is opened by its header, and one whose header was cut.
 use Rattle.std.proofs.Common.{◌≡◌, ℕ, ◌+◌, ◌-◌, ◌*◌, ◌/◌, ◌%◌, ◌<◌, ◌≤◌, ◌⊎◌, true, false, List, [], ◌∷◌, ◌++◌, length, map, take, drop, replicate, None, inl, inr, refl, sym, ap, ◌∙◌, append_assoc, arith}
 use Rattle.std.specs.List.{filter}
-use Rattle.std.proofs.lemmas.Bool.{cases_eq, or_left, or_right, not_from_true}
+use Rattle.std.proofs.lemmas.Bool.{cases_eq, or_right, not_from_true}
 use Rattle.std.proofs.lemmas.List.{length-append, length-replicate, drop-drop, drop-replicate, replicate-append-replicate}
 use Rattle.flash_sim.specs.Device.{overwritten}
-use Rattle.flash_map.specs.Units.{IsUnit, padded}
+use Rattle.flash_map.specs.Units.{IsUnit, padded, is_erased}
 use Rattle.flash_map.proofs.Rounding.{by_unit}
 use Rattle.fcb_ring.specs.Records.{has_record, record_at, records, records_end}
-use Rattle.fcb_ring.specs.SectorStates.{is_erased, is_torn, id_of, state_of}
+use Rattle.fcb_ring.specs.SectorStates.{is_torn, id_of, state_of}
 use Rattle.fcb_ring.specs.Entries.{entry_of, sector_entries}
 use Rattle.fcb_ring.specs.Writing.{filled, header_image}
 use Rattle.fcb_ring.proofs.RecordLemmas.{header_fits, reads_none}
 use Rattle.fcb_ring.proofs.Walks.{walk-none, walk_end-none}
 use Rattle.fcb_ring.proofs.LayLemmas.{blank_none, erased_from, header_used}
+use Rattle.fcb_ring.proofs.StandLemmas.{blank-free}
 
 -- the eight bytes of a header
 abbrev pub eight : ℕ → List ℕ
@@ -60,7 +61,7 @@ module _ (unit id size : ℕ) (is_unit : IsUnit unit) (large : 512 ≤ size) whe
   no-record = reads_none unit s (padded unit 8) none
 
   pub opened-end : records_end unit (opened id size) ≡ padded unit 8
-  unfolding records_end
+  unfolding records records_end
   opened-end = walk_end-none (record_at unit s) (length s) (padded unit 8) no-record
 
   pub opened-entries : (place : ℕ) → sector_entries unit place (opened id size) ≡ []
@@ -96,10 +97,6 @@ torn-front : (unit m : ℕ) → (state_of unit (0xEE ∷ 0xEE ∷ 0xFF ∷ 0xC0 
 unfolding state_of is_torn
 torn-front unit m = or_right (is_erased (0xEE ∷ 0xEE ∷ 0xFF ∷ 0xC0 ∷ replicate m 255)) (is_erased (replicate m 255)) (erased_from m)
 
-blank-front : (unit n : ℕ) → (state_of unit (replicate n 255)).is_free ≡ true
-unfolding state_of
-blank-front unit n = or_left (is_erased (replicate n 255)) (is_torn (replicate n 255)) (erased_from n)
-
 -- one unit, or none
 cut-units : (unit : ℕ) → IsUnit unit → (done : ℕ) → done < padded unit 8 / unit → (done * unit ≡ 0) ⊎ (done * unit ≡ 4)
 unfolding padded
@@ -113,7 +110,7 @@ pub cut_header : (unit id size done : ℕ) → IsUnit unit → 16 ≤ size → d
 cut_header unit id size done is_unit large lt =
     let of : ℕ → List ℕ = λ n. overwritten (replicate size 255) 0 (take n (header_image unit id)) in
     elim (cut-units unit is_unit done lt) [
-      | inl none ↦ ap (λ (n : ℕ). (state_of unit (of n)).is_free) none ∙ blank-front unit size
+      | inl none ↦ ap (λ (n : ℕ). (state_of unit (of n)).is_free) none ∙ blank-free unit size
       | inr some ↦
           ap (λ (n : ℕ). (state_of unit (of n)).is_free) some
           ∙ ap (λ (l : List ℕ). (state_of unit (overwritten (replicate size 255) 0 (take 4 l))).is_free) (header-is unit id)

@@ -6,16 +6,16 @@ use Rattle.std.proofs.lemmas.Bool.{cases_lt, and_from, and_left, and_right, lt-l
 use Rattle.std.proofs.lemmas.List.{places, same_lists, take-take, get_or-drop, get_or-replicate, drop-drop, drop-replicate, map-append}
 use Rattle.std.proofs.lemmas.List.Elements.{filter-append}
 use Rattle.flash_sim.specs.Device.{overwritten}
-use Rattle.flash_map.specs.Units.{IsUnit, padded}
+use Rattle.flash_map.specs.Units.{IsUnit, padded, is_erased}
 use Rattle.flash_map.proofs.Ranges.{range_below, get_or_below, drop-put, take-put}
 use Rattle.flash_map.proofs.Rounding.{by_unit, padding}
 use Rattle.flash_map.proofs.Sectors.{length-overwritten}
 use Rattle.fcb_ring.specs.declared.record.Record.{Record}
 use Rattle.fcb_ring.specs.declared.record.RecordAt.{RecordAt}
-use Rattle.fcb_ring.specs.Records.{body_len, field_width, has_record, checks_at, record_of, record_at, records, records_end, walk, walk_end}
-use Rattle.fcb_ring.specs.SectorStates.{IsSector, is_erased, is_torn, id_of, state_of, lead, magic}
+use Rattle.fcb_ring.specs.Records.{body_len, field_width, has_record, checks_at, record_of, record_at, records, records_end, walk}
+use Rattle.fcb_ring.specs.SectorStates.{IsSector, is_torn, id_of, state_of, lead, magic}
 use Rattle.fcb_ring.specs.Entries.{placed, entry_of, sector_entries}
-use Rattle.fcb_ring.proofs.Walks.{Advances, walk-none, walk-next, walk_end-none, walk_end-next, walk_end-within, walk_end-keeps, walk-more, walk_end-more, walk-agree}
+use Rattle.fcb_ring.proofs.Walks.{walk_end, Advances, walk-none, walk-next, walk_end-none, walk_end-next, walk_end-within, walk_end-keeps, walk-more, walk_end-more, walk-agree}
 use Rattle.fcb_ring.proofs.RecordLemmas.{read, reads, reads_none, advances, aligned_after, end-of, end-fields, unit_there, header_fits}
 
 -- the records of two sectors agree where their bytes do
@@ -127,7 +127,7 @@ range-in : (s : List ℕ) (e : ℕ) (y : List ℕ) (a b : ℕ) → e + length y 
 range-in s e y a b fits le = same_lists _ _ (search (rules, places)) (λ k d h. grind (arith, places))
 
 pub end-after-header : (unit : ℕ) (s : List ℕ) → IsSector unit s → (padded unit 8 ≤ records_end unit s) × (records_end unit s ≤ length s) × (records_end unit s % unit ≡ 0)
-unfolding records_end
+unfolding records records_end
 end-after-header unit s sector =
     let header = header_fits unit sector.is_unit in
     let first = advances unit s sector.is_unit in
@@ -233,7 +233,7 @@ module _ (unit : ℕ) (s y : List ℕ) (len : ℕ) (h : CanLay unit s y len) whe
       ∙ ap (λ rs. record_of unit new e ∷ rs) (ap (walk (record_at unit new) (length s)) laid-end ∙ walk-none (record_at unit new) (length s) (e + length y) none-after))
 
   pub laid-records_end : records_end unit (overwritten s (records_end unit s) y) ≡ records_end unit s + length y
-  unfolding records_end
+  unfolding records records_end
   laid-records_end = opened new ∙ inner
     where
       opened : (t : List ℕ) → records_end unit t ≡ walk_end (record_at unit t) (length t) (padded unit 8)

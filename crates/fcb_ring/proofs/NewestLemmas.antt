@@ -1,26 +1,26 @@
 -- The sector in which a ring writes, and the area once bytes are laid behind its records.
-use Rattle.std.proofs.Common.{◌≡◌, ℕ, ◌+◌, ◌-◌, ◌%◌, ◌<◌, ◌≤◌, min, Bool, true, false, cond, List, [], ◌∷◌, ◌++◌, length, length-drop, drop, set, replicate, None, inl, inr, refl, sym, ap, subst, ◌∙◌, append_assoc, arith}
+use Rattle.std.proofs.Common.{◌≡◌, ℕ, ◌+◌, ◌-◌, ◌%◌, ◌<◌, ◌≤◌, min, true, false, cond, List, [], ◌∷◌, ◌++◌, length, length-drop, drop, set, replicate, None, refl, sym, ap, subst, ◌∙◌, append_assoc, arith}
 use Rattle.std.specs.List.{range_with_len, flat_map}
-use Rattle.std.proofs.lemmas.Bool.{cases_eq, not-false}
+use Rattle.std.proofs.lemmas.Bool.{not-false}
 use Rattle.std.proofs.lemmas.List.{append-nil, length-set, get_or-set_same}
 use Rattle.std.proofs.lemmas.Grind.{flat_map-append}
 use Rattle.flash_sim.specs.Device.{overwritten}
 use Rattle.flash_map.specs.Area.{sector_at}
-use Rattle.flash_map.specs.Units.{padded}
+use Rattle.flash_map.specs.Units.{padded, is_erased}
 use Rattle.fcb_ring.specs.declared.record.RecordAt.{RecordAt}
 use Rattle.fcb_ring.specs.declared.ring.Ring.{Ring}
 use Rattle.fcb_ring.specs.declared.ring.Stage.{Stage}
 use Rattle.fcb_ring.specs.declared.ring.Stage.TheVariants.{Inspected, Ready, Collecting, Down}
 use Rattle.fcb_ring.specs.declared.sector.SectorState.{SectorState}
 use Rattle.fcb_ring.specs.Records.{records_end, checks_at}
-use Rattle.fcb_ring.specs.SectorStates.{IsSector, is_erased, state_of}
+use Rattle.fcb_ring.specs.SectorStates.{IsSector, state_of}
 use Rattle.fcb_ring.specs.Rings.{state_at, turned, first_damage, IsRing, AreClean}
-use Rattle.fcb_ring.specs.Entries.{states, sector_entries, entries, HasEntries}
-use Rattle.fcb_ring.specs.Standing.{Stands, FitsStage, IsWritten, is_finished, uncounted}
+use Rattle.fcb_ring.specs.Entries.{states, sector_entries, entries}
+use Rattle.fcb_ring.specs.Standing.{Stands, FitsStage, is_finished, uncounted}
 use Rattle.fcb_ring.proofs.PlaceLemmas.{range-append}
 use Rattle.fcb_ring.proofs.RingLemmas.{turned-within}
 use Rattle.fcb_ring.proofs.AreaLemmas.{HasSize, state-at, length-states, sector_is}
-use Rattle.fcb_ring.proofs.LayLemmas.{CanLay, erased_is, laid-long, laid-records_end, laid-header, laid-id, laid-used, laid-end_state, laid-not_overfull, laid-not_dirty, laid_entry, laid-entries}
+use Rattle.fcb_ring.proofs.LayLemmas.{CanLay, erased_is, laid-header, laid-id, laid-used, laid-end_state, laid-not_overfull, laid-not_dirty, laid_entry, laid-entries}
 use Rattle.fcb_ring.proofs.StandLemmas.{part, entries-are}
 use Rattle.fcb_ring.proofs.GrowLemmas.{IsGood, there, elsewhere, grown-form, grown-clean, grown-entries, grown-uncounted, grown-undamaged}
 

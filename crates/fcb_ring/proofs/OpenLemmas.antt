@@ -4,12 +4,12 @@ use Rattle.std.specs.List.{range_with_len, flat_map}
 use Rattle.std.proofs.lemmas.Bool.{cases_eq, or_cases, both_ways, cond-false, ne_eqb}
 use Rattle.std.proofs.lemmas.List.{append-nil, length-set}
 use Rattle.flash_sim.specs.Device.{overwritten}
-use Rattle.flash_map.specs.Units.{padded}
+use Rattle.flash_map.specs.Units.{padded, is_erased}
 use Rattle.fcb_ring.specs.declared.ring.Ring.{Ring}
 use Rattle.fcb_ring.specs.declared.ring.Stage.{Stage}
 use Rattle.fcb_ring.specs.declared.ring.Stage.TheVariants.{Inspected, Ready, Collecting, Down}
 use Rattle.fcb_ring.specs.declared.sector.SectorState.{SectorState}
-use Rattle.fcb_ring.specs.SectorStates.{is_erased, is_torn, state_of}
+use Rattle.fcb_ring.specs.SectorStates.{is_torn, state_of}
 use Rattle.fcb_ring.specs.Rings.{state_at, turned, IsRing, AreClean}
 use Rattle.fcb_ring.specs.Entries.{states, entries, HasEntries}
 use Rattle.flash_map.specs.Area.{sector_at}

@@ -1,27 +1,24 @@
 -- The call that opens a sector, on a device.
-use Rattle.std.proofs.Common.{◌≡◌, ℕ, ◌+◌, ◌-◌, ◌*◌, ◌/◌, ◌%◌, ◌<◌, ◌≤◌, true, false, cond, eqb, List, [], ◌∷◌, ◌++◌, length, set, take, drop, replicate, Some, inl, inr, refl, sym, ap, subst, ◌∙◌, arith}
+use Rattle.std.proofs.Common.{◌≡◌, ℕ, ◌+◌, ◌-◌, ◌*◌, ◌/◌, ◌%◌, ◌<◌, true, cond, eqb, List, [], length, set, take, replicate, inl, inr, refl, sym, ap, subst, ◌∙◌, arith}
 use Rattle.std.specs.Prelude.{slice_range}
 use Rattle.std.proofs.lemmas.Bool.{both_ways}
-use Rattle.std.proofs.lemmas.List.{take-replicate, drop-replicate, get_or-set_same, length-replicate}
+use Rattle.std.proofs.lemmas.List.{take-replicate, drop-replicate, get_or-set_same}
 use Rattle.flash_sim.specs.Bank.{IsLawful, bank_at}
-use Rattle.flash_sim.specs.Device.{Device, bank_of, overwritten, Programs, FailsToProgram, units_in}
+use Rattle.flash_sim.specs.Device.{Device, overwritten, Programs, FailsToProgram}
 use Rattle.flash_sim.specs.declared.flash.At.{At}
 use Rattle.flash_sim.specs.declared.flash.Bank.{Bank}
-use Rattle.flash_sim.specs.declared.flash.Loss.{Loss}
-use Rattle.flash_map.specs.declared.area.Area.{Area}
 use Rattle.flash_map.specs.Area.{unit_of, sector_size, sectors_of, sector_at, place_of, CanProgramIn, Writes, WritesPart}
 use Rattle.flash_map.specs.Spending.{Spends, SpendsAtMost}
 use Rattle.flash_map.specs.Units.{IsUnit, padded}
 use Rattle.flash_map.proofs.Rounding.{by_unit}
 use Rattle.flash_map.proofs.SpendingLemmas.{spends-programs, most-fails}
-use Rattle.fcb_ring.specs.declared.record.RecordAt.{RecordAt}
 use Rattle.fcb_ring.specs.declared.ring.Ring.{Ring}
 use Rattle.fcb_ring.specs.declared.ring.Stage.{Stage}
 use Rattle.fcb_ring.specs.declared.ring.Stage.TheVariants.{Ready}
-use Rattle.fcb_ring.specs.Changing.{newest_place, sector_list, FitsOpened, IsHeaderLoss}
+use Rattle.fcb_ring.specs.Changing.{sector_list, FitsOpened, IsHeaderLoss}
 use Rattle.fcb_ring.specs.Entries.{sector_entries, HasEntries}
 use Rattle.fcb_ring.specs.Rings.{turned}
-use Rattle.fcb_ring.specs.Standing.{IsRingArea, Stands, StandsOn, entries_on, KeepsEntries}
+use Rattle.fcb_ring.specs.Standing.{Stands, StandsOn, entries_on, KeepsEntries}
 use Rattle.fcb_ring.specs.Writing.{filled, header_image}
 use Rattle.fcb_ring.proofs.RecordLemmas.{header_fits}
 use Rattle.fcb_ring.proofs.RingLemmas.{turned-within}

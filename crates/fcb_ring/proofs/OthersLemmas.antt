@@ -1,9 +1,9 @@
 -- What a write or an erase of one sector leaves of the others.
-use Rattle.std.proofs.Common.{◌≡◌, ℕ, Result, Ok, Err, OnOk, OnErr, List, [], set, inl, inr, sym, ap, subst, ◌∙◌}
+use Rattle.std.proofs.Common.{◌≡◌, ℕ, List, [], set, ap, ◌∙◌}
 use Rattle.std.proofs.lemmas.List.{get_or-set_other}
 use Rattle.flash_sim.specs.Device.{Device}
 use Rattle.flash_map.specs.declared.area.Area.{Area}
-use Rattle.flash_map.specs.Area.{sectors_of, sector_at, Writes, WritesPart}
+use Rattle.flash_map.specs.Area.{sectors_of, sector_at}
 use Rattle.fcb_ring.specs.Changing.{KeepsOthers}
 
 pub others_set : (old new : Device) (area : Area) (place changed : ℕ) (sector : List ℕ) → place ≡ changed → sectors_of new area ≡ set (sectors_of old area) place sector → KeepsOthers old new area changed

@@ -1,19 +1,17 @@
 -- The call that puts a record, on a device.
-use Rattle.std.proofs.Common.{◌≡◌, ℕ, ◌+◌, ◌-◌, ◌*◌, ◌/◌, ◌%◌, ◌<◌, ◌≤◌, min, Bool, true, false, cond, eqb, List, [], ◌∷◌, ◌++◌, length, get_or, set, take, drop, replicate, Some, None, inl, inr, refl, sym, ap, subst, ◌∙◌, arith}
+use Rattle.std.proofs.Common.{◌≡◌, ℕ, ◌+◌, ◌-◌, ◌*◌, ◌/◌, ◌%◌, ◌<◌, ◌≤◌, Bool, true, false, cond, eqb, List, [], ◌∷◌, ◌++◌, length, get_or, set, take, drop, replicate, Some, inl, inr, refl, sym, ap, subst, ◌∙◌, arith}
 use Rattle.std.specs.Prelude.{slice_range}
 use Rattle.std.specs.Str.{bytes_eq}
-use Rattle.std.proofs.lemmas.Bool.{both_ways, cases_Bool, cases_eq, eq-eqb, ne_eqb, cond-true, cond-false}
-use Rattle.std.proofs.lemmas.List.{append-nil, take-replicate, drop-replicate, set-get_or, length-take-le, length-replicate}
+use Rattle.std.proofs.lemmas.Bool.{both_ways, cases_eq, eq-eqb, ne_eqb}
+use Rattle.std.proofs.lemmas.List.{append-nil, take-replicate, set-get_or, length-take-le}
 use Rattle.std.proofs.lemmas.Slice.Eq.{bytes_eq-Decides}
 use Rattle.flash_sim.specs.Bank.{IsLawful, bank_at}
-use Rattle.flash_sim.specs.Device.{Device, bank_of, overwritten, Programs, FailsToProgram, CutsShort, units_in, first_units}
-use Rattle.flash_sim.specs.declared.flash.At.{At}
+use Rattle.flash_sim.specs.Device.{Device, overwritten, Programs, FailsToProgram, CutsShort, units_in}
 use Rattle.flash_sim.specs.declared.flash.Bank.{Bank}
 use Rattle.flash_sim.specs.declared.flash.Loss.{Loss}
-use Rattle.flash_map.specs.declared.area.Area.{Area}
 use Rattle.flash_map.specs.Area.{unit_of, sector_size, sectors_of, sector_at, place_of, CanProgramIn, Writes}
 use Rattle.flash_map.specs.Spending.{Spends, SpendsAtMost}
-use Rattle.flash_map.specs.Units.{IsUnit, padded}
+use Rattle.flash_map.specs.Units.{padded}
 use Rattle.flash_map.proofs.PieceLemmas.{next_fits}
 use Rattle.flash_map.proofs.Places.{writes_put}
 use Rattle.flash_map.proofs.Rounding.{IsPadding, padding}
@@ -21,14 +19,14 @@ use Rattle.flash_map.proofs.Sectors.{overwritten_nil}
 use Rattle.flash_map.proofs.SpendingLemmas.{spends-programs, most-fails}
 use Rattle.fcb_ring.specs.declared.record.RecordAt.{RecordAt}
 use Rattle.fcb_ring.specs.declared.ring.Ring.{Ring}
-use Rattle.fcb_ring.specs.Changing.{newest_place, sector_list, PutsRecord, CutList, IsRecordLoss, IsHeaderLoss, CutAppend}
-use Rattle.fcb_ring.specs.Entries.{states, sector_entries, entries, HasEntries}
+use Rattle.fcb_ring.specs.Changing.{newest_place, sector_list, PutsRecord, CutList, IsRecordLoss, CutAppend}
+use Rattle.fcb_ring.specs.Entries.{states, sector_entries, HasEntries}
 use Rattle.fcb_ring.specs.Records.{body_len, checks_at, record_of, records_end}
-use Rattle.fcb_ring.specs.Rings.{turned, first_damage, AreClean}
+use Rattle.fcb_ring.specs.Rings.{turned}
 use Rattle.fcb_ring.specs.SectorStates.{IsSector}
 use Rattle.fcb_ring.specs.Standing.{Stands, StandsOn, entries_on, KeepsEntries, is_finished}
 use Rattle.fcb_ring.specs.Writing.{record_image, record_cost, cut_record, spelled, IsChance}
-use Rattle.fcb_ring.proofs.AreaLemmas.{HasSize, has_size, count-sectors, area_after, length-states}
+use Rattle.fcb_ring.proofs.AreaLemmas.{HasSize, has_size, count-sectors, area_after}
 use Rattle.fcb_ring.proofs.FinishLemmas.{with_unit}
 use Rattle.fcb_ring.proofs.ImageLemmas.{image-long, image-says, image-there, image-body, image-checks, cut-long, cut-says, cut-there, cut-laid}
 use Rattle.fcb_ring.proofs.LayLemmas.{CanLay, end-after-header, laid_entry, laid-body}

@@ -8,11 +8,13 @@ use Rattle.fcb_ring.specs.declared.ring.Ring.{Ring}
 use Rattle.fcb_ring.specs.declared.ring.Stage.{Stage}
 use Rattle.fcb_ring.specs.declared.ring.Stage.TheVariants.{Inspected}
 use Rattle.fcb_ring.specs.declared.sector.SectorState.{SectorState}
-use Rattle.fcb_ring.specs.SectorStates.{is_erased, is_torn, mended, mended_up_to, state_of}
+use Rattle.flash_map.specs.Units.{is_erased}
+use Rattle.fcb_ring.specs.SectorStates.{is_torn, mended, mended_up_to, state_of}
 use Rattle.fcb_ring.specs.Rings.{state_at, turned, oldest_place, first_damage, IsRing, AreClean}
 use Rattle.fcb_ring.specs.Entries.{states, sector_entries, entries, HasEntries}
 use Rattle.flash_map.specs.Area.{sector_at}
 use Rattle.fcb_ring.specs.Standing.{Stands, FitsStage, uncounted}
+use Rattle.fcb_ring.proofs.LayLemmas.{erased_from}
 use Rattle.fcb_ring.proofs.PlaceLemmas.{All-range, flat_map-agree, flat_map-map}
 use Rattle.fcb_ring.proofs.RingLemmas.{turned-within, turned-same, ring-form, clean-form, counting-is, undamaged}
 use Rattle.fcb_ring.proofs.AreaLemmas.{state-at, length-states}
@@ -149,10 +151,6 @@ module _ (unit : ℕ) (old new : List (List ℕ)) (oldest used count : ℕ) (kep
 
 -- ---- sectors that are erased
 
-pub erased-replicate : (n : ℕ) → is_erased (replicate n 255) ≡ true
-erased-replicate zero = refl
-erased-replicate (suc n) = erased-replicate n
-
 pub untorn-replicate : (n : ℕ) → 0 < n → is_torn (replicate n 255) ≡ false
 unfolding is_torn
 untorn-replicate zero lt = absurd (omega arith)
@@ -160,7 +158,7 @@ untorn-replicate (suc n) lt = refl
 
 pub blank-free : (unit n : ℕ) → (state_of unit (replicate n 255)).is_free ≡ true
 unfolding state_of
-blank-free unit n = or_left (is_erased (replicate n 255)) (is_torn (replicate n 255)) (erased-replicate n)
+blank-free unit n = or_left (is_erased (replicate n 255)) (is_torn (replicate n 255)) (erased_from n)
 
 pub blank-untorn : (unit n : ℕ) → 0 < n → (state_of unit (replicate n 255)).is_torn ≡ false
 unfolding state_of

@@ -3,7 +3,11 @@ use Rattle.std.proofs.Common.{◌≡◌, ℕ, zero, suc, ◌+◌, ◌<◌, ◌�
 use Rattle.std.specs.List.{filter}
 use Rattle.std.specs.Option.{option_map_or}
 use Rattle.fcb_ring.specs.declared.record.Record.{Record}
-use Rattle.fcb_ring.specs.Records.{walk, walk_end}
+use Rattle.fcb_ring.specs.Records.{walk, last_end}
+
+-- where a walk from a place ends
+abbrev pub walk_end : (ℕ → Option Record) → ℕ → ℕ → ℕ
+walk_end step n at = last_end at (walk step n at)
 
 pub option_cases : {Y : Type 0} (o : Option Y) → (o ≡ None) ⊎ ((y : Y) × (o ≡ Some y))
 option_cases None = inl refl
@@ -18,14 +22,13 @@ walk-none step zero at none = refl
 walk-none step (suc n) at none = ap (λ o. option_map_or (λ r. r ∷ walk step n r.end) o []) none
 
 pub walk_end-none : (step : ℕ → Option Record) (n at : ℕ) → step at ≡ None → walk_end step n at ≡ at
-walk_end-none step zero at none = refl
-walk_end-none step (suc n) at none = ap (λ o. option_map_or (λ r. walk_end step n r.end) o at) none
+walk_end-none step n at none = ap (last_end at) (walk-none step n at none)
 
 pub walk-some : (step : ℕ → Option Record) (n at : ℕ) (r : Record) → step at ≡ Some r → walk step (suc n) at ≡ r ∷ walk step n r.end
 walk-some step n at r some = ap (λ o. option_map_or (λ q. q ∷ walk step n q.end) o []) some
 
 pub walk_end-some : (step : ℕ → Option Record) (n at : ℕ) (r : Record) → step at ≡ Some r → walk_end step (suc n) at ≡ walk_end step n r.end
-walk_end-some step n at r some = ap (λ o. option_map_or (λ q. walk_end step n q.end) o at) some
+walk_end-some step n at r some = ap (last_end at) (walk-some step n at r some)
 
 -- at the end of the size there is none
 pub none_at_end : (step : ℕ → Option Record) (size at : ℕ) → Advances step size → size ≤ at → step at ≡ None

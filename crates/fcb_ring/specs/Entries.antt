@@ -1,9 +1,8 @@
 -- How an area reads: the bodies of the records that check, each with its place, or the area's damage.
-use Rattle.std.specs.Prelude.{◌≡◌, ℕ, ◌+◌, ◌-◌, List, [], ◌++◌, length, nat_lt, if◌then◌else◌, map, filter, flat_map, slice_range, Option, Some, None}
+use Rattle.std.specs.Prelude.{◌≡◌, ℕ, ◌+◌, ◌-◌, List, [], ◌++◌, length, nat_lt, if◌then◌else◌, map, filter, flat_map, slice_range, None}
 use Rattle.flash_map.specs.Area.{sector_at}
 use Rattle.std.specs.List.{range_with_len}
 use Rattle.flash_map.specs.Units.{padded}
-use Rattle.flash_map.specs.declared.faults.Damaged.{Damaged}
 use Rattle.fcb_ring.specs.declared.record.Record.{Record}
 use Rattle.fcb_ring.specs.declared.record.RecordAt.{RecordAt}
 use Rattle.fcb_ring.specs.declared.sector.SectorState.{SectorState}
@@ -44,18 +43,6 @@ following unit sectors oldest count k from =
 
 abbrev pub bodies : List (RecordAt × List ℕ) → List (List ℕ)
 bodies list = map (λ entry. entry.1) list
-
-pub data AreaList : Type 0 where
-  IsDamaged : Damaged → AreaList
-  Lists : List (List ℕ) → AreaList
-
-abbrev pub list_or : Option Damaged → List (List ℕ) → AreaList
-list_or None list = Lists list
-list_or (Some damaged) list = IsDamaged damaged
-
--- the area's list
-abbrev pub area_list : ℕ → List (List ℕ) → AreaList
-area_list unit sectors = list_or (first_damage (states unit sectors)) (bodies (entries unit sectors))
 
 -- the area is not damaged, and has these records
 pub record HasEntries (unit : ℕ) (sectors : List (List ℕ)) (list : List (RecordAt × List ℕ)) : Type 0 where

@@ -39,14 +39,15 @@ abbrev pub walk : (ℕ → Option Record) → ℕ → ℕ → List Record
 walk step zero at = []
 walk step (suc n) at = option_map_or (λ r. r ∷ walk step n r.end) (step at) []
 
--- where they end
-abbrev pub walk_end : (ℕ → Option Record) → ℕ → ℕ → ℕ
-walk_end step zero at = at
-walk_end step (suc n) at = option_map_or (λ r. walk_end step n r.end) (step at) at
-
 -- the records of a sector, those that do not check too; they begin behind the header's eight bytes
 unfoldable pub records : ℕ → List ℕ → List Record
 records unit sector = walk (record_at unit sector) (length sector) (padded unit 8)
 
+-- the end of the last of these records, or a place where there is none
+abbrev pub last_end : ℕ → List Record → ℕ
+last_end place [] = place
+last_end place (r ∷ rs) = last_end r.end rs
+
+-- where the sector's records end; with none, behind the header
 unfoldable pub records_end : ℕ → List ℕ → ℕ
-records_end unit sector = walk_end (record_at unit sector) (length sector) (padded unit 8)
+records_end unit sector = last_end (padded unit 8) (records unit sector)

@@ -1,7 +1,7 @@
 -- What one sector is: free, or used by the ring.
-use Rattle.std.specs.Prelude.{◌≡◌, ◌%◌, ◌≤◌, length, ℕ, ◌+◌, ◌*◌, Bool, not, ◌&&◌, ◌||◌, List, [], ◌∷◌, ◌++◌, map, take, drop, replicate, slice_index, ◌==◌, nat_eq, if◌then◌else◌}
-use Rattle.std.specs.List.{list_all, starts_with}
-use Rattle.flash_map.specs.Units.{IsUnit}
+use Rattle.std.specs.Prelude.{◌≡◌, ◌%◌, ◌≤◌, length, ℕ, ◌+◌, ◌*◌, Bool, not, ◌&&◌, ◌||◌, List, [], ◌∷◌, ◌++◌, map, take, drop, replicate, slice_index, nat_eq, if◌then◌else◌}
+use Rattle.std.specs.List.{starts_with}
+use Rattle.flash_map.specs.Units.{IsUnit, is_erased}
 use Rattle.fcb_ring.specs.declared.sector.SectorState.{SectorState}
 use Rattle.fcb_ring.specs.Records.{has_record, records_end}
 
@@ -12,9 +12,6 @@ pub record IsSector (unit : ℕ) (bytes : List ℕ) : Type 0 where
   pub short : length bytes ≤ 32768
   pub whole : length bytes % unit ≡ 0
 
-abbrev pub is_erased : List ℕ → Bool
-is_erased bytes = list_all (λ byte. byte == 0xFF) bytes
-
 abbrev pub is_written : List ℕ → Bool
 is_written bytes = not (is_erased bytes)
 
@@ -24,7 +21,7 @@ magic = 0xEE ∷ 0xEE ∷ 0xFF ∷ 0xC0 ∷ []
 
 -- and all of it before the id: the magic, the version and a byte of padding
 abbrev pub lead : List ℕ
-lead = 0xEE ∷ 0xEE ∷ 0xFF ∷ 0xC0 ∷ 0x01 ∷ 0xFF ∷ []
+lead = magic ++ 0x01 ∷ 0xFF ∷ []
 
 -- a header that was cut behind its first four bytes, and nothing after it
 unfoldable pub is_torn : List ℕ → Bool

@@ -93,13 +93,6 @@ IsNext list (Some r) next = (i : ℕ) → slice_get (record_places list) i ≡ S
 abbrev pub erases_due : List SectorState → ℕ
 erases_due sectors = count_by (λ state. state.is_torn) sectors + (if is_full sectors then 1 else 0)
 
--- the answer says that power was lost
-abbrev pub mount_lost : {T : Type 0} → Result T MountFault → Bool
-mount_lost (Ok ring) = false
-mount_lost (Err (HasDamage damaged)) = false
-mount_lost (Err PowerLost) = true
-mount_lost (Err NoMemory) = false
-
 -- how mounting ends: the damage of the area, and then nothing changed; or it is not damaged
 abbrev pub MountEnds : Device → Device → Area → ℕ → Result Ring MountFault → Type 0
 MountEnds old new area reserve (Ok ring) =

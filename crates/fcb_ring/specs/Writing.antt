@@ -1,9 +1,7 @@
 -- What the ring programs: headers and records.
 use Rattle.std.specs.Prelude.{◌≡◌, ◌≢◌, ℕ, ◌+◌, ◌-◌, ◌*◌, ◌/◌, ◌%◌, ◌<◌, List, [], ◌∷◌, ◌++◌, length, take, replicate, slice_range, true, nat_lt, if◌then◌else◌}
-use Rattle.std.specs.List.{sum_by}
 use Rattle.crc8_entry.specs.Crc.{crc}
 use Rattle.flash_map.specs.Units.{padded}
-use Rattle.fcb_ring.specs.declared.record.RecordAt.{RecordAt}
 use Rattle.fcb_ring.specs.Records.{record_of}
 use Rattle.fcb_ring.specs.SectorStates.{lead}
 
@@ -24,10 +22,6 @@ record_image unit body =
 -- the bytes of a record with a body of this length
 abbrev pub record_cost : ℕ → ℕ → ℕ
 record_cost unit len = unit + padded unit len + unit
-
--- the bytes that the records of a list take
-abbrev pub list_cost : ℕ → List (RecordAt × List ℕ) → ℕ
-list_cost unit list = sum_by (λ entry. record_cost unit (length entry.1)) list
 
 unfoldable pub header_image : ℕ → ℕ → List ℕ
 header_image unit id = filled unit (lead ++ (id % 0x100) ∷ (id / 0x100) ∷ [])

@@ -1,6 +1,6 @@
 // Collecting: the records of the oldest sector that are to stay are copied into the scratch sector.
-ghost use Rattle.std.specs.Prelude.{◌≡◌, ◌+◌, ◌-◌, ◌*◌, ◌/◌, ◌<◌, ◌≤◌, ◌∷◌, ◌++◌, [], ℕ, true, false, is_err, Contains, length, slice_range, OnOk, OnErr};
-ghost use Rattle.flash_map.specs.Area.{unit_of, sector_size, sectors_of, sector_bytes};
+ghost use Rattle.std.specs.Prelude.{◌≡◌, ◌+◌, ◌-◌, ◌/◌, ◌<◌, ◌≤◌, ◌∷◌, [], true, false, is_err, Contains, length, slice_range, OnOk, OnErr};
+ghost use Rattle.flash_map.specs.Area.{unit_of, sector_size, sector_bytes};
 ghost use Rattle.flash_map.specs.Spending.{Spends, SpendsAtMost};
 ghost use Rattle.flash_map.specs.Touches.{Touches};
 ghost use Rattle.flash_map.specs.Units.{padded};

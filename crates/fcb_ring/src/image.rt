@@ -1,8 +1,9 @@
 // What the ring programs: headers and records.
-ghost use Rattle.std.specs.Prelude.{◌≡◌, ◌+◌, ◌*◌, ◌/◌, ◌%◌, ◌<◌, ◌≤◌, ◌++◌, ◌^◌, length};
+ghost use Rattle.std.specs.Prelude.{◌≡◌, ◌+◌, ◌/◌, ◌%◌, ◌<◌, ◌≤◌, ◌++◌, ◌^◌, length};
 ghost use Rattle.flash_map.specs.Units.{IsUnit, padded};
 ghost use Rattle.fcb_ring.specs.Writing.{filled, length_field, record_image, record_cost, header_image};
 
+use crate::sector::LEAD;
 use arrayvec::ArrayVec;
 use crc8_entry::{START, crc8};
 use flash_map::padded;
@@ -18,14 +19,14 @@ pub(crate) const RECORD: usize = 400;
 pub(crate) fn header_image(id: u16) -> [u8; UNIT]
     ensures { result ≡ header_image 16 id }
 {
-    let [low, high] = id.to_le_bytes();
     let mut image = [0xFF; UNIT];
-    image[..8].copy_from_slice(&[0xEE, 0xEE, 0xFF, 0xC0, 0x01, 0xFF, low, high]);
+    image[..6].copy_from_slice(&LEAD);
+    image[6..8].copy_from_slice(&id.to_le_bytes());
     image
 }
 
-// The bytes of a record with a body of this length.
-pub(crate) fn record_cost(unit: u32, len: u32) -> u32
+/// How many bytes of a sector a record takes up whose body has `len` bytes, where a unit has `unit` bytes.
+pub fn record_cost(unit: u32, len: u32) -> u32
     requires unit { IsUnit unit }
     requires len { len < 2 ^ 30 }
     ensures { result ≡ record_cost unit len }

@@ -13,6 +13,7 @@ mod sector;
 mod sequence;
 mod writing;
 
+pub use image::record_cost;
 pub use record::{Record, RecordAt};
 pub use ring::{Ring, Stage};
 pub use sector::SectorState;

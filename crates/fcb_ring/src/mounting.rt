@@ -1,8 +1,9 @@
 // Mounting.
-ghost use Rattle.std.specs.Prelude.{◌≡◌, ◌+◌, ◌<◌, ◌≤◌, ◌∷◌, [], None};
+ghost use Rattle.std.specs.Prelude.{◌≡◌, ◌<◌, ◌∷◌, [], None};
 ghost use Rattle.flash_map.specs.Touches.{Touches};
 ghost use Rattle.fcb_ring.specs.Rings.{first_damage};
-ghost use Rattle.fcb_ring.specs.Standing.{IsRingArea, states_on, KeepsEntries, mount_lost, MountEnds};
+ghost use Rattle.flash_map.specs.Faults.{mount_lost};
+ghost use Rattle.fcb_ring.specs.Standing.{IsRingArea, states_on, KeepsEntries, MountEnds};
 
 use crate::ring::Ring;
 use flash_map::{Area, MountFault};

@@ -1,11 +1,10 @@
 // The records of a ring, one after the other.
-ghost use Rattle.std.specs.Prelude.{◌≡◌, ◌+◌, ◌-◌, ◌*◌, ◌%◌, ◌<◌, ◌≤◌, ◌==◌, ℕ, Some, None, Contains, length, min, slice_range, if◌then◌else◌};
+ghost use Rattle.std.specs.Prelude.{◌≡◌, ◌+◌, ◌-◌, ◌%◌, ◌<◌, ◌≤◌, ◌==◌, ℕ, Some, None, Contains, min, slice_range, if◌then◌else◌};
 ghost use Rattle.std.specs.List.{slice_get};
 ghost use Rattle.std.specs.Option.{ForSome};
 ghost use Rattle.flash_map.specs.Area.{unit_of, sectors_of, sector_size};
 ghost use Rattle.fcb_ring.specs.Entries.{records_from, following};
 ghost use Rattle.flash_map.specs.Area.{sector_at};
-ghost use Rattle.fcb_ring.specs.Rings.{turned};
 ghost use Rattle.fcb_ring.specs.Standing.{StandsOn, entries_on, record_places, IsNext};
 
 use crate::record::{RecordAt, next_checked};
@@ -122,6 +121,7 @@ impl Ring {
     ) -> &'a [u8]
         requires stands { StandsOn (F.device flash.now) self.now }
         requires record { Contains (record_places (entries_on (F.device flash.now) self.now.area)) r.now }
+        ensures step { steps.new ≡ steps.old + 1 }
         ensures bytes { result.now ≡ slice_range (sector_at (sectors_of (F.device flash.now) self.now.area) r.now.sector) r.now.body (r.now.body + r.now.len) }
         ensures body { (i : ℕ) → slice_get (record_places (entries_on (F.device flash.now) self.now.area)) i ≡ Some r.now → slice_get (entries_on (F.device flash.now) self.now.area) i ≡ Some (r.now, result.now) }
     {

@@ -1,5 +1,5 @@
 // Reading records.
-ghost use Rattle.std.specs.Prelude.{◌≡◌, ◌+◌, ◌-◌, ◌*◌, ◌%◌, ◌<◌, ◌≤◌, ◌^◌, length, slice_index, find, IsTrue};
+ghost use Rattle.std.specs.Prelude.{◌≡◌, ◌+◌, ◌-◌, ◌*◌, ◌%◌, ◌<◌, ◌≤◌, ◌^◌, length, find, IsTrue};
 ghost use Rattle.flash_map.specs.Units.{IsUnit, padded};
 ghost use Rattle.fcb_ring.specs.SectorStates.{IsSector};
 ghost use Rattle.fcb_ring.specs.Records.{body_len, field_width, has_record, checks_at, record_at, records_end, walk};

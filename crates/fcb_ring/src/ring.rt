@@ -1,32 +1,27 @@
 // The ring over one area.
-ghost use Rattle.std.specs.Prelude.{◌≡◌, ◌+◌, ◌-◌, ◌*◌, ◌<◌, ◌≤◌, ◌∷◌, [], ℕ, Some, None, IsTrue, Contains, is_err, length, map, min, slice_range, IfOk, IfErr, OnOk, OnErr, MatchResult, false, true};
-ghost use Rattle.std.specs.List.{slice_get};
-ghost use Rattle.std.specs.Option.{ForSome};
+ghost use Rattle.std.specs.Prelude.{◌≡◌, ◌+◌, ◌-◌, ◌<◌, ◌≤◌, ◌∷◌, [], Some, None, is_err, length, min, IfOk, OnOk, OnErr, MatchResult, false, true};
 ghost use Rattle.flash_sim.specs.Device.{counted};
 ghost use Rattle.flash_map.specs.Area.{unit_of, sectors_of, sector_size};
 ghost use Rattle.flash_map.specs.Spending.{SpendsAtMost};
 ghost use Rattle.flash_map.specs.Touches.{Touches};
-ghost use Rattle.flash_map.specs.Units.{padded};
 ghost use Rattle.fcb_ring.specs.SectorStates.{IsSector, state_of};
 ghost use Rattle.fcb_ring.specs.Rings.{state_at, turned, oldest_place, first_damage};
-ghost use Rattle.fcb_ring.specs.Entries.{following};
 ghost use Rattle.flash_map.specs.Area.{sector_at};
-ghost use Rattle.fcb_ring.specs.Standing.{IsRingArea, StandsOn, states_on, entries_on, KeepsEntries, record_places, IsNext, is_up, is_finished, is_collecting, is_uncounted, erases_due, mount_lost, MountEnds};
+ghost use Rattle.fcb_ring.specs.Standing.{IsRingArea, StandsOn, states_on, KeepsEntries, is_up, is_finished, is_collecting, is_uncounted, erases_due};
 
 use crate::erasing::{erase_if, erase_torn};
-use crate::record::{Record, RecordAt, next_checked};
-use crate::sector::{SectorState, is_torn, state_of};
-use crate::sequence::{distance, first_damage, oldest_place, turned, used_from};
+use crate::sector::{SectorState, state_of};
+use crate::sequence::{first_damage, oldest_place, turned, used_from};
 use arrayvec::ArrayVec;
-use flash_map::{Area, Damaged, MountFault, area_erase, area_view, geometry, padded};
+use flash_map::{Area, Damaged, geometry};
 use flash_sim::{Flash, PowerLost, Steps};
 use std::sync::ledger::Ledger;
 
 /// How far a ring has come.
 #[derive(Clone, Copy, Debug, PartialEq, Eq)]
 pub enum Stage {
-    /// The erases of mounting are to come. Where no sector is free, the newest counts for nothing.
-    Inspected(bool),
+    /// The erases of mounting are to come. Where no sector is free, the newest counts for nothing, and waits to be erased.
+    Inspected { newest_waits: bool },
     Ready,
     Collecting,
     /// A call answered that power was lost.
@@ -60,9 +55,9 @@ pub(crate) fn sector_view<'a, F: Flash, L: Ledger>(
     ensures bytes { result.now ≡ sector_at (sectors_of (F.device flash.now) area.now) sector }
     ensures sector { IsSector (unit_of (F.device flash.now) area.now) result.now }
     ensures len { length result.now ≡ sector_size (F.device flash.now) area.now }
+    ensures step { steps.new ≡ steps.old + 1 }
 {
-    let size = geometry(flash, area).sector;
-    area_view(flash, area, sector, 0, size, steps)
+    flash_map::sector_view(flash, area, sector, steps)
 }
 
 // The state of one sector.
@@ -144,7 +139,9 @@ impl Ring {
             used: used as u32,
             id: newest.id,
             end: newest.end,
-            stage: Stage::Inspected(all_used == count),
+            stage: Stage::Inspected {
+                newest_waits: all_used == count,
+            },
         })
     }
 
@@ -162,6 +159,7 @@ impl Ring {
         matches!(self.stage, Stage::Ready | Stage::Collecting)
     }
 
+    /// Whether a collection goes on: the scratch sector is open, and the oldest sector is not yet erased.
     pub fn is_collecting(&self) -> bool
         ensures { result ≡ is_collecting self.now.stage }
     {
@@ -216,7 +214,7 @@ impl Ring {
     fn is_uncounted(&self) -> bool
         ensures { result ≡ is_uncounted self.now.stage }
     {
-        matches!(self.stage, Stage::Inspected(true))
+        matches!(self.stage, Stage::Inspected { newest_waits: true })
     }
 
     // The place of a sector of the run, by how far it is behind the oldest.

@@ -1,17 +1,20 @@
 // What one sector is.
-ghost use Rattle.std.specs.Prelude.{◌≡◌, ◌+◌, ◌*◌, ◌%◌, ◌<◌, ◌≤◌, length};
-ghost use Rattle.flash_map.specs.Units.{IsUnit};
-ghost use Rattle.fcb_ring.specs.SectorStates.{IsSector, is_erased, is_torn, id_of, state_of};
+ghost use Rattle.std.specs.Prelude.{◌≡◌, ◌≤◌, length};
+ghost use Rattle.fcb_ring.specs.SectorStates.{IsSector, is_torn, id_of, state_of};
 
 use crate::record::{has_record, records_end};
+use flash_map::is_erased;
 
 /// What a look at all of a sector says.
 #[derive(Clone, Copy, Debug, Default, PartialEq, Eq)]
 pub struct SectorState {
     /// A header was cut behind its first four bytes. Such a sector is free.
     pub is_torn: bool,
+    /// Nothing but FF, or a torn header. Any other sector is used.
     pub is_free: bool,
+    /// It begins as a whole header does.
     pub has_header: bool,
+    /// What stands where a header has its id. Ids rise by one from sector to sector, round the end.
     pub id: u16,
     /// Where the next record goes, in bytes.
     pub end: u32,
@@ -21,24 +24,15 @@ pub struct SectorState {
     pub is_dirty: bool,
 }
 
-/// The four bytes that a header begins with.
-pub(crate) const MAGIC: [u8; 4] = [0xEE, 0xEE, 0xFF, 0xC0];
-
-/// All of a header before the id: the magic, the version and a byte of padding.
+/// All of a header before the id: four bytes of magic, the version and a byte of padding.
 pub(crate) const LEAD: [u8; 6] = [0xEE, 0xEE, 0xFF, 0xC0, 0x01, 0xFF];
-
-pub(crate) fn is_erased(bytes: &[u8]) -> bool
-    ensures { result ≡ is_erased bytes.now }
-{
-    bytes.iter().all(|byte| *byte == 0xFF)
-}
 
 #[tactic(auto, unfolding(crate::specs::SectorStates::is_torn))]
 pub(crate) fn is_torn(sector: &[u8]) -> bool
     requires { 4 ≤ length sector.now }
     ensures { result ≡ is_torn sector.now }
 {
-    sector.starts_with(&MAGIC) && is_erased(&sector[4..])
+    sector.starts_with(&LEAD[..4]) && is_erased(&sector[4..])
 }
 
 #[tactic(auto, unfolding(crate::specs::SectorStates::id_of))]

@@ -1,7 +1,7 @@
 // The ring of the sectors, by the state of each.
-ghost use Rattle.std.specs.Prelude.{◌≡◌, ◌≢◌, ℕ, ◌+◌, ◌-◌, ◌%◌, ◌<◌, ◌≤◌, true, false, length, find, is_some, IfSome};
+ghost use Rattle.std.specs.Prelude.{◌≡◌, ℕ, ◌+◌, ◌-◌, ◌<◌, ◌≤◌, true, false, length, find, is_some, IfSome};
 ghost use Rattle.std.specs.List.{range_with_len};
-ghost use Rattle.fcb_ring.specs.Rings.{state_at, is_used, before, turned, distance, continues, opens_run, oldest_place, second_start, is_full, counts, shows, first_of, first_damage};
+ghost use Rattle.fcb_ring.specs.Rings.{state_at, before, turned, distance, continues, opens_run, oldest_place, second_start, is_full, counts, shows, first_of, first_damage};
 
 use crate::sector::SectorState;
 use flash_map::{Damaged, Why};

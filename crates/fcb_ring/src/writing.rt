@@ -1,6 +1,6 @@
 // Opening sectors, and putting records.
-ghost use Rattle.std.specs.Prelude.{◌≡◌, ◌+◌, ◌-◌, ◌*◌, ◌/◌, ◌%◌, ◌<◌, ◌≤◌, ◌∷◌, [], ℕ, true, false, is_err, length, slice_set, OnOk, OnErr, ◌==◌, if◌then◌else◌};
-ghost use Rattle.flash_map.specs.Area.{unit_of, sector_size, sectors_of};
+ghost use Rattle.std.specs.Prelude.{◌≡◌, ◌+◌, ◌-◌, ◌/◌, ◌<◌, ◌≤◌, ◌∷◌, [], true, false, is_err, length, OnOk, OnErr, ◌==◌, if◌then◌else◌};
+ghost use Rattle.flash_map.specs.Area.{unit_of, sector_size};
 ghost use Rattle.flash_map.specs.Spending.{Spends, SpendsAtMost};
 ghost use Rattle.flash_map.specs.Touches.{Touches};
 ghost use Rattle.flash_map.specs.Units.{IsUnit, padded};

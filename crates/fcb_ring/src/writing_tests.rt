@@ -7,7 +7,7 @@ ghost use Rattle.fcb_ring.specs.Standing.{StandsOn, entries_on, record_places};
 use crate::random_areas::summary;
 use crate::ring::sector_view;
 use crate::tests::{area, image, mounted, next_with};
-use crate::{AppendFault, RecordAt, Ring, Stage};
+use crate::{AppendFault, RecordAt, Ring, Stage, record_cost};
 use flash_sim::{Bench, Flash, FlatSim, PowerLost, Steps};
 use std::alloc::Global;
 use std::marker::Brand;
@@ -124,6 +124,15 @@ fn appends_and_collects(rt: HostRuntime) -> Result<(), Fail> {
     let alloc = rt.alloc();
     let mut sim = FlatSim::new(alloc);
     collects::<FlatSim, Brand, HostRuntime>(&rt, alloc, &mut sim, Blank::new(1))
+}
+
+// A length, the body and the CRC, each in whole units.
+#[test]
+fn records_take_whole_units(rt: HostRuntime) {
+    assert_eq!(rt; record_cost(4, 102), 112);
+    assert_eq!(rt; record_cost(8, 102), 120);
+    assert_eq!(rt; record_cost(16, 102), 144);
+    assert_eq!(rt; record_cost(4, 0), 8);
 }
 
 // The bytes of records, and the most of a ring of two sectors.

@@ -1,14 +1,13 @@
 -- Bytes of one sector, copied piece by piece to another.
-use Rattle.std.proofs.Common.{◌≡◌, ◌∷◌, ◌⊎◌, false, inl, inr, ℕ, ◌+◌, ◌-◌, ◌*◌, ◌/◌, ◌%◌, ◌<◌, ◌≤◌, List, [], ◌++◌, length, get_or, set, take, drop, replicate, min, refl, sym, ap, subst, ◌∙◌, append_assoc, arith, rules}
+use Rattle.std.proofs.Common.{◌≡◌, ◌⊎◌, inl, inr, ℕ, ◌+◌, ◌-◌, ◌/◌, ◌%◌, ◌<◌, ◌≤◌, List, [], ◌++◌, length, get_or, set, take, drop, replicate, min, refl, sym, ap, subst, ◌∙◌, arith}
 use Rattle.std.specs.Prelude.{slice_range}
-use Rattle.std.proofs.lemmas.List.{places, same_lists, take_all, take-take, take-append-le, drop-append-le, length-take-le, length-drop, length-replicate, length-append, append-nil, get_or-set_other, take-replicate}
+use Rattle.std.proofs.lemmas.List.{take_all, take-append-le, drop-append-le, length-take-le, length-drop, get_or-set_other, take-replicate}
 use Rattle.std.proofs.Math.Seq.{take-append-add}
 use Rattle.std.proofs.lemmas.Bool.{cases_lt}
-use Rattle.flash_sim.specs.Bank.{IsLawful}
 use Rattle.flash_sim.specs.Device.{Device, overwritten}
 use Rattle.flash_map.specs.declared.area.Area.{Area}
 use Rattle.flash_map.specs.declared.copies.Source.{Source}
-use Rattle.flash_map.specs.Area.{IsLawfulArea, unit_of, sector_size, sectors_of, sector_bytes, Writes}
+use Rattle.flash_map.specs.Area.{sectors_of, sector_bytes, Writes}
 use Rattle.flash_map.specs.Copies.{source}
 use Rattle.flash_map.specs.Units.{IsUnit, padded, padded_bytes}
 use Rattle.flash_map.specs.Spending.{Spends}

@@ -1,5 +1,5 @@
 -- What the map of areas keeps: each area stands under its label.
-use Rattle.std.proofs.Common.{◌≡◌, ◌+◌, ◌<◌, ◌≤◌, ◌&&◌, ◌⊎◌, inl, inr, nat_lt, eq-eqb, ℕ, Bool, List, [], ◌∷◌, ◌++◌, map, true, false, ◌||◌, Option, Some, None, refl, sym, ◌∙◌, ap}
+use Rattle.std.proofs.Common.{◌≡◌, ◌+◌, ◌≤◌, ◌&&◌, ◌⊎◌, inl, inr, nat_lt, eq-eqb, Bool, List, [], ◌∷◌, ◌++◌, map, true, false, ◌||◌, Option, Some, None, refl, sym, ◌∙◌, ap}
 use Rattle.std.specs.List.{list_any}
 use Rattle.std.specs.Option.{is_some}
 use Rattle.std.specs.Str.{bytes_eq}

@@ -1,12 +1,12 @@
 -- Bytes that are programmed with FF behind them: the whole units first, and then the last one.
-use Rattle.std.proofs.Common.{◌≡◌, ◌∷◌, false, ℕ, ◌+◌, ◌-◌, ◌*◌, ◌/◌, ◌%◌, ◌<◌, ◌≤◌, List, [], ◌++◌, length, take, drop, replicate, refl, sym, ap, subst, ◌∙◌, arith, rules}
+use Rattle.std.proofs.Common.{◌≡◌, ◌∷◌, false, ℕ, ◌+◌, ◌-◌, ◌*◌, ◌/◌, ◌%◌, ◌<◌, ◌≤◌, List, [], ◌++◌, length, take, drop, replicate, sym, ap, subst, ◌∙◌, arith}
 use Rattle.std.proofs.Math.Seq.{take-append-add}
 use Rattle.std.specs.Prelude.{slice_range}
-use Rattle.std.proofs.lemmas.List.{length-append, length-replicate, length-drop, length-take-le, append-nil, take-append-le, take-take, take_all, take_at, drop-append-le, take-replicate, append_assoc}
+use Rattle.std.proofs.lemmas.List.{length-append, length-replicate, length-drop, length-take-le, append-nil, take-append-le, take-take, take_all, drop-append-le, take-replicate}
 use Rattle.flash_sim.specs.Bank.{IsLawful}
 use Rattle.flash_sim.specs.Device.{Device}
 use Rattle.flash_map.specs.declared.area.Area.{Area}
-use Rattle.flash_map.specs.Area.{IsLawfulArea, unit_of, sector_size, sector_bytes, CanProgramIn, Writes, WritesPart}
+use Rattle.flash_map.specs.Area.{IsLawfulArea, unit_of, sector_bytes, CanProgramIn, Writes, WritesPart}
 use Rattle.flash_map.specs.Pieces.{CanProgramAll}
 use Rattle.flash_map.specs.Spending.{Spends, SpendsAtMost}
 use Rattle.flash_map.specs.Touches.{Touches}

@@ -1,10 +1,9 @@
 -- What a list of bytes reads after others were put into it.
 use Rattle.std.proofs.Common.{◌≡◌, ℕ, ◌+◌, ◌-◌, ◌<◌, ◌≤◌, List, ◌++◌, length, get_or, take, drop, sym, ap, ◌∙◌, append_assoc, arith, rules}
 use Rattle.std.specs.Prelude.{slice_range}
-use Rattle.std.proofs.lemmas.List.{places, same_lists, length-take-le, length-append, length-drop, drop_at, drop-drop, take_at, take-take, take-append-le, get_or-drop, get_or-take}
+use Rattle.std.proofs.lemmas.List.{places, same_lists, length-take-le, length-append, drop_at, drop-drop, take-take, take-append-le, get_or-drop, get_or-take}
 use Rattle.std.proofs.lemmas.Slice.{between_is}
 use Rattle.flash_sim.specs.Device.{overwritten}
-use Rattle.flash_map.proofs.Sectors.{length-overwritten}
 
 -- the front and what was put there, and then the rest
 split : (b : List ℕ) (at : ℕ) (p : List ℕ) → overwritten b at p ≡ (take at b ++ p) ++ drop (at + length p) b

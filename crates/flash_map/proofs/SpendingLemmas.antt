@@ -1,5 +1,5 @@
 -- Units of one call after another.
-use Rattle.std.proofs.Common.{◌≡◌, inl, inr, ℕ, ◌+◌, ◌-◌, ◌/◌, ◌%◌, ◌≤◌, List, length, sym, ap, subst, ◌∙◌, arith}
+use Rattle.std.proofs.Common.{◌≡◌, inl, inr, ℕ, ◌+◌, ◌-◌, ◌/◌, ◌%◌, ◌≤◌, List, length, ap, subst, ◌∙◌, arith}
 use Rattle.flash_sim.specs.Device.{Device, counted, Programs, FailsToProgram, units_in}
 use Rattle.flash_sim.specs.declared.flash.At.{At}
 use Rattle.flash_sim.specs.Bank.{bank_at}

@@ -1,5 +1,6 @@
 pub mod Area
 pub mod Copies
+pub mod Faults
 pub mod Lawful
 pub mod Map
 pub mod Pieces

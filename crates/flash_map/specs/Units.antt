@@ -1,5 +1,6 @@
--- Whole units.
-use Rattle.std.specs.Prelude.{◌≡◌, ℕ, ◌+◌, ◌-◌, ◌*◌, ◌/◌, ◌⊎◌, List, ◌++◌, length, replicate}
+-- Whole units, and erased bytes.
+use Rattle.std.specs.Prelude.{◌≡◌, ℕ, ◌+◌, ◌-◌, ◌*◌, ◌/◌, ◌⊎◌, Bool, List, ◌++◌, length, replicate, ◌==◌}
+use Rattle.std.specs.List.{list_all}
 
 -- the units that a bank may have, in bytes
 abbrev pub IsUnit : ℕ → Type 0
@@ -12,3 +13,7 @@ padded unit n = (n + (unit - 1)) / unit * unit
 -- bytes with FF behind them, up to whole units
 abbrev pub padded_bytes : ℕ → List ℕ → List ℕ
 padded_bytes unit bytes = bytes ++ replicate (padded unit (length bytes) - length bytes) 0xFF
+
+-- each byte is FF
+abbrev pub is_erased : List ℕ → Bool
+is_erased bytes = list_all (λ byte. byte == 0xFF) bytes

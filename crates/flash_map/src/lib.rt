@@ -10,12 +10,12 @@ mod pieces;
 mod units;
 
 pub use area::{Area, Geometry, Role};
-pub use calls::{area_erase, area_program, area_view, geometry};
+pub use calls::{area_erase, area_program, area_view, geometry, sector_view};
 pub use copies::{Source, copy_padded};
 pub use faults::{Damaged, MountFault, Why, WriteFault};
 pub use map::{AddFault, FlashMap};
 pub use pieces::{program_all, program_padded};
-pub use units::padded;
+pub use units::{is_erased, padded};
 
 #[cfg(test)]
 mod tests;

@@ -111,6 +111,17 @@ fn exercise<B: Bench, L: Ledger, R: Abort>(
         area_view(bench, &area, 1, 6, 4, &mut steps),
         [7, 7, 255, 255].as_slice()
     );
+    assert!(rt; !is_erased(area_view(bench, &area, 1, 6, 4, &mut steps)));
+    assert!(rt; is_erased(area_view(bench, &area, 1, 8, 4, &mut steps)));
+    assert_eq!(rt;
+        sector_view(bench, &area, 1, &mut steps),
+        [
+            7, 7, 7, 7, 7, 7, 7, 7, 255, 255, 255, 255, 255, 255, 255, 255
+        ]
+        .as_slice()
+    );
+    assert_eq!(rt; (area.next(0), area.next(1)), (1, 0));
+    assert_eq!(rt; (area.previous(0), area.previous(1)), (1, 0));
     let _erased = area_erase(bench, &area, 1);
     assert_eq!(rt;
         area_view(bench, &area, 1, 0, 2, &mut steps),

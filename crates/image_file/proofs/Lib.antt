@@ -6,6 +6,5 @@ pub mod RowLemmas
 pub mod SaidLemmas
 pub mod WritingLemmas
 pub mod NumberLemmas
-pub mod PartLemmas
 pub mod SpecLemmas
 pub mod ServingLemmas

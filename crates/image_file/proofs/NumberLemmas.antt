@@ -12,7 +12,7 @@ use Rattle.flash_map.specs.declared.area.Area.{Area}
 use Rattle.flash_map.specs.declared.area.Role.{Role}
 use Rattle.image_file.specs.Format.{plain_area}
 use Rattle.image_file.specs.Lawful.{IsLabel, IsImageBank}
-use Rattle.image_file.specs.Parts.{parts}
+use Rattle.text_parts.specs.Parts.{parts}
 use Rattle.image_file.specs.Spec.{IsNumber, IsKind, IsRole, IsBankItem, IsAreaItem, bank_word, area_word, bank_words, area_words, bank_from, area_from}
 use Rattle.std.specs.Str.{bytes_eq}
 use Rattle.std.specs.Str.Parse.{ParsesUnsigned}

@@ -11,7 +11,7 @@ use Rattle.flash_sim.specs.declared.flash.NoMemory.{NoMemory as OutOfMemory}
 use Rattle.flash_map.specs.declared.area.Area.{Area}
 use Rattle.image_file.specs.Format.{Plain, plain_area}
 use Rattle.image_file.specs.Lawful.{IsImage, IsImageBank, IsImageArea, HasNeeded, is_selector, area_at, no_area}
-use Rattle.image_file.specs.Parts.{parts, parts_of}
+use Rattle.text_parts.specs.Parts.{parts, parts_of}
 use Rattle.image_file.specs.Spec.{Listed, listed, nothing_listed, Adds, AddsBank, AddsArea, AddsAll, FirstBad, IsBankItem, IsAreaItem, FitsItem, bank_word, area_word, bank_words, area_words}
 use Rattle.image_file.specs.Items.{IsListed, TakesBank, TakesListed, TakesFound, TakesItem, ReadsItems, IsAlone}
 use Rattle.image_file.specs.Takes.{TakesArea}

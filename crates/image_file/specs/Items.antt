@@ -9,7 +9,7 @@ use Rattle.image_file.specs.declared.image.SpecFault.{SpecFault}
 use Rattle.image_file.specs.declared.image.SpecFault.TheVariants.{BadSpec, NoMemory}
 use Rattle.image_file.specs.Format.{plain_area}
 use Rattle.image_file.specs.Lawful.{IsImageBank, IsImageArea, HasNeeded, is_selector, area_at}
-use Rattle.image_file.specs.Parts.{parts}
+use Rattle.text_parts.specs.Parts.{parts}
 use Rattle.image_file.specs.Spec.{Listed, listed, nothing_listed, Adds, AddsAll, FirstBad}
 
 -- what holds of banks and areas that were added one after another

@@ -5,7 +5,6 @@ pub mod Table
 pub mod Reading
 pub mod Takes
 pub mod Laws
-pub mod Parts
 pub mod Spec
 pub mod Items
 pub mod Serving

@@ -15,7 +15,7 @@ use Rattle.image_file.specs.declared.image.SpecFault.{SpecFault}
 use Rattle.image_file.specs.declared.image.SpecFault.TheVariants.{BadSpec, NoMemory}
 use Rattle.image_file.specs.Format.{Plain, plain, plain_area}
 use Rattle.image_file.specs.Lawful.{IsImage, IsImageBank, IsImageArea, IsLabel, HasNeeded, is_selector}
-use Rattle.image_file.specs.Parts.{parts}
+use Rattle.text_parts.specs.Parts.{parts}
 
 abbrev pub bank_word : Kind → List ℕ
 bank_word Erasing = codes "bank=erasing"

@@ -1,28 +1,8 @@
-// Text in parts, with a separator between two of them.
-ghost use Rattle.std.specs.Prelude.{◌≡◌, ◌≢◌, ◌<◌, ◌∷◌, [], length, IfSome, MatchOption, ◌==◌, position};
-ghost use Rattle.image_file.specs.Parts.{parts, parts_of};
+// The words of an item, with slashes between them.
+ghost use Rattle.std.specs.Prelude.{◌≡◌, ◌≢◌, ◌∷◌, [], length, MatchOption};
+ghost use Rattle.text_parts.specs.Parts.{parts, parts_of};
 
-// Where the first separator stands.
-fn first_at(text: &[u8], separator: u8) -> Option<usize>
-    ensures { result ≡ position (λ b. b == separator) text.now }
-{
-    text.iter().position(|b| *b == separator)
-}
-
-/// The first part, and what follows the separator behind it.
-pub fn cut_at(text: &[u8], separator: u8) -> (&[u8], Option<&[u8]>)
-    ensures first { parts separator text.now ≡ result.0.now ∷ parts_of separator result.1 }
-    ensures shorter { IfSome result.1 (λ rest. length rest.now < length text.now) }
-{
-    match first_at(text, separator) {
-        Some(at) => {
-            let (first, _) = text.split_at(at);
-            let (_, rest) = text.split_at(at + 1);
-            (first, Some(rest))
-        }
-        None => (text, None),
-    }
-}
+use text_parts::{cut_at, one_part};
 
 // The next word between slashes, and what follows it.
 fn next_word(rest: Option<&[u8]>) -> Option<(&[u8], Option<&[u8]>)>
@@ -69,22 +49,8 @@ fn three_words(rest: Option<&[u8]>) -> Option<(&[u8], &[u8], &[u8])>
     let Some((second, rest)) = next_word(rest) else {
         return None;
     };
-    match one_word(rest) {
+    match one_part(rest, b'/') {
         Some(third) => Some((first, second, third)),
         None => None,
-    }
-}
-
-// The one word that is left.
-fn one_word(rest: Option<&[u8]>) -> Option<&[u8]>
-    ensures { MatchOption result (length (parts_of 47 rest.entry) ≢ 1) (λ word. parts_of 47 rest.entry ≡ word.now ∷ []) }
-{
-    let Some(text) = rest else {
-        return None;
-    };
-    let (word, more) = cut_at(text, b'/');
-    match more {
-        None => Some(word),
-        Some(_) => None,
     }
 }

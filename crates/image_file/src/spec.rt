@@ -10,10 +10,10 @@ ghost use Rattle.image_file.specs.Spec.{listed, ReadsSpec};
 use crate::image::{Image, SpecFault};
 use crate::lawful::{capacity, count_selectors, has_needed, is_lawful_bank, take_area};
 use crate::numbers::{area_item, bank_item};
-use crate::parts::cut_at;
 use flash_map::{Area, FlashMap, Role};
 use flash_sim::{Bank, NoMemory};
 use std::alloc::{AllocError, Global};
+use text_parts::cut_at;
 
 // The banks and areas of a word, and how many items it has.
 #[derive(Drop)]

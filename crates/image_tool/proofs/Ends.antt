@@ -1,5 +1,5 @@
 -- How a command ends, from what was prepared and what was printed and written.
-use Rattle.std.proofs.Common.{◌≡◌, ℕ, List, Option, Some, None, Result, Ok, Err, inl, inr, refl, sym, ap, subst, ◌∙◌}
+use Rattle.std.proofs.Common.{◌≡◌, ℕ, List, Option, Some, None, inl, inr, refl, sym, subst}
 use Rattle.flash_sim.specs.Device.{Device}
 use Rattle.zs_host.specs.Outside.{Outside, Files, SameBut, printed_more}
 use Rattle.command_words.specs.declared.commands.Command.{Command}
@@ -9,7 +9,6 @@ use Rattle.image_tool.specs.declared.stops.Refusal.TheVariants.{BadSpec, NoFile,
 use Rattle.image_tool.specs.declared.status.Status.{Status}
 use Rattle.image_tool.specs.declared.status.Status.TheVariants as status
 use Rattle.image_tool.specs.Outcomes.{File, Does}
-use Rattle.image_tool.specs.Reading.{Fails}
 use Rattle.image_tool.specs.Refusals.{Causes, line_of, status_of}
 use Rattle.image_tool.specs.Telling.{Delivers, DeliversPart, OnlyFile, PrintsFront, Reports}
 use Rattle.image_tool.specs.Tool.{CommandEnds, EndsEarly, MayWrite}

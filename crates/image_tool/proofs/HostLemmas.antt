@@ -7,7 +7,7 @@ use Rattle.zs_host.specs.Outside.{Outside, failed}
 use Rattle.zs_host.specs.Host.{PrintsPart}
 use Rattle.script_lines.specs.declared.line.Line.{Line}
 use Rattle.script_lines.specs.declared.line.Line.TheVariants.{Set, Get, Delete, Cut, Uncut, Mount}
-use Rattle.script_lines.specs.Parts.{parts}
+use Rattle.text_parts.specs.Parts.{parts}
 use Rattle.script_lines.specs.Line.{Spells}
 use Rattle.script_lines.specs.Script.{SpellsAll, told, IsScript}
 use Rattle.session.specs.LineDone.{IsLawfulLine}

@@ -1,5 +1,5 @@
 -- An image on a bench, and its one area as a session sees it.
-use Rattle.std.proofs.Common.{◌≡◌, ℕ, zero, suc, ◌<◌, ◌≤◌, Some, None, List, [], ◌∷◌, length, map, refl, sym, ap, subst, ◌∙◌, arith}
+use Rattle.std.proofs.Common.{◌≡◌, ℕ, zero, suc, ◌<◌, get_or, ◌≤◌, Some, None, List, [], ◌∷◌, length, map, refl, sym, ap, subst, ◌∙◌, arith}
 use Rattle.std.specs.List.{slice_get}
 use Rattle.std.proofs.lemmas.List.{length-map}
 use Rattle.flash_sim.specs.Bank.{IsLawful, bank_at, capacity}
@@ -7,6 +7,7 @@ use Rattle.flash_sim.specs.Device.{Device}
 use Rattle.flash_sim.specs.declared.flash.Bank.{Bank}
 use Rattle.flash_map.specs.Area.{unit_of, sectors_of}
 use Rattle.flash_map.specs.Lawful.{IsLawfulFor}
+use Rattle.flash_map.specs.Touches.{IsIn, IsInSome}
 use Rattle.flash_map.specs.declared.area.Area.{Area}
 use Rattle.flash_map.specs.declared.area.Role.TheVariants.{Nvs}
 use Rattle.flash_map.specs.declared.faults.Damaged.{Damaged}
@@ -19,9 +20,9 @@ use Rattle.image_file.proofs.ServingLemmas.{may_be_served}
 use Rattle.nvs_store.specs.Scans.{damage_of}
 use Rattle.session.specs.Contents.{items_in}
 use Rattle.nvs_gc.specs.Standing.{IsNvsArea}
-use Rattle.session.specs.LineDone.{Runs}
+use Rattle.session.specs.LineDone.{Keeps, Runs}
 use Rattle.image_tool.specs.Outcomes.{IsUndamaged}
-use Rattle.image_tool.specs.Served.{area_bank, area_items, area_sectors, begun, first_area, held, left, IsLoaded, IsServedImage}
+use Rattle.image_tool.specs.Served.{area_bank, area_items, area_sectors, first_area, held, left, IsLoaded, IsServedImage}
 
 some_area : (a b : Area) → Some a ≡ Some b → a ≡ b
 some_area a b e = cc
@@ -67,6 +68,15 @@ still_image areas old new is same lawful =
 pub left_file : (areas : List Area) (old new : Device) (bytes : List ℕ) → new.banks ≡ old.banks → IsImageFile bytes (held areas new) → IsImageFile bytes (left (held areas old) new)
 left_file areas old new bytes same is = subst (λ (banks : List Bank). IsImageFile bytes (record { banks = banks; areas = map plain_area areas; bytes = new.bytes })) same is
 
+only : (area x : Area) (k : ℕ) → k < 1 → get_or (area ∷ []) k x ≡ x → area ≡ x
+only area x zero below is = is
+only area x (suc k) below is = absurd (omega arith)
+
+in_plain : (banks : List Bank) (bank offset : ℕ) (area : Area) → IsInSome banks bank offset (area ∷ []) → IsInSome banks bank offset (plain_area area ∷ [])
+in_plain banks bank offset area is =
+    let there : IsIn banks bank offset area = subst (λ (a : Area). IsIn banks bank offset a) (sym (only area is.1 is.0 is.2 is.3)) is.4 in
+    (0, plain_area area, omega arith, refl, record { same_bank = there.same_bank; from = there.from; below = there.below })
+
 -- what a session sees of the first area
 module _ (areas : List Area) (d : Device) (area : Area) (first : slice_get areas 0 ≡ Some area) where
   image : Plain
@@ -100,9 +110,20 @@ module _ (areas : List Area) (d : Device) (area : Area) (first : slice_get areas
     spent = is.spent;
     losses = is.losses;
     planned = is.planned;
+    unplanned = is.unplanned;
+  })
+
+  pub keeps_first : (new : Device) → Keeps area d new → Keeps (first_area (held areas d)) d new
+  keeps_first new is = subst (λ (a : Area). Keeps a d new) (sym (first_is areas area first)) (record {
     banks = is.banks;
     loads = is.loads;
+    outside = λ bank offset out. is.outside bank offset (λ there. out (in_plain d.banks bank offset area there));
   })
+
+  pub left_first : (new : Device) → new.banks ≡ d.banks → damage_of (unit_of new area) (sectors_of new area) ≡ None → IsUndamaged (left (held areas d) new) (first_area (held areas d))
+  left_first new same is =
+      let whole = subst (λ (a : Area). IsUndamaged (held areas new) a) (sym (first_is areas area first)) is in
+      subst (λ (banks : List Bank). IsUndamaged (record { banks = banks; areas = map plain_area areas; bytes = new.bytes }) (first_area (held areas d))) same whole
 
   pub served_by : length (map plain_area areas) ≡ 1 → area.role ≡ Nvs → IsServedImage (held areas d)
   served_by one role = record { one = one; role = ap (λ (a : Area). a.role) (first_is areas area first) ∙ role }

@@ -1,5 +1,5 @@
 -- What a command prints and writes when it is done.
-use Rattle.std.specs.Prelude.{◌≡◌, ℕ, Option, Some, None, List, [], ◌∷◌, ◌++◌, map, flat_map, codes}
+use Rattle.std.specs.Prelude.{◌≡◌, ℕ, Option, Some, None, List, [], ◌∷◌, ◌++◌, flat_map, codes}
 use Rattle.std.specs.Fmt.{decimal}
 use Rattle.hex.specs.Hex.{encode_lower}
 use Rattle.flash_sim.specs.Device.{Device}
@@ -9,7 +9,7 @@ use Rattle.script_lines.specs.declared.line.Line.{Line}
 use Rattle.script_lines.specs.declared.line.Line.TheVariants.{Mount}
 use Rattle.script_lines.specs.declared.answer.Answer.{Answer}
 use Rattle.script_lines.specs.Answer.{text_of}
-use Rattle.image_file.specs.Format.{Plain, plain_area}
+use Rattle.image_file.specs.Format.{Plain}
 use Rattle.image_file.specs.Reading.{IsImageFile}
 use Rattle.image_file.specs.Spec.{IsSpec}
 use Rattle.command_words.specs.declared.commands.Command.{Command}
@@ -17,7 +17,7 @@ use Rattle.command_words.specs.declared.commands.Command.TheVariants.{Build, Run
 use Rattle.nvs_store.specs.Scans.{damage_of}
 use Rattle.session.specs.declared.listing.Item.{Item}
 use Rattle.session.specs.Listing.{listed}
-use Rattle.session.specs.LineDone.{Runs}
+use Rattle.session.specs.LineDone.{Keeps, Runs}
 use Rattle.image_tool.specs.declared.outcome.OutFile.{OutFile}
 use Rattle.image_tool.specs.Reading.{HasImage, HasScript}
 use Rattle.image_tool.specs.Served.{IsServedImage, first_area, area_bank, area_sectors, area_items, left, begun}
@@ -62,15 +62,21 @@ abbrev pub texts : List Answer → List ℕ
 texts answers = flat_map text_of answers
 
 -- What a run from a bench with the image leaves: the answers of a plain map that begins with what the image's area
--- holds, wherever power is lost, and the file of the image with the bytes that the bench then holds.
+-- holds, wherever power is lost, and the file of the image with the bytes that the bench then holds: those of the image
+-- outside its area, and in the area bytes that are not damaged.
 pub record LeavesImage (image : Plain) (lines : List Line) (old new : Device) (answers : List Answer) (bytes : List ℕ) : Type 0 where
   pub undamaged : IsUndamaged image (first_area image)
   pub runs : Runs (first_area image) (Mount ∷ lines) answers old new
+  -- no byte outside the area changed
+  pub keeps : Keeps (first_area image) old new
+  -- the next mount finds the items
+  pub left_undamaged : IsUndamaged (left image new) (first_area image)
   pub is_file : IsImageFile bytes (left image new)
 
 -- THE HEADLINE.
 -- The text is that of the answers that a plain map gives to the opening mount and the lines of the script, wherever
--- power was lost; OUT is the image file with the banks and areas of IMAGE and the bytes that are left.
+-- power was lost; OUT is the image file with the banks and areas of IMAGE and the bytes that are left: outside the area
+-- those of IMAGE, and in the area bytes that are not damaged.
 pub record RunsScript (name script out : List ℕ) (host : Outside) (bench bench' : Device) (text : List ℕ) (file : Option File) : Type 0 where
   pub image : Plain
   pub opens : Opens host name image

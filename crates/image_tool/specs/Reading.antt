@@ -1,19 +1,16 @@
 -- What reading files from a host answers.
-use Rattle.std.specs.Prelude.{◌≡◌, ◌⊎◌, ⊤, ℕ, ◌-◌, ◌^◌, ◌<◌, ◌≤◌, Result, Ok, Err, List, length, All}
-use Rattle.std.specs.Global.{Vec}
+use Rattle.std.specs.Prelude.{◌≡◌, ◌⊎◌, ⊤, ℕ, ◌-◌, ◌^◌, ◌<◌, ◌≤◌, Result, Ok, Err, List, length}
 use Rattle.zs_host.specs.Outside.{Outside, HasFile, LacksFile}
 use Rattle.zs_host.specs.Host.{HasLongFile}
 use Rattle.script_lines.specs.declared.line.Line.{Line}
 use Rattle.script_lines.specs.declared.script.LineWhy.{LineWhy}
 use Rattle.script_lines.specs.declared.script.LineWhy.TheVariants as line_why
 use Rattle.script_lines.specs.Script.{IsScript, IsBadLine}
-use Rattle.image_file.specs.declared.image.Image.{Image}
 use Rattle.image_file.specs.declared.image.ImageWhy.{ImageWhy}
 use Rattle.image_file.specs.declared.image.ImageWhy.TheVariants as image_why
-use Rattle.image_file.specs.Format.{Plain, plain}
+use Rattle.image_file.specs.Format.{Plain}
 use Rattle.image_file.specs.Reading.{IsImageFile}
 use Rattle.image_file.specs.Table.{FirstFault, rows}
-use Rattle.session.specs.LineDone.{IsLawfulLine}
 use Rattle.image_tool.specs.declared.stops.Refusal.{Refusal}
 use Rattle.image_tool.specs.declared.stops.Refusal.TheVariants.{BadSpec, NoFile, BadFile, Unbuilt, BadArea, BadScript}
 use Rattle.image_tool.specs.declared.stops.Stop.{Stop}

@@ -1,19 +1,17 @@
 -- Why a command is refused, and the line that says so.
-use Rattle.std.specs.Prelude.{◌≡◌, ◌⊎◌, ⊤, ℕ, Some, Result, Ok, Err, List, ◌++◌, map, codes}
+use Rattle.std.specs.Prelude.{◌≡◌, ◌⊎◌, ℕ, Some, List, ◌++◌, codes}
 use Rattle.std.specs.Fmt.{decimal}
 use Rattle.flash_sim.specs.Device.{Device}
-use Rattle.flash_map.specs.declared.area.Area.{Area}
 use Rattle.flash_map.specs.declared.faults.Why.{Why}
 use Rattle.flash_map.specs.declared.faults.Why.TheVariants as why
-use Rattle.flash_map.specs.declared.faults.Damaged.{Damaged}
 use Rattle.zs_host.specs.Outside.{Outside}
 use Rattle.script_lines.specs.declared.line.Line.{Line}
 use Rattle.script_lines.specs.declared.script.LineWhy.{LineWhy}
 use Rattle.script_lines.specs.declared.script.LineWhy.TheVariants as line_why
 use Rattle.image_file.specs.declared.image.ImageWhy.{ImageWhy}
 use Rattle.image_file.specs.declared.image.ImageWhy.TheVariants as image_why
-use Rattle.image_file.specs.Format.{Plain, plain_area}
-use Rattle.image_file.specs.Parts.{parts}
+use Rattle.image_file.specs.Format.{Plain}
+use Rattle.text_parts.specs.Parts.{parts}
 use Rattle.image_file.specs.Spec.{FirstBad, nothing_listed}
 use Rattle.command_words.specs.declared.commands.Command.{Command}
 use Rattle.command_words.specs.declared.commands.Command.TheVariants.{Build, Run, Dump}
@@ -23,8 +21,6 @@ use Rattle.image_tool.specs.declared.status.Status.TheVariants as status
 use Rattle.image_tool.specs.declared.stops.Refusal.{Refusal}
 use Rattle.image_tool.specs.declared.stops.Refusal.TheVariants.{BadSpec, NoFile, BadFile, Unbuilt, BadArea, BadScript}
 use Rattle.image_tool.specs.Outcomes.{Opens}
-use Rattle.image_tool.specs.declared.stops.Stop.{Stop}
-use Rattle.image_tool.specs.declared.stops.Stop.TheVariants.{Refused, HostFailed, NoMemory}
 use Rattle.image_tool.specs.Reading.{HasImage, LacksImage, HasScript, LacksScript}
 use Rattle.image_tool.specs.Served.{IsServedImage, first_area, area_bank, area_sectors, begun}
 

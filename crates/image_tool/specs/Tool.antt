@@ -1,5 +1,5 @@
 -- What the program does, by its status.
-use Rattle.std.specs.Prelude.{◌≡◌, ◌⊎◌, Option, Some, None, Result, Ok, Err, List, ℕ}
+use Rattle.std.specs.Prelude.{◌≡◌, ◌⊎◌, Option, Result, List, ℕ}
 use Rattle.flash_sim.specs.Device.{Device}
 use Rattle.zs_host.specs.Outside.{Outside, SameBut, printed_more}
 use Rattle.command_words.specs.Commands.{IsCommand, IsNoCommand}
@@ -8,7 +8,6 @@ use Rattle.command_words.specs.declared.commands.Command.TheVariants.{Build, Run
 use Rattle.image_tool.specs.declared.outcome.Outcome.{Outcome}
 use Rattle.image_tool.specs.declared.stops.Refusal.{Refusal}
 use Rattle.image_tool.specs.declared.stops.Stop.{Stop}
-use Rattle.image_tool.specs.declared.stops.Stop.TheVariants.{Refused, HostFailed, NoMemory}
 use Rattle.image_tool.specs.declared.status.Status.{Status}
 use Rattle.image_tool.specs.declared.status.Status.TheVariants as status
 use Rattle.image_tool.specs.Outcomes.{File, file_of, Does, delivered}
@@ -78,6 +77,16 @@ ToolEnds words host host' bench bench' result =
     ((c : Command) × IsCommand words c × CommandEnds c host host' bench bench' result)
     ⊎ (IsNoCommand words × NoCommandEnds host host' result × (bench' ≡ bench))
     ⊎ ((result ≡ status.NoMemory) × (host' ≡ host) × (bench' ≡ bench))
+
+-- what the process ends with
+abbrev pub exit_code : Status → ℕ
+exit_code status.Done = 0
+exit_code status.Usage = 2
+exit_code status.BadScript = 3
+exit_code status.BadImage = 4
+exit_code status.HostFault = 5
+exit_code status.NoMemory = 6
+exit_code status.NoFile = 7
 
 -- no file but OUT changed, whatever the end
 abbrev pub MayWrite : Command → Outside → Outside → Type 0

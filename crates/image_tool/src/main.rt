@@ -1,6 +1,9 @@
 //! Runs scripts on simulated flash that may lose power at any unit.
 #![tactic(auto)]
 
+ghost use Rattle.std.specs.Prelude.{◌≡◌};
+ghost use Rattle.image_tool.specs.Tool.{exit_code};
+
 mod build;
 mod delivering;
 mod dump;
@@ -18,12 +21,15 @@ pub use status::Status;
 use std::env;
 use std::io::ErrorKind;
 use std::process::ExitCode;
-pub use top::{no_words, tool};
+use top::no_words;
+pub use top::tool;
 use zs_host::RealHost;
 
 impl Status {
     // What the process ends with.
-    fn code(self) -> u8 {
+    fn code(self) -> u8
+        ensures { result ≡ exit_code self }
+    {
         match self {
             Status::Done => 0,
             Status::Usage => 2,

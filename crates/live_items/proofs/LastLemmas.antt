@@ -1,122 +1,64 @@
 -- The last entry of an id in the list, and what it says of the list.
-use Rattle.std.proofs.Common.{◌≡◌, ℕ, ◌+◌, ◌-◌, ◌<◌, ◌≤◌, Bool, true, false, cond, eqb, List, [], ◌∷◌, ◌++◌, length, map, Option, Some, None, refl, sym, ap, ◌∙◌, inl, inr, arith}
+use Rattle.std.proofs.Common.{◌≡◌, ℕ, ◌+◌, ◌-◌, ◌<◌, ◌≤◌, Bool, true, false, cond, eqb, List, [], ◌∷◌, ◌++◌, length, map, Option, Some, None, refl, sym, ap, ◌∙◌, inl, inr}
 use Rattle.std.specs.Prelude.{fold, is_some}
 use Rattle.std.specs.List.{filter, flat_map, range_with_len}
 use Rattle.std.specs.Option.{option_and_then, option_map, option_or}
 use Rattle.std.proofs.lemmas.Bool.{cases_Bool}
 use Rattle.std.proofs.lemmas.List.{map-append}
-use Rattle.std.proofs.lemmas.List.Concat.{flat_map-append, flat_map-cons}
-use Rattle.std.proofs.lemmas.List.Sums.{fold-append}
+use Rattle.std.proofs.lemmas.List.Concat.{flat_map-cons}
 use Rattle.flash_map.specs.Area.{sector_at}
+use Rattle.flash_map.proofs.MapLemmas.{not_some}
 use Rattle.slot_list.specs.Items.{last, value_of}
 use Rattle.sector_ring.specs.Area.{round, counts_at, open_sector, area_pairs}
-use Rattle.sector_ring.proofs.Places.{range_from, range-append}
+use Rattle.sector_ring.proofs.Newest as newest
 use Rattle.live_items.specs.Entries.{Entries, AreEntries}
 use Rattle.live_items.specs.Live.{list_of, counted_in, all_placed, last_of, last_in, last_placed, bytes_of, pair_of}
 
--- the loop over sectors
-
+-- no entry is there
 pub none_by : {X : Type 0} (o : Option X) → is_some o ≡ false → o ≡ None
-none_by None e = refl
-none_by (Some x) e = absurd (cc)
-
-some_first : {X : Type 0} (o rest : Option X) → is_some o ≡ true → option_or o rest ≡ o
-some_first (Some x) rest e = refl
-some_first None rest e = absurd (cc)
+none_by o none = not_some o none
 
 module _ {Entry Placed : Type 0} (k : Entries Entry Placed) where
-  -- entries with their places
-
-  placed-last : (place id : ℕ) (es : List Entry) (o : Option Entry) → fold (λ last p. cond (eqb (k.id p) id) (Some p) last) (option_map (k.placed_at place) o) (map (k.placed_at place) es) ≡ option_map (k.placed_at place) (fold (λ last e. cond (eqb (k.id (k.placed_at place e)) id) (Some e) last) o es)
-  placed-last place id [] o = refl
-  placed-last place id (e ∷ es) o =
-      ap (λ (x : Option Placed). fold (λ last p. cond (eqb (k.id p) id) (Some p) last) x (map (k.placed_at place) es)) (by_place (eqb (k.id (k.placed_at place e)) id) o)
-      ∙ placed-last place id es (cond (eqb (k.id (k.placed_at place e)) id) (Some e) o)
-    where
-      by_place : (here : Bool) (o : Option Entry) → cond here (Some (k.placed_at place e)) (option_map (k.placed_at place) o) ≡ option_map (k.placed_at place) (cond here (Some e) o)
-      by_place true o = refl
-      by_place false o = refl
-
   -- the last one of a sector that counts, or none
   pub counted-last : (sectors : List (List ℕ)) (current place id : ℕ) → counts_at k.reading sectors current place ≡ true → option_map (k.placed_at place) (last_in k place id (k.entries (sector_at sectors place))) ≡ last_of k id (counted_in k sectors current place)
   counted-last sectors current place id counts =
-      sym (ap (λ (t : Bool). last_of k id (cond t (map (k.placed_at place) (k.entries (sector_at sectors place))) [])) counts ∙ placed-last place id (k.entries (sector_at sectors place)) None)
+      sym (ap (λ (t : Bool). last_of k id (cond t (map (k.placed_at place) (k.entries (sector_at sectors place))) [])) counts ∙ newest.last-map (λ p. eqb (k.id p) id) (k.placed_at place) (k.entries (sector_at sectors place)))
 
   pub counted-none : (sectors : List (List ℕ)) (current place id : ℕ) → counts_at k.reading sectors current place ≡ false → None ≡ last_of k id (counted_in k sectors current place)
   counted-none sectors current place id passed = sym (ap (λ (t : Bool). last_of k id (cond t (map (k.placed_at place) (k.entries (sector_at sectors place))) [])) passed)
 
   -- the last one of two lists
-  last-from : (id : ℕ) (xs : List Placed) (o : Option Placed) → fold (λ last p. cond (eqb (k.id p) id) (Some p) last) o xs ≡ option_or (last_of k id xs) o
-  last-from id [] o = refl
-  last-from id (p ∷ xs) o =
-      last-from id xs (cond (eqb (k.id p) id) (Some p) o)
-      ∙ by_head (last_of k id xs) (eqb (k.id p) id) o
-      ∙ sym (ap (λ (x : Option Placed). option_or x o) (last-from id xs (cond (eqb (k.id p) id) (Some p) None)))
-    where
-      by_head : (l : Option Placed) (here : Bool) (o : Option Placed) → option_or l (cond here (Some p) o) ≡ option_or (option_or l (cond here (Some p) None)) o
-      by_head (Some x) here o = refl
-      by_head None true o = refl
-      by_head None false o = refl
-
   pub last-append : (id : ℕ) (xs ys : List Placed) → last_of k id (xs ++ ys) ≡ option_or (last_of k id ys) (last_of k id xs)
-  last-append id xs ys = fold-append (λ last p. cond (eqb (k.id p) id) (Some p) last) None xs ys ∙ last-from id ys (last_of k id xs)
+  last-append id xs ys = newest.last-append (λ p. eqb (k.id p) id) xs ys
 
   abbrev pub among : List (List ℕ) → ℕ → ℕ → ℕ → List Placed
   among sectors current first n = flat_map (counted_in k sectors current) (range_with_len first n)
 
-  -- one sector more, in front
-  last-more : (sectors : List (List ℕ)) (current id first n : ℕ) → last_of k id (among sectors current (first + 1) n) ≡ None → last_of k id (among sectors current first (n + 1)) ≡ last_of k id (counted_in k sectors current first)
-  last-more sectors current id first n none =
-      let step : range_with_len first (n + 1) ≡ first ∷ range_with_len (first + 1) n = range_from first (n + 1) (omega arith) ∙ ap (λ (m : ℕ). first ∷ range_with_len (first + 1) m) (omega arith) in
-      ap (λ (xs : List ℕ). last_of k id (flat_map (counted_in k sectors current) xs)) step
-      ∙ ap (last_of k id) (flat_map-cons (counted_in k sectors current) first (range_with_len (first + 1) n))
-      ∙ last-append id (counted_in k sectors current first) (among sectors current (first + 1) n)
-      ∙ ap (λ (o : Option Placed). option_or o (last_of k id (counted_in k sectors current first))) none
-
-  -- the round, from the sector after the open one to the open one
-  last-round : (sectors : List (List ℕ)) (current id count : ℕ) → count ≡ length sectors → open_sector k.reading sectors ≡ current
-      → option_or (last_of k id (among sectors current 0 (current + 1))) (last_of k id (among sectors current (current + 1) (count - (current + 1)))) ≡ last_placed k sectors id
-  last-round sectors current id count long is =
-      sym (ap (λ (place : ℕ). last_of k id (flat_map (counted_in k sectors place) (round (length sectors) place))) is
-      ∙ ap (λ (n : ℕ). last_of k id (flat_map (counted_in k sectors current) (round n current))) (sym long)
-      ∙ ap (last_of k id) (flat_map-append (counted_in k sectors current) (range_with_len (current + 1) (count - (current + 1))) (range_with_len 0 (current + 1)))
-      ∙ last-append id (among sectors current (current + 1) (count - (current + 1))) (among sectors current 0 (current + 1)))
-
   -- what the last sectors have decides
   pub last-suffix : (sectors : List (List ℕ)) (current id first mid end : ℕ) → first ≤ mid → mid ≤ end → is_some (last_of k id (among sectors current mid (end - mid))) ≡ true
       → last_of k id (among sectors current mid (end - mid)) ≡ last_of k id (among sectors current first (end - first))
-  last-suffix sectors current id first mid end low high some =
-      let width : end - first ≡ mid - first + (end - mid) = omega arith in
-      let at : first + (mid - first) ≡ mid = omega arith in
-      sym (ap (λ (n : ℕ). last_of k id (among sectors current first n)) width
-      ∙ ap (λ (xs : List ℕ). last_of k id (flat_map (counted_in k sectors current) xs)) (range-append first (mid - first) (end - mid) ∙ ap (λ (j : ℕ). range_with_len first (mid - first) ++ range_with_len j (end - mid)) at)
-      ∙ ap (last_of k id) (flat_map-append (counted_in k sectors current) (range_with_len first (mid - first)) (range_with_len mid (end - mid)))
-      ∙ last-append id (among sectors current first (mid - first)) (among sectors current mid (end - mid))
-      ∙ some_first (last_of k id (among sectors current mid (end - mid))) (last_of k id (among sectors current first (mid - first))) some)
+  last-suffix sectors current id first mid end low high some = newest.last-suffix (λ p. eqb (k.id p) id) (counted_in k sectors current) first mid end low high some
 
   -- one step down
   pub last-step : (sectors : List (List ℕ)) (current id place end : ℕ) (o : Option Placed) → 0 < place → place ≤ end → last_of k id (among sectors current place (end - place)) ≡ None → o ≡ last_of k id (counted_in k sectors current (place - 1))
       → last_of k id (among sectors current (place - 1) (end - (place - 1))) ≡ o
-  last-step sectors current id place end o some high none is =
-      let width : end - (place - 1) ≡ end - place + 1 = omega arith in
-      let back : place - 1 + 1 ≡ place = omega arith in
-      ap (λ (n : ℕ). last_of k id (among sectors current (place - 1) n)) width
-      ∙ last-more sectors current id (place - 1) (end - place) (ap (λ (j : ℕ). last_of k id (among sectors current j (end - place))) back ∙ none) ∙ sym is
+  last-step sectors current id place end o some high none is = newest.last-step (λ p. eqb (k.id p) id) (counted_in k sectors current) place end o some high none is
+
+  -- the round to the open sector is the list
+  whole_round : (sectors : List (List ℕ)) (current id count : ℕ) → count ≡ length sectors → open_sector k.reading sectors ≡ current → last_of k id (flat_map (counted_in k sectors current) (round count current)) ≡ last_placed k sectors id
+  whole_round sectors current id count long is =
+      ap (λ (n : ℕ). last_of k id (flat_map (counted_in k sectors current) (round n current))) long
+      ∙ sym (ap (λ (place : ℕ). last_of k id (flat_map (counted_in k sectors place) (round (length sectors) place))) is)
 
   -- the newest sectors first, and then the older ones
   pub newest-decides : (sectors : List (List ℕ)) (current id count : ℕ) (o : Option Placed) → count ≡ length sectors → open_sector k.reading sectors ≡ current → o ≡ last_of k id (among sectors current 0 (current + 1 - 0)) → is_some o ≡ true → o ≡ last_placed k sectors id
   newest-decides sectors current id count o long is found some =
-      let width : current + 1 - 0 ≡ current + 1 = omega arith in
-      let at : o ≡ last_of k id (among sectors current 0 (current + 1)) = found ∙ ap (λ (n : ℕ). last_of k id (among sectors current 0 n)) width in
-      sym (some_first o (last_of k id (among sectors current (current + 1) (count - (current + 1)))) some)
-      ∙ ap (λ (x : Option Placed). option_or x (last_of k id (among sectors current (current + 1) (count - (current + 1))))) at ∙ last-round sectors current id count long is
+      newest.newest-decides (λ p. eqb (k.id p) id) (counted_in k sectors current) count current o found some ∙ whole_round sectors current id count long is
 
   pub older-decides : (sectors : List (List ℕ)) (current id count : ℕ) (o older : Option Placed) → count ≡ length sectors → open_sector k.reading sectors ≡ current → o ≡ last_of k id (among sectors current 0 (current + 1 - 0)) → is_some o ≡ false
       → older ≡ last_of k id (among sectors current (current + 1) (count - (current + 1))) → older ≡ last_placed k sectors id
   older-decides sectors current id count o older long is found none at =
-      let width : current + 1 - 0 ≡ current + 1 = omega arith in
-      at ∙ ap (λ (x : Option Placed). option_or x (last_of k id (among sectors current (current + 1) (count - (current + 1)))))
-      (sym (none_by o none) ∙ found ∙ ap (λ (n : ℕ). last_of k id (among sectors current 0 n)) width) ∙ last-round sectors current id count long is
+      newest.older-decides (λ p. eqb (k.id p) id) (counted_in k sectors current) count current o older found none at ∙ whole_round sectors current id count long is
 
   -- what an entry says of its id
 

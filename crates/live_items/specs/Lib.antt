@@ -1,3 +1,4 @@
 pub mod Entries
 pub mod Live
 pub mod NextIds
+pub mod Walk

@@ -8,9 +8,8 @@ use Rattle.flash_sim.specs.declared.flash.Bank.{Bank}
 use Rattle.flash_sim.specs.Bank.{bank_at}
 use Rattle.flash_map.specs.declared.area.Area.{Area}
 use Rattle.flash_map.specs.Area.{unit_of, sector_at, sectors_of}
-use Rattle.flash_map.specs.Units.{IsUnit}
+use Rattle.flash_map.specs.Units.{IsUnit, is_erased}
 use Rattle.slot_list.specs.Items.{last, SameItems, items_of}
-use Rattle.slot_list.specs.Slots.{is_erased}
 use Rattle.slot_list.proofs.ItemLemmas as items
 use Rattle.sector_ring.specs.Area.{next, area_pairs}
 use Rattle.sector_ring.specs.Forms.{Collecting, Collected, IsForm, pairs_at, rest, to_copy}

@@ -14,7 +14,8 @@ use Rattle.flash_map.proofs.SpendingLemmas.{spends_then, spends_then_most, most_
 use Rattle.slot_list.specs.Items.{items_of}
 use Rattle.sector_ring.specs.Area.{next}
 use Rattle.sector_ring.specs.Forms.{Collecting, to_copy}
-use Rattle.sector_ring.proofs.Places.{after-within}
+use Rattle.sector_ring.proofs.Places.{after-within, after-apart}
+use Rattle.sector_ring.proofs.RingSteps.{reads}
 use Rattle.nvs_store.specs.declared.scan.Scan.{Scan}
 use Rattle.nvs_store.specs.Geometry.{slot_size, capacity}
 use Rattle.nvs_store.specs.Sector.{low, data_end, pairs, pairs_cost, is_sound}
@@ -24,10 +25,11 @@ use Rattle.nvs_store.proofs.MountLemmas.{length-sectors}
 use Rattle.nvs_store.proofs.ScanLemmas.{erased-replicate}
 use Rattle.nvs_store.proofs.SlotReads.{slot_widths}
 use Rattle.nvs_store.proofs.Views.{unit_is}
-use Rattle.nvs_gc.specs.Collecting.{HasCopied, KeepsMarks, CollectsAt}
+use Rattle.nvs_gc.specs.Collecting.{HasCopied, KeepsMarks, rested, CollectsAt}
 use Rattle.nvs_gc.specs.Spending.{copied}
 use Rattle.nvs_gc.specs.Standing.{KeepsItems}
 use Rattle.nvs_gc.proofs.Areas.{same_unit, keeps-by, keeps-on, stopped-keeps, has_stopped, one_marked, marked-keeps, marks_sound, collected_at, copied-le}
+use Rattle.nvs_gc.proofs.Mounting.{scan-erased}
 use Rattle.nvs_gc.proofs.CopyLoop.{marks_stopped, units_more, copies-whole}
 
 pub same_size : (a d : Device) (area : Area) → d.banks ≡ a.banks → sector_size d area ≡ sector_size a area
@@ -109,6 +111,16 @@ module _ (a d : Device) (area : Area) (place : ℕ) (scan : Scan) (bank : IsLawf
     -- it was not
     pub whole : (f : Device) (size : ℕ) → sectors_of f area ≡ set (sectors_of e area) (next (sectors_of a area) place) (replicate size 255) → CollectsAt (unit_of a area) (sectors_of a area) (sectors_of f area) place
     whole f size erased = collected_at (unit_of a area) (sectors_of a area) (sectors_of d area) (sectors_of e area) (sectors_of f area) place (replicate size 255) form has put sound (erased-replicate size) erased
+
+    -- and the scan is known
+    pub whole_scan : (f : Device) (size : ℕ) (done : Scan) → e.banks ≡ a.banks → f.banks ≡ a.banks → done ≡ scan_of (unit_of e area) (sectors_of e area) → sectors_of f area ≡ set (sectors_of e area) (next (sectors_of a area) place) (replicate size 255) → rested done ≡ scan_of (unit_of f area) (sectors_of f area)
+    whole_scan f size done e_banks f_banks scanned erased =
+        let marked = one_marked (unit_of a area) (sectors_of a area) (sectors_of d area) (sectors_of e area) place form has put sound in
+        let collects = (whole f size erased).collects in
+        let opened = (reads (reading (unit_of a area)) (sectors_of e area) place (inr (inr marked.form))).0 in
+        let here : done ≡ scan_of (unit_of a area) (sectors_of e area) = scanned ∙ ap (λ (u : ℕ). scan_of u (sectors_of e area)) (same_unit a e area e_banks) in
+        scan-erased (unit_of a area) (sectors_of e area) (sectors_of f area) place (next (sectors_of a area) place) (replicate size 255) done here opened (after-apart (length (sectors_of a area)) place form.ring.within form.ring.several) erased collects.form
+        ∙ ap (λ (u : ℕ). scan_of u (sectors_of f area)) (sym (same_unit a f area f_banks))
 
   -- ---- units
 

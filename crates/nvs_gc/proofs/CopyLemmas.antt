@@ -12,7 +12,7 @@ use Rattle.nvs_store.specs.Sector.{used_slots}
 use Rattle.nvs_store.specs.Scans.{reading, found_bytes, all_found}
 use Rattle.nvs_gc.specs.Collecting.{live_in, StopsCopying, pair_of_found, live_to, cost_of}
 use Rattle.nvs_gc.proofs.Areas.{stopped, only_length, only_else}
-use Rattle.nvs_gc.proofs.NvsEntries.{nvs, are_nvs, bytes_len}
+use Rattle.nvs_store.proofs.NvsEntries.{nvs, are_nvs, bytes_len}
 
 -- one slot more
 

@@ -7,11 +7,10 @@ use Rattle.flash_map.specs.declared.area.Area.{Area}
 use Rattle.flash_map.specs.Area.{unit_of, sector_at, sectors_of}
 use Rattle.flash_map.specs.Spending.{Spends, SpendsAtMost}
 use Rattle.flash_map.specs.Touches.{Touches}
-use Rattle.flash_map.specs.Units.{IsUnit, padded}
+use Rattle.flash_map.specs.Units.{IsUnit, padded, is_erased}
 use Rattle.flash_map.proofs.Rounding.{by_unit, padding}
 use Rattle.flash_map.proofs.SpendingLemmas.{spends_none, spends_then, spends_then_most, units_le}
 use Rattle.flash_map.proofs.Touches.{then, untouched}
-use Rattle.slot_list.specs.Slots.{is_erased}
 use Rattle.sector_ring.specs.Area.{next, open_sector}
 use Rattle.sector_ring.proofs.RingSteps.{reads}
 use Rattle.sector_ring.specs.Forms.{Collecting, to_copy}
@@ -89,9 +88,9 @@ module _ (a d : Device) (area : Area) (place n : ℕ) (scan : Scan) (is-unit : I
   live_there slot = ap (λ (u : ℕ). live_in u (sectors_of d area) victim slot) unit_same ∙ live_same (unit_of a area) (sectors_of a area) (sectors_of d area) place form stops slot
 
   -- the list stays, and with it what is known of each id's last entry
-  pub last_there : (chosen : ℕ) (slots : List ℕ) → Tells chosen slots (all_found (unit_of a area) (sectors_of a area)) → Tells chosen slots (all_found (unit_of d area) (sectors_of d area))
-  last_there chosen slots tells =
-      subst (Tells chosen slots) (sym (ap (λ (u : ℕ). all_found u (sectors_of d area)) unit_same ∙ all_same (unit_of a area) (sectors_of a area) (sectors_of d area) place form stops)) tells
+  pub last_there : (in_sectors slots : List ℕ) → Tells in_sectors slots (all_found (unit_of a area) (sectors_of a area)) → Tells in_sectors slots (all_found (unit_of d area) (sectors_of d area))
+  last_there in_sectors slots tells =
+      subst (Tells in_sectors slots) (sym (ap (λ (u : ℕ). all_found u (sectors_of d area)) unit_same ∙ all_same (unit_of a area) (sectors_of a area) (sectors_of d area) place form stops)) tells
 
   pub used_there : used_slots (unit_of d area) (sector_at (sectors_of d area) (next (sectors_of a area) place)) ≡ used_slots (unit_of a area) (sector_at (sectors_of a area) (next (sectors_of a area) place))
   used_there = ap (λ (u : ℕ). used_slots u (sector_at (sectors_of d area) victim)) unit_same ∙ used_same (unit_of a area) (sectors_of a area) (sectors_of d area) place form stops

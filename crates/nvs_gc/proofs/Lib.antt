@@ -7,7 +7,6 @@ pub mod LastSlots
 pub mod LiveSum
 pub mod Mounting
 pub mod NextIds
-pub mod NvsEntries
 pub mod RoundSteps
 pub mod Standings
 pub mod WriteSteps

@@ -10,7 +10,7 @@ use Rattle.nvs_store.specs.Geometry.{cost}
 use Rattle.nvs_store.specs.Sector.{used_slots}
 use Rattle.nvs_store.specs.Scans.{reading, list_of}
 use Rattle.nvs_gc.specs.Collecting.{live_to}
-use Rattle.nvs_gc.proofs.NvsEntries.{nvs, are_nvs}
+use Rattle.nvs_store.proofs.NvsEntries.{nvs, are_nvs}
 
 -- what the live pairs of one sector cost
 abbrev pub cost_at : ℕ → List (List ℕ) → ℕ → ℕ

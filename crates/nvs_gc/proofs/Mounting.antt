@@ -1,5 +1,5 @@
 -- Which form an area has by what a mount has to do, and what a mount leaves.
-use Rattle.std.proofs.Common.{◌≡◌, ℕ, ◌+◌, ◌*◌, ◌/◌, ◌<◌, ◌≤◌, true, false, cond, List, length, set, replicate, None, refl, sym, ap, subst, ◌∙◌, inl, inr, arith}
+use Rattle.std.proofs.Common.{◌≡◌, ℕ, ◌+◌, ◌*◌, ◌/◌, ◌<◌, ◌≤◌, Bool, true, false, cond, List, length, set, replicate, None, refl, sym, ap, subst, ◌∙◌, inl, inr, arith}
 use Rattle.std.proofs.lemmas.Bool.{le-ltb}
 use Rattle.flash_sim.specs.Device.{Device}
 use Rattle.flash_map.specs.declared.area.Area.{Area}
@@ -7,27 +7,28 @@ use Rattle.flash_map.specs.Area.{unit_of, sector_at, sectors_of}
 use Rattle.flash_map.specs.Spending.{Spends, SpendsAtMost}
 use Rattle.flash_map.proofs.SpendingLemmas.{spends_then, spends_then_most}
 use Rattle.slot_list.specs.Items.{last, items_of}
-use Rattle.slot_list.specs.Slots.{is_erased}
-use Rattle.sector_ring.specs.Area.{next, area_pairs}
+use Rattle.flash_map.specs.Units.{IsUnit, is_erased}
+use Rattle.sector_ring.specs.Area.{next, area_pairs, is_closed_at, open_sector}
 use Rattle.sector_ring.specs.Forms.{AtRest, Collecting, Collected, IsForm, to_copy}
 use Rattle.sector_ring.specs.Rounds.{copies_cost, Collects}
 use Rattle.sector_ring.proofs.Collects.{put_copy, erase_victim}
-use Rattle.sector_ring.proofs.Lists.{there}
+use Rattle.sector_ring.proofs.Lists.{there, elsewhere}
 use Rattle.sector_ring.proofs.Parts.{to_copy-kept}
 use Rattle.sector_ring.proofs.RingSteps.{reads}
 use Rattle.sector_ring.proofs.Rings.{next-closed}
 use Rattle.sector_ring.proofs.Rounding.{collects_from}
 use Rattle.sector_ring.proofs.Undamaged.{form-of}
+use Rattle.nvs_store.specs.declared.scan.Redo.{Redo}
 use Rattle.nvs_store.specs.declared.scan.Redo.TheVariants.{Nothing, EraseNext, CollectAgain}
 use Rattle.nvs_store.specs.declared.scan.Scan.{Scan}
 use Rattle.nvs_store.specs.Geometry.{slot_size, cost}
-use Rattle.nvs_store.specs.Sector.{low, has_gc_done}
-use Rattle.nvs_store.specs.Scans.{reading, redo_of, scan_of, damage_of, list_of}
+use Rattle.nvs_store.specs.Sector.{low, data_end, has_gc_done}
+use Rattle.nvs_store.specs.Scans.{reading, redo_of, sector_scan, scan_at, scan_of, damage_of, list_of}
 use Rattle.nvs_store.proofs.Appending.{open_is}
 use Rattle.nvs_store.proofs.Blank.{blank-closed, blank-not_done, reads-blank}
 use Rattle.nvs_store.proofs.MountLemmas.{redo_is}
-use Rattle.nvs_store.proofs.ScanLemmas.{erased-replicate}
-use Rattle.nvs_gc.specs.Collecting.{Empties, CollectsAt}
+use Rattle.nvs_store.proofs.ScanLemmas.{blank-low, blank-data_end, erased-replicate}
+use Rattle.nvs_gc.specs.Collecting.{Empties, rested, CollectsAt}
 use Rattle.nvs_gc.specs.Spending.{copied, redo_units}
 use Rattle.nvs_gc.specs.Standing.{KeepsItems}
 use Rattle.nvs_gc.proofs.Areas.{same_unit, keeps-by, keeps-on}
@@ -44,6 +45,34 @@ redo-collecting unit sectors place form = redo_is unit sectors place true false 
 
 pub redo-collected : (unit : ℕ) (sectors : List (List ℕ)) (place : ℕ) → Collected (reading unit) sectors place → redo_of unit sectors place ≡ EraseNext
 redo-collected unit sectors place form = redo_is unit sectors place true true (next-closed (reading unit) sectors place 0 form.ring) form.done
+
+-- Where the open sector is blank, the next one alone says it.
+abbrev pub scanned : ℕ → ℕ → ℕ → Bool → Redo → Scan
+scanned place lowest end done redo = record { current = place; low = lowest; data_end = end; gc_done = done; redo = redo }
+
+pub scan-blank : (unit : ℕ) (sectors : List (List ℕ)) (place lowest end : ℕ) (done : Bool) (redo : Redo) → IsUnit unit → open_sector (reading unit) sectors ≡ place → is_erased (sector_at sectors place) ≡ true → lowest + slot_size unit ≡ length (sector_at sectors place) → end ≡ 0 → done ≡ false
+    → redo ≡ cond (is_closed_at (reading unit) sectors (next sectors place)) CollectAgain Nothing → scanned place lowest end done redo ≡ scan_of unit sectors
+scan-blank unit sectors place lowest end done redo is-unit at blank lower none unmarked left =
+    let top = blank-low unit (sector_at sectors place) blank in
+    let low-is : lowest ≡ low unit (sector_at sectors place) = omega arith in
+    let end-is : end ≡ data_end unit (sector_at sectors place) = none ∙ sym (blank-data_end unit (sector_at sectors place) is-unit blank) in
+    let done-is : done ≡ has_gc_done unit (sector_at sectors place) = unmarked ∙ sym (blank-not_done unit (sector_at sectors place) blank) in
+    let redo-is : redo ≡ redo_of unit sectors place = left ∙ sym (redo_is unit sectors place (is_closed_at (reading unit) sectors (next sectors place)) false refl (blank-not_done unit (sector_at sectors place) blank)) in
+    ap (λ (l : ℕ). scanned place l end done redo) low-is
+    ∙ ap (λ (e : ℕ). scanned place (low unit (sector_at sectors place)) e done redo) end-is
+    ∙ ap (λ (t : Bool). scanned place (low unit (sector_at sectors place)) (data_end unit (sector_at sectors place)) t redo) done-is
+    ∙ ap (scanned place (low unit (sector_at sectors place)) (data_end unit (sector_at sectors place)) (has_gc_done unit (sector_at sectors place))) redo-is
+    ∙ ap (scan_at unit sectors) (sym at)
+
+-- Another sector is erased, and nothing is left to do.
+pub scan-erased : (unit : ℕ) (mid new : List (List ℕ)) (place victim : ℕ) (blank : List ℕ) (scan : Scan) → scan ≡ scan_of unit mid → open_sector (reading unit) mid ≡ place → (victim ≡ place → ⊥) → new ≡ set mid victim blank → AtRest (reading unit) new place → rested scan ≡ scan_of unit new
+scan-erased unit mid new place victim blank scan is opened apart erased form =
+    let same : sector_at mid place ≡ sector_at new place = sym (ap (λ (s : List (List ℕ)). sector_at s place) erased ∙ elsewhere mid victim blank place (λ e. apart (sym e))) in
+    let nothing : Nothing ≡ redo_of unit new place = sym (redo-at_rest unit new place form) in
+    ap rested (is ∙ ap (scan_at unit mid) opened)
+    ∙ ap (λ (b : List ℕ). rested (sector_scan unit place b)) same
+    ∙ ap (λ (redo : Redo). record (sector_scan unit place (sector_at new place)) { redo = redo }) nothing
+    ∙ ap (scan_at unit new) (sym (reads (reading unit) new place (inl form)).0)
 
 -- the scan of a form
 pub scan-place : (unit : ℕ) (sectors : List (List ℕ)) (place : ℕ) (scan : Scan) → scan ≡ scan_of unit sectors → IsForm (reading unit) sectors place → scan.current ≡ place

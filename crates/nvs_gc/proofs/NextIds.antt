@@ -2,7 +2,6 @@
 use Rattle.std.proofs.Common.{◌≡◌, ℕ, ◌+◌, ◌-◌, ◌<◌, ◌≤◌, Bool, false, cond, eqb, List, [], ◌∷◌, length, map, Option, Some, None, refl, sym, ap, subst, ◌∙◌, inl, inr, arith}
 use Rattle.std.specs.Prelude.{IfSome}
 use Rattle.std.specs.List.{cons_option, filter, flat_map, range_with_len, All}
-use Rattle.std.specs.Option.{option_map}
 use Rattle.std.specs.FinMap.{get}
 use Rattle.std.proofs.lemmas.Bool.{cases_Bool, cases_lt, ne_eqb, or_from}
 use Rattle.std.proofs.lemmas.List.Concat.{flat_map-cons}
@@ -15,25 +14,19 @@ use Rattle.slot_list.proofs.LivePairs.{absent, last-is, names-append}
 use Rattle.sector_ring.specs.Area.{round, counts_at, open_sector, area_pairs}
 use Rattle.sector_ring.proofs.Places.{All-range}
 use Rattle.sector_ring.proofs.Stays.{open_within}
-use Rattle.nvs_store.specs.declared.scan.Found.{Found}
 use Rattle.nvs_store.specs.declared.scan.Placed.{Placed}
 use Rattle.nvs_store.specs.Sector.{slot_at, counting_entry, entries, pair_of, pairs}
-use Rattle.nvs_store.specs.Scans.{reading, found_at, list_of}
+use Rattle.nvs_store.specs.Scans.{reading, list_of}
 use Rattle.nvs_store.proofs.Lookups.{entries_to, entries_to_more}
 use Rattle.nvs_gc.specs.Ends.{IsNotBetween, HasNoneBetween}
 
 -- ---- one slot
 
-pub least_some : (place first least : ℕ) (o : Option Placed) (f : Found) → Some f ≡ option_map (found_at place) o → (first ≤ f.entry.id → least ≤ f.entry.id) → IfSome o (IsNotBetween first least)
-least_some place first least None f is own = tt
-least_some place first least (Some p) f is own = λ low. let id = same f p is in let least = own (omega arith) in omega arith
-  where
-    same : (f : Found) (p : Placed) → Some f ≡ Some (found_at place p) → f.entry.id ≡ p.entry.id
-    same f p e = cc
+pub least_some : (first least : ℕ) (o : Option Placed) (p : Placed) → Some p ≡ o → (first ≤ p.entry.id → least ≤ p.entry.id) → IfSome o (IsNotBetween first least)
+least_some first least o p is own = subst (λ (o : Option Placed). IfSome o (IsNotBetween first least)) is own
 
-pub least_none : (place first least : ℕ) (o : Option Placed) → None ≡ option_map (found_at place) o → IfSome o (IsNotBetween first least)
-least_none place first least None is = tt
-least_none place first least (Some p) is = absurd (cc)
+pub least_none : (first least : ℕ) (o : Option Placed) → None ≡ o → IfSome o (IsNotBetween first least)
+least_none first least o is = subst (λ (o : Option Placed). IfSome o (IsNotBetween first least)) is tt
 
 -- ---- the least one so far
 

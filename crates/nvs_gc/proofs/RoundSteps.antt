@@ -14,12 +14,11 @@ use Rattle.flash_map.specs.Area.{IsLawfulArea, unit_of, sector_at, sector_size, 
 use Rattle.flash_map.specs.Lawful.{IsLawfulFor}
 use Rattle.flash_map.specs.Spending.{Spends, SpendsAtMost}
 use Rattle.flash_map.proofs.Places.{length-sector}
-use Rattle.flash_map.specs.Units.{IsUnit}
+use Rattle.flash_map.specs.Units.{IsUnit, is_erased}
 use Rattle.flash_map.proofs.SpendingLemmas.{units_le, spends_then, spends_then_most}
 use Rattle.slot_list.specs.Items.{last, items_of}
 use Rattle.slot_list.specs.Live.{live_pairs}
-use Rattle.slot_list.specs.Slots.{is_erased}
-use Rattle.sector_ring.specs.Area.{next, area_pairs}
+use Rattle.sector_ring.specs.Area.{next, area_pairs, open_sector}
 use Rattle.sector_ring.specs.Forms.{AtRest, Collecting, IsForm, pairs_at, rest}
 use Rattle.sector_ring.specs.Rounds.{copies_cost, Collects, IsRound}
 use Rattle.sector_ring.specs.Steps as ring_steps
@@ -222,6 +221,13 @@ module _ (unit : ℕ) (old mid : List (List ℕ)) (place : ℕ) (form : AtRest (
       cond-false (is_erased (sector_at old place)) 0 (cond (is_erased (sector_at old (next old (next old place)))) (slot_size unit / unit) ((2 * slot_size unit + c) / unit + 1)) full
       ∙ cond-false (is_erased (sector_at old (next old (next old place)))) (slot_size unit / unit) ((2 * slot_size unit + c) / unit + 1) (victim-used collecting)
       ∙ omega arith
+
+-- the sector that closing opens, on a flash
+pub opens_next : (a d : Device) (area : Area) (place : ℕ) → AtRest (reading (unit_of a area)) (sectors_of a area) place → is_erased (sector_at (sectors_of a area) place) ≡ false → d.banks ≡ a.banks → ClosesAt (unit_of a area) (sectors_of a area) (sectors_of d area) place
+    → open_sector (reading (unit_of d area)) (sectors_of d area) ≡ next (sectors_of a area) place
+opens_next a d area place form full banks shut =
+    ap (λ (u : ℕ). open_sector (reading u) (sectors_of d area)) (same_unit a d area banks)
+    ∙ (reads (reading (unit_of a area)) (sectors_of d area) (next (sectors_of a area) place) (closed-is (unit_of a area) (sectors_of a area) (sectors_of d area) place form full shut)).0
 
 -- a round spends its close entry at least
 pub units-close : (unit : ℕ) (old : List (List ℕ)) (place : ℕ) → IsUnit unit → is_erased (sector_at old place) ≡ false → slot_size unit / unit ≤ round_units unit old place

@@ -11,16 +11,15 @@ use Rattle.flash_map.specs.declared.area.Area.{Area}
 use Rattle.flash_map.specs.Area.{unit_of, sector_at, sector_size, sectors_of}
 use Rattle.flash_map.specs.Spending.{Spends, SpendsAtMost}
 use Rattle.flash_map.specs.Touches.{Touches}
-use Rattle.flash_map.specs.Units.{IsUnit}
+use Rattle.flash_map.specs.Units.{IsUnit, is_erased}
 use Rattle.flash_map.proofs.Places.{length-sector}
 use Rattle.flash_map.proofs.SpendingLemmas.{spends_none, spends_then, spends_most, most_weaker}
 use Rattle.flash_map.proofs.Touches.{then, untouched}
 use Rattle.slot_list.specs.Items.{items_of, with_pair}
-use Rattle.slot_list.specs.Slots.{is_erased}
 use Rattle.slot_list.proofs.ItemLemmas.{items_of-push}
-use Rattle.sector_ring.specs.Area.{next, area_pairs}
+use Rattle.sector_ring.specs.Area.{next, area_pairs, open_sector}
 use Rattle.sector_ring.specs.Forms.{AtRest, pairs_at, rest}
-use Rattle.sector_ring.specs.Rounds.{copies_cost, joined, live_cost, parts, collect_oldest, FindsNoRoom}
+use Rattle.sector_ring.specs.Rounds.{copies_cost, joined, live_cost, parts, collect_oldest, FindsNoRoom, IsCrammed}
 use Rattle.slot_list.specs.Live.{live_pairs}
 use Rattle.sector_ring.specs.Steps as ring_steps
 use Rattle.sector_ring.proofs.Collects.{at_rest-put}
@@ -28,7 +27,7 @@ use Rattle.sector_ring.proofs.LiveCost.{live-le}
 use Rattle.sector_ring.proofs.Parts.{parts-list, parts-count}
 use Rattle.sector_ring.proofs.Places.{after-within}
 use Rattle.sector_ring.proofs.RingSteps.{reads}
-use Rattle.sector_ring.proofs.Rounding.{oldest-is, round-live, no_round, round_more, no_room}
+use Rattle.sector_ring.proofs.Rounding.{oldest-is, round-live, no_round, round_more, no_room, crammed}
 use Rattle.nvs_store.specs.declared.scan.Scan.{Scan}
 use Rattle.nvs_store.specs.Geometry.{slot_size, cost, capacity}
 use Rattle.nvs_store.specs.Sector.{low, is_sound}
@@ -41,7 +40,7 @@ use Rattle.nvs_store.proofs.Sound.{sound-costs, adds-used}
 use Rattle.nvs_store.proofs.Views.{unit_is}
 use Rattle.nvs_gc.specs.declared.nvs.Nvs.{Nvs}
 use Rattle.nvs_gc.specs.Collecting.{TurnsAt}
-use Rattle.nvs_gc.specs.Ends.{Fits, IsShort}
+use Rattle.nvs_gc.specs.Ends.{Fits, IsShort, IsCrammedFor}
 use Rattle.nvs_gc.specs.Spending.{round_units, sector_units}
 use Rattle.nvs_gc.specs.Standing.{IsNvsArea, StandsOn, IsUndamaged, KeepsItems, list_on, items_on}
 use Rattle.nvs_gc.proofs.Areas.{same_unit}
@@ -332,19 +331,31 @@ module _ (a d : Device) (start now : Nvs) (len n : ℕ) (so_far : IsSearching a 
         unfit = λ any fitting. unfit_now no_room stands fitting;
       }
 
-  -- after all rounds: the live items leave no room
+  -- after all rounds, one for each sector with data
+  found_none : StandsOn a start → n + 1 ≡ start.area.sectors → fits (unit_of d now.area) now.scan len ≡ false
+      → FindsNoRoom (cost (unit_of a start.area)) (cost (unit_of a start.area) len) (capacity (unit_of a start.area) (sector_size a start.area)) (parts (reading (unit_of a start.area)) (sectors_of a start.area) start.scan.current) (parts (reading (unit_of a start.area)) (sectors_of d start.area) now.scan.current)
+      (length (parts (reading (unit_of a start.area)) (sectors_of a start.area) start.scan.current))
+  found_none stands all unfitting =
+      let form = rest-stands a start stands in
+      let ring = form.ring in
+      let count = parts-count (reading (unit_of a start.area)) (sectors_of a start.area) start.scan.current ring.within ring.several in
+      let many = length-sectors a start.area in
+      let several = ring.several in
+      let n-is : n ≡ length (parts (reading (unit_of a start.area)) (sectors_of a start.area) start.scan.current) = omega arith in
+      subst (λ (m : ℕ). FindsNoRoom (cost (unit_of a start.area)) (cost (unit_of a start.area) len) (capacity (unit_of a start.area) (sector_size a start.area)) (parts (reading (unit_of a start.area)) (sectors_of a start.area) start.scan.current) (parts (reading (unit_of a start.area)) (sectors_of d start.area) now.scan.current) m) n-is
+      (so_far.none (sym fits_now ∙ unfitting))
+
+  -- the live items leave no room
   pub nothing_fits : StandsOn a start → IsShort a start.area len → n + 1 ≡ start.area.sectors → fits (unit_of d now.area) now.scan len ≡ false
       → (start.area.sectors - 1) * (capacity (unit_of a start.area) (sector_size a start.area) - cost (unit_of a start.area) len) < live_cost (cost (unit_of a start.area)) (list_on a start.area)
   nothing_fits stands short all unfitting =
       let form = rest-stands a start stands in
       let ring = form.ring in
-      let start_parts = parts (reading (unit_of a start.area)) (sectors_of a start.area) start.scan.current in
       let count = parts-count (reading (unit_of a start.area)) (sectors_of a start.area) start.scan.current ring.within ring.several in
       let many = length-sectors a start.area in
       let several = ring.several in
-      let n-is : n ≡ length (parts (reading (unit_of a start.area)) (sectors_of a start.area) start.scan.current) = omega arith in
-      let finds = so_far.none (sym fits_now ∙ unfitting) in
-      let bound = no_room_left finds n-is (omega arith) short in
+      let bound = no_room (cost (unit_of a start.area)) (cost (unit_of a start.area) len) (capacity (unit_of a start.area) (sector_size a start.area)) (parts (reading (unit_of a start.area)) (sectors_of a start.area) start.scan.current) (parts (reading (unit_of a start.area)) (sectors_of d start.area) now.scan.current)
+      (found_none stands all unfitting) (omega arith) short in
       let product : (start.area.sectors - 1) * (capacity (unit_of a start.area) (sector_size a start.area) - cost (unit_of a start.area) len) ≡ length (parts (reading (unit_of a start.area)) (sectors_of a start.area) start.scan.current) * (capacity (unit_of a start.area) (sector_size a start.area) - cost (unit_of a start.area) len) =
       ap (λ (m : ℕ). m * (capacity (unit_of a start.area) (sector_size a start.area) - cost (unit_of a start.area) len)) (omega arith) in
       let list_d : list_on d start.area ≡ joined (parts (reading (unit_of a start.area)) (sectors_of d start.area) now.scan.current) =
@@ -352,11 +363,14 @@ module _ (a d : Device) (start now : Nvs) (len n : ℕ) (so_far : IsSearching a 
       ∙ parts-list (reading (unit_of a start.area)) (reads-blank (unit_of a start.area)) (sectors_of d start.area) now.scan.current rest_now in
       let live : live_cost (cost (unit_of a start.area)) (joined (parts (reading (unit_of a start.area)) (sectors_of d start.area) now.scan.current)) ≡ live_cost (cost (unit_of a start.area)) (list_on a start.area) = ap (live_cost (cost (unit_of a start.area))) (sym list_d) ∙ so_far.live in
       omega arith
-    where
-      no_room_left : FindsNoRoom (cost (unit_of a start.area)) (cost (unit_of a start.area) len) (capacity (unit_of a start.area) (sector_size a start.area)) (parts (reading (unit_of a start.area)) (sectors_of a start.area) start.scan.current) (parts (reading (unit_of a start.area)) (sectors_of d start.area) now.scan.current) n
-          → n ≡ length (parts (reading (unit_of a start.area)) (sectors_of a start.area) start.scan.current) → 0 < n → cost (unit_of a start.area) len ≤ capacity (unit_of a start.area) (sector_size a start.area)
-          → length (parts (reading (unit_of a start.area)) (sectors_of a start.area) start.scan.current) * (capacity (unit_of a start.area) (sector_size a start.area) - cost (unit_of a start.area) len) < live_cost (cost (unit_of a start.area)) (joined (parts (reading (unit_of a start.area)) (sectors_of d start.area) now.scan.current))
-      no_room_left finds is some short =
-          no_room (cost (unit_of a start.area)) (cost (unit_of a start.area) len) (capacity (unit_of a start.area) (sector_size a start.area)) (parts (reading (unit_of a start.area)) (sectors_of a start.area) start.scan.current) (parts (reading (unit_of a start.area)) (sectors_of d start.area) now.scan.current)
-          (subst (λ (m : ℕ). FindsNoRoom (cost (unit_of a start.area)) (cost (unit_of a start.area) len) (capacity (unit_of a start.area) (sector_size a start.area)) (parts (reading (unit_of a start.area)) (sectors_of a start.area) start.scan.current) (parts (reading (unit_of a start.area)) (sectors_of d start.area) now.scan.current) m) is finds)
-          (omega arith) short
+
+  -- nor does any sector with data
+  pub crammed_now : StandsOn a start → n + 1 ≡ start.area.sectors → fits (unit_of d now.area) now.scan len ≡ false → IsCrammedFor d start.area (cost (unit_of a start.area) len)
+  crammed_now stands all unfitting =
+      let here : IsCrammed (reading (unit_of a start.area)) (cost (unit_of a start.area)) (cost (unit_of a start.area) len) (capacity (unit_of a start.area) (sector_size a start.area)) (sectors_of d start.area) now.scan.current =
+      crammed (reading (unit_of a start.area)) (reads-blank (unit_of a start.area)) (cost (unit_of a start.area)) (cost (unit_of a start.area) len) (capacity (unit_of a start.area) (sector_size a start.area)) (parts (reading (unit_of a start.area)) (sectors_of a start.area) start.scan.current) (sectors_of d start.area) now.scan.current rest_now
+      (found_none stands all unfitting) in
+      let at : now.scan.current ≡ open_sector (reading (unit_of a start.area)) (sectors_of d start.area) = ap (λ (s : Scan). s.current) scan_now in
+      subst (λ (v : ℕ). IsCrammed (reading v) (cost v) (cost (unit_of a start.area) len) (capacity v (sector_size d start.area)) (sectors_of d start.area) (open_sector (reading v) (sectors_of d start.area))) (sym unit_there)
+      (subst (λ (m : ℕ). IsCrammed (reading (unit_of a start.area)) (cost (unit_of a start.area)) (cost (unit_of a start.area) len) (capacity (unit_of a start.area) m) (sectors_of d start.area) (open_sector (reading (unit_of a start.area)) (sectors_of d start.area))) (sym size_there)
+      (subst (λ (k : ℕ). IsCrammed (reading (unit_of a start.area)) (cost (unit_of a start.area)) (cost (unit_of a start.area) len) (capacity (unit_of a start.area) (sector_size a start.area)) (sectors_of d start.area) k) at here))

@@ -1,5 +1,5 @@
 -- How a write ends.
-use Rattle.std.proofs.Common.{◌≡◌, ℕ, ◌+◌, ◌-◌, ◌*◌, ◌<◌, Bool, true, false, cond, eqb, ltb, List, [], ◌∷◌, ◌++◌, length, Some, None, refl, sym, ap, ◌∙◌, inl, inr, ◌⊎◌, arith}
+use Rattle.std.proofs.Common.{◌≡◌, ℕ, ◌+◌, ◌-◌, ◌*◌, ◌<◌, Bool, true, false, cond, eqb, ltb, List, [], ◌∷◌, ◌++◌, length, Some, None, refl, sym, ap, subst, ◌∙◌, inl, inr, ◌⊎◌, arith}
 use Rattle.std.specs.FinMap as map
 use Rattle.std.proofs.lemmas.Bool.{false≢true, cases_Bool, cond-false, ne_eqb, eqb-true, ltb-false, ltb-true}
 use Rattle.flash_sim.specs.Device.{Device}
@@ -16,7 +16,7 @@ use Rattle.nvs_store.specs.Geometry.{cost, capacity}
 use Rattle.nvs_store.specs.declared.scan.Scan.{Scan}
 use Rattle.nvs_store.specs.Scans.{fits, scan_of}
 use Rattle.nvs_gc.specs.declared.nvs.Nvs.{Nvs}
-use Rattle.nvs_gc.specs.Ends.{Holds, Fits, IsShort, Writes, FindsNoSpace, StopsWriting}
+use Rattle.nvs_gc.specs.Ends.{Holds, Fits, IsShort, IsCrammedFor, Writes, FindsNoSpace, StopsWriting}
 use Rattle.nvs_gc.specs.Spending.{sector_units, entry_units, most_units}
 use Rattle.nvs_gc.specs.Standing.{StandsOn, KeepsItems, list_on, items_on}
 use Rattle.nvs_gc.proofs.Areas.{same_unit}
@@ -74,9 +74,10 @@ write_stops a d nvs id bytes short other kept most unfit = record {
 pub write_full : (a d : Device) (nvs later : Nvs) (id : ℕ) (bytes : List ℕ) (need live : ℕ) → later.area ≡ nvs.area → d.banks ≡ a.banks → IsShort a nvs.area (length bytes) → ¬ Holds a nvs.area id bytes → KeepsItems a d nvs.area
     → SpendsAtMost a d ((nvs.area.sectors - 1) * (sector_units a nvs.area + 1)) → (Fits a nvs (length bytes) → d ≡ a) → StandsOn a nvs → StandsOn d later → fits (unit_of d later.area) later.scan (length bytes) ≡ false
     → (nvs.area.sectors - 1) * (capacity (unit_of a nvs.area) (sector_size a nvs.area) - cost (unit_of a nvs.area) (length bytes)) < live_cost (cost (unit_of a nvs.area)) (list_on a nvs.area)
+    → IsCrammedFor d nvs.area (cost (unit_of a nvs.area) (length bytes))
     → live_cost (cost (unit_of a nvs.area)) (list_on d nvs.area) ≡ live_cost (cost (unit_of a nvs.area)) (list_on a nvs.area)
     → need ≡ cost (unit_of a nvs.area) (length bytes) → live ≡ live_cost (cost (unit_of d later.area)) (list_on d later.area) → FindsNoSpace a d nvs id bytes need live
-write_full a d nvs later id bytes need live same_area banks short other kept most same stands there no_room full same_live needs lives =
+write_full a d nvs later id bytes need live same_area banks short other kept most same stands there no_room full crammed same_live needs lives =
     let live_is : live ≡ live_cost (cost (unit_of a nvs.area)) (list_on a nvs.area) =
     lives ∙ ap (λ (x : Area). live_cost (cost (unit_of d x)) (list_on d x)) same_area ∙ ap (λ (u : ℕ). live_cost (cost u) (list_on d nvs.area)) (same_unit a d nvs.area banks) ∙ same_live in
     let product : (nvs.area.sectors - 1) * (capacity (unit_of a nvs.area) (sector_size a nvs.area) - need) ≡ (nvs.area.sectors - 1) * (capacity (unit_of a nvs.area) (sector_size a nvs.area) - cost (unit_of a nvs.area) (length bytes)) =
@@ -86,6 +87,7 @@ write_full a d nvs later id bytes need live same_area banks short other kept mos
       lives = live_is;
       short = short;
       full = omega arith;
+      crammed = subst (IsCrammedFor d nvs.area) (sym needs) crammed;
       other = other;
       unfit = λ fitting.
           let scans : later.scan ≡ nvs.scan =

@@ -3,11 +3,13 @@ use Rattle.std.specs.Prelude.{◌≡◌, ℕ, ◌+◌, ◌*◌, ◌<◌, ◌≤�
 use Rattle.std.specs.List.{filter_map, range_with_len}
 use Rattle.std.specs.Option.{option_and_then, option_map, option_map_or}
 use Rattle.flash_map.specs.Area.{sector_at}
-use Rattle.slot_list.specs.Slots.{is_erased}
+use Rattle.flash_map.specs.Units.{is_erased}
 use Rattle.sector_ring.specs.Area.{next}
 use Rattle.sector_ring.specs.Forms.{to_copy, pairs_at}
 use Rattle.sector_ring.specs.Rounds.{copies_cost, Collects, IsRound}
 use Rattle.nvs_store.specs.declared.scan.Found.{Found}
+use Rattle.nvs_store.specs.declared.scan.Redo.TheVariants.{Nothing}
+use Rattle.nvs_store.specs.declared.scan.Scan.{Scan}
 use Rattle.nvs_store.specs.Geometry.{slot_size, cost, capacity}
 use Rattle.nvs_store.specs.Sector.{slot_at, counting_entry, pairs, low, data_end, is_closed, has_gc_done}
 use Rattle.nvs_store.specs.Scans.{reading, scan_of, fits, found_at, found_bytes, last_found, ChangesOnly, AddsPairAt}
@@ -66,6 +68,10 @@ CopiesOne unit old new place (Some found) = AddsPairAt unit old new place found.
 abbrev pub cost_of : ℕ → Option Found → ℕ
 cost_of unit None = 0
 cost_of unit (Some found) = cost unit found.entry.len
+
+-- the same scan with nothing left to do
+abbrev pub rested : Scan → Scan
+rested scan = record scan { redo = Nothing }
 
 -- a whole collection, and the room that it leaves in the open sector
 pub record CollectsAt (unit : ℕ) (old new : List (List ℕ)) (place : ℕ) : Type 0 where

@@ -1,5 +1,5 @@
 -- How the calls of a store end.
-use Rattle.std.specs.Prelude.{◌≡◌, ◌⊎◌, ℕ, ◌-◌, ◌*◌, ◌^◌, ◌<◌, ◌≤◌, Bool, true, false, List, length, Option, Some, None, IsTrue, Result, Ok, Err}
+use Rattle.std.specs.Prelude.{◌≡◌, ◌⊎◌, ℕ, ◌-◌, ◌*◌, ◌^◌, ◌<◌, ◌≤◌, List, length, Option, Some, None, IsTrue, Result, Ok, Err}
 use Rattle.std.specs.List.{All}
 use Rattle.std.specs.FinMap.{get, insert, remove}
 use Rattle.flash_sim.specs.Device.{Device}
@@ -12,22 +12,17 @@ use Rattle.flash_map.specs.declared.faults.WriteFault.TheVariants.{NoSpace, TooL
 use Rattle.flash_map.specs.Area.{unit_of, sector_size, sectors_of}
 use Rattle.flash_map.specs.Spending.{Spends, SpendsAtMost}
 use Rattle.slot_list.specs.Items.{Items}
-use Rattle.sector_ring.specs.Rounds.{live_cost}
+use Rattle.sector_ring.specs.Area.{open_sector}
+use Rattle.sector_ring.specs.Rounds.{live_cost, IsCrammed}
+use Rattle.live_items.specs.NextIds.{IsBehind}
 use Rattle.nvs_store.specs.declared.scan.Placed.{Placed}
 use Rattle.nvs_store.specs.Geometry.{cost, capacity}
-use Rattle.nvs_store.specs.Scans.{damage_of, fits}
+use Rattle.nvs_store.specs.Scans.{reading, damage_of, fits}
 use Rattle.nvs_gc.specs.declared.nvs.Nvs.{Nvs}
 use Rattle.nvs_gc.specs.Spending.{mount_units, entry_units, most_units}
 use Rattle.nvs_gc.specs.Standing.{list_on, items_on, StandsOn, KeepsItems}
 
 -- ---- mounting
-
--- the answer says that power was lost
-abbrev pub mount_lost : {T : Type 0} → Result T MountFault → Bool
-mount_lost (Ok nvs) = false
-mount_lost (Err (HasDamage damaged)) = false
-mount_lost (Err MountLost) = true
-mount_lost (Err NoMemory) = false
 
 -- The area is damaged, and then nothing changed; or it is not, and its items stay, whether power is lost or not.
 abbrev pub MountEnds : Device → Device → Area → Result Nvs MountFault → Type 0
@@ -41,11 +36,6 @@ MountEnds old new area (Err MountLost) =
 MountEnds old new area (Err NoMemory) = ⊥
 
 -- ---- reading
-
--- greater than this id, where there is one
-abbrev pub IsBehind : Option ℕ → ℕ → Type 0
-IsBehind None id = Unit {0}
-IsBehind (Some after) id = after < id
 
 -- the least id behind this one that has a value, of all ids of 16 bits
 abbrev pub IsNextId : Items → Option ℕ → Option ℕ → Type 0
@@ -62,12 +52,6 @@ HasNoneBetween first end placed = All (IsNotBetween first end) placed
 
 -- ---- writing
 
-abbrev pub write_lost : {T : Type 0} → Result T WriteFault → Bool
-write_lost (Ok _) = false
-write_lost (Err (NoSpace need live)) = false
-write_lost (Err TooLong) = false
-write_lost (Err PowerLost) = true
-
 -- these bytes are the item's already
 abbrev pub Holds : Device → Area → ℕ → List ℕ → Type 0
 Holds d area id bytes = get (items_on d area) id ≡ Some bytes
@@ -80,6 +64,12 @@ Fits d nvs len = IsTrue (fits (unit_of d nvs.area) nvs.scan len)
 abbrev pub IsShort : Device → Area → ℕ → Type 0
 IsShort d area len = cost (unit_of d area) len ≤ capacity (unit_of d area) (sector_size d area)
 
+-- Each pair of the area is live, and each sector but the blank one has no room for so many bytes beside its pairs.
+abbrev pub IsCrammedFor : Device → Area → ℕ → Type 0
+IsCrammedFor d area need =
+    let unit = unit_of d area in
+    IsCrammed (reading unit) (cost unit) need (capacity unit (sector_size d area)) (sectors_of d area) (open_sector (reading unit) (sectors_of d area))
+
 -- the item has these bytes, and all others stay
 pub record Writes (old new : Device) (nvs : Nvs) (id : ℕ) (bytes : List ℕ) : Type 0 where
   pub short : IsShort old nvs.area (length bytes)
@@ -88,12 +78,13 @@ pub record Writes (old new : Device) (nvs : Nvs) (id : ℕ) (bytes : List ℕ) :
   pub fitting : ¬ Holds old nvs.area id bytes → Fits old nvs (length bytes) → Spends old new (entry_units old nvs.area (length bytes))
   pub at_most : SpendsAtMost old new (most_units old nvs.area (nvs.area.sectors - 1) (length bytes))
 
--- No round of collections makes room: the live items leave none in any of the sectors with data.
+-- No round of collections makes room: in the end the live items leave none in any of the sectors with data.
 pub record FindsNoSpace (old new : Device) (nvs : Nvs) (id : ℕ) (bytes : List ℕ) (need live : ℕ) : Type 0 where
   pub needs : need ≡ cost (unit_of old nvs.area) (length bytes)
   pub lives : live ≡ live_cost (cost (unit_of old nvs.area)) (list_on old nvs.area)
   pub short : IsShort old nvs.area (length bytes)
   pub full : (nvs.area.sectors - 1) * (capacity (unit_of old nvs.area) (sector_size old nvs.area) - need) < live
+  pub crammed : IsCrammedFor new nvs.area need
   pub other : ¬ Holds old nvs.area id bytes
   pub unfit : ¬ Fits old nvs (length bytes)
   pub items : items_on new nvs.area ≡ items_on old nvs.area

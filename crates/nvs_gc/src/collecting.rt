@@ -1,40 +1,73 @@
 // Closing, collecting, and what a mount has to do again.
 ghost use Rattle.std.specs.Prelude.{◌≡◌, ◌+◌, ◌*◌, ◌/◌, ◌<◌, ◌≤◌, ◌∷◌, [], true, false, is_err, length, IfOk, IfSome, OnOk, OnErr, if◌then◌else◌};
-ghost use Rattle.slot_list.specs.Slots.{is_erased};
+ghost use Rattle.flash_map.specs.Units.{is_erased};
 ghost use Rattle.flash_map.specs.Area.{unit_of, sector_size, sectors_of};
 ghost use Rattle.flash_map.specs.Spending.{Spends, SpendsAtMost};
 ghost use Rattle.flash_map.specs.Touches.{Touches};
-ghost use Rattle.sector_ring.specs.Area.{next, is_blank_at};
+ghost use Rattle.sector_ring.specs.Area.{next, is_blank_at, open_sector};
 ghost use Rattle.sector_ring.specs.Forms.{AtRest, Collecting, to_copy};
-ghost use Rattle.sector_ring.specs.Rounds.{copies_cost};
 ghost use Rattle.flash_map.specs.Area.{sector_at};
 ghost use Rattle.nvs_store.specs.declared.scan.Redo.TheVariants.{Nothing, CollectAgain};
-ghost use Rattle.nvs_store.specs.Geometry.{slot_size, cost};
+ghost use Rattle.nvs_store.specs.Geometry.{slot_size};
 ghost use Rattle.nvs_store.specs.Sector.{used_slots};
 ghost use Rattle.nvs_store.specs.Scans.{reading, scan_of, all_found, free, IsInArea};
-ghost use Rattle.nvs_gc.specs.Collecting.{live_in, HasCopied, StopsCopying, Empties, KeepsMarks, CopiesOne, cost_of, CollectsAt, TurnsAt};
+ghost use Rattle.nvs_gc.specs.Collecting.{live_in, HasCopied, StopsCopying, Empties, KeepsMarks, CopiesOne, cost_of, rested, CollectsAt, TurnsAt};
 ghost use Rattle.nvs_gc.specs.Latest.{Tells};
 ghost use Rattle.nvs_gc.specs.Spending.{copied, redo_units, round_units};
 ghost use Rattle.nvs_gc.specs.Standing.{IsNvsArea, IsUndamaged, KeepsItems};
 
 use crate::latest::{LastSlots, last_slots};
-use flash_map::{Area, area_erase};
+use flash_map::{Area, area_erase, geometry};
 use flash_sim::{Flash, PowerLost, Steps};
 use nvs_store::{
-    Found, Redo, Scan, copy_entry, entry_in, is_blank, mount_scan, next, put_close, put_done,
+    Found, Redo, Scan, blank_scan, copy_entry, entry_in, is_blank, is_closed, put_close, put_done,
     used_slots,
 };
 use std::sync::ledger::Ledger;
 
-// The scan of an area that is not damaged.
-fn scan_again<F: Flash, L: Ledger>(flash: &F, area: &Area, steps: &mut Steps<L>) -> Scan
+// The same scan with nothing left to do.
+fn rested(scan: &Scan) -> Scan
+    ensures scan { result ≡ rested scan.now }
+    ensures nothing { result.redo ≡ Nothing }
+{
+    Scan {
+        redo: Redo::Nothing,
+        ..*scan
+    }
+}
+
+// What is left to do where the open sector is blank. The next sector is closed only while a collection lasts.
+fn left_to_do(closed: bool) -> Redo
+    ensures { result ≡ (if closed then CollectAgain else Nothing) }
+{
+    if closed {
+        Redo::CollectAgain
+    } else {
+        Redo::Nothing
+    }
+}
+
+// The scan of an area whose open sector, this one, is blank. Of the others it looks at the next one alone.
+fn scan_of_blank<F: Flash, L: Ledger>(
+    flash: &F,
+    area: &Area,
+    place: u32,
+    steps: &mut Steps<L>,
+) -> Scan
     requires area { IsNvsArea (F.device flash.now).banks area.now }
-    requires undamaged { IsUndamaged (F.device flash.now) area.now }
+    requires inside { place < area.now.sectors }
+    requires opened { let d = F.device flash.now in open_sector (reading (unit_of d area.now)) (sectors_of d area.now) ≡ place }
+    requires blank { is_erased (sector_at (sectors_of (F.device flash.now) area.now) place) ≡ true }
     ensures { let d = F.device flash.now in result ≡ scan_of (unit_of d area.now) (sectors_of d area.now) }
 {
-    match mount_scan(flash, area, steps) {
-        Ok(scan) => scan,
-        Err(_) => unreachable!(),
+    let blank = blank_scan(&geometry(flash, area));
+    let closed = is_closed(flash, area, area.next(place), steps);
+    Scan {
+        current: place,
+        low: blank.low,
+        data_end: blank.data_end,
+        gc_done: blank.gc_done,
+        redo: left_to_do(closed),
     }
 }
 
@@ -51,7 +84,7 @@ pub fn live_in<F: Flash, L: Ledger>(
     requires inside { place < area.now.sectors }
     requires some { 0 < slot }
     requires used { let d = F.device flash.now in slot ≤ length (used_slots (unit_of d area.now) (sector_at (sectors_of d area.now) place)) }
-    requires last { let d = F.device flash.now in Tells place last.now.slots (all_found (unit_of d area.now) (sectors_of d area.now)) }
+    requires last { let d = F.device flash.now in Tells last.now.sectors last.now.slots (all_found (unit_of d area.now) (sectors_of d area.now)) }
     ensures found { let d = F.device flash.now in result ≡ live_in (unit_of d area.now) (sectors_of d area.now) place slot }
     ensures in_area { IfSome result (IsInArea area.now.sectors (sector_size (F.device flash.now) area.now)) }
     ensures place { IfSome result (λ found. found.sector ≡ place) }
@@ -79,7 +112,7 @@ fn copy_slot<F: Flash, L: Ledger>(
     requires inside { victim < area.now.sectors }
     requires other { victim ≡ scan.old.current → ⊥ }
     requires some { 0 < slot }
-    requires last { let d = F.device flash.old in Tells victim last.now.slots (all_found (unit_of d area.now) (sectors_of d area.now)) }
+    requires last { let d = F.device flash.old in Tells last.now.sectors last.now.slots (all_found (unit_of d area.now) (sectors_of d area.now)) }
     requires used { let d = F.device flash.old in slot ≤ length (used_slots (unit_of d area.now) (sector_at (sectors_of d area.now) victim)) }
     requires free { let d = F.device flash.old in let unit = unit_of d area.now in cost_of unit (live_in unit (sectors_of d area.now) victim slot) + 3 * slot_size unit ≤ free scan.old }
     ensures touches { Touches (area.now ∷ []) (F.device flash.old) (F.device flash.new) (is_err result) }
@@ -118,14 +151,14 @@ fn copy_live<F: Flash, L: Ledger>(
     ensures spent_at_most { let d = F.device flash.old in let unit = unit_of d area.now in OnErr result (SpendsAtMost d (F.device flash.new) (copied unit (sectors_of d area.now) scan.old.current / unit)) }
 {
     let used = used_slots(flash, area, victim, steps);
-    let last = last_slots(flash, area, scan, victim, steps);
+    let last = last_slots(flash, area, scan, steps);
     for slot in 1..used + 1 {
         copy_slot(flash, area, scan, &last, victim, slot, steps)?;
     }
     Ok(())
 }
 
-// A whole collection into a blank open sector.
+// A whole collection into a blank open sector. The scan is that of the area but for what is left to do.
 #[tactic(auto, using(flash_map::proofs::Touches::then))]
 fn collect<F: Flash, L: Ledger>(
     flash: &mut F,
@@ -139,11 +172,12 @@ fn collect<F: Flash, L: Ledger>(
     requires blank { let d = F.device flash.old in is_blank_at (reading (unit_of d area.now)) (sectors_of d area.now) scan.old.current ≡ true }
     ensures touches { Touches (area.now ∷ []) (F.device flash.old) (F.device flash.new) (is_err result) }
     ensures collects { let d = F.device flash.old in OnOk result (CollectsAt (unit_of d area.now) (sectors_of d area.now) (sectors_of (F.device flash.new) area.now) scan.old.current) }
+    ensures scan { let d = F.device flash.new in OnOk result (rested scan.new ≡ scan_of (unit_of d area.now) (sectors_of d area.now)) }
     ensures spent { let d = F.device flash.old in let unit = unit_of d area.now in OnOk result (Spends d (F.device flash.new) ((copied unit (sectors_of d area.now) scan.old.current + slot_size unit) / unit + 1)) }
     ensures items { KeepsItems (F.device flash.old) (F.device flash.new) area.now }
     ensures spent_at_most { let d = F.device flash.old in let unit = unit_of d area.now in OnErr result (SpendsAtMost d (F.device flash.new) ((copied unit (sectors_of d area.now) scan.old.current + slot_size unit) / unit + 1)) }
 {
-    let victim = next(area, scan.current);
+    let victim = area.next(scan.current);
     copy_live(flash, area, scan, victim, steps)?;
     put_done(flash, area, scan)?;
     area_erase(flash, area, victim)
@@ -190,9 +224,9 @@ fn collect_again<F: Flash, L: Ledger>(
     ensures spent_at_most { let d = F.device flash.old in let unit = unit_of d area.now in OnErr result (SpendsAtMost d (F.device flash.new) (redo_units unit (sectors_of d area.now) scan.now.current CollectAgain)) }
 {
     empty(flash, area, scan.current, steps)?;
-    let mut blank = scan_again(flash, area, steps);
+    let mut blank = scan_of_blank(flash, area, scan.current, steps);
     collect(flash, area, &mut blank, steps)?;
-    Ok(scan_again(flash, area, steps))
+    Ok(rested(&blank))
 }
 
 // What a mount does with this scan, and the scan of the area at rest.
@@ -218,8 +252,8 @@ pub fn redo<F: Flash, L: Ledger>(
     match scan.redo {
         Redo::Nothing => Ok(scan),
         Redo::EraseNext => {
-            area_erase(flash, area, next(area, scan.current))?;
-            Ok(scan_again(flash, area, steps))
+            area_erase(flash, area, area.next(scan.current))?;
+            Ok(rested(&scan))
         }
         Redo::CollectAgain => collect_again(flash, area, &scan, steps),
     }
@@ -247,6 +281,6 @@ pub fn round<F: Flash, L: Ledger>(
     ensures spent_at_most { let d = F.device flash.old in let unit = unit_of d area.now in OnErr result (SpendsAtMost d (F.device flash.new) (round_units unit (sectors_of d area.now) scan.now.current)) }
 {
     put_close(flash, area, scan)?;
-    let opened = scan_again(flash, area, steps);
+    let opened = scan_of_blank(flash, area, area.next(scan.current), steps);
     redo(flash, area, opened, steps)
 }

@@ -1,51 +1,63 @@
 // Where the last entry of each id stands, by one walk over the list of an area.
-ghost use Rattle.std.specs.Prelude.{◌≡◌, ℕ, ◌==◌, ◌-◌, ◌^◌, ◌<◌, ◌≤◌, not, ◌&&◌, nat_lt, List, [], ◌++◌, length, map, Some, slice_set, slice_index};
+ghost use Rattle.std.specs.Prelude.{◌≡◌, ℕ, ◌==◌, ◌+◌, ◌-◌, ◌*◌, ◌^◌, ◌<◌, ◌≤◌, not, ◌&&◌, nat_lt, List, [], ◌++◌, length, map, slice_set, slice_index};
 ghost use Rattle.std.specs.List.{flat_map, range_with_len};
 ghost use Rattle.std.specs.Option.{option_map, option_to_list};
-ghost use Rattle.flash_map.specs.Area.{unit_of, sector_at, sectors_of};
+ghost use Rattle.flash_map.specs.Area.{unit_of, sectors_of};
+ghost use Rattle.flash_map.specs.Units.{IsUnit};
 ghost use Rattle.sector_ring.specs.Area.{counts_at};
 ghost use Rattle.nvs_store.specs.declared.scan.Found.{Found as FoundEntry};
-ghost use Rattle.nvs_store.specs.Sector.{slot_at, used_slots, counting_entry, entries};
+ghost use Rattle.nvs_store.specs.Geometry.{slot_size};
+ghost use Rattle.nvs_store.specs.Sector.{slot_at, counting_entry, entries};
 ghost use Rattle.nvs_store.specs.Scans.{reading, scan_of, found_at, counted_in, all_found};
-ghost use Rattle.nvs_gc.specs.Latest.{slot_in, Tells};
+ghost use Rattle.nvs_gc.specs.Latest.{Tells};
 ghost use Rattle.nvs_gc.specs.Standing.{IsNvsArea};
 
-use flash_map::Area;
+use flash_map::{Area, geometry, sector_view};
 use flash_sim::{Flash, Steps};
-use nvs_store::{Found, Redo, Scan, entry_in, next, used_slots};
+use nvs_store::{Found, Redo, Scan, counting_entry, used_count};
 use std::sync::ledger::Ledger;
 
 // There are so many ids of 16 bits.
 const IDS: usize = 0x1_0000;
 
-// For each id the slot of its last entry among some entries, where that stands in one sector; else 0.
+// For each id the sector and the slot of its last entry among some entries; slot 0 where it has none.
 #[derive(Drop)]
 pub struct LastSlots {
+    sectors: [u8; IDS],
     slots: [u16; IDS],
 }
 
 impl LastSlots {
     // Among no entries.
     fn new() -> LastSlots
-        ensures { (place : ℕ) → Tells place result.slots [] }
+        ensures { Tells result.sectors result.slots [] }
     {
-        LastSlots { slots: [0; IDS] }
+        LastSlots {
+            sectors: [0; IDS],
+            slots: [0; IDS],
+        }
     }
 
     // Takes an entry as the last one of its id.
-    fn put(&mut self, id: u16, slot: u32)
-        requires { slot < 2 ^ 16 }
-        ensures { self.new.slots ≡ slice_set self.old.slots id slot }
+    fn put(&mut self, found: &Found)
+        requires sector { found.now.sector < 2 ^ 8 }
+        requires slot { found.now.slot < 2 ^ 16 }
+        ensures sectors { self.new.sectors ≡ slice_set self.old.sectors found.now.entry.id found.now.sector }
+        ensures slots { self.new.slots ≡ slice_set self.old.slots found.now.entry.id found.now.slot }
     {
-        self.slots[usize::from(id)] = slot as u16;
+        let id = usize::from(found.entry.id);
+        self.sectors[id] = found.sector as u8;
+        self.slots[id] = found.slot as u16;
     }
 
-    // Whether an entry of that sector is the last one of its id, and has data.
+    // Whether an entry is the last one of its id, and has data.
     pub fn is_live(&self, found: &Found) -> bool
-        ensures { result ≡ ((slice_index self.now.slots found.now.entry.id == found.now.slot) && nat_lt 0 found.now.entry.len) }
+        ensures { result ≡ ((slice_index self.now.sectors found.now.entry.id == found.now.sector) && (slice_index self.now.slots found.now.entry.id == found.now.slot) && nat_lt 0 found.now.entry.len) }
     {
-        let last = u32::from(self.slots[usize::from(found.entry.id)]);
-        last == found.slot && found.entry.len > 0
+        let id = usize::from(found.entry.id);
+        let sector = u32::from(self.sectors[id]);
+        let slot = u32::from(self.slots[id]);
+        sector == found.sector && slot == found.slot && found.entry.len > 0
     }
 }
 
@@ -56,60 +68,39 @@ pub fn is_hidden(area: &Area, scan: &Scan, place: u32) -> bool
 {
     match scan.redo {
         Redo::Nothing => false,
-        Redo::EraseNext => place == next(area, scan.current),
+        Redo::EraseNext => place == area.next(scan.current),
         Redo::CollectAgain => place == scan.current,
     }
 }
 
-// The slot of an entry of this sector; 0 for one of another.
-fn slot_in(place: u32, found: &Found) -> u32
-    ensures { result ≡ slot_in place (Some found.now) }
+// Takes the entry in a slot of a sector with these bytes, if there is one.
+fn note_slot(bytes: &[u8], unit: u32, place: u32, slot: u32, last: &mut LastSlots)
+    requires unit { IsUnit unit }
+    requires short { length bytes.now ≤ 2 ^ 15 }
+    requires inside { (slot + 1) * slot_size unit ≤ length bytes.now }
+    requires few { place < 2 ^ 8 }
+    requires slot { slot < 2 ^ 16 }
+    ensures { (before : List FoundEntry) → Tells last.old.sectors last.old.slots before
+        → Tells last.new.sectors last.new.slots (before ++ option_to_list (option_map (found_at place) (counting_entry unit (slot_at unit bytes.now slot)))) }
 {
-    if found.sector == place { found.slot } else { 0 }
-}
-
-// Takes the entry in a slot, if there is one.
-fn note_slot<F: Flash, L: Ledger>(
-    flash: &F,
-    area: &Area,
-    place: u32,
-    slot: u32,
-    chosen: u32,
-    last: &mut LastSlots,
-    steps: &mut Steps<L>,
-)
-    requires area { IsNvsArea (F.device flash.now).banks area.now }
-    requires inside { place < area.now.sectors }
-    requires used { let d = F.device flash.now in slot ≤ length (used_slots (unit_of d area.now) (sector_at (sectors_of d area.now) place)) }
-    requires few { slot < 2 ^ 16 }
-    ensures { let d = F.device flash.now in
-        (before : List FoundEntry) → Tells chosen last.old.slots before
-        → Tells chosen last.new.slots (before ++ option_to_list (option_map (found_at place) (counting_entry (unit_of d area.now) (slot_at (unit_of d area.now) (sector_at (sectors_of d area.now) place) slot)))) }
-{
-    match entry_in(flash, area, place, slot, steps) {
-        Some(found) => last.put(found.entry.id, slot_in(chosen, &found)),
+    match counting_entry(bytes, unit, slot) {
+        Some(placed) => last.put(&placed.at(place)),
         None => {}
     }
 }
 
-// Takes the entries of a sector, in slot order.
-fn note_sector<F: Flash, L: Ledger>(
-    flash: &F,
-    area: &Area,
-    place: u32,
-    chosen: u32,
-    last: &mut LastSlots,
-    steps: &mut Steps<L>,
-)
-    requires area { IsNvsArea (F.device flash.now).banks area.now }
-    requires inside { place < area.now.sectors }
-    ensures { let d = F.device flash.now in
-        (before : List FoundEntry) → Tells chosen last.old.slots before
-        → Tells chosen last.new.slots (before ++ map (found_at place) (entries (unit_of d area.now) (sector_at (sectors_of d area.now) place))) }
+// Takes all its entries, in slot order.
+fn note_sector(bytes: &[u8], unit: u32, place: u32, last: &mut LastSlots)
+    requires unit { IsUnit unit }
+    requires long { 16 ≤ length bytes.now }
+    requires short { length bytes.now ≤ 2 ^ 15 }
+    requires few { place < 2 ^ 8 }
+    ensures { (before : List FoundEntry) → Tells last.old.sectors last.old.slots before
+        → Tells last.new.sectors last.new.slots (before ++ map (found_at place) (entries unit bytes.now)) }
 {
-    let used = used_slots(flash, area, place, steps);
+    let used = used_count(bytes, unit);
     for slot in 1..used + 1 {
-        note_slot(flash, area, place, slot, chosen, last, steps);
+        note_slot(bytes, unit, place, slot, last);
     }
 }
 
@@ -119,7 +110,6 @@ fn note_counting<F: Flash, L: Ledger>(
     area: &Area,
     scan: &Scan,
     place: u32,
-    chosen: u32,
     last: &mut LastSlots,
     steps: &mut Steps<L>,
 )
@@ -128,13 +118,14 @@ fn note_counting<F: Flash, L: Ledger>(
     requires current { scan.now.current < area.now.sectors }
     requires inside { place < area.now.sectors }
     ensures { let d = F.device flash.now in
-        (before : List FoundEntry) → Tells chosen last.old.slots before
-        → Tells chosen last.new.slots (before ++ counted_in (unit_of d area.now) (sectors_of d area.now) scan.now.current place) }
+        (before : List FoundEntry) → Tells last.old.sectors last.old.slots before
+        → Tells last.new.sectors last.new.slots (before ++ counted_in (unit_of d area.now) (sectors_of d area.now) scan.now.current place) }
 {
     if is_hidden(area, scan, place) {
         return;
     }
-    note_sector(flash, area, place, chosen, last, steps);
+    let unit = geometry(flash, area).unit;
+    note_sector(sector_view(flash, area, place, steps), unit, place, last);
 }
 
 // Takes those of the sectors from `first` to the one before `end`.
@@ -144,7 +135,6 @@ fn note_among<F: Flash, L: Ledger>(
     scan: &Scan,
     first: u32,
     end: u32,
-    chosen: u32,
     last: &mut LastSlots,
     steps: &mut Steps<L>,
 )
@@ -154,38 +144,28 @@ fn note_among<F: Flash, L: Ledger>(
     requires order { first ≤ end }
     requires inside { end ≤ area.now.sectors }
     ensures { let d = F.device flash.now in
-        (before : List FoundEntry) → Tells chosen last.old.slots before
-        → Tells chosen last.new.slots (before ++ flat_map (counted_in (unit_of d area.now) (sectors_of d area.now) scan.now.current) (range_with_len first (end - first))) }
+        (before : List FoundEntry) → Tells last.old.sectors last.old.slots before
+        → Tells last.new.sectors last.new.slots (before ++ flat_map (counted_in (unit_of d area.now) (sectors_of d area.now) scan.now.current) (range_with_len first (end - first))) }
 {
     for place in first..end {
-        note_counting(flash, area, scan, place, chosen, last, steps);
+        note_counting(flash, area, scan, place, last, steps);
     }
 }
 
-// For each id the slot of its last entry in the list, where that stands in the chosen sector; else 0.
+// For each id the sector and the slot of its last entry in the list. Each sector that counts is looked at once.
 pub fn last_slots<F: Flash, L: Ledger>(
     flash: &F,
     area: &Area,
     scan: &Scan,
-    chosen: u32,
     steps: &mut Steps<L>,
 ) -> LastSlots
     requires area { IsNvsArea (F.device flash.now).banks area.now }
     requires scan { let d = F.device flash.now in scan.now ≡ scan_of (unit_of d area.now) (sectors_of d area.now) }
-    ensures { let d = F.device flash.now in Tells chosen result.slots (all_found (unit_of d area.now) (sectors_of d area.now)) }
+    ensures { let d = F.device flash.now in Tells result.sectors result.slots (all_found (unit_of d area.now) (sectors_of d area.now)) }
 {
     let mut last = LastSlots::new();
     let older = scan.current + 1;
-    note_among(
-        flash,
-        area,
-        scan,
-        older,
-        area.sectors,
-        chosen,
-        &mut last,
-        steps,
-    );
-    note_among(flash, area, scan, 0, older, chosen, &mut last, steps);
+    note_among(flash, area, scan, older, area.sectors, &mut last, steps);
+    note_among(flash, area, scan, 0, older, &mut last, steps);
     last
 }

@@ -1,11 +1,12 @@
 // The store, mounting, and closing with a collection.
 ghost use Rattle.std.specs.Prelude.{◌≡◌, ◌∷◌, [], true, false, is_err, OnOk, OnErr};
 ghost use Rattle.flash_map.specs.Area.{unit_of, sector_at, sector_size, sectors_of};
-ghost use Rattle.slot_list.specs.Slots.{is_erased};
+ghost use Rattle.flash_map.specs.Units.{is_erased};
 ghost use Rattle.nvs_gc.specs.Collecting.{TurnsAt};
 ghost use Rattle.flash_map.specs.Spending.{Spends, SpendsAtMost};
 ghost use Rattle.flash_map.specs.Touches.{Touches};
-ghost use Rattle.nvs_gc.specs.Ends.{mount_lost, MountEnds};
+ghost use Rattle.flash_map.specs.Faults.{mount_lost};
+ghost use Rattle.nvs_gc.specs.Ends.{MountEnds};
 ghost use Rattle.nvs_gc.specs.Spending.{round_units};
 ghost use Rattle.nvs_gc.specs.Standing.{IsNvsArea, StandsOn, KeepsItems};
 
@@ -62,7 +63,8 @@ impl Nvs {
     }
 
     /// Closes the open sector and collects the oldest one, where that is not blank. The items stay, also where power
-    /// is lost. Where the open sector is blank, nothing is programmed.
+    /// is lost. What does not fit then is kept out by the copied items alone, and a delete fits. Where the open sector
+    /// is blank, nothing is programmed.
     ///
     /// # Errors
     /// `PowerLost`. The store is then down.
@@ -78,6 +80,9 @@ impl Nvs {
         ensures items { KeepsItems (F.device flash.old) (F.device flash.new) self.old.area }
 
         ensures stands { OnOk result (StandsOn (F.device flash.new) self.new) }
+        ensures turns { let d = F.device flash.old in is_erased (sector_at (sectors_of d self.old.area) self.old.scan.current) ≡ false
+            → OnOk result (TurnsAt (unit_of d self.old.area) (sector_size d self.old.area) (sectors_of d self.old.area) (sectors_of (F.device flash.new) self.old.area) self.old.scan.current) }
+        ensures blank { let d = F.device flash.old in is_erased (sector_at (sectors_of d self.old.area) self.old.scan.current) ≡ true → F.device flash.new ≡ d }
         ensures units { let d = F.device flash.old in
             OnOk result (Spends d (F.device flash.new) (round_units (unit_of d self.old.area) (sectors_of d self.old.area) self.old.scan.current)) }
 

@@ -1,22 +1,22 @@
 // Reading items.
-ghost use Rattle.std.specs.Prelude.{◌≡◌, ℕ, ◌^◌, ◌<◌, ◌≤◌, length, None, IfSome, option_map};
+ghost use Rattle.std.specs.Prelude.{◌≡◌, ℕ, ◌+◌, ◌*◌, ◌^◌, ◌<◌, ◌≤◌, List, length, None, IfSome, option_map};
 ghost use Rattle.std.specs.FinMap as map;
 ghost use Rattle.flash_map.specs.Area.{unit_of, sector_at, sectors_of};
+ghost use Rattle.flash_map.specs.Units.{IsUnit};
 ghost use Rattle.sector_ring.specs.Rounds.{copies_cost, live_cost};
 ghost use Rattle.nvs_store.specs.Sector.{slot_at, used_slots, counting_entry, entries};
-ghost use Rattle.nvs_store.specs.Scans.{scan_of, all_found};
+ghost use Rattle.nvs_store.specs.Scans.{all_found};
 ghost use Rattle.nvs_gc.specs.Collecting.{live_in, live_to, cost_of};
-ghost use Rattle.nvs_store.specs.Geometry.{cost};
+ghost use Rattle.nvs_store.specs.Geometry.{cost, slot_size};
 ghost use Rattle.nvs_gc.specs.Ends.{IsNextId, IsNotBetween, HasNoneBetween};
 ghost use Rattle.nvs_gc.specs.Latest.{Tells};
 ghost use Rattle.nvs_gc.specs.Standing.{IsNvsArea, StandsOn, list_on, items_on};
 
-use crate::collecting::live_in;
 use crate::latest::{LastSlots, last_slots};
 use crate::nvs::Nvs;
-use flash_map::{Area, area_view, geometry};
+use flash_map::{Area, area_view, geometry, sector_view};
 use flash_sim::{Flash, Steps};
-use nvs_store::{Scan, cost, entry_in, find, used_slots};
+use nvs_store::{Found, cost, counting_entry, find, used_count};
 use std::sync::ledger::Ledger;
 
 // More than each id.
@@ -31,31 +31,39 @@ fn lesser(id: u32, first: u32, end: u32) -> u32
     if first <= id && id < end { id } else { end }
 }
 
-// The same for the id of a slot's entry, if there is one.
-fn lesser_of<F: Flash, L: Ledger>(
-    flash: &F,
-    area: &Area,
-    place: u32,
-    slot: u32,
-    first: u32,
-    end: u32,
-    steps: &mut Steps<L>,
-) -> u32
-    requires area { IsNvsArea (F.device flash.now).banks area.now }
-    requires inside { place < area.now.sectors }
-    requires used { let d = F.device flash.now in slot ≤ length (used_slots (unit_of d area.now) (sector_at (sectors_of d area.now) place)) }
+// The same for the id of the entry in a slot of a sector with these bytes, if there is one.
+fn lesser_of(bytes: &[u8], unit: u32, slot: u32, first: u32, end: u32) -> u32
+    requires unit { IsUnit unit }
+    requires short { length bytes.now ≤ 2 ^ 15 }
+    requires inside { (slot + 1) * slot_size unit ≤ length bytes.now }
     ensures no_more { result ≤ end }
     ensures from { result < end → first ≤ result }
-    ensures least { let d = F.device flash.now in
-        IfSome (counting_entry (unit_of d area.now) (slot_at (unit_of d area.now) (sector_at (sectors_of d area.now) place) slot)) (IsNotBetween first result) }
+    ensures least { IfSome (counting_entry unit (slot_at unit bytes.now slot)) (IsNotBetween first result) }
 {
-    match entry_in(flash, area, place, slot, steps) {
-        Some(found) => lesser(u32::from(found.entry.id), first, end),
+    match counting_entry(bytes, unit, slot) {
+        Some(placed) => lesser(u32::from(placed.entry.id), first, end),
         None => end,
     }
 }
 
-// The least id from `first` on and before `end` that an entry of a sector has, a delete too; `end` where none has.
+// The least id from `first` on and before `end` that one of its entries has, a delete too; `end` where none has.
+fn least_of(bytes: &[u8], unit: u32, first: u32, end: u32) -> u32
+    requires unit { IsUnit unit }
+    requires long { 16 ≤ length bytes.now }
+    requires short { length bytes.now ≤ 2 ^ 15 }
+    ensures no_more { result ≤ end }
+    ensures from { result < end → first ≤ result }
+    ensures none_before { HasNoneBetween first result (entries unit bytes.now) }
+{
+    let mut next = end;
+    let used = used_count(bytes, unit);
+    for slot in 1..used + 1 {
+        next = lesser_of(bytes, unit, slot, first, next);
+    }
+    next
+}
+
+// The same for a sector of an area.
 fn next_in<F: Flash, L: Ledger>(
     flash: &F,
     area: &Area,
@@ -71,60 +79,77 @@ fn next_in<F: Flash, L: Ledger>(
     ensures none_before { let d = F.device flash.now in
         HasNoneBetween first result (entries (unit_of d area.now) (sector_at (sectors_of d area.now) place)) }
 {
-    let mut next = end;
-    let used = used_slots(flash, area, place, steps);
-    for slot in 1..used + 1 {
-        next = lesser_of(flash, area, place, slot, first, next, steps);
-    }
-    next
+    let unit = geometry(flash, area).unit;
+    least_of(sector_view(flash, area, place, steps), unit, first, end)
 }
 
-// What the live entry in a slot costs, if there is one.
-fn slot_live_cost<F: Flash, L: Ledger>(
-    flash: &F,
-    area: &Area,
-    last: &LastSlots,
-    place: u32,
-    slot: u32,
-    steps: &mut Steps<L>,
-) -> u64
-    requires area { IsNvsArea (F.device flash.now).banks area.now }
-    requires inside { place < area.now.sectors }
+// The live entry in a slot of a sector with these bytes, by what is known of each id's last entry.
+fn live_at(bytes: &[u8], unit: u32, last: &LastSlots, place: u32, slot: u32) -> Option<Found>
+    requires unit { IsUnit unit }
+    requires short { length bytes.now ≤ 2 ^ 15 }
+    requires inside { (slot + 1) * slot_size unit ≤ length bytes.now }
     requires some { 0 < slot }
-    requires used { let d = F.device flash.now in slot ≤ length (used_slots (unit_of d area.now) (sector_at (sectors_of d area.now) place)) }
-    requires last { let d = F.device flash.now in Tells place last.now.slots (all_found (unit_of d area.now) (sectors_of d area.now)) }
-    ensures cost { let d = F.device flash.now in result ≡ cost_of (unit_of d area.now) (live_in (unit_of d area.now) (sectors_of d area.now) place slot) }
+    ensures { (sectors : List (List ℕ)) → bytes.now ≡ sector_at sectors place → Tells last.now.sectors last.now.slots (all_found unit sectors)
+        → result ≡ live_in unit sectors place slot }
+{
+    let found = counting_entry(bytes, unit, slot)?.at(place);
+    if last.is_live(&found) {
+        Some(found)
+    } else {
+        None
+    }
+}
+
+// What it costs, if there is one.
+fn slot_live_cost(bytes: &[u8], unit: u32, last: &LastSlots, place: u32, slot: u32) -> u64
+    requires unit { IsUnit unit }
+    requires short { length bytes.now ≤ 2 ^ 15 }
+    requires inside { (slot + 1) * slot_size unit ≤ length bytes.now }
+    requires some { 0 < slot }
+    ensures cost { (sectors : List (List ℕ)) → bytes.now ≡ sector_at sectors place → Tells last.now.sectors last.now.slots (all_found unit sectors)
+        → result ≡ cost_of unit (live_in unit sectors place slot) }
     ensures small { result ≤ 2 ^ 17 }
 {
-    let unit = geometry(flash, area).unit;
-    match live_in(flash, area, last, place, slot, steps) {
+    match live_at(bytes, unit, last, place, slot) {
         Some(found) => cost(unit, u32::from(found.entry.len)),
         None => 0,
     }
 }
 
-// What the live entries of one sector cost.
+// What all its live entries cost.
+fn slots_live_cost(bytes: &[u8], unit: u32, last: &LastSlots, place: u32) -> u64
+    requires unit { IsUnit unit }
+    requires long { 16 ≤ length bytes.now }
+    requires short { length bytes.now ≤ 2 ^ 15 }
+    ensures cost { (sectors : List (List ℕ)) → bytes.now ≡ sector_at sectors place → Tells last.now.sectors last.now.slots (all_found unit sectors)
+        → result ≡ copies_cost (cost unit) (live_to unit sectors place (length (used_slots unit bytes.now))) }
+    ensures small { result ≤ 2 ^ 32 }
+{
+    let used = used_count(bytes, unit);
+    let mut live = 0;
+    for slot in 1..used + 1 {
+        live += slot_live_cost(bytes, unit, last, place, slot);
+    }
+    live
+}
+
+// What the live entries of one sector of an area cost.
 fn sector_live_cost<F: Flash, L: Ledger>(
     flash: &F,
     area: &Area,
-    scan: &Scan,
+    last: &LastSlots,
     place: u32,
     steps: &mut Steps<L>,
 ) -> u64
     requires area { IsNvsArea (F.device flash.now).banks area.now }
-    requires scan { let d = F.device flash.now in scan.now ≡ scan_of (unit_of d area.now) (sectors_of d area.now) }
     requires inside { place < area.now.sectors }
+    requires last { let d = F.device flash.now in Tells last.now.sectors last.now.slots (all_found (unit_of d area.now) (sectors_of d area.now)) }
     ensures cost { let d = F.device flash.now in
         result ≡ copies_cost (cost (unit_of d area.now)) (live_to (unit_of d area.now) (sectors_of d area.now) place (length (used_slots (unit_of d area.now) (sector_at (sectors_of d area.now) place)))) }
     ensures small { result ≤ 2 ^ 32 }
 {
-    let used = used_slots(flash, area, place, steps);
-    let last = last_slots(flash, area, scan, place, steps);
-    let mut live = 0;
-    for slot in 1..used + 1 {
-        live += slot_live_cost(flash, area, &last, place, slot, steps);
-    }
-    live
+    let unit = geometry(flash, area).unit;
+    slots_live_cost(sector_view(flash, area, place, steps), unit, last, place)
 }
 
 impl Nvs {
@@ -190,9 +215,10 @@ impl Nvs {
         requires { StandsOn (F.device flash.now) self.now }
         ensures { let d = F.device flash.now in result ≡ live_cost (cost (unit_of d self.now.area)) (list_on d self.now.area) }
     {
+        let last = last_slots(flash, &self.area, &self.scan, steps);
         let mut live = 0;
         for place in 0..self.area.sectors {
-            live += sector_live_cost(flash, &self.area, &self.scan, place, steps);
+            live += sector_live_cost(flash, &self.area, &last, place, steps);
         }
         live
     }

@@ -9,7 +9,8 @@ ghost use Rattle.slot_list.specs.Items.{with_pair};
 ghost use Rattle.sector_ring.specs.Rounds.{live_cost};
 ghost use Rattle.nvs_store.specs.Geometry.{cost, capacity};
 ghost use Rattle.nvs_store.specs.Scans.{fits};
-ghost use Rattle.nvs_gc.specs.Ends.{Holds, Fits, IsShort, write_lost, WriteEnds, DeleteEnds};
+ghost use Rattle.flash_map.specs.Faults.{write_lost};
+ghost use Rattle.nvs_gc.specs.Ends.{Holds, Fits, IsShort, IsCrammedFor, WriteEnds, DeleteEnds};
 ghost use Rattle.nvs_gc.specs.Spending.{sector_units, entry_units};
 ghost use Rattle.nvs_gc.specs.Standing.{StandsOn, IsUndamaged, KeepsItems, list_on, items_on};
 
@@ -67,6 +68,7 @@ impl Nvs {
         ensures room { IfOk result (λ room. room ≡ fits (unit_of (F.device flash.new) self.new.area) self.new.scan len) }
         ensures full { let d = F.device flash.old in
             IfOk result (λ room. room ≡ false → (self.old.area.sectors - 1) * (capacity (unit_of d self.old.area) (sector_size d self.old.area) - cost (unit_of d self.old.area) len) < live_cost (cost (unit_of d self.old.area)) (list_on d self.old.area)) }
+        ensures crammed { IfOk result (λ room. room ≡ false → IsCrammedFor (F.device flash.new) self.old.area (cost (unit_of (F.device flash.old) self.old.area) len)) }
         ensures live { let d = F.device flash.old in
             OnOk result (live_cost (cost (unit_of d self.old.area)) (list_on (F.device flash.new) self.old.area) ≡ live_cost (cost (unit_of d self.old.area)) (list_on d self.old.area)) }
 
@@ -78,13 +80,9 @@ impl Nvs {
             if fits(&g, &self.scan, len) {
                 return Ok(true);
             }
-            match self.turn(flash, steps) {
-                Err(lost) => return Err(lost),
-                Ok(()) => {}
-            }
+            self.turn(flash, steps)?;
         }
-        let room = fits(&g, &self.scan, len);
-        Ok(room)
+        Ok(fits(&g, &self.scan, len))
     }
 
     // Collects once, where a delete does not fit.
@@ -142,7 +140,8 @@ impl Nvs {
     ///
     /// # Errors
     /// `TooLong` exactly where the bytes and their entry cost more than a sector has for them; then nothing was
-    /// programmed. `NoSpace` where no round of collections makes room; the items are then as before. `PowerLost`: the
+    /// programmed. `NoSpace` where no round of collections makes room: then each sector but the blank one holds live
+    /// items alone, and so many that this one does not fit beside them; the items are as before. `PowerLost`: the
     /// items are as before, or with this one, and the store is down.
     pub fn write<F: Flash, L: Ledger>(
         &mut self,

@@ -3,14 +3,13 @@ use Rattle.std.proofs.Common.{◌≡◌, ◌⊎◌, ℕ, ◌+◌, ◌-◌, ◌<�
 use Rattle.std.specs.List.{flat_map}
 use Rattle.std.proofs.lemmas.Bool.{false≢true, cases_eq, cond-true, cond-false, eq-eqb, ne_eqb}
 use Rattle.std.proofs.lemmas.List.{append-nil}
-use Rattle.flash_map.specs.Units.{IsUnit, padded}
-use Rattle.slot_list.specs.Slots.{is_erased}
+use Rattle.flash_map.specs.Units.{IsUnit, padded, is_erased}
 use Rattle.sector_ring.specs.Area.{next, is_closed_at, open_sector, area_pairs}
 use Rattle.flash_map.specs.Area.{sector_at}
 use Rattle.sector_ring.specs.Forms.{others, pairs_at}
 use Rattle.sector_ring.specs.Forms as ring_forms
 use Rattle.sector_ring.specs.Steps as ring_steps
-use Rattle.sector_ring.proofs.Collects.{at_rest-put}
+use Rattle.sector_ring.proofs.Collects.{at_rest-put, done-not_blank}
 use Rattle.sector_ring.proofs.RingSteps.{reads}
 use Rattle.sector_ring.proofs.Rings.{next-closed}
 use Rattle.sector_ring.proofs.Stays.{open_kept, next_kept, list-all, list_put}
@@ -21,7 +20,7 @@ use Rattle.nvs_store.specs.declared.scan.Scan.{Scan}
 use Rattle.nvs_store.specs.Geometry.{slot_size, cost, capacity}
 use Rattle.nvs_store.specs.Sector.{HasRoom, AddsPair, StopsAdding, is_sound, is_closed, has_gc_done, low, data_end, pairs, pairs_cost}
 use Rattle.nvs_store.specs.Scans.{reading, sector_scan, scan_at, scan_of, redo_of, fits, damage_of, list_of, marked_redo, ChangesOnly, AddsPairAt, StopsAddingAt, MarksDoneAt}
-use Rattle.nvs_store.proofs.Blank.{done-not_blank}
+use Rattle.nvs_store.proofs.Blank.{reads-blank}
 use Rattle.nvs_store.proofs.Sound.{sound-costs, keeps-further, adds-further, adds-used, fits-costs}
 
 -- the sector that the scan names is the open one, and the scan is its own
@@ -163,7 +162,7 @@ scan_marked unit old new scan size within scanned put size-is =
     let marks = put.marks in
     let at = scan_there unit old scan scanned in
     let is = open_is unit old scan scanned in
-    let full : is_erased (sector_at old scan.current) ≡ false → is_erased (sector_at new scan.current) ≡ false = λ _. done-not_blank unit (sector_at new scan.current) marks.gc_done in
+    let full : is_erased (sector_at old scan.current) ≡ false → is_erased (sector_at new scan.current) ≡ false = λ _. done-not_blank (reading unit) (reads-blank unit) (sector_at new scan.current) marks.gc_done in
     let low-is : scan.low ≡ low unit (sector_at old scan.current) = ap (λ (s : Scan). s.low) at in
     let end-is : scan.data_end ≡ data_end unit (sector_at old scan.current) = ap (λ (s : Scan). s.data_end) at in
     scan_parts unit scan.current new (scan.low - size) scan.data_end true (marked_redo scan.redo) (omega (arith, marks.lower)) (omega (arith, marks.same_end)) (sym marks.gc_done)

@@ -1,65 +1,28 @@
 -- What programming data and an entry does to a sector's list.
-use Rattle.std.proofs.Common.{◌≡◌, ℕ, zero, suc, ◌+◌, ◌-◌, ◌*◌, ◌%◌, ◌<◌, ◌≤◌, max, Bool, true, false, not, ◌||◌, List, [], ◌∷◌, ◌++◌, length, map, get_or, take, drop, replicate, Option, Some, refl, sym, ap, subst, ◌∙◌, inl, inr, arith}
+use Rattle.std.proofs.Common.{◌≡◌, ℕ, ◌+◌, ◌-◌, ◌*◌, ◌%◌, ◌<◌, ◌≤◌, max, true, false, not, List, [], ◌∷◌, ◌++◌, length, map, get_or, take, drop, replicate, Option, Some, refl, sym, ap, ◌∙◌, inl, inr, arith}
 use Rattle.std.specs.Prelude.{fold, slice_range}
-use Rattle.std.specs.List.{filter_map, cons_option, range_with_len, list_any}
+use Rattle.std.specs.List.{filter_map, cons_option, list_any}
 use Rattle.std.proofs.lemmas.Bool.{cases_lt, not_from_true, not-false}
 use Rattle.std.proofs.lemmas.List.{length-take-le, length-append, length-drop, length-replicate, append-nil, map_push, take_at, ext_get_or, get_or-take, get_or-drop, get_or-replicate}
 use Rattle.std.proofs.lemmas.List.Elements.{filter_map-append}
-use Rattle.std.proofs.lemmas.List.FromFn.{map-range_with_len_more}
 use Rattle.nvs_store.specs.declared.entry.Entry.{Entry}
 use Rattle.nvs_store.specs.declared.scan.Placed.{Placed}
-use Rattle.flash_map.specs.Units.{IsUnit, padded}
+use Rattle.flash_map.specs.Units.{IsUnit, padded, is_erased}
 use Rattle.nvs_store.specs.Geometry.{slot_size}
 use Rattle.nvs_store.specs.Entries.{encoded}
 use Rattle.flash_sim.specs.Device.{overwritten}
-use Rattle.slot_list.specs.Slots.{Slot, is_erased}
+use Rattle.slot_list.specs.Slots.{Slot}
 use Rattle.nvs_store.specs.Sector.{slot_at, is_used, used_slots, counting_entry, entries, is_gc_done, is_closed, low, data_end, entry_end, written_end, pair_of, pairs, HasRoom, KeepsList, AddsPair, data_image, entry_image, with_slot, IsNext, counts}
 use Rattle.flash_map.proofs.Rounding.{IsPadding, padding}
-use Rattle.slot_list.proofs.SlotLemmas.{HasFence, used_slots-from, HasFence-from_low, slot_within}
-use Rattle.nvs_store.proofs.SlotReads.{slot_widths, slot_at-same, slot_at-parts}
+use Rattle.slot_list.proofs.SlotChanges.{SameFrom, slot_at-from, used_slots-kept, used_slots-more}
+use Rattle.slot_list.proofs.SlotCosts.{fold_max-ge}
+use Rattle.slot_list.proofs.SlotLemmas.{HasFence, HasFence-from_low, slot_within}
+use Rattle.slot_list.proofs.SlotWalks.{any_push}
+use Rattle.nvs_store.proofs.SlotReads.{slot_widths, slot_at-parts}
 use Rattle.flash_map.proofs.Sectors.{length-overwritten}
 use Rattle.flash_map.proofs.Ranges.{range_above, range_below, range_at, drop_at_put, get_or_above, get_or_below}
 use Rattle.nvs_store.proofs.EntryBytes.{IsEntry, length-encoded, cut_entry, counting_entry-cut, is_gc_done-cut, is_used-encoded, is_used-cut, length-cut, take-cut, counts-ordinary, counting_entry-encoded, is_gc_done-encoded}
-use Rattle.nvs_store.proofs.Room.{erased_above, written_end-le, erased_range, erased_from_range, fold_max-ge, data_end-aligned, data_end-above, data_end-grown, data_end-bounded, used_kept}
-
--- ---- a sector that reads as another one from a place on
-
-pub record SameFrom (place : ℕ) (old new : List ℕ) : Type 0 where
-  pub long : length new ≡ length old
-  pub bytes : (i j : ℕ) → place ≤ i → slice_range new i j ≡ slice_range old i j
-
-slot_at-from : (unit place : ℕ) (old new : List ℕ) → SameFrom place old new → (k : ℕ) → place ≤ length old - (k + 1) * slot_size unit → slot_at unit new k ≡ slot_at unit old k
-slot_at-from unit place old new same k le = slot_at-same unit old new k same.long (same.bytes _ _ le)
-
-pub map-agree : {X : Type 0} (f g : ℕ → X) (a n : ℕ) → ((k : ℕ) → a ≤ k → k < a + n → f k ≡ g k) → map f (range_with_len a n) ≡ map g (range_with_len a n)
-map-agree f g a zero same = refl
-map-agree f g a (suc n) same =
-    ap (λ x. x ∷ map f (range_with_len (a + 1) n)) (same a (omega arith) (omega arith))
-    ∙ ap (λ xs. g a ∷ xs) (map-agree f g (a + 1) n (λ k le lt. same k (omega arith) (omega arith)))
-
--- n slots are used in the old sector, and they read the same in the new one
-pub same_slots : (unit place : ℕ) (old new : List ℕ) (n : ℕ) → SameFrom place old new → place + (n + 1) * slot_size unit ≤ length old → map (slot_at unit new) (range_with_len 1 n) ≡ map (slot_at unit old) (range_with_len 1 n)
-same_slots unit place old new n same le =
-    map-agree (slot_at unit new) (slot_at unit old) 1 n (λ k low high. slot_at-from unit place old new same k (let w = slot_within (slot_size unit) k n (omega arith) in omega arith))
-
--- the fence moves by the slots that were put
-pub fence_more : (unit place : ℕ) (old new : List ℕ) (n : ℕ) → SameFrom place old new → HasFence is_used 1 (slot_size unit) old n → place + (n + 1) * slot_size unit ≤ length old
-    → is_used (slot_at unit new (n + 1)) ≡ true → is_used (slot_at unit new (n + 1 + 1)) ≡ false → (n + 1 + 2) * slot_size unit ≤ length old → HasFence is_used 1 (slot_size unit) new (n + 1)
-fence_more unit place old new n same fence le used erased within = record {
-  used = λ k low high. elim (cases_lt k (n + 1)) [
-    | inl lt ↦ ap is_used (slot_at-from unit place old new same k (let w = slot_within (slot_size unit) k n (omega arith) in omega arith)) ∙ fence.used k low (omega arith)
-    | inr ge ↦ let e : n + 1 ≡ k = omega arith in subst (λ (j : ℕ). is_used (slot_at unit new j) ≡ true) e used
-  ];
-  fence = erased;
-  within = let long = same.long in omega arith;
-}
-
-pub fence_same : (unit place : ℕ) (old new : List ℕ) (n : ℕ) → SameFrom place old new → HasFence is_used 1 (slot_size unit) old n → place + (n + 2) * slot_size unit ≤ length old → HasFence is_used 1 (slot_size unit) new n
-fence_same unit place old new n same fence le = record {
-  used = λ k low high. ap is_used (slot_at-from unit place old new same k (let w = slot_within (slot_size unit) k (n + 1) (omega arith) in omega arith)) ∙ fence.used k low high;
-  fence = ap is_used (slot_at-from unit place old new same (n + 1) (omega arith)) ∙ fence.fence;
-  within = rw same.long fence.within;
-}
+use Rattle.nvs_store.proofs.Room.{erased_above, written_end-le, erased_range, erased_from_range, data_end-aligned, data_end-above, data_end-grown, data_end-bounded, used_kept}
 
 -- ---- pairs whose data stays
 
@@ -78,9 +41,6 @@ pairs_kept unit limit old new same pad (f ∷ fs) a le =
 pub fence_of : (unit : ℕ) (b : List ℕ) (len : ℕ) → HasRoom unit b len → HasFence is_used 1 (slot_size unit) b (length (used_slots unit b))
 fence_of unit b len h = let pad = padding unit h.is_unit in let widths = slot_widths unit h.is_unit in HasFence-from_low is_used 1 (slot_size unit) b (omega arith) (omega arith)
 
-used_slots-old : (unit : ℕ) (b : List ℕ) (len : ℕ) → HasRoom unit b len → used_slots unit b ≡ map (slot_at unit b) (range_with_len 1 (length (used_slots unit b)))
-used_slots-old unit b len h = let pad = padding unit h.is_unit in let widths = slot_widths unit h.is_unit in used_slots-from is_used 1 (slot_size unit) b (length (used_slots unit b)) (omega arith) (fence_of unit b len h)
-
 pub kept : (unit limit : ℕ) (old new : List ℕ) → IsUnit unit → limit ≡ data_end unit old → ((i j : ℕ) → j ≤ limit → slice_range new i j ≡ slice_range old i j) → map (pair_of new) (entries unit old) ≡ pairs unit old
 kept unit limit old new is-unit is same = pairs_kept unit limit old new same (padding unit is-unit) (entries unit old) 0 (let above = data_end-above unit old in omega arith)
 
@@ -96,10 +56,11 @@ put_data unit b len p h short =
     let inside : data_end unit b + length p ≤ length b = omega arith in
     let same : SameFrom (data_end unit b + length p) b (overwritten b (data_end unit b) p) =
     record { long = length-overwritten b (data_end unit b) p inside; bytes = λ i j le. range_above b (data_end unit b) p i j inside le } in
-    let fence = fence_same unit (data_end unit b + length p) b (overwritten b (data_end unit b) p) (length (used_slots unit b)) same (fence_of unit b len h) fits in
+    let fence = fence_of unit b len h in
+    let stop : is_used (slot_at unit (overwritten b (data_end unit b) p) (length (used_slots unit b) + 1)) ≡ false =
+    ap is_used (slot_at-from (slot_size unit) (data_end unit b + length p) b (overwritten b (data_end unit b) p) same (length (used_slots unit b) + 1) (omega arith)) ∙ fence.fence in
     let used : used_slots unit (overwritten b (data_end unit b) p) ≡ used_slots unit b =
-    used_slots-from is_used 1 (slot_size unit) (overwritten b (data_end unit b) p) (length (used_slots unit b)) (omega arith) fence
-    ∙ same_slots unit (data_end unit b + length p) b (overwritten b (data_end unit b) p) (length (used_slots unit b)) same (omega arith) ∙ sym (used_slots-old unit b len h) in
+    used_slots-kept is_used 1 (slot_size unit) (data_end unit b + length p) b (overwritten b (data_end unit b) p) (length (used_slots unit b)) (omega arith) same fence (omega arith) stop in
     let least = slot_within (slot_size unit) 0 (length (used_slots unit b)) (omega arith) in
     let lowest : low unit (overwritten b (data_end unit b) p) ≡ low unit b =
     ap (λ (slots : List Slot). length (overwritten b (data_end unit b) p) - (length slots + 1) * slot_size unit) used ∙ ap (λ (k : ℕ). k - (length (used_slots unit b) + 1) * slot_size unit) same.long in (
@@ -107,7 +68,7 @@ put_data unit b len p h short =
         list = ap (λ (slots : List Slot). map (pair_of (overwritten b (data_end unit b) p)) (filter_map (counting_entry unit) slots)) used
             ∙ kept unit (data_end unit b) b (overwritten b (data_end unit b) p) h.is_unit refl (λ i j le. range_below b (data_end unit b) p i j (omega arith) le);
         gc_done = ap (list_any is_gc_done) used;
-        closed = ap is_used (slot_at-from unit (data_end unit b + length p) b (overwritten b (data_end unit b) p) same 0 (omega arith));
+        closed = ap is_used (slot_at-from (slot_size unit) (data_end unit b + length p) b (overwritten b (data_end unit b) p) same 0 (omega arith));
         long = same.long;
         same_entries = ap (filter_map (counting_entry unit)) used;
         lower = omega (arith, lowest);
@@ -169,12 +130,8 @@ has_slot_more unit b len lower upper h is-lower is-upper used =
     let next-erased : is_used (slot_at unit (with_slot unit b lower upper) (length (used_slots unit b) + 1 + 1)) ≡ false =
     ap (λ (bytes : List ℕ). not (is_erased bytes)) next-bytes
     ∙ not_from_true _ (erased_range b (low unit b - 2 * slot_size unit) (low unit b - slot_size unit) (omega arith) (λ k le lt. erased k (omega arith) lt)) in
-    let fence = fence_more unit (low unit b - slot_size unit + length upper) b (with_slot unit b lower upper) (length (used_slots unit b)) same old (omega arith) used next-erased (omega arith) in
     let slots : used_slots unit (with_slot unit b lower upper) ≡ used_slots unit b ++ slot_at unit (with_slot unit b lower upper) (length (used_slots unit b) + 1) ∷ [] =
-    used_slots-from is_used 1 (slot_size unit) (with_slot unit b lower upper) (length (used_slots unit b) + 1) (omega arith) fence
-    ∙ map-range_with_len_more (slot_at unit (with_slot unit b lower upper)) 1 (length (used_slots unit b)) (length (used_slots unit b) + 1) (omega arith)
-    ∙ ap (λ (slots : List Slot). slots ++ slot_at unit (with_slot unit b lower upper) (length (used_slots unit b) + 1) ∷ [])
-    (same_slots unit (low unit b - slot_size unit + length upper) b (with_slot unit b lower upper) (length (used_slots unit b)) same (omega arith) ∙ sym (used_slots-old unit b len h)) in
+    used_slots-more is_used 1 (slot_size unit) (low unit b - slot_size unit + length upper) b (with_slot unit b lower upper) (length (used_slots unit b)) (omega arith) same old (omega arith) used next-erased (omega arith) in
     let least = slot_within (slot_size unit) 0 (length (used_slots unit b)) (omega arith) in
     let count : length (used_slots unit (with_slot unit b lower upper)) ≡ length (used_slots unit b) + 1 =
     ap length slots ∙ length-append (used_slots unit b) (slot_at unit (with_slot unit b lower upper) (length (used_slots unit b) + 1) ∷ []) in
@@ -183,15 +140,11 @@ has_slot_more unit b len lower upper h is-lower is-upper used =
     record {
       slots = slots;
       lower = omega (arith, lowered);
-      closed = ap is_used (slot_at-from unit (low unit b - slot_size unit + length upper) b (with_slot unit b lower upper) same 0 (omega arith));
+      closed = ap is_used (slot_at-from (slot_size unit) (low unit b - slot_size unit + length upper) b (with_slot unit b lower upper) same 0 (omega arith));
       long = long;
       below = λ i j le. range_below (overwritten b (data_end unit b) lower) (low unit b - slot_size unit) upper i j (omega arith) (omega arith) ∙ range_below b (data_end unit b) lower i j (omega arith) le;
       erased = λ k le lt. get_or_below (overwritten b (data_end unit b) lower) (low unit b - slot_size unit) upper k (omega arith) (omega arith) ∙ get_or_above b (data_end unit b) lower k inside (omega arith) ∙ erased k (omega arith) (omega arith);
     }
-
-list_any_push : {X : Type 0} (p : X → Bool) (xs : List X) (x : X) → p x ≡ false → list_any p (xs ++ x ∷ []) ≡ list_any p xs
-list_any_push p [] x fails = rw fails refl
-list_any_push p (y ∷ xs) x fails = ap (λ (b : Bool). p y || b) (list_any_push p xs x fails)
 
 -- what the new slot holds
 slot_bytes : (unit : ℕ) (b : List ℕ) (lower upper : List ℕ) (n : ℕ) → length (with_slot unit b lower upper) ≡ length b → 2 * slot_size unit ≤ length b - (n + 1) * slot_size unit → low unit b ≡ length b - (n + 1) * slot_size unit
@@ -289,7 +242,7 @@ put_entry unit b e bytes h next =
           ap (map (pair_of new)) found ∙ map_push (pair_of new) (entries unit b) f
           ∙ ap (λ ps. ps ++ pair_of new f ∷ []) (kept unit (data_end unit b) b new h.is_unit refl more.below)
           ∙ ap (λ (d : List ℕ). pairs unit b ++ (e.id, d) ∷ []) data-is;
-      gc_done = ap (list_any is_gc_done) more.slots ∙ list_any_push is_gc_done (used_slots unit b) slot (is_gc_done-encoded slot e (replicate (slot_size unit - 8) 0xFF) entry next.ordinary slot-bytes);
+      gc_done = ap (list_any is_gc_done) more.slots ∙ any_push is_gc_done (used_slots unit b) slot (is_gc_done-encoded slot e (replicate (slot_size unit - 8) 0xFF) entry next.ordinary slot-bytes);
       closed = more.closed;
       long = more.long;
       lower = more.lower;
@@ -340,7 +293,7 @@ put_cut b e len lower h lower-long used =
     ∙ ap (λ (o : Option Placed). entries 4 b ++ cons_option o []) (counting_entry-cut 4 slot e (omega arith) slot-bytes) ∙ append-nil (entries 4 b) in (
       record {
         list = ap (map (pair_of new)) found ∙ kept 4 (data_end 4 b) b new h.is_unit refl more.below;
-        gc_done = ap (list_any is_gc_done) more.slots ∙ list_any_push is_gc_done (used_slots 4 b) slot (is_gc_done-cut slot e slot-bytes);
+        gc_done = ap (list_any is_gc_done) more.slots ∙ any_push is_gc_done (used_slots 4 b) slot (is_gc_done-cut slot e slot-bytes);
         closed = more.closed;
         long = more.long;
         same_entries = found;

@@ -1,14 +1,15 @@
 -- How a blank sector reads.
-use Rattle.std.proofs.Common.{◌≡◌, ℕ, ◌+◌, ◌-◌, ◌*◌, ◌/◌, true, false, eqb, List, [], length, map, take, drop, sym, ap, ◌∙◌, inl, inr, arith}
+use Rattle.std.proofs.Common.{◌≡◌, ℕ, ◌+◌, ◌-◌, ◌*◌, ◌/◌, true, false, eqb, List, [], length, map, take, drop, ap, ◌∙◌, arith}
 use Rattle.std.specs.List.{filter_map, list_any}
-use Rattle.std.proofs.lemmas.Bool.{false≢true, cases_Bool, not_from_true}
+use Rattle.std.proofs.lemmas.Bool.{not_from_true}
 use Rattle.std.proofs.lemmas.List.Elements.{All-take, All-drop}
 use Rattle.std.proofs.lemmas.List.Sums.{AllPass-from_list_all, list_all-from_AllPass, prefix_len_is}
 use Rattle.std.proofs.lemmas.List.FromFn.{get_or-map-range_with_len, length-map-range_with_len}
 use Rattle.slot_list.specs.Slots as shared
 use Rattle.sector_ring.specs.Reading.{IsReading}
 use Rattle.nvs_store.specs.Geometry.{slot_size}
-use Rattle.slot_list.specs.Slots.{is_erased, Slot}
+use Rattle.flash_map.specs.Units.{is_erased}
+use Rattle.slot_list.specs.Slots.{Slot}
 use Rattle.nvs_store.specs.Sector.{is_closed, has_gc_done, pairs, pair_of, counting_entry, is_gc_done, slot_at, slots, is_used, used_slots}
 use Rattle.nvs_store.specs.Scans.{reading}
 
@@ -41,14 +42,6 @@ blank-pairs unit sector h = ap (λ used. map (pair_of sector) (filter_map (count
 
 pub blank-not_done : (unit : ℕ) (sector : List ℕ) → is_erased sector ≡ true → has_gc_done unit sector ≡ false
 blank-not_done unit sector h = ap (λ used. list_any is_gc_done used) (blank-used unit sector h)
-
--- so a sector with gc-done is not blank
-pub done-not_blank : (unit : ℕ) (sector : List ℕ) → has_gc_done unit sector ≡ true → is_erased sector ≡ false
-done-not_blank unit sector done =
-    elim (cases_Bool (is_erased sector)) [
-      | inl blank ↦ absurd (false≢true (sym (blank-not_done unit sector blank) ∙ done))
-      | inr used ↦ used
-    ]
 
 -- NVS reads a blank sector as one that holds nothing.
 pub reads-blank : (unit : ℕ) → IsReading (reading unit)

@@ -1,6 +1,6 @@
 -- Entries of the list are ordinary ones, and name bytes of the area.
-use Rattle.std.proofs.Common.{◌≡◌, ℕ, zero, suc, ◌+◌, ◌-◌, ◌<◌, ◌≤◌, Bool, true, false, not, cond, List, [], ◌∷◌, length, map, Option, Some, None, refl, sym, ap, subst, ◌∙◌, inl, inr, arith}
-use Rattle.std.specs.Prelude.{fold, IfSome}
+use Rattle.std.proofs.Common.{◌≡◌, ℕ, zero, suc, ◌+◌, ◌-◌, ◌<◌, ◌≤◌, Bool, true, not, cond, List, [], ◌∷◌, length, map, Some, None, refl, sym, ap, subst, ◌∙◌, inl, inr, arith}
+use Rattle.std.specs.Prelude.{IfSome}
 use Rattle.std.specs.List.{filter_map, flat_map, range_with_len, All}
 use Rattle.std.proofs.lemmas.Bool.{false≢true, cases_Bool, and_parts, eq-eqb, leb-true}
 use Rattle.std.proofs.lemmas.List.Concat.{flat_map-cons}
@@ -13,16 +13,16 @@ use Rattle.flash_map.proofs.Places.{length-sector}
 use Rattle.slot_list.proofs.SlotLemmas.{start-slot_at}
 use Rattle.slot_list.specs.Slots.{Slot}
 use Rattle.sector_ring.specs.Area.{round, counts_at, open_sector}
+use Rattle.sector_ring.proofs.Newest.{last-all}
 use Rattle.sector_ring.proofs.Places.{All-range}
 use Rattle.sector_ring.proofs.Stays.{open_within}
-use Rattle.nvs_store.specs.declared.scan.Found.{Found}
 use Rattle.nvs_store.specs.declared.scan.Placed.{Placed}
 use Rattle.nvs_store.specs.Geometry.{slot_size}
-use Rattle.nvs_store.specs.Sector.{counts, counting_entry, is_wanted, entries, slot_at, used_slots}
+use Rattle.nvs_store.specs.Sector.{counts, counting_entry, is_used, is_wanted, entries, slot_at, used_slots}
 use Rattle.nvs_store.specs.Scans.{reading, found_at, counted_in, all_found, last_found, IsInArea}
-use Rattle.nvs_store.proofs.Lookups.{slots_to_used}
+use Rattle.slot_list.proofs.SlotCounts.{slots_to_used}
 use Rattle.nvs_store.proofs.Marks.{counting_entry_counts}
-use Rattle.nvs_store.proofs.MountLemmas.{length-sectors}
+use Rattle.sector_ring.proofs.AreaReads.{length-sectors}
 
 -- what an entry that counts says of itself, in a sector of this size
 record IsOrdinary (size : ℕ) (f : Placed) : Type 0 where
@@ -73,7 +73,7 @@ slot-in unit b k sectors size place f is long within =
 
 entries-ordinary : (unit : ℕ) (b : List ℕ) → All (IsOrdinary (length b)) (entries unit b)
 entries-ordinary unit b =
-    let to = slots_to_used unit b (length (used_slots unit b)) refl in
+    let to = slots_to_used is_used 1 (slot_size unit) b (length (used_slots unit b)) refl in
     subst (λ (xs : List Slot). All (IsOrdinary (length b)) (filter_map (counting_entry unit) xs)) to (ordinary_from unit b 1 (length (used_slots unit b)))
 
 module _ (unit : ℕ) (sectors : List (List ℕ)) (size : ℕ) (long : (place : ℕ) → place < length sectors → length (sector_at sectors place) ≡ size) where
@@ -105,14 +105,6 @@ module _ (unit : ℕ) (sectors : List (List ℕ)) (size : ℕ) (long : (place : 
       (All-range (λ k. k < length sectors) (open_sector (reading unit) sectors + 1) (length sectors - (open_sector (reading unit) sectors + 1)) (λ k low high. omega arith))
       (All-range (λ k. k < length sectors) 0 (open_sector (reading unit) sectors + 1) (λ k low high. omega arith)))
 
-pub last-from_all : (P : Found → Type 0) (wanted : Option ℕ) (fs : List Found) (o : Option Found) → IfSome o P → All P fs → IfSome (fold (λ last f. cond (is_wanted wanted f.entry) (Some f) last) o fs) P
-last-from_all P wanted [] o is all = is
-last-from_all P wanted (f ∷ fs) o is all = last-from_all P wanted fs (cond (is_wanted wanted f.entry) (Some f) o) (one (is_wanted wanted f.entry)) (All-tail P f fs all)
-  where
-    one : (here : Bool) → IfSome (cond here (Some f) o) P
-    one true = All-head P f fs all
-    one false = is
-
 -- The entries of the list of an area are in it.
 pub listed-in : (d : Device) (area : Area) → IsLawful d.banks d.bytes → IsLawfulArea d.banks area → 0 < area.sectors → All (IsInArea area.sectors (sector_size d area)) (all_found (unit_of d area) (sectors_of d area))
 listed-in d area lawful is_area some =
@@ -121,4 +113,4 @@ listed-in d area lawful is_area some =
     (all-in (unit_of d area) (sectors_of d area) (sector_size d area) (λ place within. length-sector d area lawful is_area place (omega arith)) (omega arith))
 
 pub last_found-in : (d : Device) (area : Area) (id : ℕ) → IsLawful d.banks d.bytes → IsLawfulArea d.banks area → 0 < area.sectors → IfSome (last_found (unit_of d area) (sectors_of d area) id) (IsInArea area.sectors (sector_size d area))
-last_found-in d area id lawful is_area some = last-from_all (IsInArea area.sectors (sector_size d area)) (Some id) (all_found (unit_of d area) (sectors_of d area)) None tt (listed-in d area lawful is_area some)
+last_found-in d area id lawful is_area some = last-all (λ f. is_wanted (Some id) f.entry) (IsInArea area.sectors (sector_size d area)) (all_found (unit_of d area) (sectors_of d area)) None tt (listed-in d area lawful is_area some)

@@ -10,6 +10,7 @@ pub mod Lookups
 pub mod MarkPutting
 pub mod Marks
 pub mod MountLemmas
+pub mod NvsEntries
 pub mod Putting
 pub mod Room
 pub mod ScanLemmas

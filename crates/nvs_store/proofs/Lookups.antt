@@ -1,25 +1,23 @@
 -- What the code's functions on slots need.
-use Rattle.std.proofs.Common.{◌≡◌, ℕ, ◌+◌, ◌-◌, ◌*◌, ◌/◌, ◌<◌, ◌≤◌, max, min, Bool, true, false, cond, eqb, ltb, ◌||◌, List, [], ◌∷◌, ◌++◌, length, map, take, Option, Some, None, refl, sym, ap, subst, ◌∙◌, inl, inr, not, arith}
+use Rattle.std.proofs.Common.{◌≡◌, ℕ, ◌+◌, ◌-◌, ◌*◌, ◌/◌, ◌<◌, ◌≤◌, max, min, Bool, true, false, cond, eqb, ltb, ◌||◌, List, [], ◌++◌, length, map, take, Option, Some, None, refl, sym, ap, subst, ◌∙◌, inl, inr, not, arith}
 use Rattle.std.specs.Prelude.{fold, sum_by}
-use Rattle.std.specs.Option.{option_and_then, option_map_or}
-use Rattle.std.specs.List.{filter_map, cons_option, range_with_len, list_any, suffix_len}
+use Rattle.std.specs.Option.{option_and_then}
+use Rattle.std.specs.List.{filter_map, cons_option, list_any, suffix_len}
 use Rattle.std.proofs.lemmas.Bool.{cases_lt, lt-ltb, le-ltb}
 use Rattle.std.proofs.lemmas.Nat.{le-div}
-use Rattle.std.proofs.lemmas.List.{map-append, append-nil, length-take-le, take_all}
-use Rattle.std.proofs.lemmas.List.Sums.{prefix_len_is, prefix_len-le-length, fold_push}
-use Rattle.std.proofs.lemmas.List.Folds.{list_any-append}
-use Rattle.std.proofs.lemmas.List.Elements.{filter_map-append}
-use Rattle.std.proofs.lemmas.List.FromFn.{length-map-range_with_len, get_or-map-range_with_len, take-map-range_with_len, map-range_with_len_more}
-use Rattle.std.proofs.Math.Nat.{mul-le-mul_left}
+use Rattle.std.proofs.lemmas.List.{length-take-le}
+use Rattle.std.proofs.lemmas.List.FromFn.{length-map-range_with_len}
 use Rattle.nvs_store.specs.declared.entry.Entry.{Entry}
 use Rattle.nvs_store.specs.declared.scan.Placed.{Placed}
-use Rattle.flash_map.specs.Units.{padded}
+use Rattle.flash_map.specs.Units.{padded, is_erased}
 use Rattle.nvs_store.specs.Geometry.{slot_size, capacity}
 use Rattle.nvs_store.specs.Entries.{decoded}
-use Rattle.slot_list.specs.Slots.{Slot, is_erased}
-use Rattle.nvs_store.specs.Sector.{slot_at, slots, is_used, used_slots, counts, counting_entry, entries, entry_end, is_gc_done, written_end, data_end, low, is_wanted, last_placed, entries_within, has_fence, is_overfull, placed_cost}
+use Rattle.slot_list.specs.Slots.{Slot}
+use Rattle.nvs_store.specs.Sector.{slot_at, slots, is_used, used_slots, counts, counting_entry, entries, entry_end, written_end, data_end, low, entries_within, has_fence, is_overfull, placed_cost}
 use Rattle.slot_list.specs.Slots as shared
-use Rattle.slot_list.proofs.SlotLemmas.{length-used_slots}
+use Rattle.slot_list.proofs.SlotCounts as counting
+use Rattle.slot_list.proofs.SlotWalks as walk
+use Rattle.live_items.proofs.SlotEntries.{slots_within}
 
 -- the three outcomes of reading a slot
 pub counting_entry-none : (unit : ℕ) (slot : Slot) → decoded slot.bytes ≡ None → counting_entry unit slot ≡ None
@@ -37,72 +35,19 @@ counting_entry-some unit b k e counted is test =
 pub counting_read : (unit : ℕ) (b : List ℕ) (k : ℕ) (bytes : List ℕ) (o : Option Entry) → o ≡ decoded bytes → bytes ≡ (slot_at unit b k).bytes → decoded (slot_at unit b k).bytes ≡ o
 counting_read unit b k bytes o is same = sym (is ∙ ap decoded same)
 
--- ---- counting the used slots
-
-pub used_count_is : (unit : ℕ) (b : List ℕ) (n : ℕ) → n ≤ length b / slot_size unit - 1 → ((k : ℕ) → 1 ≤ k → k ≤ n → is_used (slot_at unit b k) ≡ true)
-    → (n < length b / slot_size unit - 1 → is_used (slot_at unit b (n + 1)) ≡ false) → n ≡ length (used_slots unit b)
-used_count_is unit b n fits used stop =
-    let count = length b / slot_size unit - 1 in
-    let len : length (slots unit b) ≡ length b / slot_size unit - 1 = length-map-range_with_len (slot_at unit b) 1 count in
-    let d : Slot = slot_at unit b 0 in
-    sym (length-used_slots is_used 1 (slot_size unit) b
-    ∙ prefix_len_is is_used (slots unit b) n d (omega arith)
-    (λ k lt. ap is_used (get_or-map-range_with_len (slot_at unit b) 1 count k (k + 1) d (omega arith) (omega arith)) ∙ used (k + 1) (omega arith) (omega arith))
-    (λ lt. ap is_used (get_or-map-range_with_len (slot_at unit b) 1 count n (n + 1) d (omega arith) (omega arith)) ∙ stop (omega arith)))
-
-pub used_count_fits : (unit : ℕ) (b : List ℕ) → length (used_slots unit b) ≤ length b / slot_size unit - 1
-used_count_fits unit b =
-    let len : length (slots unit b) ≡ length b / slot_size unit - 1 = length-map-range_with_len (slot_at unit b) 1 (length b / slot_size unit - 1) in
-    omega (arith, length-used_slots is_used 1 (slot_size unit) b, prefix_len-le-length is_used (slots unit b))
+-- ---- the used slots
 
 -- a used slot and those above it stand in the sector
 pub used_inside : (unit : ℕ) (b : List ℕ) (k : ℕ) → 0 < slot_size unit → slot_size unit ≤ length b → k ≤ length (used_slots unit b) → (k + 1) * slot_size unit ≤ length b
-used_inside unit b k positive room le =
-    let fits = used_count_fits unit b in
-    let one : 1 ≤ length b / slot_size unit = le-div 1 (length b) (slot_size unit) positive (omega arith) in
-    let count : slot_size unit * (k + 1) ≤ slot_size unit * (length b / slot_size unit) = mul-le-mul_left (slot_size unit) (omega arith) in
-    omega arith
+used_inside unit b k positive room le = counting.used_inside is_used 1 (slot_size unit) b k (omega arith) (le-div 1 (length b) (slot_size unit) positive (omega arith))
 
 -- ---- going over the used slots
 
-abbrev pub slots_to : ℕ → List ℕ → ℕ → List Slot
-slots_to unit b n = map (slot_at unit b) (range_with_len 1 n)
-
-pub slots_to_used : (unit : ℕ) (b : List ℕ) (n : ℕ) → n ≡ length (used_slots unit b) → slots_to unit b n ≡ used_slots unit b
-unfolding shared.used_slots
-slots_to_used unit b n is =
-    let count = length b / slot_size unit - 1 in
-    let fits = used_count_fits unit b in
-    sym (take-map-range_with_len (slot_at unit b) 1 count n (omega arith)) ∙ ap (λ (k : ℕ). take k (slots unit b)) (is ∙ length-used_slots is_used 1 (slot_size unit) b)
-
-pub slots_to_more : (unit : ℕ) (b : List ℕ) (n : ℕ) → slots_to unit b (n + 1) ≡ slots_to unit b n ++ slot_at unit b (n + 1) ∷ []
-slots_to_more unit b n = map-range_with_len_more (slot_at unit b) 1 n (n + 1) (omega arith)
-
 abbrev pub entries_to : ℕ → List ℕ → ℕ → List Placed
-entries_to unit b n = filter_map (counting_entry unit) (slots_to unit b n)
+entries_to unit b n = walk.entries_to (counting_entry unit) 1 (slot_size unit) b n
 
 pub entries_to_more : (unit : ℕ) (b : List ℕ) (n : ℕ) → entries_to unit b (n + 1) ≡ entries_to unit b n ++ cons_option (counting_entry unit (slot_at unit b (n + 1))) []
-entries_to_more unit b n = ap (filter_map (counting_entry unit)) (slots_to_more unit b n) ∙ filter_map-append (counting_entry unit) (slots_to unit b n) (slot_at unit b (n + 1) ∷ [])
-
-ends_more : (unit : ℕ) (fs : List Placed) (o : Option Placed) → fold max 0 (map (entry_end unit) (fs ++ cons_option o [])) ≡ max (option_map_or (entry_end unit) o 0) (fold max 0 (map (entry_end unit) fs))
-ends_more unit fs None = ap (λ xs. fold max 0 (map (entry_end unit) xs)) (append-nil fs) ∙ omega arith
-ends_more unit fs (Some f) = ap (fold max 0) (map-append (entry_end unit) fs (f ∷ [])) ∙ fold_push max 0 (map (entry_end unit) fs) (entry_end unit f) ∙ omega arith
-
-or-false : (t : Bool) → (t || false) ≡ t
-or-false true = refl
-or-false false = refl
-
-sum_more : (g : Placed → ℕ) (fs : List Placed) (o : Option Placed) → sum_by g (fs ++ cons_option o []) ≡ sum_by g fs + option_map_or g o 0
-sum_more g fs None = ap (sum_by g) (append-nil fs) ∙ omega arith
-sum_more g fs (Some f) = fold_push (λ a f. a + g f) 0 fs f
-
-any_more : (p : Placed → Bool) (fs : List Placed) (o : Option Placed) → list_any p (fs ++ cons_option o []) ≡ (list_any p fs || option_map_or p o false)
-any_more p fs None = ap (list_any p) (append-nil fs) ∙ sym (or-false (list_any p fs))
-any_more p fs (Some f) = list_any-append p fs (f ∷ []) ∙ ap (λ (t : Bool). list_any p fs || t) (or-false (p f))
-
-found_more : (wanted : Option ℕ) (fs : List Placed) (o : Option Placed) → last_placed wanted (fs ++ cons_option o []) ≡ option_map_or (λ f. cond (is_wanted wanted f.entry) (Some f) (last_placed wanted fs)) o (last_placed wanted fs)
-found_more wanted fs None = ap (last_placed wanted) (append-nil fs)
-found_more wanted fs (Some f) = fold_push (λ last f. cond (is_wanted wanted f.entry) (Some f) last) None fs f
+entries_to_more unit b n = walk.entries_more (counting_entry unit) 1 (slot_size unit) b n (n + 1) (n + 1) (counting_entry unit (slot_at unit b (n + 1))) (omega arith) refl refl
 
 -- ---- a loop's step
 
@@ -116,82 +61,11 @@ used_more unit b used before this k low high =
 pub is_used-erased : (unit : ℕ) (b : List ℕ) (k used : ℕ) (bytes : List ℕ) → used + 1 ≡ k → bytes ≡ (slot_at unit b k).bytes → is_erased bytes ≡ true → is_used (slot_at unit b (used + 1)) ≡ false
 is_used-erased unit b k used bytes at same erased = ap (λ (j : ℕ). is_used (slot_at unit b j)) at ∙ ap (λ (x : List ℕ). not (is_erased x)) (sym same) ∙ ap not erased
 
--- one step of the search, from slot n upward
-find_more : (unit : ℕ) (b : List ℕ) (wanted : Option ℕ) (n : ℕ) (o : Option Placed) → o ≡ counting_entry unit (slot_at unit b (n + 1))
-    → last_placed wanted (entries_to unit b (n + 1)) ≡ option_map_or (λ f. cond (is_wanted wanted f.entry) (Some f) (last_placed wanted (entries_to unit b n))) o (last_placed wanted (entries_to unit b n))
-find_more unit b wanted n o is =
-    ap (last_placed wanted) (entries_to_more unit b n ∙ ap (λ (x : Option Placed). entries_to unit b n ++ cons_option x []) (sym is)) ∙ found_more wanted (entries_to unit b n) o
-
-pub find_here : (unit : ℕ) (b : List ℕ) (wanted : Option ℕ) (index : ℕ) (f : Placed) (rest : Option Placed) → 0 < index → Some f ≡ counting_entry unit (slot_at unit b index) → is_wanted wanted f.entry ≡ true → last_placed wanted (entries_to unit b index) ≡ rest → Some f ≡ rest
-find_here unit b wanted index f rest positive is same later =
-    let back : index ≡ index - 1 + 1 = omega arith in
-    sym (sym later ∙ ap (λ (k : ℕ). last_placed wanted (entries_to unit b k)) back
-    ∙ find_more unit b wanted (index - 1) (Some f) (is ∙ ap (λ (k : ℕ). counting_entry unit (slot_at unit b k)) back)
-    ∙ ap (λ (t : Bool). cond t (Some f) (last_placed wanted (entries_to unit b (index - 1)))) same)
-
-pub find_other : (unit : ℕ) (b : List ℕ) (wanted : Option ℕ) (index : ℕ) (f : Placed) (rest : Option Placed) → 0 < index → Some f ≡ counting_entry unit (slot_at unit b index) → is_wanted wanted f.entry ≡ false → last_placed wanted (entries_to unit b index) ≡ rest → last_placed wanted (entries_to unit b (index - 1)) ≡ rest
-find_other unit b wanted index f rest positive is other later =
-    let back : index ≡ index - 1 + 1 = omega arith in
-    sym (ap (λ (k : ℕ). last_placed wanted (entries_to unit b k)) back
-    ∙ find_more unit b wanted (index - 1) (Some f) (is ∙ ap (λ (k : ℕ). counting_entry unit (slot_at unit b k)) back)
-    ∙ ap (λ (t : Bool). cond t (Some f) (last_placed wanted (entries_to unit b (index - 1)))) other) ∙ later
-
-pub find_none : (unit : ℕ) (b : List ℕ) (wanted : Option ℕ) (index : ℕ) (rest : Option Placed) → 0 < index → None ≡ counting_entry unit (slot_at unit b index) → last_placed wanted (entries_to unit b index) ≡ rest → last_placed wanted (entries_to unit b (index - 1)) ≡ rest
-find_none unit b wanted index rest positive is later =
-    let back : index ≡ index - 1 + 1 = omega arith in
-    sym (ap (λ (k : ℕ). last_placed wanted (entries_to unit b k)) back
-    ∙ find_more unit b wanted (index - 1) None (is ∙ ap (λ (k : ℕ). counting_entry unit (slot_at unit b k)) back)) ∙ later
-
 -- the entries of the first so many used slots
 pub entries_to_within : (unit : ℕ) (b : List ℕ) (n index : ℕ) → index ≡ min (length (used_slots unit b)) n → entries_to unit b index ≡ entries_within unit b n
-entries_to_within unit b n index is =
-    elim (cases_lt n (length (used_slots unit b))) [
-      | inl lt ↦
-          let at : index ≡ n = omega arith in
-          ap (λ (k : ℕ). entries_to unit b k) at
-          ∙ ap (filter_map (counting_entry unit)) (sym (take-map-range_with_len (slot_at unit b) 1 (length (used_slots unit b)) n (omega arith)) ∙ ap (take n) (slots_to_used unit b (length (used_slots unit b)) refl))
-      | inr ge ↦
-          let at : index ≡ length (used_slots unit b) = omega arith in
-          ap (filter_map (counting_entry unit)) (slots_to_used unit b index at ∙ sym (take_all n (used_slots unit b) ge))
-    ]
+entries_to_within unit b n index is = ap (filter_map (counting_entry unit)) (slots_within is_used 1 (slot_size unit) b n index is)
 
--- ---- the steps of the scan
-
-pub ends_step : (unit : ℕ) (b : List ℕ) (index : ℕ) (o : Option Placed) (ends end : ℕ) → 1 ≤ index → o ≡ counting_entry unit (slot_at unit b index) → ends ≡ fold max 0 (map (entry_end unit) (entries_to unit b (index - 1)))
-    → end ≡ option_map_or (entry_end unit) o 0 → max end ends ≡ fold max 0 (map (entry_end unit) (entries_to unit b (index + 1 - 1)))
-ends_step unit b index o ends end positive is before at =
-    let back : index - 1 + 1 ≡ index = omega arith in
-    let next : index + 1 - 1 ≡ index - 1 + 1 = omega arith in
-    sym (ap (λ (k : ℕ). fold max 0 (map (entry_end unit) (entries_to unit b k))) next
-    ∙ ap (λ fs. fold max 0 (map (entry_end unit) fs)) (entries_to_more unit b (index - 1) ∙ ap (λ (k : ℕ). entries_to unit b (index - 1) ++ cons_option (counting_entry unit (slot_at unit b k)) []) back ∙ ap (λ (x : Option Placed). entries_to unit b (index - 1) ++ cons_option x []) (sym is))
-    ∙ ends_more unit (entries_to unit b (index - 1)) o ∙ ap (λ (x : ℕ). max (option_map_or (entry_end unit) o 0) x) (sym before) ∙ ap (λ (x : ℕ). max x ends) (sym at))
-
-pub sum_step : (unit : ℕ) (b : List ℕ) (g : Placed → ℕ) (index : ℕ) (o : Option Placed) (sum add : ℕ) → 1 ≤ index → o ≡ counting_entry unit (slot_at unit b index) → sum ≡ sum_by g (entries_to unit b (index - 1))
-    → add ≡ option_map_or g o 0 → sum + add ≡ sum_by g (entries_to unit b (index + 1 - 1))
-sum_step unit b g index o sum add positive is before at =
-    let back : index - 1 + 1 ≡ index = omega arith in
-    let next : index + 1 - 1 ≡ index - 1 + 1 = omega arith in
-    sym (ap (λ (k : ℕ). sum_by g (entries_to unit b k)) next
-    ∙ ap (sum_by g) (entries_to_more unit b (index - 1) ∙ ap (λ (k : ℕ). entries_to unit b (index - 1) ++ cons_option (counting_entry unit (slot_at unit b k)) []) back ∙ ap (λ (x : Option Placed). entries_to unit b (index - 1) ++ cons_option x []) (sym is))
-    ∙ sum_more g (entries_to unit b (index - 1)) o ∙ ap (λ (x : ℕ). x + option_map_or g o 0) (sym before) ∙ ap (λ (x : ℕ). sum + x) (sym at))
-
-pub any_step : (unit : ℕ) (b : List ℕ) (p : Placed → Bool) (index : ℕ) (o : Option Placed) (before here : Bool) → 1 ≤ index → o ≡ counting_entry unit (slot_at unit b index) → before ≡ list_any p (entries_to unit b (index - 1))
-    → here ≡ option_map_or p o false → (before || here) ≡ list_any p (entries_to unit b (index + 1 - 1))
-any_step unit b p index o before here positive is so_far at =
-    let back : index - 1 + 1 ≡ index = omega arith in
-    let next : index + 1 - 1 ≡ index - 1 + 1 = omega arith in
-    sym (ap (λ (k : ℕ). list_any p (entries_to unit b k)) next
-    ∙ ap (list_any p) (entries_to_more unit b (index - 1) ∙ ap (λ (k : ℕ). entries_to unit b (index - 1) ++ cons_option (counting_entry unit (slot_at unit b k)) []) back ∙ ap (λ (x : Option Placed). entries_to unit b (index - 1) ++ cons_option x []) (sym is))
-    ∙ any_more p (entries_to unit b (index - 1)) o ∙ ap (λ (t : Bool). t || option_map_or p o false) (sym so_far) ∙ ap (λ (t : Bool). before || t) (sym at))
-
-pub done_step : (unit : ℕ) (b : List ℕ) (index : ℕ) (before here : Bool) → 1 ≤ index → before ≡ list_any is_gc_done (slots_to unit b (index - 1)) → here ≡ is_gc_done (slot_at unit b index)
-    → (before || here) ≡ list_any is_gc_done (slots_to unit b (index + 1 - 1))
-done_step unit b index before here positive so_far is =
-    let back : index - 1 + 1 ≡ index = omega arith in
-    let next : index + 1 - 1 ≡ index - 1 + 1 = omega arith in
-    sym (ap (λ (k : ℕ). list_any is_gc_done (slots_to unit b k)) next ∙ ap (list_any is_gc_done) (slots_to_more unit b (index - 1) ∙ ap (λ (k : ℕ). slots_to unit b (index - 1) ++ slot_at unit b k ∷ []) back)
-    ∙ list_any-append is_gc_done (slots_to unit b (index - 1)) (slot_at unit b index ∷ []) ∙ ap (λ (t : Bool). t || (is_gc_done (slot_at unit b index) || false)) (sym so_far)
-    ∙ ap (λ (t : Bool). before || (t || false)) (sym is) ∙ ap (λ (t : Bool). before || t) (or-false here))
+-- ---- what the scan says
 
 pub data_end_is : (unit : ℕ) (b under : List ℕ) (trimmed written ends lens : ℕ) → low unit b - slot_size unit ≤ length b → under ≡ take (low unit b - slot_size unit) b → trimmed ≡ length under - suffix_len (λ byte. eqb byte 255) under → written ≡ padded unit trimmed
     → ends ≡ fold max 0 (map (entry_end unit) (entries unit b)) → lens ≡ sum_by (λ f. padded unit f.entry.len) (entries unit b) → max written (max ends lens) ≡ data_end unit b
@@ -205,7 +79,7 @@ data_end_is unit b under trimmed written ends lens inside is trim pad at sums =
     ∙ ap (λ (x : ℕ). max (padded unit (low unit b - slot_size unit - suffix_len (λ byte. eqb byte 255) (take (low unit b - slot_size unit) b))) (max (fold max 0 (map (entry_end unit) (entries unit b))) x)) sums
 
 pub entries_to_used : (unit : ℕ) (b : List ℕ) (n : ℕ) → n ≡ length (used_slots unit b) → entries_to unit b n ≡ entries unit b
-entries_to_used unit b n is = ap (filter_map (counting_entry unit)) (slots_to_used unit b n is)
+entries_to_used unit b n is = ap (filter_map (counting_entry unit)) (counting.slots_to_used is_used 1 (slot_size unit) b n is)
 
 -- the code's test for a fence
 pub fence_test : (unit : ℕ) (b : List ℕ) (used count : ℕ) → used ≡ length (used_slots unit b) → count ≡ length b / slot_size unit → ltb (used + 1) count ≡ has_fence unit b

@@ -9,12 +9,11 @@ use Rattle.flash_sim.specs.Device.{Device, overwritten}
 use Rattle.flash_map.specs.declared.area.Area.{Area}
 use Rattle.flash_map.specs.Area.{IsLawfulArea, unit_of, sector_size, sectors_of, sector_bytes, Writes, WritesPart}
 use Rattle.flash_map.specs.Pieces.{CanProgramAll}
-use Rattle.flash_map.specs.Units.{IsUnit, padded, padded_bytes}
+use Rattle.flash_map.specs.Units.{IsUnit, padded, padded_bytes, is_erased}
 use Rattle.flash_map.proofs.PieceLemmas.{sub_whole, next_fits}
 use Rattle.flash_map.proofs.Places.{length-sector}
 use Rattle.flash_map.proofs.Rounding.{is_unit, padding, by_unit}
 use Rattle.flash_map.proofs.Sectors.{overwritten_nil}
-use Rattle.slot_list.specs.Slots.{is_erased}
 use Rattle.nvs_store.specs.declared.entry.Entry.{Entry}
 use Rattle.nvs_store.specs.Geometry.{slot_size}
 use Rattle.nvs_store.specs.Entries.{encoded}

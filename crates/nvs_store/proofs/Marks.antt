@@ -1,31 +1,30 @@
 -- What programming a special entry does to a sector, whole or cut.
 use Rattle.std.proofs.Common.{◌≡◌, ℕ, zero, suc, ◌+◌, ◌-◌, ◌*◌, ◌/◌, ◌%◌, ◌^◌, ◌<◌, ◌≤◌, max, Bool, true, false, not, ◌&&◌, ◌||◌, cond, eqb, List, [], ◌∷◌, ◌++◌, length, map, get_or, take, drop, replicate, Option, Some, None, refl, sym, ap, subst, ◌∙◌, inl, inr, ◌⊎◌, arith}
 use Rattle.std.specs.Prelude.{fold, sum_by, slice_range}
-use Rattle.std.specs.List.{filter_map, cons_option, list_any, take_while, range_with_len}
+use Rattle.std.specs.List.{filter_map, cons_option, list_any, range_with_len}
 use Rattle.std.proofs.lemmas.Bool.{cases_lt, not_from_false, and_left, and_right, ne_eqb, or_right, cases_Bool, and_parts, leb-true}
 use Rattle.std.proofs.lemmas.List.{length-take, get_or-take, append-nil, take_at}
 use Rattle.std.proofs.lemmas.List.Folds.{list_any-append, list_all_at}
 use Rattle.std.proofs.lemmas.List.Edits.{length-between, get_or-between}
 use Rattle.std.proofs.lemmas.List.Elements.{filter_map-append}
 use Rattle.nvs_store.specs.declared.scan.Placed.{Placed}
-use Rattle.flash_map.specs.Units.{IsUnit, padded}
-use Rattle.slot_list.specs.Slots as shared
+use Rattle.flash_map.specs.Units.{IsUnit, padded, is_erased}
 use Rattle.slot_list.proofs.SlotLemmas.{start-slot_at}
 use Rattle.nvs_store.specs.Geometry.{slot_size}
 use Rattle.nvs_store.specs.Entries.{encoded, decoded, entry_of}
 use Rattle.flash_sim.specs.Device.{overwritten}
-use Rattle.slot_list.specs.Slots.{Slot, is_erased}
-use Rattle.nvs_store.specs.Sector.{slot_at, is_used, used_slots, counting_entry, entries, is_gc_done, low, data_end, entry_end, written_end, pair_of, HasRoom, KeepsList, entry_image, special_entry, with_mark, with_slot, with_close, MarksDone, Closes, slots, counts}
+use Rattle.slot_list.specs.Slots.{Slot}
+use Rattle.nvs_store.specs.Sector.{slot_at, is_used, used_slots, counting_entry, entries, is_gc_done, low, data_end, entry_end, written_end, pair_of, HasRoom, KeepsList, entry_image, special_entry, with_mark, with_slot, with_close, MarksDone, Closes, counts}
 use Rattle.flash_map.proofs.Rounding.{padding, by_unit}
-use Rattle.nvs_store.proofs.SlotReads.{slot_widths, slot_at-same, slot_at-parts}
-use Rattle.std.proofs.Math.Nat.{zero-mod, mul-le-mul_left, mul-le-mul_right}
-use Rattle.std.proofs.lemmas.Nat.{le-div}
-use Rattle.nvs_store.proofs.Lookups.{slots_to_used}
+use Rattle.nvs_store.proofs.SlotReads.{slot_widths, slot_at-parts}
+use Rattle.std.proofs.Math.Nat.{zero-mod}
+use Rattle.slot_list.proofs.SlotChanges.{used_slots-under}
+use Rattle.slot_list.proofs.SlotCounts.{slots_to_used}
 use Rattle.flash_map.proofs.Sectors.{length-overwritten, overwritten_nil}
 use Rattle.flash_map.proofs.Ranges.{get_or_below, range_below, range_at}
 use Rattle.nvs_store.proofs.EntryBytes.{cut_entry, decoded_cases, decoded-encoded, counting_entry-is, is_gc_done-is}
 use Rattle.nvs_store.proofs.Room.{erased_above, written_end-le, data_end-above}
-use Rattle.nvs_store.proofs.Appends.{map-agree, put_cut, has_slot_more, new_slot, kept, length-entry_image}
+use Rattle.nvs_store.proofs.Appends.{put_cut, has_slot_more, new_slot, kept, length-entry_image}
 
 -- ---- written_end does not change where only erased bytes leave it
 
@@ -170,23 +169,14 @@ pairs_kept_under unit old new same a (suc n) =
 
 -- Any bytes of slot 0 leave the list, and close the sector where they are not all FF.
 pub put_close : (unit : ℕ) (b upper : List ℕ) → IsUnit unit → slot_size unit ≤ length b → length upper ≤ slot_size unit → is_used (slot_at unit (with_close unit b upper) 0) ≡ true → Closes unit b (with_close unit b upper)
-unfolding shared.used_slots
 put_close unit b upper is-unit inside short used =
     let pad = padding unit is-unit in
     let widths = slot_widths unit is-unit in
     let new = with_close unit b upper in
-    let count = length b / slot_size unit - 1 in
     let long : length new ≡ length b = length-overwritten b (length b - slot_size unit) upper (omega arith) in
     let below : (i j : ℕ) → j ≤ length b - slot_size unit → slice_range new i j ≡ slice_range b i j = λ i j le. range_below b (length b - slot_size unit) upper i j (omega arith) le in
-    let one : 1 ≤ length b / slot_size unit = le-div 1 (length b) (slot_size unit) (omega arith) (omega arith) in
-    let each : map (slot_at unit new) (range_with_len 1 count) ≡ map (slot_at unit b) (range_with_len 1 count) =
-    map-agree (slot_at unit new) (slot_at unit b) 1 count (λ k low high.
-    let top : slot_size unit * (k + 1) ≤ slot_size unit * (length b / slot_size unit) = mul-le-mul_left (slot_size unit) (omega arith) in
-    let two : (1 + 1) * slot_size unit ≤ (k + 1) * slot_size unit = mul-le-mul_right (slot_size unit) (omega arith) in
-    slot_at-same unit b new k long (below _ _ (omega arith))) in
-    let all : slots unit new ≡ slots unit b = ap (λ (n : ℕ). map (slot_at unit new) (range_with_len 1 (n / slot_size unit - 1))) long ∙ each in
-    let same : used_slots unit new ≡ used_slots unit b = ap (take_while is_used) all in
-    let to = slots_to_used unit b (length (used_slots unit b)) refl in
+    let same : used_slots unit new ≡ used_slots unit b = used_slots-under is_used 1 (slot_size unit) b new (omega arith) long (λ i j le. below i j (omega arith)) in
+    let to = slots_to_used is_used 1 (slot_size unit) b (length (used_slots unit b)) refl in
     record {
       list = ap (λ (xs : List Slot). map (pair_of new) (filter_map (counting_entry unit) xs)) (same ∙ sym to)
           ∙ pairs_kept_under unit b new below 1 (length (used_slots unit b)) ∙ ap (λ (xs : List Slot). map (pair_of b) (filter_map (counting_entry unit) xs)) to;

@@ -13,7 +13,7 @@ use Rattle.flash_map.specs.declared.area.Area.{Area}
 use Rattle.flash_map.specs.Area.{IsLawfulArea, unit_of, sector_size, sectors_of, sector_bytes, Writes, WritesPart}
 use Rattle.flash_map.specs.Pieces.{CanProgramAll}
 use Rattle.flash_map.specs.Spending.{Spends, SpendsAtMost}
-use Rattle.flash_map.specs.Units.{IsUnit, padded, padded_bytes}
+use Rattle.flash_map.specs.Units.{IsUnit, padded, padded_bytes, is_erased}
 use Rattle.flash_map.proofs.PaddedLemmas.{length-padded_bytes}
 use Rattle.flash_map.proofs.PieceLemmas.{sub_whole, can_all_after}
 use Rattle.flash_map.proofs.Places.{length-sector}
@@ -21,7 +21,6 @@ use Rattle.flash_map.proofs.Rounding.{is_unit, padding}
 use Rattle.flash_map.proofs.Sectors.{length-sectors_from, overwritten_nil}
 use Rattle.flash_map.proofs.Sequence.{writes_twice, writes_then_part}
 use Rattle.flash_map.proofs.SpendingLemmas.{spends_then, spends_then_most, most_weaker, units_sum, units_le}
-use Rattle.slot_list.specs.Slots.{is_erased}
 use Rattle.nvs_store.specs.declared.entry.Entry.{Entry}
 use Rattle.nvs_store.specs.Geometry.{slot_size, cost}
 use Rattle.nvs_store.specs.Entries.{encoded}

@@ -9,10 +9,10 @@ use Rattle.std.proofs.lemmas.List.Sums.{prefix_len_passes, prefix_len_stops, fol
 use Rattle.std.proofs.lemmas.List.Elements.{All-from_get_or}
 use Rattle.std.proofs.lemmas.List.Edits.{length-between, get_or-between}
 use Rattle.nvs_store.specs.declared.scan.Placed.{Placed}
-use Rattle.flash_map.specs.Units.{IsUnit, padded}
+use Rattle.flash_map.specs.Units.{IsUnit, padded, is_erased}
 use Rattle.nvs_store.specs.Geometry.{slot_size}
 use Rattle.nvs_store.specs.Entries.{entry_of}
-use Rattle.slot_list.specs.Slots.{Slot, is_erased}
+use Rattle.slot_list.specs.Slots.{Slot}
 use Rattle.nvs_store.specs.Sector.{counts, counting_entry, entries, used_slots, entry_end, written_end, data_end, low}
 use Rattle.flash_map.proofs.Rounding.{IsPadding, padding}
 use Rattle.nvs_store.proofs.SlotReads.{slot_widths}
@@ -70,10 +70,6 @@ erased_from_range b i j within erased k le lt =
     ∙ eqb-true _ 255 (AllPass-from_list_all (λ byte. eqb byte 255) (slice_range b i j) erased (k - i) 0 (omega arith))
 
 -- ---- the greatest end and the sum
-
-pub fold_max-ge : (a : ℕ) (xs : List ℕ) → a ≤ fold max a xs
-fold_max-ge a [] = omega arith
-fold_max-ge a (x ∷ xs) = let rest = fold_max-ge (max a x) xs in omega arith
 
 max_keeps : (P : ℕ → Type 0) (a b : ℕ) → P a → P b → P (max a b)
 max_keeps P a b p q =

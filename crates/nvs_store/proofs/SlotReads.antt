@@ -1,5 +1,5 @@
 -- The slots of a sector of NVS, by index.
-use Rattle.std.proofs.Common.{◌≡◌, ℕ, ◌+◌, ◌-◌, ◌*◌, ◌%◌, ◌≤◌, List, length, refl, ap, ◌∙◌, arith}
+use Rattle.std.proofs.Common.{◌≡◌, ℕ, ◌+◌, ◌-◌, ◌*◌, ◌%◌, ◌≤◌, List, length, refl, arith}
 use Rattle.std.specs.Prelude.{slice_range}
 use Rattle.flash_map.specs.Units.{IsUnit, padded}
 use Rattle.flash_map.proofs.Rounding.{by_unit}
@@ -21,14 +21,6 @@ slot_widths = by_unit HasSlotWidth
 
 pub slot_size_bounds : (unit : ℕ) → IsUnit unit → (8 ≤ slot_size unit) × (slot_size unit ≤ 16)
 slot_size_bounds unit h = let widths = slot_widths unit h in (widths.no_less, widths.no_more)
-
-pub slot_at-same : (unit : ℕ) (old new : List ℕ) (k : ℕ) → length new ≡ length old
-    → slice_range new (length old - (k + 1) * slot_size unit) (length old - (k + 1) * slot_size unit + slot_size unit) ≡ slice_range old (length old - (k + 1) * slot_size unit) (length old - (k + 1) * slot_size unit + slot_size unit)
-    → slot_at unit new k ≡ slot_at unit old k
-unfolding shared.slot_at
-slot_at-same unit old new k long same =
-    ap (λ (n : ℕ). record { index = k; start = n - (k + 1) * slot_size unit; bytes = slice_range new (n - (k + 1) * slot_size unit) (n - (k + 1) * slot_size unit + slot_size unit) }) long
-    ∙ ap (λ (bytes : List ℕ). record { index = k; start = length old - (k + 1) * slot_size unit; bytes = bytes }) same
 
 pub slot_at-parts : (unit : ℕ) (b : List ℕ) (k : ℕ) → ((slot_at unit b k).start ≡ length b - (k + 1) * slot_size unit)
     × ((slot_at unit b k).bytes ≡ slice_range b (length b - (k + 1) * slot_size unit) (length b - (k + 1) * slot_size unit + slot_size unit))

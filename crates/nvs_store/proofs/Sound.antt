@@ -1,27 +1,28 @@
 -- When a sector has a fence and is not overfull, and what its entries cost.
-use Rattle.std.proofs.Common.{◌≡◌, ℕ, zero, suc, ◌+◌, ◌-◌, ◌*◌, ◌/◌, ◌<◌, ◌≤◌, max, Bool, true, false, not, ◌&&◌, ◌||◌, cond, eqb, leb, ltb, List, [], ◌∷◌, length, map, Option, Some, None, refl, sym, ap, ◌∙◌, inl, inr, ◌⊎◌, arith}
-use Rattle.std.specs.Prelude.{fold, sum_by, slice_range}
-use Rattle.std.specs.List.{filter_map, cons_option, list_any, range_with_len}
+use Rattle.std.proofs.Common.{◌≡◌, ℕ, ◌+◌, ◌-◌, ◌*◌, ◌/◌, ◌<◌, ◌≤◌, max, Bool, true, false, not, ◌&&◌, ◌||◌, cond, eqb, leb, ltb, List, [], ◌∷◌, length, map, Some, None, refl, sym, ap, ◌∙◌, inl, inr, ◌⊎◌, arith}
+use Rattle.std.specs.Prelude.{fold, sum_by}
+use Rattle.std.specs.List.{filter_map, list_any}
 use Rattle.std.proofs.lemmas.Nat.{le-div}
 use Rattle.std.proofs.lemmas.Bool.{false≢true, cases_Bool, cond-true, cond-false, lt-ltb, le-ltb, ltb-false, leb-true, ne_eqb, and_parts, and_left, or_parts, or_from, or_right, or_cases, and_from, not_from_false, not-true}
-use Rattle.std.proofs.lemmas.List.Sums.{sum_by-cons, sum_by_push}
-use Rattle.std.proofs.lemmas.List.Edits.{length-between}
+use Rattle.std.proofs.lemmas.List.Sums.{sum_by_push}
 use Rattle.std.proofs.lemmas.List.FromFn.{length-map-range_with_len}
 use Rattle.nvs_store.specs.declared.scan.Placed.{Placed}
-use Rattle.flash_map.specs.Units.{IsUnit, padded}
+use Rattle.flash_map.specs.Units.{IsUnit, padded, is_erased}
 use Rattle.nvs_store.specs.Geometry.{slot_size, cost, capacity}
 use Rattle.nvs_store.specs.Entries.{entry_of}
-use Rattle.slot_list.specs.Slots.{Slot, is_erased}
-use Rattle.nvs_store.specs.Sector.{slot_at, slots, is_used, used_slots, counting_entry, counts, entries, is_gc_done, has_gc_done, low, data_end, entry_end, pair_of, pairs, HasRoom, KeepsList, AddsPair, MarksDone, Closes}
+use Rattle.slot_list.specs.Slots.{Slot}
+use Rattle.nvs_store.specs.Sector.{slot_at, slots, is_used, used_slots, counting_entry, counts, entries, is_gc_done, has_gc_done, low, data_end, entry_end, pairs, HasRoom, KeepsList, AddsPair, MarksDone, Closes}
 use Rattle.nvs_store.specs.Scans.{fits, free, sector_scan}
 use Rattle.flash_map.proofs.Rounding.{IsPadding, padding}
 use Rattle.nvs_store.proofs.SlotReads.{slot_widths}
-use Rattle.slot_list.proofs.SlotLemmas.{HasFence-from_low, start-slot_at}
-use Rattle.nvs_store.proofs.Room.{data_end-above, fold_max-ge}
+use Rattle.slot_list.proofs.SlotLemmas.{HasFence-from_low}
+use Rattle.nvs_store.proofs.NvsEntries.{nvs, are_nvs}
+use Rattle.nvs_store.proofs.Room.{data_end-above}
 use Rattle.nvs_store.proofs.EntryBytes.{decoded_cases, counting_entry-is, is_gc_done-is}
-use Rattle.nvs_store.proofs.Lookups.{slots_to_used}
-use Rattle.nvs_store.proofs.Marks.{counting_entry_under}
-use Rattle.nvs_store.specs.Sector.{has_fence, is_overfull, is_sound, placed_cost, pairs_cost, IsFurther}
+use Rattle.slot_list.proofs.SlotCosts as by_slots
+use Rattle.slot_list.proofs.SlotCosts.{fold_max-ge}
+use Rattle.live_items.proofs.SectorCosts.{costs_are}
+use Rattle.nvs_store.specs.Sector.{is_used, has_fence, is_overfull, is_sound, placed_cost, pairs_cost, IsFurther}
 use Rattle.nvs_store.proofs.Blank.{blank-pairs, blank-used}
 
 -- ---- costs by entries and by pairs
@@ -29,25 +30,8 @@ use Rattle.nvs_store.proofs.Blank.{blank-pairs, blank-used}
 abbrev pair_cost : ℕ → ℕ × List ℕ → ℕ
 pair_cost unit pair = cond (eqb (length pair.1) 0) 0 (cost unit (length pair.1))
 
-costs_from : (unit : ℕ) (b : List ℕ) (a n : ℕ) → sum_by (placed_cost unit) (filter_map (counting_entry unit) (map (slot_at unit b) (range_with_len a n))) ≡ pairs_cost unit (map (pair_of b) (filter_map (counting_entry unit) (map (slot_at unit b) (range_with_len a n))))
-costs_from unit b a zero = refl
-costs_from unit b a (suc n) =
-    let tail = costs_from unit b (a + 1) n in
-    let start = start-slot_at (slot_size unit) b a in
-    elim (counting_entry_under unit (slot_at unit b a)) [
-      | inl none ↦ rw none tail
-      | inr (f, some, under) ↦
-          let long : length (slice_range b f.entry.offset (f.entry.offset + f.entry.len)) ≡ f.entry.offset + f.entry.len - f.entry.offset = length-between b f.entry.offset (f.entry.offset + f.entry.len) (omega arith) in
-          let len : f.entry.len ≡ length (slice_range b f.entry.offset (f.entry.offset + f.entry.len)) = omega arith in
-          let fs = filter_map (counting_entry unit) (map (slot_at unit b) (range_with_len (a + 1) n)) in
-          rw some (sum_by-cons (placed_cost unit) f fs ∙ ap (λ (m : ℕ). cond (eqb m 0) 0 (cost unit m) + sum_by (placed_cost unit) fs) len ∙ ap (λ (m : ℕ). pair_cost unit (pair_of b f) + m) tail
-          ∙ sym (sum_by-cons (pair_cost unit) (pair_of b f) (map (pair_of b) fs)))
-    ]
-
 pub entries_cost : (unit : ℕ) (b : List ℕ) → sum_by (placed_cost unit) (entries unit b) ≡ pairs_cost unit (pairs unit b)
-entries_cost unit b =
-    let to = slots_to_used unit b (length (used_slots unit b)) refl in
-    ap (λ (xs : List Slot). sum_by (placed_cost unit) (filter_map (counting_entry unit) xs)) (sym to) ∙ costs_from unit b 1 (length (used_slots unit b)) ∙ ap (λ (xs : List Slot). pairs_cost unit (map (pair_of b) (filter_map (counting_entry unit) xs))) to
+entries_cost unit b = sym (costs_are (nvs unit) (are_nvs unit) b 0 refl)
 
 -- ---- sound, from the room under the fence
 
@@ -172,10 +156,15 @@ counts_not_done unit slot =
           ]
     ]
 
-one_mark : (here later : Bool) (size : ℕ) → cond (here || later) size 0 ≤ size + cond later size 0
-one_mark true later size = omega arith
-one_mark false true size = omega arith
-one_mark false false size = omega arith
+entry_unmarked : (unit : ℕ) (slot : Slot) (f : Placed) → counting_entry unit slot ≡ Some f → is_gc_done slot ≡ false
+entry_unmarked unit slot f is =
+    elim (counts_not_done unit slot) [
+      | inl none ↦ absurd (none_some (sym none ∙ is))
+      | inr (g, some, unmarked) ↦ unmarked
+    ]
+  where
+    none_some : None ≡ Some f → ⊥
+    none_some e = cc
 
 placed_cost-le : (unit : ℕ) (f : Placed) → placed_cost unit f ≤ padded unit f.entry.len + slot_size unit
 placed_cost-le unit f =
@@ -185,26 +174,7 @@ placed_cost-le unit f =
     ]
 
 slots_cost : (unit : ℕ) (ss : List Slot) → sum_by (placed_cost unit) (filter_map (counting_entry unit) ss) + cond (list_any is_gc_done ss) (slot_size unit) 0 ≤ sum_by (λ f. padded unit f.entry.len) (filter_map (counting_entry unit) ss) + length ss * slot_size unit
-slots_cost unit [] = omega arith
-slots_cost unit (slot ∷ ss) =
-    let tail = slots_cost unit ss in
-    let fs = filter_map (counting_entry unit) ss in
-    let count : length (slot ∷ ss) * slot_size unit ≡ length ss * slot_size unit + slot_size unit = let e : length (slot ∷ ss) ≡ length ss + 1 = omega arith in ap (λ (n : ℕ). n * slot_size unit) e ∙ omega arith in
-    elim (counts_not_done unit slot) [
-      | inl none ↦
-          let same : filter_map (counting_entry unit) (slot ∷ ss) ≡ filter_map (counting_entry unit) ss = ap (λ (o : Option Placed). cons_option o fs) none in
-          let a : sum_by (placed_cost unit) (filter_map (counting_entry unit) (slot ∷ ss)) ≡ sum_by (placed_cost unit) fs = ap (sum_by (placed_cost unit)) same in
-          let b : sum_by (λ f. padded unit f.entry.len) (filter_map (counting_entry unit) (slot ∷ ss)) ≡ sum_by (λ f. padded unit f.entry.len) fs = ap (sum_by (λ (f : Placed). padded unit f.entry.len)) same in
-          let mark = one_mark (is_gc_done slot) (list_any is_gc_done ss) (slot_size unit) in
-          omega arith
-      | inr (f, some, unmarked) ↦
-          let same : filter_map (counting_entry unit) (slot ∷ ss) ≡ f ∷ fs = ap (λ (o : Option Placed). cons_option o fs) some in
-          let a : sum_by (placed_cost unit) (filter_map (counting_entry unit) (slot ∷ ss)) ≡ placed_cost unit f + sum_by (placed_cost unit) fs = ap (sum_by (placed_cost unit)) same ∙ sum_by-cons (placed_cost unit) f fs in
-          let b : sum_by (λ f. padded unit f.entry.len) (filter_map (counting_entry unit) (slot ∷ ss)) ≡ padded unit f.entry.len + sum_by (λ f. padded unit f.entry.len) fs = ap (sum_by (λ (f : Placed). padded unit f.entry.len)) same ∙ sum_by-cons (λ (f : Placed). padded unit f.entry.len) f fs in
-          let mark : cond (list_any is_gc_done (slot ∷ ss)) (slot_size unit) 0 ≡ cond (list_any is_gc_done ss) (slot_size unit) 0 = ap (λ (t : Bool). cond (t || list_any is_gc_done ss) (slot_size unit) 0) unmarked in
-          let one = placed_cost-le unit f in
-          omega arith
-    ]
+slots_cost unit ss = by_slots.slots_cost (counting_entry unit) is_gc_done (slot_size unit) (placed_cost unit) (λ f. padded unit f.entry.len) (placed_cost-le unit) (entry_unmarked unit) ss
 
 -- What fits keeps the costs within the capacity.
 pub fits-costs : (unit place : ℕ) (b : List ℕ) (len : ℕ) → IsUnit unit → 0 < len → fits unit (sector_scan unit place b) len ≡ true → pairs_cost unit (pairs unit b) + cost unit len ≤ capacity unit (length b)

@@ -1,11 +1,12 @@
 -- What a scan says of an area, its list, and what is wrong with it.
-use Rattle.std.specs.Prelude.{◌≡◌, ℕ, ◌+◌, ◌-◌, ◌*◌, ◌<◌, ◌≤◌, Bool, List, [], ◌∷◌, ◌++◌, length, map, fold, slice_range, slice_set, Option, Some, None, ◌==◌, nat_le, nat_lt, if◌then◌else◌}
-use Rattle.std.specs.List.{flat_map, last_or, range_with_len}
+use Rattle.std.specs.Prelude.{◌≡◌, ℕ, ◌+◌, ◌-◌, ◌*◌, ◌<◌, ◌≤◌, Bool, List, [], ◌∷◌, ◌++◌, length, map, fold, slice_range, slice_set, Option, Some, None, ◌==◌, nat_le, if◌then◌else◌}
+use Rattle.std.specs.List.{flat_map, last_or}
 use Rattle.flash_map.specs.declared.faults.Damaged.{Damaged}
-use Rattle.slot_list.specs.Slots.{is_erased}
+use Rattle.flash_map.specs.Units.{is_erased}
 use Rattle.sector_ring.specs.Area.{next, round, is_closed_at, counts_at, open_sector, area_pairs, first_damage}
 use Rattle.flash_map.specs.Area.{sector_at}
 use Rattle.sector_ring.specs.Reading.{Reading}
+use Rattle.sector_ring.specs.Walks.{places_before}
 use Rattle.nvs_store.specs.declared.scan.Found.{Found}
 use Rattle.nvs_store.specs.declared.scan.Placed.{Placed}
 use Rattle.nvs_store.specs.declared.scan.Redo.{Redo}
@@ -82,12 +83,6 @@ counted_in unit sectors current place = if counts_at (reading unit) sectors curr
 -- those of them in the first so many slots
 abbrev pub counted_within : ℕ → List (List ℕ) → ℕ → ℕ → ℕ → List Found
 counted_within unit sectors current place n = if counts_at (reading unit) sectors current place then map (found_at place) (entries_within unit (sector_at sectors place) n) else []
-
--- the sectors before this one in the round to the open one
-abbrev pub places_before : ℕ → ℕ → ℕ → List ℕ
-places_before count current place =
-    if nat_lt current place then range_with_len (current + 1) (place - (current + 1))
-    else range_with_len (current + 1) (count - (current + 1)) ++ range_with_len 0 place
 
 -- the entries of the sectors before this one, and those in its first so many slots
 abbrev pub found_up_to : ℕ → List (List ℕ) → ℕ → ℕ → ℕ → List Found

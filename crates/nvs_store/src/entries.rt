@@ -7,10 +7,9 @@ ghost use Rattle.flash_map.specs.Lawful.{IsLawfulFor};
 ghost use Rattle.nvs_store.specs.Sector.{slot_at, used_slots, counting_entry};
 ghost use Rattle.nvs_store.specs.Scans.{found_at, IsInArea};
 
-use crate::places::sector_of;
 use crate::scan::Found;
 use crate::slots::{counting_entry, used_count};
-use flash_map::{Area, geometry};
+use flash_map::{Area, geometry, sector_view};
 use flash_sim::{Flash, Steps};
 use std::sync::ledger::Ledger;
 
@@ -28,7 +27,7 @@ pub fn used_slots<F: Flash, L: Ledger>(
     ensures few { result < 2 ^ 15 }
 {
     let unit = geometry(flash, area).unit;
-    used_count(sector_of(flash, area, place, steps), unit)
+    used_count(sector_view(flash, area, place, steps), unit)
 }
 
 /// The entry in a used slot, where it counts.
@@ -48,6 +47,6 @@ pub fn entry_in<F: Flash, L: Ledger>(
     ensures in_area { IfSome result (IsInArea area.now.sectors (sector_size (F.device flash.now) area.now)) }
 {
     let unit = geometry(flash, area).unit;
-    let placed = counting_entry(sector_of(flash, area, place, steps), unit, slot)?;
+    let placed = counting_entry(sector_view(flash, area, place, steps), unit, slot)?;
     Some(placed.at(place))
 }

@@ -20,5 +20,6 @@ pub use entry::{Entry, SPECIAL_ID, decode_entry, encode_entry};
 pub use geometry::{blank_scan, capacity, cost, fits};
 pub use lookup::{find, walk};
 pub use mounting::mount_scan;
-pub use places::{is_blank, is_closed, next};
+pub use places::{is_blank, is_closed};
 pub use scan::{Found, Placed, Redo, Scan};
+pub use slots::{counting_entry, used_count};

@@ -6,12 +6,13 @@ ghost use Rattle.flash_map.specs.declared.area.Role.TheVariants.{Nvs};
 ghost use Rattle.flash_map.specs.Area.{unit_of, sector_size, sectors_of};
 ghost use Rattle.flash_map.specs.Lawful.{IsLawfulFor};
 ghost use Rattle.slot_list.specs.Items.{last, value_of};
-ghost use Rattle.nvs_store.specs.Scans.{scan_of, counted_in, counted_within, last_wanted, last_found, all_found, list_of, found_bytes, found_up_to, places_before, IsInArea, IsNextOlder};
+ghost use Rattle.sector_ring.specs.Walks.{places_before};
+ghost use Rattle.nvs_store.specs.Scans.{scan_of, counted_in, counted_within, last_wanted, last_found, all_found, list_of, found_bytes, found_up_to, IsInArea, IsNextOlder};
 
-use crate::places::{counts, sector_of};
+use crate::places::counts;
 use crate::scan::{Found, Scan};
 use crate::sector::find_in;
-use flash_map::{Area, geometry};
+use flash_map::{Area, geometry, sector_view};
 use flash_sim::{Flash, Steps};
 use std::sync::ledger::Ledger;
 
@@ -38,7 +39,7 @@ fn find_at<F: Flash, L: Ledger>(
 {
     if counts(flash, area, current, place, steps) {
         let unit = geometry(flash, area).unit;
-        let bytes = sector_of(flash, area, place, steps);
+        let bytes = sector_view(flash, area, place, steps);
         find_in(bytes, unit, place, wanted, slots)
     } else {
         None

@@ -7,10 +7,10 @@ ghost use Rattle.sector_ring.specs.Area.{open_sector, openings};
 ghost use Rattle.std.specs.List.{slice_get};
 ghost use Rattle.nvs_store.specs.Scans.{reading, redo_of, scan_of, damage_of};
 
-use crate::places::{Sought, first, has_gc_done, is_closed, next, sector_of};
+use crate::places::{Sought, first, has_gc_done, is_closed};
 use crate::scan::{Redo, Scan};
 use crate::sector::scan_sector;
-use flash_map::{Area, Damaged, Why, geometry};
+use flash_map::{Area, Damaged, Why, geometry, sector_view};
 use flash_sim::{Flash, Steps};
 use std::sync::ledger::Ledger;
 
@@ -89,7 +89,7 @@ fn redo<F: Flash, L: Ledger>(flash: &F, area: &Area, current: u32, steps: &mut S
     requires within { current < area.now.sectors }
     ensures { let d = F.device flash.now in result ≡ redo_of (unit_of d area.now) (sectors_of d area.now) current }
 {
-    if is_closed(flash, area, next(area, current), steps) {
+    if is_closed(flash, area, area.next(current), steps) {
         if has_gc_done(flash, area, current, steps) {
             Redo::EraseNext
         } else {
@@ -118,7 +118,7 @@ pub fn mount_scan<F: Flash, L: Ledger>(
     if let Some(damaged) = damage(flash, area, current, steps) {
         return Err(damaged);
     }
-    let mut scan = scan_sector(sector_of(flash, area, current, steps), unit, current);
+    let mut scan = scan_sector(sector_view(flash, area, current, steps), unit, current);
     scan.redo = redo(flash, area, current, steps);
     Ok(scan)
 }

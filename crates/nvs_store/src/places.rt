@@ -6,14 +6,13 @@ ghost use Rattle.flash_map.specs.Area.{unit_of, sector_size, sectors_of};
 ghost use Rattle.flash_map.specs.Lawful.{IsLawfulFor};
 ghost use Rattle.sector_ring.specs.Area.{next, previous, counts_at, is_closed_at, is_blank_at};
 ghost use Rattle.flash_map.specs.Area.{sector_at};
-ghost use Rattle.slot_list.specs.Slots.{is_erased};
+ghost use Rattle.flash_map.specs.Units.{is_erased};
 ghost use Rattle.nvs_store.specs.Scans.{reading};
 ghost use Rattle.nvs_store.specs.Sector.{has_gc_done, has_fence, is_overfull};
 ghost use Rattle.nvs_store.specs.Sought.{is_sought, NamesWithin};
 
 use crate::sector;
-use crate::slots::is_erased;
-use flash_map::{Area, area_view, geometry};
+use flash_map::{Area, geometry, is_erased, sector_view};
 use flash_sim::{Flash, Steps};
 use std::sync::ledger::Ledger;
 
@@ -32,45 +31,6 @@ pub enum Sought {
     Full(u32),
 }
 
-/// The next sector, round the end of the area.
-pub fn next(area: &Area, place: u32) -> u32
-    requires { place < area.now.sectors }
-    ensures value { result ≡ (if place + 1 == area.now.sectors then 0 else place + 1) }
-    ensures within { result < area.now.sectors }
-{
-    let count = area.sectors;
-    if place + 1 == count { 0 } else { place + 1 }
-}
-
-/// The sector before, round the start of the area.
-pub fn previous(area: &Area, place: u32) -> u32
-    requires { place < area.now.sectors }
-    ensures value { result ≡ (if place == 0 then area.now.sectors - 1 else place - 1) }
-    ensures within { result < area.now.sectors }
-{
-    if place == 0 {
-        area.sectors - 1
-    } else {
-        place - 1
-    }
-}
-
-/// The bytes of a whole sector. It is one step.
-pub fn sector_of<'a, F: Flash, L: Ledger>(
-    flash: &'a F,
-    area: &Area,
-    place: u32,
-    steps: &mut Steps<L>,
-) -> &'a [u8]
-    requires lawful { IsLawfulFor (F.device flash.now).banks area.now }
-    requires inside { place < area.now.sectors }
-    ensures bytes { result.now ≡ sector_at (sectors_of (F.device flash.now) area.now) place }
-    ensures long { length result.now ≡ sector_size (F.device flash.now) area.now }
-{
-    let size = geometry(flash, area).sector;
-    area_view(flash, area, place, 0, size, steps)
-}
-
 /// Whether a sector is closed: its slot 0 is not all FF.
 pub fn is_closed<F: Flash, L: Ledger>(
     flash: &F,
@@ -84,7 +44,7 @@ pub fn is_closed<F: Flash, L: Ledger>(
     ensures { let d = F.device flash.now in result ≡ is_closed_at (reading (unit_of d area.now)) (sectors_of d area.now) place }
 {
     let unit = geometry(flash, area).unit;
-    sector::is_closed(sector_of(flash, area, place, steps), unit)
+    sector::is_closed(sector_view(flash, area, place, steps), unit)
 }
 
 /// Whether a sector is blank: all its bytes are FF.
@@ -98,7 +58,7 @@ pub fn is_blank<F: Flash, L: Ledger>(
     requires inside { place < area.now.sectors }
     ensures { result ≡ is_erased (sector_at (sectors_of (F.device flash.now) area.now) place) }
 {
-    is_erased(sector_of(flash, area, place, steps))
+    is_erased(sector_view(flash, area, place, steps))
 }
 
 /// Whether gc-done stands in a sector.
@@ -114,7 +74,7 @@ pub fn has_gc_done<F: Flash, L: Ledger>(
     ensures { let d = F.device flash.now in result ≡ has_gc_done (unit_of d area.now) (sector_at (sectors_of d area.now) place) }
 {
     let unit = geometry(flash, area).unit;
-    sector::scan_sector(sector_of(flash, area, place, steps), unit, place).gc_done
+    sector::scan_sector(sector_view(flash, area, place, steps), unit, place).gc_done
 }
 
 /// Whether a sector counts, with this one open.
@@ -130,7 +90,7 @@ pub fn counts<F: Flash, L: Ledger>(
     requires current { current < area.now.sectors }
     ensures { let d = F.device flash.now in result ≡ counts_at (reading (unit_of d area.now)) (sectors_of d area.now) current place }
 {
-    let after = next(area, current);
+    let after = area.next(current);
     if is_closed(flash, area, after, steps) {
         let hidden = if has_gc_done(flash, area, current, steps) {
             after
@@ -158,11 +118,11 @@ fn is_sought<F: Flash, L: Ledger>(
     ensures { let d = F.device flash.now in result ≡ is_sought sought (unit_of d area.now) (sectors_of d area.now) place }
 {
     let unit = geometry(flash, area).unit;
-    let bytes = sector_of(flash, area, place, steps);
+    let bytes = sector_view(flash, area, place, steps);
     match sought {
         Sought::NotClosed => !sector::is_closed(bytes, unit),
         Sought::Opening => {
-            !sector::is_closed(bytes, unit) && is_closed(flash, area, previous(area, place), steps)
+            !sector::is_closed(bytes, unit) && is_closed(flash, area, area.previous(place), steps)
         }
         Sought::NotBlank => !is_erased(bytes),
         Sought::Dirty(current) => {

@@ -9,10 +9,9 @@ use crate::entry::Entry;
 use crate::geometry::{capacity, cost, slot_size};
 use crate::scan::{Found, Placed, Redo, Scan};
 use crate::slots::{
-    counting_entry, end_of, is_erased, is_gc_done, len_of, slot_of, slot_start, trimmed_len,
-    used_count,
+    counting_entry, end_of, is_gc_done, len_of, slot_of, slot_start, trimmed_len, used_count,
 };
-use flash_map::padded;
+use flash_map::{is_erased, padded};
 
 /// Reads how far a sector is filled.
 pub fn scan_sector(bytes: &[u8], unit: u32, place: u32) -> Scan

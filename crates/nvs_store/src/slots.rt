@@ -3,7 +3,6 @@ ghost use Rattle.std.specs.Prelude.{◌≡◌, ◌+◌, ◌-◌, ◌*◌, ◌^�
 ghost use Rattle.std.specs.List.{suffix_len};
 ghost use Rattle.std.specs.Option.{option_map_or};
 ghost use Rattle.flash_map.specs.Units.{IsUnit, padded};
-ghost use Rattle.slot_list.specs.Slots.{is_erased};
 ghost use Rattle.nvs_store.specs.Geometry.{slot_size};
 ghost use Rattle.nvs_store.specs.Entries.{decoded};
 ghost use Rattle.nvs_store.specs.Sector.{slot_at, used_slots, counts, counting_entry, is_gc_done, entry_end};
@@ -11,13 +10,7 @@ ghost use Rattle.nvs_store.specs.Sector.{slot_at, used_slots, counts, counting_e
 use crate::entry::{Entry, SPECIAL_ID, decode_entry};
 use crate::geometry::slot_size;
 use crate::scan::Placed;
-use flash_map::padded;
-
-pub fn is_erased(bytes: &[u8]) -> bool
-    ensures { result ≡ is_erased bytes.now }
-{
-    bytes.iter().all(|byte| *byte == 0xFF)
-}
+use flash_map::{is_erased, padded};
 
 /// Where a slot starts in a sector of this length.
 pub fn slot_start(len: usize, unit: u32, index: u32) -> u32

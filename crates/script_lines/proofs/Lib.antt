@@ -1,4 +1,3 @@
-pub mod PartLemmas
 pub mod NumberLemmas
 pub mod ScriptLemmas
 pub mod LineLemmas

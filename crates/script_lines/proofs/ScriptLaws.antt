@@ -1,7 +1,7 @@
 -- A script is read in one way.
 use Rattle.std.proofs.Common.{◌≡◌, ℕ, ◌+◌, Bool, true, false, not, cond, List, [], ◌∷◌, refl, sym, ◌∙◌, ap, inl, inr}
 use Rattle.script_lines.specs.declared.line.Line.{Line}
-use Rattle.script_lines.specs.Parts.{parts}
+use Rattle.text_parts.specs.Parts.{parts}
 use Rattle.script_lines.specs.Script.{is_skipped, SpellsAll, told, FirstRefused, IsFine, IsRefused}
 use Rattle.script_lines.specs.Laws.{OneScript, OneRefusal}
 use Rattle.script_lines.proofs.LineLemmas.{one_line}

@@ -1,5 +1,4 @@
 pub mod Answer
 pub mod Line
-pub mod Parts
 pub mod Script
 pub mod Laws

@@ -1,7 +1,7 @@
 -- A script: its lines, or its first refused line.
 use Rattle.std.specs.Prelude.{◌≡◌, ◌⊎◌, ℕ, ◌+◌, ◌==◌, ⊤, Bool, true, false, not, Result, Ok, Err, List, [], ◌∷◌, ◌++◌, filter}
 use Rattle.std.specs.Global.{Vec}
-use Rattle.script_lines.specs.Parts.{parts}
+use Rattle.text_parts.specs.Parts.{parts}
 use Rattle.script_lines.specs.Line.{Spells, IsNoLine}
 use Rattle.script_lines.specs.declared.line.Line.{Line}
 use Rattle.script_lines.specs.declared.script.LineWhy.TheVariants.{Unknown, Long}

@@ -2,12 +2,13 @@
 ghost use Rattle.std.specs.Prelude.{◌≡◌, ◌^◌, ◌<◌, ◌∷◌, codes, MatchOption, IfOk};
 ghost use Rattle.std.specs.Fmt.{decimal};
 ghost use Rattle.script_lines.specs.Line.{IsPlain, name_of, IsValue, IsNoNumber, IsNoValue, ReadsLine, IsNoLine, Spells};
-ghost use Rattle.script_lines.specs.Parts.{parts, parts_of};
+ghost use Rattle.text_parts.specs.Parts.{parts, parts_of};
 
 use crate::bytes::Bytes;
-use crate::parts::{cut_at, one_word, two_words};
+use crate::parts::two_words;
 use flash_sim::NoMemory;
 use std::alloc::Global;
+use text_parts::{cut_at, one_part};
 
 /// A line of a script.
 #[derive(Debug, Drop)]
@@ -97,7 +98,7 @@ fn set_line(alloc: Global, rest: Option<&[u8]>) -> Result<Option<Line>, NoMemory
 fn get_line(alloc: Global, rest: Option<&[u8]>) -> Result<Option<Line>, NoMemory>
     ensures { ReadsLine (codes "get" ∷ parts_of 32 rest.entry) result }
 {
-    let Some(word) = one_word(rest) else {
+    let Some(word) = one_part(rest, b' ') else {
         return Ok(None);
     };
     match read_id(alloc, word)? {
@@ -109,7 +110,7 @@ fn get_line(alloc: Global, rest: Option<&[u8]>) -> Result<Option<Line>, NoMemory
 fn delete_line(alloc: Global, rest: Option<&[u8]>) -> Result<Option<Line>, NoMemory>
     ensures { ReadsLine (codes "del" ∷ parts_of 32 rest.entry) result }
 {
-    let Some(word) = one_word(rest) else {
+    let Some(word) = one_part(rest, b' ') else {
         return Ok(None);
     };
     match read_id(alloc, word)? {
@@ -121,7 +122,7 @@ fn delete_line(alloc: Global, rest: Option<&[u8]>) -> Result<Option<Line>, NoMem
 fn cut_line(alloc: Global, rest: Option<&[u8]>) -> Result<Option<Line>, NoMemory>
     ensures { ReadsLine (codes "cut" ∷ parts_of 32 rest.entry) result }
 {
-    let Some(word) = one_word(rest) else {
+    let Some(word) = one_part(rest, b' ') else {
         return Ok(None);
     };
     match read_number(alloc, word, UNITS_END)? {

@@ -4,8 +4,8 @@ ghost use Rattle.script_lines.specs.Script.{is_skipped, TakesText, ReadsScript};
 ghost use Rattle.std.specs.Prelude.{◌≡◌};
 
 use crate::line::{Line, read_line};
-use crate::parts::cut_at;
 use std::alloc::Global;
+use text_parts::cut_at;
 use thiserror::Error;
 
 /// Why a line is refused.

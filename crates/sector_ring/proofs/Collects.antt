@@ -18,7 +18,7 @@ use Rattle.sector_ring.proofs.RingSteps.{ring-open, ring-next, ring-erased}
 use Rattle.sector_ring.specs.Reading.{Reading, IsReading, is_sound}
 
 -- a sector with gc-done is not blank
-done-not_blank : (reading : Reading) (laws : IsReading reading) (sector : List ℕ) → reading.has_gc_done sector ≡ true → reading.is_blank sector ≡ false
+pub done-not_blank : (reading : Reading) (laws : IsReading reading) (sector : List ℕ) → reading.has_gc_done sector ≡ true → reading.is_blank sector ≡ false
 done-not_blank reading laws sector done =
     elim (cases_Bool (reading.is_blank sector)) [
       | inl blank ↦ absurd (false≢true (sym (laws.gc_done sector blank) ∙ done))

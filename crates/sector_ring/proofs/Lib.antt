@@ -1,10 +1,14 @@
+pub mod AreaReads
 pub mod Collects
 pub mod Lists
 pub mod LiveCost
+pub mod Newest
+pub mod NoRoom
 pub mod Parts
 pub mod Places
 pub mod RingSteps
 pub mod Rings
+pub mod RoundAt
 pub mod RoundLemmas
 pub mod Rounding
 pub mod Searches

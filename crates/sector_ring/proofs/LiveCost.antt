@@ -6,7 +6,8 @@ use Rattle.std.proofs.lemmas.List.Sums.{sum_by-cons, sum_by-append}
 use Rattle.slot_list.specs.Live.{names, live_pairs}
 use Rattle.sector_ring.specs.Rounds.{copies_cost, stored_cost, joined, live_cost, collect_oldest}
 use Rattle.slot_list.proofs.LivePairs.{names-append}
-use Rattle.sector_ring.proofs.RoundLemmas.{AreHidden, live-all, live-same, hidden, joined-push}
+use Rattle.sector_ring.proofs.NoRoom.{joined-push}
+use Rattle.sector_ring.proofs.RoundLemmas.{AreHidden, live-all, live-same, hidden}
 
 pub live-split : (front back tail : List (ℕ × List ℕ)) → live_pairs (front ++ back) tail ≡ live_pairs front (back ++ tail) ++ live_pairs back tail
 unfolding live_pairs

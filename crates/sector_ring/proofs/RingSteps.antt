@@ -1,8 +1,8 @@
 -- The steps of appending, closing, collecting and erasing, from form to form.
-use Rattle.std.proofs.Common.{◌≡◌, ℕ, ◌+◌, ◌-◌, ◌<◌, ◌≤◌, ◌⊎◌, Bool, true, false, not, eqb, ltb, List, length, set, None, refl, sym, ap, subst, ◌∙◌, inl, inr, arith}
+use Rattle.std.proofs.Common.{◌≡◌, ℕ, ◌+◌, ◌-◌, ◌<◌, ◌≤◌, ◌⊎◌, Bool, true, false, not, eqb, ltb, List, length, set, None, sym, ap, subst, ◌∙◌, inl, inr, arith}
 use Rattle.std.proofs.lemmas.Bool.{false≢true, cases_lt, cases_eq, eq-eqb, lt-ltb, le-ltb}
 use Rattle.std.proofs.lemmas.List.{length-set}
-use Rattle.sector_ring.specs.Area.{next, is_blank_at, area_pairs, open_sector, first_damage}
+use Rattle.sector_ring.specs.Area.{next, is_blank_at, open_sector, first_damage}
 use Rattle.flash_map.specs.Area.{sector_at}
 use Rattle.sector_ring.specs.Forms.{distance, IsRing, IsForm}
 use Rattle.sector_ring.proofs.Places.{after-within, after-apart, after-from_distance, distance-same, distance-positive, distance-after, distance-next, distance-old}

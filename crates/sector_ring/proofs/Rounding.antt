@@ -1,6 +1,6 @@
 -- Whole collections and whole rounds of close and collect, and when none of them finds room.
-use Rattle.std.proofs.Common.{◌≡◌, ℕ, zero, suc, ◌+◌, ◌-◌, ◌*◌, ◌<◌, ◌≤◌, true, false, List, [], ◌∷◌, ◌++◌, length, map, set, refl, sym, ap, subst, ◌∙◌, append_assoc, arith}
-use Rattle.std.proofs.lemmas.List.{append-nil, length-set, set-set}
+use Rattle.std.proofs.Common.{◌≡◌, ℕ, ◌+◌, ◌-◌, ◌*◌, ◌<◌, ◌≤◌, true, false, List, [], ◌∷◌, ◌++◌, length, map, set, refl, sym, ap, subst, ◌∙◌, arith}
+use Rattle.std.proofs.lemmas.List.{length-append, length-set, set-set}
 use Rattle.std.proofs.lemmas.List.Folds.{flat_map-map}
 use Rattle.slot_list.specs.Items.{last, SameItems}
 use Rattle.slot_list.specs.Live.{live_pairs}
@@ -8,15 +8,16 @@ use Rattle.flash_map.specs.Area.{sector_at}
 use Rattle.sector_ring.specs.Area.{next, area_pairs}
 use Rattle.sector_ring.specs.Forms.{AtRest, Collecting, Collected, rest, pairs_at, to_copy}
 use Rattle.sector_ring.specs.Reading.{Reading, IsReading, is_sound}
-use Rattle.sector_ring.specs.Rounds.{copies_cost, joined, live_cost, NeverFits, parts, collect_oldest, Collects, IsRound, FindsNoRoom}
+use Rattle.sector_ring.specs.Rounds.{copies_cost, joined, live_cost, parts, collect_oldest, Collects, IsRound, FindsNoRoom, IsCrammed}
 use Rattle.sector_ring.specs.Steps.{MarksDone, Closes}
 use Rattle.sector_ring.proofs.Collects.{close, next_blank, put_copy, put_mark, erase_victim}
 use Rattle.sector_ring.proofs.Lists.{there, elsewhere}
 use Rattle.sector_ring.proofs.LiveCost.{live-collect}
 use Rattle.sector_ring.proofs.Parts.{map_agree, parts-list, close_parts, collect_parts, to_copy-kept}
-use Rattle.sector_ring.proofs.Places.{after, after-within, after-apart, IsFar, split}
+use Rattle.sector_ring.proofs.Places.{after, after-apart, IsFar, split}
 use Rattle.std.proofs.lemmas.List.Elements.{All-weaker}
-use Rattle.sector_ring.proofs.RoundLemmas.{no_space}
+use Rattle.sector_ring.proofs.NoRoom.{now_live, now_full, no_round as none_yet, round_more as one_more, no_room as never_room}
+use Rattle.sector_ring.proofs.RoundLemmas.{are_rounds}
 
 -- ---- a collection, from the open sector with all copies on
 
@@ -142,39 +143,33 @@ round-live reading laws price old place new form round =
 -- ---- rounds that find no room
 
 pub no_round : (price : ℕ → ℕ) (need capacity : ℕ) (start : List (List (ℕ × List ℕ))) → FindsNoRoom price need capacity start start 0
-no_round price need capacity start = record { old = start; new = []; are = sym (append-nil start); count = omega arith; never = λ last_parts h. h }
+no_round price need capacity start = none_yet live_pairs (copies_cost price) (are_rounds price) need capacity start
 
-one_more : (price : ℕ → ℕ) (need capacity : ℕ) (start now : List (List (ℕ × List ℕ))) (rounds : ℕ) (old new : List (List (ℕ × List ℕ))) → now ≡ old ++ new → rounds + length old ≡ length start
-    → ((last_parts : List (List (ℕ × List ℕ))) → NeverFits price need capacity old new last_parts → NeverFits price need capacity start [] last_parts)
-    → rounds < length start → ((victim : List (ℕ × List ℕ)) (others : List (List (ℕ × List ℕ))) → now ≡ victim ∷ others → capacity < copies_cost price (live_pairs victim (joined others)) + need)
+some_more : (price : ℕ → ℕ) (need capacity : ℕ) (start now : List (List (ℕ × List ℕ))) (rounds : ℕ) → FindsNoRoom price need capacity start now rounds → rounds < length start
+    → ((victim : List (ℕ × List ℕ)) (others : List (List (ℕ × List ℕ))) → now ≡ victim ∷ others → capacity < copies_cost price (live_pairs victim (joined others)) + need)
     → FindsNoRoom price need capacity start (collect_oldest now) (rounds + 1)
-unfolding NeverFits
-one_more price need capacity start now rounds [] new are count never more full = absurd (omega arith)
-one_more price need capacity start now rounds (victim ∷ old) new are count never more full =
-    let part = live_pairs victim (joined (old ++ new)) in
-    record {
-      old = old;
-      new = new ++ part ∷ [];
-      are = ap collect_oldest are ∙ oldest-is victim (old ++ new) ∙ append_assoc old new (part ∷ []);
-      count = omega arith;
-      never = λ last_parts h. never last_parts (full victim (old ++ new) are, h);
-    }
+unfolding collect_oldest
+some_more price need capacity start [] rounds finds more full =
+    absurd (let none = ap length finds.are in let count = length-append finds.old finds.new in let left = finds.left in let made = finds.made in omega arith)
+some_more price need capacity start (victim ∷ others) rounds finds more full =
+    one_more live_pairs (copies_cost price) (are_rounds price) need capacity start rounds victim others finds more (full victim others refl)
 
 pub round_more : (price : ℕ → ℕ) (need capacity : ℕ) (start now : List (List (ℕ × List ℕ))) (rounds : ℕ) → FindsNoRoom price need capacity start now rounds → rounds < length start
     → ((victim : List (ℕ × List ℕ)) (others : List (List (ℕ × List ℕ))) → now ≡ victim ∷ others → capacity < copies_cost price (live_pairs victim (joined others)) + need)
     → FindsNoRoom price need capacity start (collect_oldest now) (rounds + 1)
-round_more price need capacity start now rounds finds more full = one_more price need capacity start now rounds finds.old finds.new finds.are finds.count finds.never more full
-
-no_old : (xs : List (List (ℕ × List ℕ))) → length xs ≡ 0 → xs ≡ []
-no_old [] e = refl
-no_old (x ∷ xs) e = absurd (omega arith)
+round_more price need capacity start now rounds finds more full = some_more price need capacity start now rounds finds more full
 
 -- After a round for each part, the live pairs leave no room for it in any sector.
 pub no_room : (price : ℕ → ℕ) (need capacity : ℕ) (start now : List (List (ℕ × List ℕ))) → FindsNoRoom price need capacity start now (length start) → 0 < length start → need ≤ capacity
     → length start * (capacity - need) < live_cost price (joined now)
-unfolding NeverFits
-no_room price need capacity start now finds some small =
-    let none : finds.old ≡ [] = no_old finds.old (let count = finds.count in omega arith) in
-    let all : now ≡ finds.new = finds.are ∙ ap (λ (xs : List (List (ℕ × List ℕ))). xs ++ finds.new) none in
-    let never : NeverFits price need capacity start [] now = finds.never now (subst (λ (xs : List (List (ℕ × List ℕ))). NeverFits price need capacity xs finds.new now) (sym none) all) in
-    no_space price need capacity start now some small never
+no_room price need capacity start now finds some small = never_room live_pairs (copies_cost price) (are_rounds price) need capacity start now finds some small
+
+-- Then each sector of the area has live pairs alone, and no room but the blank one.
+pub crammed : (reading : Reading) (laws : IsReading reading) (price : ℕ → ℕ) (need capacity : ℕ) (start : List (List (ℕ × List ℕ))) (sectors : List (List ℕ)) (place : ℕ) → AtRest reading sectors place
+    → FindsNoRoom price need capacity start (parts reading sectors place) (length start) → IsCrammed reading price need capacity sectors place
+crammed reading laws price need capacity start sectors place form finds =
+    let list : area_pairs reading sectors place ≡ joined (parts reading sectors place) = parts-list reading laws sectors place form in
+    record {
+      all_live = subst (λ ps. live_pairs ps [] ≡ ps) (sym list) (now_live live_pairs (copies_cost price) (are_rounds price) need capacity start (parts reading sectors place) finds);
+      full = now_full live_pairs (copies_cost price) (are_rounds price) need capacity start (parts reading sectors place) finds;
+    }

@@ -1,7 +1,7 @@
 -- How an area reads: its list of pairs, or its damage. The sectors are used round and round.
-use Rattle.std.specs.Prelude.{ℕ, ◌+◌, ◌-◌, Bool, not, ◌&&◌, ◌||◌, List, ◌++◌, [], length, sum_by, Option, Some, None, unwrap_or, ◌==◌, nat_lt, if◌then◌else◌}
+use Rattle.std.specs.Prelude.{ℕ, ◌+◌, ◌-◌, Bool, not, ◌&&◌, List, ◌++◌, length, Option, Some, unwrap_or, ◌==◌, if◌then◌else◌}
 use Rattle.flash_map.specs.Area.{sector_at}
-use Rattle.std.specs.List.{range_with_len, filter, find, flat_map, list_all, list_any, slice_get}
+use Rattle.std.specs.List.{range_with_len, filter, find, flat_map, list_all, slice_get}
 use Rattle.std.specs.Option.{option_map, option_or}
 use Rattle.flash_map.specs.declared.faults.Damaged.{Damaged}
 use Rattle.flash_map.specs.declared.faults.Why.{Why}

@@ -1,5 +1,5 @@
 -- The forms that an area has between two units of any call, with power lost there or not.
-use Rattle.std.specs.Prelude.{◌≡◌, ℕ, ◌+◌, ◌-◌, ◌*◌, ◌^◌, ◌<◌, ◌≤◌, ◌⊎◌, Bool, true, false, not, ◌&&◌, ◌||◌, List, ◌++◌, length, drop, slice_set, nat_lt, nat_le, if◌then◌else◌}
+use Rattle.std.specs.Prelude.{◌≡◌, ℕ, ◌+◌, ◌-◌, ◌<◌, ◌≤◌, ◌⊎◌, true, false, List, ◌++◌, length, drop, nat_lt, nat_le, if◌then◌else◌}
 use Rattle.std.specs.List.{range_with_len, flat_map}
 use Rattle.slot_list.specs.Live.{live_pairs}
 use Rattle.sector_ring.specs.Area.{next, is_closed_at, is_blank_at}

@@ -3,3 +3,4 @@ pub mod Forms
 pub mod Reading
 pub mod Rounds
 pub mod Steps
+pub mod Walks

@@ -7,7 +7,7 @@ use Rattle.std.proofs.lemmas.Bool.{cases_Bool, false≢true}
 use Rattle.std.proofs.lemmas.Bool.Decides.{nat_tests}
 use Rattle.std.proofs.lemmas.Cmp.{nat_cmp_total}
 use Rattle.std.proofs.lemmas.Slice.Eq.{bytes_eq-Decides}
-use Rattle.flash_sim.specs.Device.{Device, Lasts, LostAfter, counted, lowered, dropped}
+use Rattle.flash_sim.specs.Device.{Device, Plan, Lasts, LostAfter, counted, lowered, dropped}
 use Rattle.flash_sim.specs.declared.flash.Bank.{Bank}
 use Rattle.flash_map.specs.declared.area.Area.{Area}
 use Rattle.flash_map.specs.declared.area.Role.{Role}
@@ -26,7 +26,8 @@ use Rattle.nvs_gc.specs.declared.nvs.Nvs.{Nvs}
 use Rattle.nvs_gc.specs.Ends.{Writes, FindsNoSpace, StopsWriting, Deletes, StopsDeleting, IsShort}
 use Rattle.nvs_gc.specs.Standing.{IsNvsArea, items_on, list_on}
 use Rattle.session.specs.Contents.{IsStored, IsAbsent}
-use Rattle.session.specs.LineDone.{state_of, LineDone}
+use Rattle.session.specs.LineDone.{state_of, LineDone, Keeps}
+use Rattle.session.specs.Planned.{StaysUnplanned}
 use Rattle.session.specs.Session.{IsCounted}
 use Rattle.session.proofs.ItemsCost.{items_cost-is}
 
@@ -51,6 +52,7 @@ record IsKept (old new : Device) : Type 0 where
   pub losses : new.losses ≡ counted old.losses 0
   pub lasts : IsCounted new.spent → Lasts old.plan (new.spent - old.spent)
   pub plan : IsCounted new.spent → new.plan ≡ lowered old.plan (new.spent - old.spent)
+  pub unplanned : StaysUnplanned old new
   pub on : new.is_on ≡ old.is_on
 
 -- power was lost
@@ -59,6 +61,7 @@ record IsLost (old new : Device) : Type 0 where
   pub losses : new.losses ≡ counted old.losses 1
   pub lost : IsCounted new.spent → LostAfter old.plan (new.spent - old.spent)
   pub plan : new.plan ≡ dropped old.plan
+  pub unplanned : StaysUnplanned old new
   pub off : new.is_on ≡ false
 
 kept_by : (areas : List Area) (old new : Device) → Touches areas old new false → IsKept old new
@@ -67,6 +70,7 @@ kept_by areas old new touches = record {
   losses = touches.ends.losses ∙ counted_none old.losses;
   lasts = λ counts. subst (λ (units : ℕ). Lasts old.plan units) (units_are old.spent new.spent touches.units touches.spent counts) touches.ends.lasts;
   plan = λ counts. touches.ends.plan ∙ ap (lowered old.plan) (units_are old.spent new.spent touches.units touches.spent counts);
+  unplanned = λ never. (touches.ends.plan ∙ ap (λ (plan : Plan). lowered plan touches.units) never, touches.ends.losses);
   on = touches.ends.on;
 }
 
@@ -78,8 +82,13 @@ lost_by areas old new on touches =
       losses = cut.losses;
       lost = λ counts. subst (λ (units : ℕ). LostAfter old.plan units) (units_are old.spent new.spent touches.units touches.spent counts) cut.lost;
       plan = cut.plan;
+      unplanned = λ never. absurd (subst (λ (plan : Plan). LostAfter plan touches.units) never cut.lost);
       off = cut.off;
     }
+
+-- what a call on the area leaves alone
+kept_beside : {area : Area} {old new : Device} {lost : Bool} → Touches (area ∷ []) old new lost → Keeps area old new
+kept_beside touches = record { banks = touches.banks; loads = touches.loads; outside = touches.outside }
 
 -- ---- items
 
@@ -156,7 +165,8 @@ module _ (nvs : Nvs) (id : ℕ) (value : List ℕ) (old new : Device) (on : old.
                 inr (other, (λ counts. some_spent (nvs.area ∷ []) nvs.area old new false touches changed (omega arith)), state_is nvs.area old new (insert (items_on old nvs.area) id value) kept.on writes.items)
           ],
         );
-        accounts = record { banks = touches.banks; loads = touches.loads; spent = kept.spent; losses = kept.losses; allows = kept.lasts; plan = kept.plan };
+        accounts = record { spent = kept.spent; losses = kept.losses; allows = kept.lasts; plan = kept.plan; unplanned = λ free. kept.unplanned };
+        keeps = kept_beside touches;
       }
 
   pub set_full : (need live : ℕ) → Touches (nvs.area ∷ []) old new false → FindsNoSpace old new nvs id value need live → LineDone nvs.area (Set id value) (NoSpace (new.spent - old.spent) need live) old new
@@ -173,7 +183,8 @@ module _ (nvs : Nvs) (id : ℕ) (value : List ℕ) (old new : Device) (on : old.
             same = state_is nvs.area old new (items_on old nvs.area) kept.on finds.items;
           },
         );
-        accounts = record { banks = touches.banks; loads = touches.loads; spent = kept.spent; losses = kept.losses; allows = kept.lasts; plan = kept.plan };
+        accounts = record { spent = kept.spent; losses = kept.losses; allows = kept.lasts; plan = kept.plan; unplanned = λ free. kept.unplanned };
+        keeps = kept_beside touches;
       }
 
   pub set_lost : Touches (nvs.area ∷ []) old new true → StopsWriting old new nvs id value → LineDone nvs.area (Set id value) (Lost (new.spent - old.spent)) old new
@@ -181,7 +192,8 @@ module _ (nvs : Nvs) (id : ℕ) (value : List ℕ) (old new : Device) (on : old.
       let lost = lost_by (nvs.area ∷ []) old new on touches in
       record {
         step = λ last within. (on, (stops.other, stops.items, lost.off));
-        accounts = record { banks = touches.banks; loads = touches.loads; spent = lost.spent; losses = lost.losses; allows = lost.lost; plan = λ counts. lost.plan };
+        accounts = record { spent = lost.spent; losses = lost.losses; allows = lost.lost; plan = λ counts. lost.plan; unplanned = λ free. lost.unplanned };
+        keeps = kept_beside touches;
       }
 
 -- ---- deleting an item
@@ -200,7 +212,8 @@ module _ (nvs : Nvs) (id : ℕ) (old new : Device) (on : old.is_on ≡ true) whe
                 inr (present, (λ counts. some_spent (nvs.area ∷ []) nvs.area old new false touches changed (omega arith)), state_is nvs.area old new (remove (items_on old nvs.area) id) kept.on deletes.items)
           ],
         );
-        accounts = record { banks = touches.banks; loads = touches.loads; spent = kept.spent; losses = kept.losses; allows = kept.lasts; plan = kept.plan };
+        accounts = record { spent = kept.spent; losses = kept.losses; allows = kept.lasts; plan = kept.plan; unplanned = λ free. kept.unplanned };
+        keeps = kept_beside touches;
       }
 
   pub delete_lost : Touches (nvs.area ∷ []) old new true → StopsDeleting old new nvs id → LineDone nvs.area (Delete id) (Lost (new.spent - old.spent)) old new
@@ -208,7 +221,8 @@ module _ (nvs : Nvs) (id : ℕ) (old new : Device) (on : old.is_on ≡ true) whe
       let lost = lost_by (nvs.area ∷ []) old new on touches in
       record {
         step = λ last within. (on, (stops.present, stops.items, lost.off));
-        accounts = record { banks = touches.banks; loads = touches.loads; spent = lost.spent; losses = lost.losses; allows = lost.lost; plan = λ counts. lost.plan };
+        accounts = record { spent = lost.spent; losses = lost.losses; allows = lost.lost; plan = λ counts. lost.plan; unplanned = λ free. lost.unplanned };
+        keeps = kept_beside touches;
       }
 
 -- ---- mounting
@@ -219,7 +233,8 @@ module _ (area : Area) (old new : Device) (on : old.is_on ≡ true) (items : ite
       let kept = kept_by (area ∷ []) old new touches in
       record {
         step = λ last within. power_is area old new true (kept.on ∙ on) items;
-        accounts = record { banks = touches.banks; loads = touches.loads; spent = kept.spent; losses = kept.losses; allows = kept.lasts; plan = kept.plan };
+        accounts = record { spent = kept.spent; losses = kept.losses; allows = kept.lasts; plan = kept.plan; unplanned = λ free. kept.unplanned };
+        keeps = kept_beside touches;
       }
 
   pub mount_lost : Touches (area ∷ []) old new true → LineDone area Mount (Lost (new.spent - old.spent)) old new
@@ -227,13 +242,14 @@ module _ (area : Area) (old new : Device) (on : old.is_on ≡ true) (items : ite
       let lost = lost_by (area ∷ []) old new on touches in
       record {
         step = λ last within. power_is area old new false lost.off items;
-        accounts = record { banks = touches.banks; loads = touches.loads; spent = lost.spent; losses = lost.losses; allows = lost.lost; plan = λ counts. lost.plan };
+        accounts = record { spent = lost.spent; losses = lost.losses; allows = lost.lost; plan = λ counts. lost.plan; unplanned = λ free. lost.unplanned };
+        keeps = kept_beside touches;
       }
 
 -- A mount answers so whether power was on before or not.
 restored_to : (area : Area) (old new : Device) (answer : Answer) → LineDone area Mount answer (record old { is_on = true }) new → LineDone area Mount answer old new
-restored_to area old new (Done units) done = record { step = done.step; accounts = record { banks = done.accounts.banks; loads = done.accounts.loads; spent = done.accounts.spent; losses = done.accounts.losses; allows = done.accounts.allows; plan = done.accounts.plan } }
-restored_to area old new (Lost units) done = record { step = done.step; accounts = record { banks = done.accounts.banks; loads = done.accounts.loads; spent = done.accounts.spent; losses = done.accounts.losses; allows = done.accounts.allows; plan = done.accounts.plan } }
+restored_to area old new (Done units) done = record { step = done.step; accounts = record { spent = done.accounts.spent; losses = done.accounts.losses; allows = done.accounts.allows; plan = done.accounts.plan; unplanned = done.accounts.unplanned }; keeps = record { banks = done.keeps.banks; loads = done.keeps.loads; outside = done.keeps.outside } }
+restored_to area old new (Lost units) done = record { step = done.step; accounts = record { spent = done.accounts.spent; losses = done.accounts.losses; allows = done.accounts.allows; plan = done.accounts.plan; unplanned = done.accounts.unplanned }; keeps = record { banks = done.keeps.banks; loads = done.keeps.loads; outside = done.keeps.outside } }
 restored_to area old new (NoSpace units need live) done = absurd (done.step new.spent (omega arith))
 restored_to area old new (Value value) done = absurd (done.step new.spent (omega arith))
 restored_to area old new Absent done = absurd (done.step new.spent (omega arith))

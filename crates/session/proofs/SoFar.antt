@@ -2,19 +2,22 @@
 use Rattle.std.proofs.Common.{◌≡◌, ℕ, ◌+◌, ◌<◌, ◌≤◌, cond, List, [], ◌∷◌, ◌++◌, refl, sym, ◌∙◌, ap, subst, append_assoc, append-nil, arith, length, get_or, drop, drop-cons, suc, add-one}
 use Rattle.std.proofs.lemmas.List.Sums.{fold_push}
 use Rattle.std.proofs.lemmas.List.{drop_all}
+use Rattle.std.proofs.lemmas.List.Elements.{All-head, All-tail}
+use Rattle.std.specs.Prelude.{All}
 use Rattle.flash_sim.specs.Device.{Device, Plan, counted}
 use Rattle.flash_sim.specs.declared.flash.Bank.{Bank}
 use Rattle.flash_sim.specs.Bank.{bank_at}
 use Rattle.flash_map.specs.declared.area.Area.{Area}
+use Rattle.flash_map.specs.Touches.{IsInSome}
 use Rattle.flash_map.proofs.Plans.{counted_counted}
 use Rattle.script_lines.specs.declared.line.Line.{Line}
 use Rattle.script_lines.specs.declared.answer.Answer.{Answer}
 use Rattle.flash_map.specs.declared.area.Geometry.{Geometry}
 use Rattle.flash_map.specs.Area.{geometry_of}
 use Rattle.session.specs.Counts.{units_of, is_lost, units_in, losses_in}
-use Rattle.session.specs.Planned.{Planned}
+use Rattle.session.specs.Planned.{Planned, PlansNoLoss, StaysUnplanned}
 use Rattle.session.specs.Session.{State, Step, Session, IsCounted}
-use Rattle.session.specs.LineDone.{state_of, LineDone, Runs}
+use Rattle.session.specs.LineDone.{state_of, LineDone, Keeps, Runs}
 
 -- after these answers `rest` is left of the lines
 pub record SoFar (area : Area) (lines rest : List Line) (answers : List Answer) (first now : Device) : Type 0 where
@@ -22,18 +25,30 @@ pub record SoFar (area : Area) (lines rest : List Line) (answers : List Answer) 
   pub planned : (more : List Answer) → IsCounted now.spent → Planned now.plan rest more → Planned first.plan lines (answers ++ more)
   pub spent : first.spent + units_in answers ≡ now.spent
   pub losses : now.losses ≡ counted first.losses (losses_in answers)
-  pub banks : now.banks ≡ first.banks
-  pub loads : now.loads ≡ first.loads
+  pub unplanned : All PlansNoLoss lines → All PlansNoLoss rest × StaysUnplanned first now
+  pub keeps : Keeps area first now
+
+-- nothing changed
+pub keeps_same : (area : Area) (d : Device) → Keeps area d d
+keeps_same area d = record { banks = refl; loads = refl; outside = λ bank offset out. refl }
+
+-- what two calls keep, both keep
+pub keeps_then : {area : Area} {a b c : Device} → Keeps area a b → Keeps area b c → Keeps area a c
+keeps_then {area} {a} {b} {c} one two = record {
+  banks = two.banks ∙ one.banks;
+  loads = two.loads ∙ one.loads;
+  outside = λ bank offset out. two.outside bank offset (subst (λ (banks : List Bank). ¬ IsInSome banks bank offset (area ∷ [])) (sym one.banks) out) ∙ one.outside bank offset out;
+}
 
 module _ {area : Area} where
   -- no line yet
   pub begun : (lines : List Line) (d : Device) → SoFar area lines lines [] d d
-  begun lines d = record { session = λ last more end within runs. runs; planned = λ more counts plans. plans; spent = omega arith; losses = omega arith; banks = refl; loads = refl }
+  begun lines d = record { session = λ last more end within runs. runs; planned = λ more counts plans. plans; spent = omega arith; losses = omega arith; unplanned = λ free. (free, λ never. (never, refl)); keeps = keeps_same area d }
 
   pub one_more : {lines rest : List Line} {answers : List Answer} {first mid new : Device} (line : Line) (answer : Answer) → SoFar area lines (line ∷ rest) answers first mid → LineDone area line answer mid new → SoFar area lines rest (answers ++ answer ∷ []) first new
   one_more {lines} {rest} {answers} {first} {mid} {new} line answer so_far done =
       let regroup : (more : List Answer) → (answers ++ answer ∷ []) ++ more ≡ answers ++ answer ∷ more = λ more. append_assoc answers (answer ∷ []) more in
-      let geometry_is : geometry_of mid area ≡ geometry_of first area = ap (λ (banks : List Bank). record { unit = (bank_at banks area.bank).unit; sector = (bank_at banks area.bank).sector; sectors = area.sectors }) so_far.banks in
+      let geometry_is : geometry_of mid area ≡ geometry_of first area = ap (λ (banks : List Bank). record { unit = (bank_at banks area.bank).unit; sector = (bank_at banks area.bank).sector; sectors = area.sectors }) so_far.keeps.banks in
       record {
         session = λ last more end within runs.
             let step = subst (λ (g : Geometry). Step g last line answer (state_of area mid) (state_of area new)) geometry_is (done.step last within) in
@@ -46,8 +61,15 @@ module _ {area : Area} where
         losses = done.accounts.losses ∙ ap (λ (n : ℕ). counted n (cond (is_lost answer) 1 0)) so_far.losses
             ∙ counted_counted first.losses (losses_in answers) (cond (is_lost answer) 1 0)
             ∙ ap (counted first.losses) (sym (fold_push (λ (n : ℕ) (a : Answer). n + cond (is_lost a) 1 0) 0 answers answer));
-        banks = done.accounts.banks ∙ so_far.banks;
-        loads = done.accounts.loads ∙ so_far.loads;
+        unplanned = λ free.
+            let before = so_far.unplanned free in (
+              All-tail PlansNoLoss line rest before.0,
+              λ never.
+                  let mids = before.1 never in
+                  let ends = done.accounts.unplanned (All-head PlansNoLoss line rest before.0) mids.0 in
+                  (ends.0, ends.1 ∙ mids.1),
+            );
+        keeps = keeps_then so_far.keeps done.keeps;
       }
 
   -- nothing is left
@@ -57,8 +79,7 @@ module _ {area : Area} where
     planned = λ counts. subst (λ (all : List Answer). Planned first.plan lines all) (append-nil answers) (so_far.planned [] counts tt);
     spent = so_far.spent;
     losses = so_far.losses;
-    banks = so_far.banks;
-    loads = so_far.loads;
+    unplanned = λ free. (so_far.unplanned free).1;
   }
 
 -- Lists.

@@ -1,14 +1,15 @@
 -- What a line makes of a flash.
-use Rattle.std.specs.Prelude.{◌≡◌, ℕ, ◌+◌, ◌<◌, ◌≤◌, ⊤, List, length, if◌then◌else◌}
+use Rattle.std.specs.Prelude.{◌≡◌, ℕ, ◌+◌, ◌<◌, ◌≤◌, ⊤, List, [], ◌∷◌, All, length, if◌then◌else◌}
 use Rattle.flash_sim.specs.Device.{Device, counted}
 use Rattle.flash_map.specs.declared.area.Area.{Area}
 use Rattle.flash_map.specs.Area.{unit_of, sectors_of, geometry_of}
+use Rattle.flash_map.specs.Touches.{SameOutside}
 use Rattle.script_lines.specs.declared.line.Line.{Line}
 use Rattle.script_lines.specs.declared.line.Line.TheVariants.{Set, Get, Delete, Cut, Uncut, Mount}
 use Rattle.script_lines.specs.declared.answer.Answer.{Answer}
 use Rattle.session.specs.Contents.{items_in}
 use Rattle.session.specs.Counts.{units_of, is_lost, units_in, losses_in}
-use Rattle.session.specs.Planned.{Allows, plan_after, Planned}
+use Rattle.session.specs.Planned.{Allows, plan_after, Planned, PlansNoLoss, StaysUnplanned}
 use Rattle.session.specs.Session.{State, Step, Session, IsCounted}
 
 -- the state that the flash's bytes and power are
@@ -24,18 +25,24 @@ IsLawfulLine (Cut units) = ⊤
 IsLawfulLine Uncut = ⊤
 IsLawfulLine Mount = ⊤
 
--- counts, banks and plan, whatever the line is
-pub record Accounts (line : Line) (answer : Answer) (old new : Device) : Type 0 where
+-- what no line changes, whatever it answers: the banks, the count of loads, and each byte outside the area
+pub record Keeps (area : Area) (old new : Device) : Type 0 where
   pub banks : new.banks ≡ old.banks
   pub loads : new.loads ≡ old.loads
+  pub outside : SameOutside (area ∷ []) old new
+
+-- counts and plan, whatever the line is
+pub record Accounts (line : Line) (answer : Answer) (old new : Device) : Type 0 where
   pub spent : old.spent + units_of answer ≡ new.spent
   pub losses : new.losses ≡ counted old.losses (if is_lost answer then 1 else 0)
   pub allows : IsCounted new.spent → Allows old.plan answer
   pub plan : IsCounted new.spent → new.plan ≡ plan_after old.plan line answer
+  pub unplanned : PlansNoLoss line → StaysUnplanned old new
 
 pub record LineDone (area : Area) (line : Line) (answer : Answer) (old new : Device) : Type 0 where
   pub step : (last : ℕ) → new.spent ≤ last → Step (geometry_of old area) last line answer (state_of area old) (state_of area new)
   pub accounts : Accounts line answer old new
+  pub keeps : Keeps area old new
 
 -- a whole run of lines
 pub record Runs (area : Area) (lines : List Line) (answers : List Answer) (old new : Device) : Type 0 where
@@ -43,5 +50,5 @@ pub record Runs (area : Area) (lines : List Line) (answers : List Answer) (old n
   pub spent : old.spent + units_in answers ≡ new.spent
   pub losses : new.losses ≡ counted old.losses (losses_in answers)
   pub planned : IsCounted new.spent → Planned old.plan lines answers
-  pub banks : new.banks ≡ old.banks
-  pub loads : new.loads ≡ old.loads
+  -- power is lost only where a line is `cut`, however much is spent
+  pub unplanned : All PlansNoLoss lines → StaysUnplanned old new

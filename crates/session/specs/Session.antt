@@ -1,6 +1,6 @@
 -- What answers a plain map gives, line by line.
 use Rattle.std.specs.Prelude.{◌≡◌, ◌⊎◌, ℕ, ◌-◌, ◌*◌, ◌^◌, ◌<◌, Bool, true, false, Some, None, List, [], ◌∷◌, length}
-use Rattle.std.specs.FinMap.{empty, get, insert, remove}
+use Rattle.std.specs.FinMap.{get, insert, remove}
 use Rattle.script_lines.specs.declared.line.Line.{Line}
 use Rattle.script_lines.specs.declared.line.Line.TheVariants.{Set, Get, Delete, Cut, Uncut, Mount}
 use Rattle.script_lines.specs.declared.answer.Answer.{Answer}
@@ -13,10 +13,6 @@ use Rattle.session.specs.Contents.{IsStored, IsAbsent, items_cost}
 pub record State : Type 0 where
   pub items : Items
   pub is_on : Bool
-
--- nothing is stored, and power is on
-abbrev pub fresh : State
-fresh = record { items = empty; is_on = true }
 
 abbrev pub IsOn : State → Type 0
 IsOn state = state.is_on ≡ true

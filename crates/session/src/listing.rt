@@ -18,22 +18,19 @@ use crate::run::SessionFault;
 use flash_map::{Area, area_view};
 use flash_sim::{Flash, NoMemory, Steps};
 use nvs_gc::is_hidden;
-use nvs_store::{Found, Scan, entry_in, mount_scan, used_slots};
+use nvs_store::{Found, SPECIAL_ID, Scan, entry_in, mount_scan, used_slots};
 use script_lines::Bytes;
 use std::alloc::Global;
 use std::collections::BTreeMap;
 use std::marker::Brand;
 use std::sync::ledger::{Blank, Ledger};
 
-/// An item: its id and its value of 1 to 256 bytes.
+/// An item: its id and its value, which is not empty.
 #[derive(Debug, Drop)]
 pub struct Item {
     pub id: u16,
     pub value: Bytes,
 }
-
-// The ids end here.
-const ID_END: u16 = 65535;
 
 // Takes an entry as the last one of its id.
 fn note(last: &mut BTreeMap<u16, Found>, found: Found) -> Result<(), NoMemory>
@@ -221,7 +218,7 @@ fn list<F: Flash, L: Ledger>(
 {
     let last = last_entries(alloc, flash, area, scan, steps)?;
     let mut all = Vec::new(alloc);
-    for id in 0..ID_END {
+    for id in 0..SPECIAL_ID {
         let found = value_at(flash, area, entry_of(&last, id), steps);
         put(alloc, &mut all, id, found)?;
     }
@@ -252,8 +249,11 @@ fn list_counted<F: Flash, L: Ledger>(
     }
 }
 
-/// All items by rising ids, also while a collection is not done. The area is read, and not mounted. `Damaged` comes
-/// exactly where the area's bytes are damaged.
+/// All items by rising ids, also while a collection is not done. The area is read, and not mounted.
+///
+/// # Errors
+///
+/// `Damaged` comes exactly where the area's bytes are damaged; else there are the items, or `NoMemory`.
 pub fn list_items<F: Flash>(
     alloc: Global,
     flash: &F,

@@ -1,7 +1,7 @@
 // The session.
 ghost use Rattle.std.specs.Prelude.{◌≡◌, ◌<◌, ◌∷◌, [], true, All, IfOk, IfErr, OnOk};
 ghost use Rattle.nvs_gc.specs.Standing.{IsNvsArea};
-ghost use Rattle.session.specs.LineDone.{LineDone, IsLawfulLine, Runs};
+ghost use Rattle.session.specs.LineDone.{LineDone, IsLawfulLine, Keeps, Runs};
 ghost use Rattle.session.specs.Fault.{IsFault};
 ghost use Rattle.session.specs.Standing.{IsSound, IsReady};
 ghost use Rattle.session.specs.declared.run.SessionFault.TheVariants as session_fault;
@@ -52,6 +52,7 @@ fn run_line<B: Bench, L: Ledger>(
     requires ready { IsReady (B.device bench.old) area.now store.old }
     requires line { IsLawfulLine line.now }
     ensures done { IfOk result (λ answer. LineDone area.now line.now answer (B.device bench.old) (B.device bench.new)) }
+    ensures keeps { Keeps area.now (B.device bench.old) (B.device bench.new) }
     ensures sound { IsSound (B.device bench.new) area.now }
     ensures ready { IsReady (B.device bench.new) area.now store.new }
 {
@@ -119,7 +120,9 @@ fn run_counted<B: Bench, L: Ledger>(
     requires on { (B.device bench.old).is_on ≡ true }
     requires lines { All IsLawfulLine lines.now }
     ensures runs { IfOk result (λ answers. Runs area.now (Mount ∷ lines.now) answers (B.device bench.old) (B.device bench.new)) }
+    ensures keeps { Keeps area.now (B.device bench.old) (B.device bench.new) }
     ensures undamaged { OnOk result (IsSound (B.device bench.old) area.now) }
+    ensures sound { OnOk result (IsSound (B.device bench.new) area.now) }
     ensures fault { IfErr result (IsFault area.now (B.device bench.old) (B.device bench.new)) }
 {
     let mut steps = Steps::<L>::new(blank);
@@ -137,8 +140,14 @@ fn run_counted<B: Bench, L: Ledger>(
     Ok(answers)
 }
 
-/// Mounts, and carries out the lines: one answer for the opening mount, and then one for each line. The bench is
-/// never loaded. `Damaged` comes exactly where the area's bytes are damaged, and then the bench is as it was.
+/// Mounts, and carries out the lines: one answer for the opening mount, and then one for each line. Where there are
+/// answers, the area is not damaged before or after. Whatever comes of it, the bench is never loaded, and no byte
+/// outside the area changes.
+///
+/// # Errors
+///
+/// `Damaged` comes exactly where the area's bytes are damaged, and then the bench is as it was. At `NoMemory` the lines
+/// may have been carried out up to any one of them.
 pub fn run_lines<B: Bench>(
     alloc: Global,
     lines: &[Line],
@@ -149,7 +158,9 @@ pub fn run_lines<B: Bench>(
     requires on { (B.device bench.old).is_on ≡ true }
     requires lines { All IsLawfulLine lines.now }
     ensures runs { IfOk result (λ answers. Runs area.now (Mount ∷ lines.now) answers (B.device bench.old) (B.device bench.new)) }
+    ensures keeps { Keeps area.now (B.device bench.old) (B.device bench.new) }
     ensures undamaged { OnOk result (IsSound (B.device bench.old) area.now) }
+    ensures sound { OnOk result (IsSound (B.device bench.new) area.now) }
     ensures fault { IfErr result (IsFault area.now (B.device bench.old) (B.device bench.new)) }
 {
     run_counted::<B, Brand>(alloc, lines, bench, area, Blank::new(1))

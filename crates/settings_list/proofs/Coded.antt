@@ -1,5 +1,5 @@
 -- Names as numbers, and records as pairs: what holds of lists of pairs of a number and bytes holds of records.
-use Rattle.std.proofs.Common.{◌≡◌, ℕ, zero, suc, ◌+◌, ◌*◌, ◌<◌, Bool, true, false, cond, eqb, not, ◌&&◌, ◌||◌, ◌==◌, List, [], ◌∷◌, ◌++◌, length, map, Option, Some, None, fold, bytes_eq, refl, sym, ap, ◌∙◌, inl, inr, arith}
+use Rattle.std.proofs.Common.{◌≡◌, ℕ, zero, suc, ◌+◌, ◌*◌, ◌<◌, Bool, true, false, cond, eqb, not, ◌&&◌, ◌||◌, ◌==◌, List, [], ◌∷◌, ◌++◌, length, map, Option, Some, None, bytes_eq, refl, sym, ap, ◌∙◌, inl, inr, arith}
 use Rattle.std.specs.List.{flat_map}
 use Rattle.std.proofs.lemmas.Bool.{cases_Bool, eq-eqb, ne_eqb}
 use Rattle.std.proofs.lemmas.List.Concat.{flat_map-append}
@@ -8,10 +8,10 @@ use Rattle.slot_list.specs.Items.{last, value_of}
 use Rattle.slot_list.specs.Live.{live_pairs, names as ids}
 use Rattle.slot_list.proofs.LivePairs.{step, last_from, last-is, collected}
 use Rattle.settings_list.specs.Settings.{value_in, setting_of, settings_of}
-use Rattle.settings_list.specs.Last.{found_by, last_value, stored}
+use Rattle.settings_list.specs.Last.{last_value, stored}
 use Rattle.settings_list.specs.Live.{has_name, names, is_live_by, live_bodies}
 use Rattle.settings_list.proofs.BodyLemmas.{setting-says, value-setting}
-use Rattle.settings_list.proofs.LastLemmas.{same_settings}
+use Rattle.settings_list.proofs.LastLemmas.{found_by, found_from, last_value-scan, same_settings}
 
 -- ---- names as numbers
 
@@ -118,9 +118,6 @@ found-coded name found p body other value is same =
           ∙ sym (ap (λ (t : Bool). value_by (cond t (value_of (cond (length value == 0) [] body)) p)) (code-eq other name ∙ apart))
     ]
 
-abbrev found_from : List ℕ → Option (List ℕ) → List (List ℕ) → Option (List ℕ)
-found_from name found bodies = fold (λ now body. found_by name now (setting_of body)) found bodies
-
 last-by : (name : List ℕ) (found p : Option (List ℕ)) (body : List ℕ) (rest : List (List ℕ)) (setting : Option (List ℕ × List ℕ)) → setting_of body ≡ setting → stored found ≡ value_by p
     → ((now q : Option (List ℕ)) → stored now ≡ value_by q → stored (found_from name now rest) ≡ value_by (last_from (code name) q (pairs_of rest)))
     → stored (found_from name (found_by name found setting) rest) ≡ value_by (last_from (code name) p (pairs_by body setting ++ pairs_of rest))
@@ -135,8 +132,7 @@ last-from name found p [] same = same
 last-from name found p (body ∷ rest) same = last-by name found p body rest (setting_of body) refl same (λ now q h. last-from name now q rest h)
 
 pub last-coded : (name : List ℕ) (bodies : List (List ℕ)) → stored (last_value name bodies) ≡ value_by (last (pairs_of bodies) (code name))
-unfolding last_value
-last-coded name bodies = last-from name None None bodies refl ∙ ap value_by (sym (last-is (pairs_of bodies) (code name)))
+last-coded name bodies = ap stored (last_value-scan name bodies) ∙ last-from name None None bodies refl ∙ ap value_by (sym (last-is (pairs_of bodies) (code name)))
 
 -- ---- the records that a collection copies
 

@@ -16,14 +16,14 @@ use Rattle.slot_list.proofs.LivePairs.{last-is, last-append, absent, present}
 use Rattle.setting_name.specs.Name.{IsName}
 use Rattle.backend_api.specs.Map.{Map, IsValue, IsSettings}
 use Rattle.settings_list.specs.Settings.{setting_of, settings_of}
-use Rattle.settings_list.specs.Last.{found_by, last_value, stored}
+use Rattle.settings_list.specs.Last.{last_value, stored}
 use Rattle.settings_list.specs.Live.{names, is_live, is_live_by, live_bodies}
 use Rattle.settings_list.specs.Numbers.{pair_cost}
 use Rattle.fcb_ring.specs.Writing.{record_cost}
 use Rattle.settings_list.specs.Rounds.{bodies_cost}
 use Rattle.settings_list.proofs.BodyLemmas.{setting-says, settings-none}
 use Rattle.settings_list.proofs.Coded.{code, pairs_of, pairs-append, names-coded, value_by, last-coded}
-use Rattle.settings_list.proofs.LastLemmas.{tie, get-settings_of, same_settings}
+use Rattle.settings_list.proofs.LastLemmas.{found_by, last_value-scan, tie, get-settings_of, same_settings}
 use Rattle.settings_list.proofs.LiveLemmas.{LiveSetting, live-says}
 
 -- ---- where the last record of a name stands
@@ -53,8 +53,7 @@ last-nowhere name ys none =
     last-coded name ys ∙ ap value_by (last-is (pairs_of ys) (code name) ∙ absent (code name) None (pairs_of ys) (sym (names-coded name ys) ∙ none))
 
 last-one : (name body : List ℕ) → last_value name (body ∷ []) ≡ found_by name None (setting_of body)
-unfolding last_value
-last-one name body = refl
+last-one name body = last_value-scan name (body ∷ [])
 
 -- ---- a record in front that is not live
 

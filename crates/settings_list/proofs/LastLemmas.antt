@@ -1,5 +1,7 @@
 -- What a scan finds of a name is what the settings have.
 use Rattle.std.proofs.Common.{◌≡◌, ℕ, Bool, true, false, cond, ◌==◌, List, [], ◌∷◌, ◌++◌, length, Option, Some, None, bytes_eq, nat_cmp, refl, sym, ap, ◌∙◌, inl, inr}
+use Rattle.std.specs.Prelude.{fold}
+use Rattle.std.specs.List.{last_or, cons_option}
 use Rattle.std.specs.Ordering.{eq_by_cmp}
 use Rattle.std.specs.Cmp.Lexicographic.{slice_cmp}
 use Rattle.std.specs.FinMap as map
@@ -11,7 +13,38 @@ use Rattle.std.proofs.lemmas.Map.Lookups.{exact_bytes}
 use Rattle.std.proofs.lemmas.Map.Text.{is_eq-slice_cmp}
 use Rattle.backend_api.specs.Map.{Map}
 use Rattle.settings_list.specs.Settings.{setting_of, with_setting, settings_of}
-use Rattle.settings_list.specs.Last.{found_by, last_value, stored}
+use Rattle.settings_list.specs.Last.{values_for, last_value, stored}
+use Rattle.settings_list.specs.Live.{value_for}
+
+-- ---- a scan of the records
+
+-- what is found of a name after one more record
+abbrev pub found_by : List ℕ → Option (List ℕ) → Option (List ℕ × List ℕ) → Option (List ℕ)
+found_by name found None = found
+found_by name found (Some (other, value)) = cond (bytes_eq other name) (Some value) found
+
+-- and after all of them
+abbrev pub found_from : List ℕ → Option (List ℕ) → List (List ℕ) → Option (List ℕ)
+found_from name found bodies = fold (λ now body. found_by name now (setting_of body)) found bodies
+
+last-next : (name : List ℕ) (found : Option (List ℕ)) (setting : Option (List ℕ × List ℕ)) (values : List (List ℕ)) → last_or found (cons_option (value_for name setting) values) ≡ last_or (found_by name found setting) values
+last-next name found None values = refl
+last-next name found (Some (other, value)) values = at (bytes_eq other name)
+  where
+    at : (t : Bool) → last_or found (cons_option (cond t (Some value) None) values) ≡ last_or (cond t (Some value) found) values
+    at true = refl
+    at false = refl
+
+last-scan : (name : List ℕ) (found : Option (List ℕ)) (bodies : List (List ℕ)) → last_or found (values_for name bodies) ≡ found_from name found bodies
+last-scan name found [] = refl
+last-scan name found (body ∷ rest) = last-next name found (setting_of body) (values_for name rest) ∙ last-scan name (found_by name found (setting_of body)) rest
+
+-- the last value is what a scan finds
+pub last_value-scan : (name : List ℕ) (bodies : List (List ℕ)) → last_value name bodies ≡ found_from name None bodies
+unfolding last_value
+last_value-scan name bodies = last-scan name None bodies
+
+-- ---- what the settings have
 
 -- two texts tie where they are equal
 pub tie : (x y : List ℕ) → eq_by_cmp (slice_cmp nat_cmp) x y ≡ bytes_eq y x
@@ -45,12 +78,13 @@ get-found settings name found (Some (other, value)) same =
 
 -- What is found of a name in all records is what the settings have for it.
 pub get-settings_of : (bodies : List (List ℕ)) (name : List ℕ) → map.get (settings_of bodies) name ≡ stored (last_value name bodies)
-unfolding settings_of last_value
+unfolding settings_of
 get-settings_of bodies name =
     fold_along (λ (settings : Map) (body : List ℕ). with_setting settings (setting_of body)) (λ (found : Option (List ℕ)) (body : List ℕ). found_by name found (setting_of body))
     (λ settings found. map.get settings name ≡ stored found)
     (λ settings found body same. get-found settings name found (setting_of body) same)
     map.empty None bodies (map.get-empty (slice_cmp nat_cmp) name)
+    ∙ ap stored (sym (last_value-scan name bodies))
 
 pub last_value-none : (name : List ℕ) → last_value name [] ≡ None
 unfolding last_value
@@ -58,8 +92,8 @@ last_value-none name = refl
 
 -- one record more
 pub last_value-push : (name : List ℕ) (bodies : List (List ℕ)) (body : List ℕ) → last_value name (bodies ++ body ∷ []) ≡ found_by name (last_value name bodies) (setting_of body)
-unfolding last_value
-last_value-push name bodies body = fold_push (λ found b. found_by name found (setting_of b)) None bodies body
+last_value-push name bodies body =
+    last_value-scan name (bodies ++ body ∷ []) ∙ fold_push (λ found b. found_by name found (setting_of b)) None bodies body ∙ ap (λ (found : Option (List ℕ)). found_by name found (setting_of body)) (sym (last_value-scan name bodies))
 
 -- lists of records in which the same is found of each name give the same settings
 pub same_settings : (xs ys : List (List ℕ)) → ((name : List ℕ) → stored (last_value name xs) ≡ stored (last_value name ys)) → settings_of xs ≡ settings_of ys

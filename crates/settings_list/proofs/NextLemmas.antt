@@ -13,7 +13,7 @@ use Rattle.std.proofs.lemmas.Map.Lookups.{exact_bytes}
 use Rattle.std.proofs.lemmas.Slice.Eq.{bytes_eq-Decides}
 use Rattle.backend_api.specs.Map.{Map, is_behind, next_name}
 use Rattle.settings_list.specs.Settings.{setting_of, settings_of}
-use Rattle.settings_list.specs.Least.{is_before, least_by, least_of}
+use Rattle.settings_list.specs.Least.{is_before}
 use Rattle.settings_list.specs.Live.{has_name, names, is_live, live_bodies}
 use Rattle.settings_list.proofs.BodyLemmas.{settings-none}
 use Rattle.settings_list.proofs.FrontLemmas.{settings-dead, settings-live, live-front}
@@ -22,6 +22,15 @@ use Rattle.settings_list.proofs.LiveLemmas.{live-says, copies-live, copies-dead}
 
 abbrev cmp : List ℕ → List ℕ → Ordering
 cmp = slice_cmp nat_cmp
+
+-- the least name after one more record
+abbrev pub least_by : Option (List ℕ) → Option (List ℕ) → Option (List ℕ × List ℕ) → Option (List ℕ)
+least_by after least None = least
+least_by after least (Some (name, value)) = cond (is_behind after name && is_before name least) (Some name) least
+
+-- the least of the records' names that is behind this one, or the least of all
+unfoldable pub least_of : Option (List ℕ) → List (List ℕ) → Option (List ℕ)
+least_of after bodies = fold (λ least body. least_by after least (setting_of body)) None bodies
 
 -- Of the names that pass, this is the least behind the one given; or none is behind it.
 abbrev pub IsLeast : Option (List ℕ) → (List ℕ → Bool) → Option (List ℕ) → Type 0

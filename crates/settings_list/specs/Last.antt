@@ -1,16 +1,16 @@
 -- What the last record of a name says.
-use Rattle.std.specs.Prelude.{ℕ, List, length, fold, Option, Some, None, ◌==◌, if◌then◌else◌}
-use Rattle.std.specs.Str.{bytes_eq}
+use Rattle.std.specs.Prelude.{ℕ, List, length, filter_map, Option, Some, None, ◌==◌, if◌then◌else◌}
+use Rattle.std.specs.List.{last_or}
+use Rattle.settings_list.specs.Live.{value_for}
 use Rattle.settings_list.specs.Settings.{setting_of}
 
--- what is found of a name after one more record
-abbrev pub found_by : List ℕ → Option (List ℕ) → Option (List ℕ × List ℕ) → Option (List ℕ)
-found_by name found None = found
-found_by name found (Some (other, value)) = if bytes_eq other name then Some value else found
+-- the values that the records of the name give it, in order; no bytes where one takes it away
+abbrev pub values_for : List ℕ → List (List ℕ) → List (List ℕ)
+values_for name bodies = filter_map (λ body. value_for name (setting_of body)) bodies
 
--- the value that the last record of the name gives it; no bytes where it takes it away
+-- the value that the last record of the name gives it
 unfoldable pub last_value : List ℕ → List (List ℕ) → Option (List ℕ)
-last_value name bodies = fold (λ found body. found_by name found (setting_of body)) None bodies
+last_value name bodies = last_or None (values_for name bodies)
 
 -- what the name has then
 abbrev pub stored : Option (List ℕ) → Option (List ℕ)

@@ -6,8 +6,8 @@ use Rattle.std.proofs.Math.Nat.{mul-le-mul_left, mul-le-mul_right}
 use Rattle.std.proofs.lemmas.Bool.{cases_lt}
 use Rattle.std.proofs.lemmas.Nat.{div-add-mod'}
 use Rattle.std.proofs.lemmas.List.FromFn.{map-range_with_len_more}
-use Rattle.slot_list.specs.Slots.{Slot, slot_at, slots, used_slots}
-use Rattle.slot_list.proofs.SlotLemmas.{HasFence, used_slots-from, slot_within, slot_order}
+use Rattle.slot_list.specs.Slots.{Slot, slot_at, used_slots}
+use Rattle.slot_list.proofs.SlotLemmas.{HasFence, used_slots-from}
 
 -- the new list reads as the old one from the place on
 pub record SameFrom (place : ℕ) (old new : List ℕ) : Type 0 where

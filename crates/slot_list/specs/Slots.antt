@@ -1,14 +1,11 @@
 -- A sector's slots. Slot k of a sector starts k + 1 slots before its end, so slots run downward.
-use Rattle.std.specs.Prelude.{ℕ, ◌+◌, ◌-◌, ◌*◌, ◌/◌, Bool, not, List, length, map, slice_range, ◌==◌}
-use Rattle.std.specs.List.{range_with_len, take_while, list_all}
+use Rattle.std.specs.Prelude.{ℕ, ◌+◌, ◌-◌, ◌*◌, ◌/◌, Bool, List, length, map, slice_range}
+use Rattle.std.specs.List.{range_with_len, take_while}
 
 pub record Slot : Type 0 where
   pub index : ℕ
   pub start : ℕ
   pub bytes : List ℕ
-
-abbrev pub is_erased : List ℕ → Bool
-is_erased bytes = list_all (λ byte. byte == 0xFF) bytes
 
 -- slot 0 ends at the sector's end
 unfoldable pub slot_at : ℕ → List ℕ → ℕ → Slot

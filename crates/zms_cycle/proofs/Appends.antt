@@ -9,6 +9,7 @@ use Rattle.std.proofs.lemmas.List.Sums.{fold_push, sum_by_push}
 use Rattle.std.proofs.lemmas.List.Folds.{list_any-append}
 use Rattle.std.proofs.lemmas.List.Elements.{filter_map-append}
 use Rattle.flash_map.specs.Units.{padded}
+use Rattle.slot_list.proofs.SlotCosts.{fold_max-ge}
 use Rattle.slot_list.specs.Slots.{Slot, used_slots}
 use Rattle.slot_list.proofs.SlotChanges.{SameFrom, slot_at-same, slot_at-from, used_slots-more}
 use Rattle.slot_list.proofs.SlotLemmas.{index-slot_at}
@@ -19,7 +20,7 @@ use Rattle.zms_cycle.specs.Sector.{slot_of, is_valid, cycle_of, valid_slots, is_
 use Rattle.zms_cycle.specs.Changes.{with_slot, KeepsList, AddsPair, MarksDone}
 use Rattle.zms_cycle.proofs.Bytes.{IsEntry, length-encoded, decoded-encoded, four_bytes, value_entry-short, value_entry-long, take-short, ordinary-not_special, ordinary-not_done, done-is_done}
 use Rattle.zms_cycle.proofs.Slots16.{valid-is, done-is, entry_in-is, slot-put, with_slot-above, with_slot-below}
-use Rattle.zms_cycle.proofs.Frames.{IsSound, pad, data_len-short, data_len-long, value_end-long, value_end-short, end_of-above, pairs-same, data_end-aligned, cycle_of-same, closed-same, fence_of, fold_max-ge}
+use Rattle.zms_cycle.proofs.Frames.{IsSound, pad, data_len-short, data_len-long, value_end-long, value_end-short, end_of-above, pairs-same, data_end-aligned, cycle_of-same, closed-same, fence_of}
 
 -- The sector has one valid slot more, with this entry, and reads as before elsewhere.
 pub record HasSlotMore (old new : List ℕ) (e : ZEntry) : Type 0 where

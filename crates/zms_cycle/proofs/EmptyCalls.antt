@@ -15,7 +15,7 @@ same_bytes old new area sector same = ap (λ (l : List (List ℕ)). get_or l sec
 -- a cut keeps how the sector reads
 stops : (b new : List ℕ) → KeepsState b new → StopsEmptying b new
 stops b new keeps = record {
-  either = λ sound. inl (record { closed = keeps.kept.closed; gc_done = keeps.kept.gc_done; list = keeps.list sound });
+  either = λ apart. inl (record { closed = keeps.kept.closed; gc_done = keeps.kept.gc_done; list = keeps.list apart });
   kept = keeps.kept;
 }
 

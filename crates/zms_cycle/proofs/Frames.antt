@@ -9,6 +9,7 @@ use Rattle.flash_sim.specs.Device.{overwritten}
 use Rattle.flash_map.proofs.Ranges.{range_above, range_below}
 use Rattle.flash_map.proofs.Sectors.{length-overwritten}
 use Rattle.slot_list.specs.Slots.{Slot, used_slots}
+use Rattle.slot_list.proofs.SlotCosts.{fold_max-ge}
 use Rattle.slot_list.proofs.SlotLemmas.{HasFence, HasFence-from_low}
 use Rattle.slot_list.proofs.SlotChanges.{SameFrom, slot_at-from, used_slots-kept}
 use Rattle.zms_cycle.specs.Entries.{offset_of, decoded}
@@ -49,24 +50,25 @@ pub end_of-above : (found : List Found) → IsEndOf found (end_of found)
 unfolding end_of
 end_of-above found = record { ends = omega arith; sums = omega arith }
 
-pub fold_max-ge : (a : ℕ) (xs : List ℕ) → a ≤ fold max a xs
-fold_max-ge a [] = omega arith
-fold_max-ge a (x ∷ xs) = let rest = fold_max-ge (max a x) xs in omega arith
-
 -- Values that stay.
 
-pub value-same : (limit : ℕ) (old new : List ℕ) → ((i j : ℕ) → j ≤ limit → slice_range new i j ≡ slice_range old i j) → (f : Found) → value_end f ≤ limit → value_of new f.entry ≡ value_of old f.entry
-value-same limit old new same f le = elim (cases_Bool (leb f.entry.len 8)) [
+-- a value is the same where its range reads the same
+pub value-by : (old new : List ℕ) (f : Found) → (leb f.entry.len 8 ≡ false → slice_range new (offset_of f.entry) (offset_of f.entry + f.entry.len) ≡ slice_range old (offset_of f.entry) (offset_of f.entry + f.entry.len)) → value_of new f.entry ≡ value_of old f.entry
+value-by old new f same = elim (cases_Bool (leb f.entry.len 8)) [
   | inl short ↦
       cond-true (leb f.entry.len 8) (take f.entry.len f.entry.tail) (slice_range new (offset_of f.entry) (offset_of f.entry + f.entry.len)) short
       ∙ sym (cond-true (leb f.entry.len 8) (take f.entry.len f.entry.tail) (slice_range old (offset_of f.entry) (offset_of f.entry + f.entry.len)) short)
   | inr long ↦
-      let end = value_end-long f long in
-      let rounded = pad f.entry.len in
       cond-false (leb f.entry.len 8) (take f.entry.len f.entry.tail) (slice_range new (offset_of f.entry) (offset_of f.entry + f.entry.len)) long
-      ∙ same (offset_of f.entry) (offset_of f.entry + f.entry.len) (omega arith)
+      ∙ same long
       ∙ sym (cond-false (leb f.entry.len 8) (take f.entry.len f.entry.tail) (slice_range old (offset_of f.entry) (offset_of f.entry + f.entry.len)) long)
 ]
+
+pub value-same : (limit : ℕ) (old new : List ℕ) → ((i j : ℕ) → j ≤ limit → slice_range new i j ≡ slice_range old i j) → (f : Found) → value_end f ≤ limit → value_of new f.entry ≡ value_of old f.entry
+value-same limit old new same f le = value-by old new f (λ long.
+    let end = value_end-long f long in
+    let rounded = pad f.entry.len in
+    same (offset_of f.entry) (offset_of f.entry + f.entry.len) (omega arith))
 
 pub pairs-same : (limit : ℕ) (old new : List ℕ) → ((i j : ℕ) → j ≤ limit → slice_range new i j ≡ slice_range old i j) → (fs : List Found) (a : ℕ) → fold max a (map value_end fs) ≤ limit → map (pair_of new) fs ≡ map (pair_of old) fs
 pairs-same limit old new same [] a le = refl

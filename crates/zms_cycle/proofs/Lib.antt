@@ -7,6 +7,7 @@ pub mod EmptyCalls
 pub mod EntryCalls
 pub mod Frames
 pub mod Marks
+pub mod OverwrittenValue
 pub mod PairCalls
 pub mod Rooms
 pub mod Scanning

@@ -1,20 +1,20 @@
 -- What the close entry and emptying make of a sector.
-use Rattle.std.proofs.Common.{◌≡◌, ℕ, ◌+◌, ◌-◌, ◌*◌, ◌%◌, ◌≤◌, max, true, false, ◌&&◌, eqb, leb, List, [], length, map, Option, Some, None, refl, sym, ap, subst, ◌∙◌, inl, inr, arith}
+use Rattle.std.proofs.Common.{◌≡◌, ℕ, ◌+◌, ◌-◌, ◌*◌, ◌%◌, ◌≤◌, max, Bool, true, false, not, ◌&&◌, eqb, leb, ltb, List, [], ◌∷◌, length, map, Option, Some, None, refl, sym, ap, subst, ◌∙◌, inl, inr, arith}
 use Rattle.std.specs.Prelude.{fold}
 use Rattle.std.specs.List.{filter_map, list_any, list_all}
 use Rattle.std.specs.Option.{option_map_or}
-use Rattle.std.proofs.lemmas.Bool.{cases_Bool, cond-true, cond-false, and_from, and_left, eq-eqb, eqb-true, ne_eqb, le-leb}
+use Rattle.std.proofs.lemmas.Bool.{false≢true, cases_Bool, cases_lt, cond-true, cond-false, and_from, and_left, and_right, and_parts, or_from, or_parts, eq-eqb, eqb-true, ne_eqb, le-leb, lt-ltb, le-ltb}
 use Rattle.slot_list.specs.Slots.{Slot, used_slots}
 use Rattle.slot_list.proofs.SlotChanges.{slot_at-same, slot_at-from, used_slots-under}
 use Rattle.slot_list.proofs.SlotLemmas.{used_slots-from}
 use Rattle.zms_cycle.specs.declared.entry.ZEntry.{ZEntry}
-use Rattle.zms_cycle.specs.Entries.{encoded, decoded, fill, is_empty, close_entry, empty_entry}
+use Rattle.zms_cycle.specs.Entries.{encoded, decoded, fill, offset_of, is_empty, close_entry, empty_entry}
 use Rattle.zms_cycle.specs.declared.reading.Found.{Found}
-use Rattle.zms_cycle.specs.Sector.{slot_of, is_valid_under, is_valid, cycle_of, valid_slots, holds_close, is_closed, entry_in, entries, holds_done, value_end, end_of, is_under, is_sound, low, pair_of, pairs}
-use Rattle.zms_cycle.specs.Changes.{with_slot, guarded, KeepsSlots, KeepsList, Closes, next_cycle, Empties}
+use Rattle.zms_cycle.specs.Sector.{slot_of, is_valid_under, is_valid, cycle_of, valid_slots, holds_close, is_closed, entry_in, entries, holds_done, value_end, end_of, is_under, is_sound, low, value_of, pair_of, pairs}
+use Rattle.zms_cycle.specs.Changes.{with_slot, guarded, KeepsSlots, KeepsList, Closes, next_cycle, Empties, reaches_slot_1, guards_over_value}
 use Rattle.zms_cycle.proofs.Bytes.{length-encoded, decoded-encoded, IsEntry-close, IsEntry-empty, close-is_close, empty-is_empty}
 use Rattle.zms_cycle.proofs.Slots16.{Covers, valid-is, close-is, cycle_of-is, not_valid, slot-put, with_slot-above, with_slot-below, decoded-put, covers-fill, covers-guarded, covers-higher, guarded-not_valid}
-use Rattle.zms_cycle.proofs.Frames.{IsSound, sound-parts, sound-ends, pairs-same, cycle_of-same, closed-same, slots-keep, keeps_same}
+use Rattle.zms_cycle.proofs.Frames.{IsSound, sound-parts, sound-ends, under-parts, pad, value_end-long, value-by, pairs-same, cycle_of-same, closed-same, slots-keep, keeps_same}
 
 -- the close entry in slot 1, after steps that kept the list
 pub closes : (a b : List ℕ) (cycle place : ℕ) → IsSound a → KeepsList a b → cycle_of a ≡ Some cycle → Closes a (with_slot b 1 (encoded (close_entry cycle place)))
@@ -71,13 +71,60 @@ other_cycle None slot valid = refl
 other_cycle (Some c) slot valid =
     valid-is c slot (decoded slot.bytes) refl ∙ valid_once (decoded slot.bytes) ((c + 1) % 256) c (sym (valid-is ((c + 1) % 256) slot (decoded slot.bytes) refl) ∙ valid) (λ z. omega (arith, z))
 
--- the slots and the marks stay, and the sector's part of the list where its values stand under the guard slot
+-- Values that the guard of slot 1 does not touch.
+
+value-apart : (old new : List ℕ) (f : Found) → Covers 1 old new → reaches_slot_1 (length old) f ≡ false → value_of new f.entry ≡ value_of old f.entry
+unfolding reaches_slot_1
+value-apart old new f covers apart = value-by old new f (λ long.
+    let over : (ltb (offset_of f.entry) (length old - 16) && ltb (length old - 32) (offset_of f.entry + f.entry.len)) ≡ false =
+    sym (ap (λ (t : Bool). not t && ltb (offset_of f.entry) (length old - 16) && ltb (length old - 32) (offset_of f.entry + f.entry.len)) long) ∙ apart in
+    elim (cases_lt (offset_of f.entry) (length old - 16)) [
+      | inr ge ↦ covers.above.bytes (offset_of f.entry) (offset_of f.entry + f.entry.len) (omega arith)
+      | inl lt ↦ elim (cases_lt (length old - 32) (offset_of f.entry + f.entry.len)) [
+        | inr le ↦ covers.below (offset_of f.entry) (offset_of f.entry + f.entry.len) (omega arith)
+        | inl gt ↦ absurd (false≢true (sym over ∙ and_from (ltb (offset_of f.entry) (length old - 16)) (ltb (length old - 32) (offset_of f.entry + f.entry.len)) (lt-ltb (offset_of f.entry) (length old - 16) lt) (lt-ltb (length old - 32) (offset_of f.entry + f.entry.len) gt)))
+      ]
+    ])
+
+pairs-apart : (old new : List ℕ) (fs : List Found) → Covers 1 old new → list_any (reaches_slot_1 (length old)) fs ≡ false → map (pair_of new) fs ≡ map (pair_of old) fs
+pairs-apart old new [] covers apart = refl
+pairs-apart old new (f ∷ fs) covers apart =
+    let parts = or_parts (reaches_slot_1 (length old) f) (list_any (reaches_slot_1 (length old)) fs) apart in
+    ap (λ (bytes : List ℕ). (f.entry.id, bytes) ∷ map (pair_of new) fs) (value-apart old new f covers parts.0)
+    ∙ ap (λ ps. pair_of old f ∷ ps) (pairs-apart old new fs covers parts.1)
+
+under-apart : (limit size : ℕ) (f : Found) → is_under limit f ≡ true → limit + 32 ≤ size → reaches_slot_1 size f ≡ false
+unfolding reaches_slot_1
+under-apart limit size f under le = elim (cases_Bool (leb f.entry.len 8)) [
+  | inl short ↦ ap (λ (t : Bool). not t && ltb (offset_of f.entry) (size - 16) && ltb (size - 32) (offset_of f.entry + f.entry.len)) short
+  | inr long ↦
+      let here = under-parts limit f under in
+      let below = here.0 in
+      let end = value_end-long f long in
+      let rounded = pad f.entry.len in
+      and_right (not (leb f.entry.len 8) && ltb (offset_of f.entry) (size - 16)) (ltb (size - 32) (offset_of f.entry + f.entry.len)) (le-ltb (size - 32) (offset_of f.entry + f.entry.len) (omega arith))
+]
+
+all-apart : (limit size : ℕ) (fs : List Found) → list_all (is_under limit) fs ≡ true → limit + 32 ≤ size → list_any (reaches_slot_1 size) fs ≡ false
+all-apart limit size [] under le = refl
+all-apart limit size (f ∷ fs) under le =
+    let parts = and_parts (is_under limit f) (list_all (is_under limit) fs) under in
+    or_from (reaches_slot_1 size f) (list_any (reaches_slot_1 size) fs) (under-apart limit size f parts.0 le) (all-apart limit size fs parts.1 le)
+
+-- In a sound sector every value ends at or below the guard slot, so emptying guards over none.
+pub sound-apart : (b : List ℕ) → is_sound b ≡ true → guards_over_value b ≡ false
+sound-apart b is =
+    let parts = sound-parts b is in
+    let guard = parts.guard in
+    and_right (is_valid_under (next_cycle (cycle_of b)) (slot_of b 1)) (list_any (reaches_slot_1 (length b)) (entries b)) (all-apart (low b - 16) (length b) (entries b) parts.under (omega arith))
+
+-- the slots and the marks stay, and the sector's part of the list where no guard was put over a value
 pub record KeepsState (old new : List ℕ) : Type 0 where
   pub kept : KeepsSlots old new
-  pub list : is_sound old ≡ true → pairs new ≡ pairs old
+  pub list : guards_over_value old ≡ false → pairs new ≡ pairs old
 
 pub state_same : (b : List ℕ) → KeepsState b b
-state_same b = record { kept = (keeps_same b).kept; list = λ sound. refl }
+state_same b = record { kept = (keeps_same b).kept; list = λ apart. refl }
 
 -- the guard of slot 1 for the next cycle
 pub first_guard : (b : List ℕ) → 48 ≤ length b → KeepsState b (guarded (next_cycle (cycle_of b)) 1 b)
@@ -93,17 +140,18 @@ first_guard b long = elim (cases_Bool (is_valid_under (next_cycle (cycle_of b)) 
       ap (λ (c : Option ℕ). used_slots (is_valid c) 2 16 new) cycle ∙ used_slots-under (is_valid (cycle_of b)) 2 16 b new (omega arith) covers.above.long (λ i j le. covers.below i j (omega arith)) in
       record {
         kept = slots-keep b new covers.above.long cycle (after ∙ sym before) slots;
-        list = λ sound.
-            let parts = sound-parts b sound in
-            ap (map (pair_of new)) (ap (filter_map entry_in) slots) ∙ pairs-same (low b - 16) b new (λ i j le. covers.below i j (let guard = parts.guard in omega arith)) (entries b) 0 (sound-ends b parts);
+        list = λ apart.
+            let none : list_any (reaches_slot_1 (length b)) (entries b) ≡ false =
+            sym (ap (λ (t : Bool). t && list_any (reaches_slot_1 (length b)) (entries b)) valid) ∙ apart in
+            ap (map (pair_of new)) (ap (filter_map entry_in) slots) ∙ pairs-apart b new (entries b) covers none;
       })
 ]
 
--- the guard of slot 2 for the next cycle
-pub second_guard : (b : List ℕ) → 48 ≤ length b → KeepsState b (guarded (next_cycle (cycle_of b)) 2 b)
+-- The guard of slot 2 for the next cycle. Where that slot is valid under it, the list is empty before and after.
+pub second_guard : (b : List ℕ) → 48 ≤ length b → KeepsList b (guarded (next_cycle (cycle_of b)) 2 b)
 second_guard b long = elim (cases_Bool (is_valid_under (next_cycle (cycle_of b)) (slot_of b 2))) [
-  | inr other ↦ subst (λ (new : List ℕ). KeepsState b new) (sym (cond-false (is_valid_under (next_cycle (cycle_of b)) (slot_of b 2)) (with_slot b 2 fill) b other)) (state_same b)
-  | inl valid ↦ subst (λ (new : List ℕ). KeepsState b new) (sym (cond-true (is_valid_under (next_cycle (cycle_of b)) (slot_of b 2)) (with_slot b 2 fill) b valid)) (
+  | inr other ↦ subst (λ (new : List ℕ). KeepsList b new) (sym (cond-false (is_valid_under (next_cycle (cycle_of b)) (slot_of b 2)) (with_slot b 2 fill) b other)) (keeps_same b)
+  | inl valid ↦ subst (λ (new : List ℕ). KeepsList b new) (sym (cond-true (is_valid_under (next_cycle (cycle_of b)) (slot_of b 2)) (with_slot b 2 fill) b valid)) (
       let new = with_slot b 2 fill in
       let covers : Covers 2 b new = covers-fill 2 b (omega arith) in
       let cycle : cycle_of new ≡ cycle_of b = cycle_of-same b new (covers-higher 2 0 b new covers (omega arith)) in
@@ -112,17 +160,14 @@ second_guard b long = elim (cases_Bool (is_valid_under (next_cycle (cycle_of b))
       let after : valid_slots new ≡ [] = no_slots new (let same = covers.above.long in omega arith) (not_valid (cycle_of new) (slot_of new 2) (decoded-put b 2 (omega arith))) in
       record {
         kept = slots-keep b new covers.above.long cycle closed (after ∙ sym before);
-        list = λ sound. ap (λ (ss : List Slot). map (pair_of new) (filter_map entry_in ss)) after ∙ sym (ap (λ (ss : List Slot). map (pair_of b) (filter_map entry_in ss)) before);
+        list = ap (λ (ss : List Slot). map (pair_of new) (filter_map entry_in ss)) after ∙ sym (ap (λ (ss : List Slot). map (pair_of b) (filter_map entry_in ss)) before);
       })
 ]
 
-sound-kept : (old new : List ℕ) → KeepsSlots old new → is_sound new ≡ is_sound old
-sound-kept old new kept = ap (λ (n : ℕ). leb 16 n && list_all (is_under (n - 16)) (entries new)) kept.lower ∙ ap (λ (fs : List Found). leb 16 (low old) && list_all (is_under (low old - 16)) fs) kept.same_entries
-
-pub state_then : {a b c : List ℕ} → KeepsState a b → KeepsState b c → KeepsState a c
+pub state_then : {a b c : List ℕ} → KeepsState a b → KeepsList b c → KeepsState a c
 state_then {a} {b} {c} first second = record {
   kept = slots-keep a c (second.kept.long ∙ first.kept.long) (second.kept.cycle ∙ first.kept.cycle) (second.kept.closed ∙ first.kept.closed) (second.kept.slots ∙ first.kept.slots);
-  list = λ sound. second.list (sound-kept a b first.kept ∙ sound) ∙ first.list sound;
+  list = λ apart. second.list ∙ first.list apart;
 }
 
 -- both guards
@@ -131,7 +176,7 @@ both_guards b long =
     let first = first_guard b long in
     let mid = guarded (next_cycle (cycle_of b)) 1 b in
     let same : next_cycle (cycle_of mid) ≡ next_cycle (cycle_of b) = ap next_cycle first.kept.cycle in
-    state_then first (subst (λ (c : ℕ). KeepsState mid (guarded c 2 mid)) same (second_guard mid (let size = first.kept.long in omega arith)))
+    state_then first (subst (λ (c : ℕ). KeepsList mid (guarded c 2 mid)) same (second_guard mid (let size = first.kept.long in omega arith)))
 
 -- and the empty entry of the next cycle in slot 0
 pub empties : (b : List ℕ) → 48 ≤ length b → Empties b (with_slot (guarded (next_cycle (cycle_of b)) 2 (guarded (next_cycle (cycle_of b)) 1 b)) 0 (encoded (empty_entry (next_cycle (cycle_of b)))))

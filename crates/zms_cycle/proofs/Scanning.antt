@@ -1,15 +1,12 @@
 -- Going over the entries of a sector.
-use Rattle.std.proofs.Common.{◌≡◌, ℕ, ◌+◌, ◌-◌, ◌^◌, min, max, Bool, true, false, ◌&&◌, ◌||◌, cond, List, [], ◌∷◌, ◌++◌, length, map, Option, Some, None, refl, sym, ap, ◌∙◌, arith}
+use Rattle.std.proofs.Common.{◌≡◌, ℕ, ◌+◌, ◌-◌, ◌^◌, min, max, Bool, false, ◌&&◌, ◌||◌, cond, List, length, map, Option, Some, None, refl, sym, ap, ◌∙◌, arith}
 use Rattle.std.specs.Prelude.{fold, sum_by, IsSome}
-use Rattle.std.specs.List.{filter_map, cons_option, list_any}
+use Rattle.std.specs.List.{filter_map, list_any}
 use Rattle.std.specs.Option.{option_and_then, option_map_or}
-use Rattle.std.proofs.lemmas.List.{map-append, append-nil}
-use Rattle.std.proofs.lemmas.List.Sums.{fold_push}
-use Rattle.std.proofs.lemmas.List.Folds.{list_any-append}
-use Rattle.std.proofs.lemmas.List.Elements.{filter_map-append}
-use Rattle.slot_list.specs.Slots.{Slot, slot_at, used_slots}
+use Rattle.slot_list.specs.Slots.{Slot, used_slots}
 use Rattle.slot_list.proofs.SlotLemmas.{index-slot_at}
-use Rattle.slot_list.proofs.SlotCounts.{slots_to, slots_to_used, slots_to_more}
+use Rattle.slot_list.proofs.SlotCounts.{slots_to, slots_to_used}
+use Rattle.slot_list.proofs.SlotWalks.{most_step, slot_step, sum_step}
 use Rattle.zms_cycle.specs.declared.entry.ZEntry.{ZEntry}
 use Rattle.zms_cycle.specs.declared.reading.Found.{Found}
 use Rattle.zms_cycle.specs.declared.reading.SectorState.{SectorState}
@@ -28,37 +25,14 @@ pub found_is : (b : List ℕ) (k : ℕ) (entry : Option ZEntry) (found : Option 
 found_is b k entry found read is =
     is ∙ ap (λ (i : ℕ). option_and_then (λ e. cond (is_special e) None (Some (record { slot = i; entry = e }))) entry) (sym (index-slot_at 16 b k)) ∙ sym (entry_in-is (slot_of b k) entry (sym read))
 
-pub entries_more : (b : List ℕ) (n k : ℕ) (found : Option Found) → k ≡ 2 + n → found ≡ entry_in (slot_of b k) → entries_to b (n + 1) ≡ entries_to b n ++ cons_option found []
-entries_more b n k found at is =
-    ap (filter_map entry_in) (slots_to_more 2 16 b n k at) ∙ filter_map-append entry_in (slots_to 2 16 b n) (slot_at 16 b k ∷ []) ∙ ap (λ (o : Option Found). entries_to b n ++ cons_option o []) (sym is)
-
-ends_more : (fs : List Found) (o : Option Found) → max (option_map_or value_end o 0) (fold max 0 (map value_end fs)) ≡ fold max 0 (map value_end (fs ++ cons_option o []))
-ends_more fs None = let same = ap (λ xs. fold max 0 (map value_end xs)) (append-nil fs) in omega arith
-ends_more fs (Some f) = let all : fold max 0 (map value_end (fs ++ f ∷ [])) ≡ max (fold max 0 (map value_end fs)) (value_end f) = ap (fold max 0) (map-append value_end fs (f ∷ [])) ∙ fold_push max 0 (map value_end fs) (value_end f) in omega arith
-
-lens_more : (fs : List Found) (o : Option Found) → sum_by (λ f. data_len f.entry.len) fs + option_map_or (λ f. data_len f.entry.len) o 0 ≡ sum_by (λ f. data_len f.entry.len) (fs ++ cons_option o [])
-lens_more fs None = let same = ap (sum_by (λ f. data_len f.entry.len)) (append-nil fs) in omega arith
-lens_more fs (Some f) = sym (fold_push (λ a f. a + data_len f.entry.len) 0 fs f)
-
 pub ends_step : (b : List ℕ) (n k : ℕ) (found : Option Found) (ends : ℕ) → k ≡ 2 + n → found ≡ entry_in (slot_of b k) → ends ≡ fold max 0 (map value_end (entries_to b n)) → max (option_map_or value_end found 0) ends ≡ fold max 0 (map value_end (entries_to b (n + 1)))
-ends_step b n k found ends at is so_far =
-    ap (λ (x : ℕ). max (option_map_or value_end found 0) x) so_far ∙ ends_more (entries_to b n) found ∙ ap (λ (fs : List Found). fold max 0 (map value_end fs)) (sym (entries_more b n k found at is))
+ends_step b n k found ends at is so_far = most_step entry_in 2 16 b value_end n k (n + 1) found ends (option_map_or value_end found 0) at refl is so_far refl
 
 pub lens_step : (b : List ℕ) (n k : ℕ) (found : Option Found) (lens : ℕ) → k ≡ 2 + n → found ≡ entry_in (slot_of b k) → lens ≡ sum_by (λ f. data_len f.entry.len) (entries_to b n) → lens + option_map_or (λ f. data_len f.entry.len) found 0 ≡ sum_by (λ f. data_len f.entry.len) (entries_to b (n + 1))
-lens_step b n k found lens at is so_far =
-    ap (λ (x : ℕ). x + option_map_or (λ f. data_len f.entry.len) found 0) so_far ∙ lens_more (entries_to b n) found ∙ ap (sum_by (λ f. data_len f.entry.len)) (sym (entries_more b n k found at is))
-
-or_none : (x y : Bool) → (x || (y || false)) ≡ (x || y)
-or_none true y = refl
-or_none false true = refl
-or_none false false = refl
+lens_step b n k found lens at is so_far = sum_step entry_in 2 16 b (λ (f : Found). data_len f.entry.len) n k (n + 1) found lens (option_map_or (λ f. data_len f.entry.len) found 0) at refl is so_far refl
 
 pub done_step : (b : List ℕ) (n k : ℕ) (entry : Option ZEntry) (done : Bool) → k ≡ 2 + n → entry ≡ decoded (slot_of b k).bytes → done ≡ list_any holds_done (slots_to 2 16 b n) → (done || option_map_or is_done entry false) ≡ list_any holds_done (slots_to 2 16 b (n + 1))
-done_step b n k entry done at read so_far =
-    ap (λ (x : Bool). x || option_map_or is_done entry false) so_far
-    ∙ ap (λ (x : Bool). list_any holds_done (slots_to 2 16 b n) || x) (sym (done-is (slot_of b k) entry (sym read)))
-    ∙ sym (or_none (list_any holds_done (slots_to 2 16 b n)) (holds_done (slot_of b k)))
-    ∙ sym (list_any-append holds_done (slots_to 2 16 b n) (slot_of b k ∷ [])) ∙ ap (list_any holds_done) (sym (slots_to_more 2 16 b n k at))
+done_step b n k entry done at read so_far = slot_step holds_done 2 16 b n k (n + 1) done (option_map_or is_done entry false) at refl so_far (sym (done-is (slot_of b k) entry (sym read)))
 
 -- the state of a sector of this cycle
 abbrev state_with : Option ℕ → List ℕ → SectorState

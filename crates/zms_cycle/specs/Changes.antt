@@ -1,9 +1,10 @@
 -- What a step leaves of a sector.
-use Rattle.std.specs.Prelude.{◌≡◌, ◌⊎◌, ℕ, ◌+◌, ◌-◌, ◌*◌, ◌%◌, ◌≤◌, nat_le, true, false, List, [], ◌∷◌, ◌++◌, length, Option, Some, if◌then◌else◌}
+use Rattle.std.specs.Prelude.{◌≡◌, ◌⊎◌, ℕ, ◌+◌, ◌-◌, ◌*◌, ◌%◌, ◌≤◌, nat_le, nat_lt, Bool, true, false, not, ◌&&◌, List, [], ◌∷◌, ◌++◌, length, Option, Some, if◌then◌else◌}
+use Rattle.std.specs.List.{list_any}
 use Rattle.std.specs.Option.{option_map_or}
 use Rattle.flash_sim.specs.Device.{overwritten}
 use Rattle.flash_map.specs.Units.{padded_bytes}
-use Rattle.zms_cycle.specs.Entries.{fill}
+use Rattle.zms_cycle.specs.Entries.{fill, offset_of}
 use Rattle.zms_cycle.specs.declared.reading.Found.{Found}
 use Rattle.zms_cycle.specs.Sector.{slot_of, is_valid_under, is_valid, cycle_of, valid_slots, is_closed, entries, has_gc_done, data_len, low, data_end, is_sound, pairs}
 
@@ -110,8 +111,16 @@ pub record HoldsNothing (sector : List ℕ) : Type 0 where
   pub gc_done : has_gc_done sector ≡ false
   pub list : pairs sector ≡ []
 
--- An emptying that was cut. Where the sector has a guard slot and its values end at or below the start of that slot, it
--- reads as before or holds nothing. The cycle, the slots and the marks of every sector stay.
+-- bytes of a value of more than 8 bytes stand in the sixteen bytes of slot 1
+unfoldable pub reaches_slot_1 : ℕ → Found → Bool
+reaches_slot_1 size f = not (nat_le f.entry.len 8) && nat_lt (offset_of f.entry) (size - 16) && nat_lt (size - 32) (offset_of f.entry + f.entry.len)
+
+-- the sector's emptying guards slot 1, and bytes of a value of its list stand there
+abbrev pub guards_over_value : List ℕ → Bool
+guards_over_value sector = is_valid_under (next_cycle (cycle_of sector)) (slot_of sector 1) && list_any (reaches_slot_1 (length sector)) (entries sector)
+
+-- An emptying that was cut. The cycle, the slots and the marks of every sector stay, and where no guard was put over a
+-- value, the sector reads as before or holds nothing.
 pub record StopsEmptying (old new : List ℕ) : Type 0 where
-  pub either : is_sound old ≡ true → ReadsAsBefore old new ⊎ HoldsNothing new
+  pub either : guards_over_value old ≡ false → ReadsAsBefore old new ⊎ HoldsNothing new
   pub kept : KeepsSlots old new

@@ -48,8 +48,13 @@ fn next_cycle(cycle: Option<u8>) -> u8
     }
 }
 
-/// Empties a sector by the empty entry of the next cycle, once slots 1 and 2 are not valid under that cycle. A cut leaves
-/// a sector whose values end at or below its guard slot as it was, or holding nothing; the marks and slots of every sector stay.
+/// Empties a sector by the empty entry of the next cycle, once slots 1 and 2 are not valid under that cycle.
+///
+/// # Errors
+/// `PowerLost`: the cycle, the slots and the marks are as before. Where no value of the list has bytes in slot 1 while
+/// that slot is valid under the next cycle, the sector also reads as before or holds nothing; so it is of each sector
+/// whose values end at or below its guard slot (`sound-apart` in `proofs/Marks.antt`). Without that it is not so:
+/// `proofs/OverwrittenValue.antt` has a sector in which the guard of slot 1 changes a value.
 pub fn empty_sector<F: Flash, L: Ledger>(
     flash: &mut F,
     area: &Area,

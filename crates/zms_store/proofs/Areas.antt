@@ -1,17 +1,16 @@
 -- What each step of a collection leaves of an area: its form, its items, its room.
-use Rattle.std.proofs.Common.{◌≡◌, ℕ, ◌+◌, ◌-◌, ◌≤◌, Bool, true, false, not, ◌&&◌, ◌||◌, eqb, ltb, cond, List, [], ◌∷◌, ◌++◌, length, map, set, Option, None, refl, sym, ap, subst, ◌∙◌, inl, inr, arith, zero, suc}
+use Rattle.std.proofs.Common.{◌≡◌, ℕ, ◌+◌, ◌-◌, ◌≤◌, Bool, true, false, not, ◌&&◌, ◌||◌, ltb, List, [], ◌∷◌, ◌++◌, length, map, set, Option, None, refl, sym, ap, subst, ◌∙◌, inl, inr, arith}
 use Rattle.std.specs.Prelude.{sum_by, IsSome}
-use Rattle.std.specs.List.{filter_map, flat_map, list_all, list_any, range_with_len}
+use Rattle.std.specs.List.{filter_map, flat_map, list_all, list_any}
 use Rattle.std.proofs.lemmas.Bool.{cases_Bool, and_parts, le-ltb, le-leb, not-true}
 use Rattle.std.proofs.lemmas.List.{length-set, set-set, set-get_or}
-use Rattle.std.proofs.lemmas.List.Sums.{sum_by_push, sum_by-cons}
+use Rattle.std.proofs.lemmas.List.Sums.{sum_by_push}
 use Rattle.flash_sim.specs.Device.{Device}
 use Rattle.flash_map.specs.declared.area.Area.{Area}
 use Rattle.flash_map.specs.Area.{sector_at, sectors_of}
 use Rattle.slot_list.specs.Items.{last, SameItems, items_of}
-use Rattle.slot_list.specs.Slots.{Slot, slot_at}
+use Rattle.slot_list.specs.Slots.{Slot}
 use Rattle.slot_list.proofs.ItemLemmas as items
-use Rattle.slot_list.proofs.SlotCounts.{slots_to_used}
 use Rattle.sector_ring.specs.Area.{next, area_pairs}
 use Rattle.sector_ring.specs.Forms.{Collecting, Collected, IsForm, pairs_at, rest, to_copy}
 use Rattle.sector_ring.specs.Reading.{is_sound as ring_sound}
@@ -24,17 +23,18 @@ use Rattle.sector_ring.proofs.Places.{after, after-apart, after-within}
 use Rattle.sector_ring.proofs.Rings.{next-closed}
 use Rattle.sector_ring.proofs.RingSteps.{reads}
 use Rattle.sector_ring.proofs.Rounding.{marked_copies, collection}
+use Rattle.live_items.proofs.SectorCosts.{costs_are as sector_costs}
 use Rattle.zms_cycle.specs.declared.reading.Found.{Found}
 use Rattle.zms_cycle.specs.Changes.{AddsPair, MarksDone, Empties}
-use Rattle.zms_cycle.specs.Sector.{slot_of, is_valid, cycle_of, valid_slots, is_closed, entry_in, entries, has_gc_done, holds_done, cost, capacity, low, data_end, end_of, has_guard, is_under, is_sound, value_of, pair_of, pairs}
+use Rattle.zms_cycle.specs.Sector.{slot_of, is_valid, cycle_of, valid_slots, is_closed, entry_in, entries, has_gc_done, holds_done, cost, capacity, low, data_end, end_of, has_guard, is_under, is_sound, pair_of, pairs}
 use Rattle.zms_cycle.proofs.Frames.{sound-parts}
 use Rattle.zms_store.specs.Area.{is_begun, is_unused, is_overfull, entry_cost, reading, list_of, damage_of}
 use Rattle.zms_store.specs.Collecting.{ChangesOnly, HasCopied, StopsCopying, KeepsMarks, CollectsAt}
 use Rattle.zms_store.specs.Spending.{copied}
 use Rattle.zms_store.specs.Standing.{KeepsItems}
 use Rattle.zms_store.proofs.Damages.{form_undamaged}
-use Rattle.zms_store.proofs.EntryReads.{entry_cases, bytes_len}
-use Rattle.zms_store.proofs.Sectors.{laws, unused_slots, unused_closed, unused_sound, sound_of, costs_of, read_room}
+use Rattle.zms_store.proofs.Sectors.{laws, unused_slots, unused_closed, unused_sound, sound_of, costs_of}
+use Rattle.zms_store.proofs.ZmsEntries.{zms, are_zms}
 
 -- Items.
 
@@ -149,33 +149,9 @@ from_start old start new place copies only long has = record {
 
 -- What the values of a sector cost, by its entries and by its pairs.
 
-costs_from : (b : List ℕ) → is_sound b ≡ true → (a n : ℕ) → 2 ≤ a → a + n ≤ length (valid_slots b) + 2
-    → stored_cost cost (map (pair_of b) (filter_map entry_in (map (slot_at 16 b) (range_with_len a n)))) ≡ sum_by entry_cost (filter_map entry_in (map (slot_at 16 b) (range_with_len a n)))
-unfolding entry_cost
-costs_from b sound a zero from within = refl
-costs_from b sound a (suc n) from within =
-    let rest = costs_from b sound (a + 1) n (omega arith) (omega arith) in
-    elim (entry_cases (slot_of b a)) [
-      | inl none ↦ rw none rest
-      | inr (f, some, at) ↦
-          let room = read_room b a from (omega arith) in
-          let own : length (value_of b f.entry) ≡ f.entry.len = bytes_len b a f sound from (omega arith) room some in
-          rw some (stored_more f own (filter_map entry_in (map (slot_at 16 b) (range_with_len (a + 1) n))) rest)
-    ]
-  where
-    stored_more : (f : Found) → length (value_of b f.entry) ≡ f.entry.len → (fs : List Found) → stored_cost cost (map (pair_of b) fs) ≡ sum_by entry_cost fs → stored_cost cost (map (pair_of b) (f ∷ fs)) ≡ sum_by entry_cost (f ∷ fs)
-    stored_more f own fs e =
-        sum_by-cons (λ (p : ℕ × List ℕ). cond (eqb (length p.1) 0) 0 (cost (length p.1))) (pair_of b f) (map (pair_of b) fs)
-        ∙ ap (λ (n : ℕ). cond (eqb n 0) 0 (cost n) + stored_cost cost (map (pair_of b) fs)) own
-        ∙ ap (λ (n : ℕ). cond (eqb f.entry.len 0) 0 (cost f.entry.len) + n) e
-        ∙ sym (sum_by-cons entry_cost f fs)
-
 pub costs_are : (b : List ℕ) → is_sound b ≡ true → stored_cost cost (pairs b) ≡ sum_by entry_cost (entries b)
-costs_are b sound =
-    let same = slots_to_used (is_valid (cycle_of b)) 2 16 b (length (valid_slots b)) refl in
-    sym (ap (λ (ss : List Slot). stored_cost cost (map (pair_of b) (filter_map entry_in ss))) same)
-    ∙ costs_from b sound 2 (length (valid_slots b)) (omega arith) (omega arith)
-    ∙ ap (λ (ss : List Slot). sum_by entry_cost (filter_map entry_in ss)) same
+unfolding entry_cost
+costs_are b sound = sector_costs zms are_zms b 0 sound
 
 -- A sector whose values stand under its guard slot and cost no more than it has for them is one that counts.
 pub ring_sound_of : (b : List ℕ) → is_sound b ≡ true → stored_cost cost (pairs b) ≤ capacity (length b) → ring_sound reading b ≡ true

@@ -2,7 +2,7 @@
 use Rattle.std.proofs.Common.{◌≡◌, ℕ, zero, suc, ◌+◌, ◌-◌, ◌<◌, ◌≤◌, Bool, true, false, not, ◌&&◌, ◌||◌, cond, eqb, List, length, Option, Some, None, refl, sym, ap, ◌∙◌, inl, inr, arith}
 use Rattle.std.specs.List.{find, list_all, range_with_len, slice_get}
 use Rattle.std.specs.Option.{option_map, option_or}
-use Rattle.std.proofs.lemmas.Bool.{false≢true, cases_Bool, ne_eqb, eq-eqb, not-false}
+use Rattle.std.proofs.lemmas.Bool.{false≢true, cases_Bool, or_parts, ne_eqb, eq-eqb, not-false}
 use Rattle.flash_map.specs.declared.faults.Why.{Why}
 use Rattle.flash_map.specs.declared.faults.Why.TheVariants.{AllClosed, TwoOpen, Dirty, NoFence, Overfull}
 use Rattle.flash_map.specs.declared.faults.Damaged.{Damaged}
@@ -61,10 +61,6 @@ ring_none sectors h =
     ∙ ap (λ (o : Option Damaged). option_or o later) dirty ∙ ap (λ (o : Option Damaged). option_or o last) fence ∙ full
 
 -- One sector of both.
-
-or_parts : (x y : Bool) → (x || y) ≡ false → (x ≡ false) × (y ≡ false)
-or_parts false y h = (refl, h)
-or_parts true y h = absurd (false≢true (sym h))
 
 both_rows : (looked guard full : Bool) → (looked && not guard) ≡ false → (looked && full) ≡ false → (looked && (not guard || full)) ≡ false
 both_rows false guard full a b = refl

@@ -15,7 +15,6 @@ pub mod RoundSteps
 pub mod Sectors
 pub mod StandLemmas
 pub mod Standings
-pub mod Views
 pub mod WalkLemmas
 pub mod WriteEnds
 pub mod WriteSteps

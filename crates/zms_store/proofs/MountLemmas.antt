@@ -1,18 +1,15 @@
 -- What the code reads from sector to sector is what the definitions on the area say.
-use Rattle.std.proofs.Common.{◌≡◌, ℕ, ◌*◌, Bool, true, false, not, ◌&&◌, ◌||◌, cond, eqb, List, length, drop, Option, Some, None, refl, sym, ap, ◌∙◌}
+use Rattle.std.proofs.Common.{◌≡◌, ℕ, Bool, true, false, not, ◌&&◌, ◌||◌, cond, eqb, List, length, Option, Some, None, refl, sym, ap, ◌∙◌}
 use Rattle.std.specs.List.{find, list_all, range_with_len}
 use Rattle.std.specs.Option.{option_map, option_or}
 use Rattle.std.specs.Prelude.{unwrap_or}
-use Rattle.flash_sim.specs.Device.{Device, bytes_of}
-use Rattle.flash_map.specs.declared.area.Area.{Area}
 use Rattle.flash_map.specs.declared.faults.Damaged.{Damaged}
 use Rattle.flash_map.specs.declared.faults.Why.TheVariants.{AllClosed, TwoOpen, Overfull}
-use Rattle.flash_map.specs.Area.{sector_size, sectors_of, sector_at}
-use Rattle.flash_map.proofs.Sectors.{length-sectors_from}
+use Rattle.flash_map.specs.Area.{sector_at}
 use Rattle.sector_ring.specs.Area.{next, previous, places, is_closed_at, is_blank_at, follows_closed, open_sector, counts_at, first_of_kind}
-use Rattle.sector_ring.proofs.Lists.{counts-next}
-use Rattle.sector_ring.proofs.Places.{after, before}
-use Rattle.sector_ring.proofs.Searches.{first-filter, all-found, not_all-found}
+pub use Rattle.sector_ring.proofs.AreaReads.{length-sectors, next_there, previous_there}
+use Rattle.sector_ring.proofs.AreaReads as reads
+use Rattle.sector_ring.proofs.Searches.{all-found, not_all-found}
 use Rattle.zms_cycle.specs.Sector.{has_gc_done, has_guard}
 use Rattle.zms_store.specs.declared.places.Sought.{Sought}
 use Rattle.zms_store.specs.declared.places.Sought.TheVariants as sought
@@ -21,15 +18,6 @@ use Rattle.zms_store.specs.Area.{is_begun, is_overfull, reading, redo_of, damage
 use Rattle.zms_store.specs.Sought.{is_sought}
 use Rattle.zms_store.proofs.Sectors.{unused-is}
 
-pub length-sectors : (d : Device) (area : Area) → length (sectors_of d area) ≡ area.sectors
-length-sectors d area = length-sectors_from area.sectors (sector_size d area) (drop (area.first * sector_size d area) (bytes_of d area.bank))
-
-pub next_there : (d : Device) (area : Area) (place : ℕ) → after area.sectors place ≡ next (sectors_of d area) place
-next_there d area place = ap (λ (n : ℕ). after n place) (sym (length-sectors d area))
-
-pub previous_there : (d : Device) (area : Area) (place : ℕ) → before area.sectors place ≡ previous (sectors_of d area) place
-previous_there d area place = ap (λ (n : ℕ). before n place) (sym (length-sectors d area))
-
 pub redo_is : (sectors : List (List ℕ)) (place : ℕ) (closed done : Bool) → is_closed_at reading sectors (next sectors place) ≡ closed → has_gc_done (sector_at sectors place) ≡ done
     → redo_of sectors place ≡ cond closed (cond done EmptyNext CollectAgain) Nothing
 redo_is sectors place closed done c d =
@@ -37,10 +25,10 @@ redo_is sectors place closed done c d =
 
 pub counts_closed : (sectors : List (List ℕ)) (place k hidden : ℕ) (done : Bool) → is_closed_at reading sectors (next sectors place) ≡ true → has_gc_done (sector_at sectors place) ≡ done → hidden ≡ cond done (next sectors place) place
     → not (eqb k hidden) ≡ counts_at reading sectors place k
-counts_closed sectors place k hidden done c d is = ap (λ (h : ℕ). not (eqb k h)) is ∙ sym (counts-next reading sectors place k true done c d)
+counts_closed sectors place k hidden done c d is = reads.counts_closed reading sectors place k hidden done c d is
 
 pub counts_open : (sectors : List (List ℕ)) (place k : ℕ) → is_closed_at reading sectors (next sectors place) ≡ false → true ≡ counts_at reading sectors place k
-counts_open sectors place k c = sym (counts-next reading sectors place k false (has_gc_done (sector_at sectors place)) c refl)
+counts_open sectors place k c = reads.counts_open reading sectors place k c
 
 -- What one sector is, row by row.
 
@@ -80,18 +68,11 @@ opening_is sectors place closed before_closed c p = sym (ap (λ (t : Bool). not 
 -- the open sector
 
 pub open-opening : (sectors : List (List ℕ)) (count place : ℕ) → count ≡ length sectors → Some place ≡ find (is_sought sought.Opening sectors) (range_with_len 0 count) → place ≡ open_sector reading sectors
-unfolding open_sector
-open-opening sectors count place long some =
-    ap (λ (o : Option ℕ). unwrap_or o (unwrap_or (find (λ place. not (is_blank_at reading sectors place)) (places sectors)) 0))
-    (some ∙ ap (λ (n : ℕ). find (follows_closed reading sectors) (range_with_len 0 n)) long ∙ sym (first-filter (follows_closed reading sectors) (places sectors)))
+open-opening sectors count place long some = reads.open-opening reading sectors count place long some
 
 pub open-blank : (sectors : List (List ℕ)) (count : ℕ) (o : Option ℕ) → count ≡ length sectors → None ≡ find (is_sought sought.Opening sectors) (range_with_len 0 count) → o ≡ find (is_sought sought.InUse sectors) (range_with_len 0 count)
     → unwrap_or o 0 ≡ open_sector reading sectors
-unfolding open_sector
-open-blank sectors count o long none found =
-    ap (λ (x : Option ℕ). unwrap_or x 0) (found ∙ ap (λ (n : ℕ). find (is_sought sought.InUse sectors) (range_with_len 0 n)) long)
-    ∙ ap (λ (x : Option ℕ). unwrap_or x (unwrap_or (find (λ place. not (is_blank_at reading sectors place)) (places sectors)) 0))
-    (none ∙ ap (λ (n : ℕ). find (follows_closed reading sectors) (range_with_len 0 n)) long ∙ sym (first-filter (follows_closed reading sectors) (places sectors)))
+open-blank sectors count o long none found = reads.open-blank reading sectors count o long none found
 
 -- the damage, row by row
 

@@ -4,12 +4,13 @@ use Rattle.std.specs.Prelude.{IfSome}
 use Rattle.std.proofs.lemmas.List.{map-append, append-nil}
 use Rattle.flash_map.specs.Area.{sector_at}
 use Rattle.slot_list.specs.Items.{Items, items_of}
+use Rattle.slot_list.proofs.SlotWalks.{entries_more}
 use Rattle.sector_ring.specs.Area.{open_sector}
 use Rattle.live_items.specs.NextIds.{Follows, IsAtMost, IsLeastOf}
 use Rattle.live_items.proofs.NextIds.{least_kept, least_none, least_push, no_value}
 use Rattle.zms_cycle.specs.declared.reading.Found.{Found}
 use Rattle.zms_cycle.specs.Sector.{slot_of, entry_in, pair_of, pairs}
-use Rattle.zms_cycle.proofs.Scanning.{entries_to, entries_more}
+use Rattle.zms_cycle.proofs.Scanning.{entries_to}
 use Rattle.zms_store.specs.Area.{reading, list_of}
 use Rattle.zms_store.specs.Ends.{IsNextId}
 
@@ -21,10 +22,10 @@ least_start items after b least = least_none items after least
 pub least_step : (items : Items) (after : Option ℕ) (b : List ℕ) (n k : ℕ) (o : Option Found) (before least : Option ℕ) → k ≡ 2 + n → o ≡ entry_in (slot_of b k) → IfSome before (IsAtMost least) → IfSome o (λ f. Follows items after f.entry.id → IsAtMost least f.entry.id)
     → IsLeastOf items after (map (pair_of b) (entries_to b n)) before → IsLeastOf items after (map (pair_of b) (entries_to b (n + 1))) least
 least_step items after b n k None before least at is kept own so_far =
-    subst (λ (fs : List Found). IsLeastOf items after (map (pair_of b) fs) least) (sym (entries_more b n k None at is ∙ append-nil (entries_to b n)))
+    subst (λ (fs : List Found). IsLeastOf items after (map (pair_of b) fs) least) (sym (entries_more entry_in 2 16 b n k (n + 1) None at refl is ∙ append-nil (entries_to b n)))
     (least_kept items after (map (pair_of b) (entries_to b n)) before least kept so_far)
 least_step items after b n k (Some f) before least at is kept own so_far =
-    let split : map (pair_of b) (entries_to b (n + 1)) ≡ map (pair_of b) (entries_to b n) ++ pair_of b f ∷ [] = ap (map (pair_of b)) (entries_more b n k (Some f) at is) ∙ map-append (pair_of b) (entries_to b n) (f ∷ []) in
+    let split : map (pair_of b) (entries_to b (n + 1)) ≡ map (pair_of b) (entries_to b n) ++ pair_of b f ∷ [] = ap (map (pair_of b)) (entries_more entry_in 2 16 b n k (n + 1) (Some f) at refl is) ∙ map-append (pair_of b) (entries_to b n) (f ∷ []) in
     subst (λ ps. IsLeastOf items after ps least) (sym split) (least_push items after (map (pair_of b) (entries_to b n)) (pair_of b f) before least kept own so_far)
 
 pub next_is : (sectors : List (List ℕ)) (after least : Option ℕ) → open_sector reading sectors < length sectors → IfSome least (Follows (items_of (list_of sectors)) after)

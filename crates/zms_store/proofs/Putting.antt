@@ -1,14 +1,15 @@
 -- Putting a pair into the open sector, whole or cut.
-use Rattle.std.proofs.Common.{◌≡◌, ℕ, ◌+◌, ◌*◌, ◌≤◌, Bool, true, false, not, ◌&&◌, ◌||◌, cond, eqb, leb, ltb, List, [], ◌∷◌, ◌++◌, length, map, Option, Some, None, refl, sym, ap, subst, ◌∙◌, inl, inr, arith}
-use Rattle.std.specs.Prelude.{sum_by, IsSome}
-use Rattle.std.specs.List.{filter_map, cons_option, list_any}
+use Rattle.std.proofs.Common.{◌≡◌, ℕ, ◌+◌, ◌*◌, ◌≤◌, Bool, true, false, not, ◌&&◌, cond, eqb, leb, ltb, List, [], ◌∷◌, ◌++◌, length, map, Option, Some, None, refl, sym, ap, subst, ◌∙◌, inl, inr, arith}
+use Rattle.std.specs.Prelude.{IsSome}
+use Rattle.std.specs.List.{filter_map}
 use Rattle.std.specs.Option.{option_map_or}
 use Rattle.std.proofs.lemmas.Bool.{false≢true, cases_Bool, cases_eq, and_left, cond-true, cond-false, eq-eqb, ne_eqb, leb-true}
-use Rattle.std.proofs.lemmas.List.Sums.{sum_by_push, sum_by-cons}
+use Rattle.std.proofs.lemmas.List.Sums.{sum_by_push}
 use Rattle.flash_map.specs.Area.{sector_at}
 use Rattle.slot_list.specs.Items.{last, items_of, with_pair}
 use Rattle.slot_list.specs.Slots.{Slot}
 use Rattle.slot_list.proofs.ItemLemmas.{items_of-push}
+use Rattle.slot_list.proofs.SlotCosts.{slots_cost}
 use Rattle.sector_ring.specs.Area.{area_pairs}
 use Rattle.sector_ring.specs.Forms.{AtRest}
 use Rattle.sector_ring.specs.Reading.{is_sound as ring_sound}
@@ -26,7 +27,7 @@ use Rattle.zms_cycle.proofs.Slots16.{entry_in-is}
 use Rattle.zms_store.specs.Area.{is_begun, is_unused, entry_cost, reading, list_of, damage_of}
 use Rattle.zms_store.specs.Collecting.{ChangesOnly, Begins}
 use Rattle.zms_store.proofs.Areas.{keeps-by, only_then, empties_unused, unused_end, costs_are, ring_sound_of, roomy_of}
-use Rattle.zms_store.proofs.EntryReads.{is_read, entry_cases}
+use Rattle.zms_store.proofs.EntryReads.{is_read}
 use Rattle.zms_store.proofs.RoundSteps.{ring_same}
 use Rattle.zms_store.proofs.Sectors.{laws, unused_slots, begun_count}
 
@@ -45,48 +46,18 @@ entry_not_done slot f is =
     none_some : {X : Type 0} {x : X} → None ≡ Some x → ⊥
     none_some h = cc
 
-entry_cost-le : (f : Found) → entry_cost f ≤ 16 + data_len f.entry.len
+entry_cost-le : (f : Found) → entry_cost f ≤ data_len f.entry.len + 16
 unfolding entry_cost
-entry_cost-le f = at_most (eqb f.entry.len 0) (16 + data_len f.entry.len)
+entry_cost-le f = let le : entry_cost f ≤ 16 + data_len f.entry.len = at_most (eqb f.entry.len 0) (16 + data_len f.entry.len) in omega arith
   where
     at_most : (t : Bool) (n : ℕ) → cond t 0 n ≤ n
     at_most true n = omega arith
     at_most false n = omega arith
 
-one_more : (t u : Bool) → cond (t || u) 16 0 ≤ cond u 16 0 + 16
-one_more true true = omega arith
-one_more true false = omega arith
-one_more false u = omega arith
-
-no_more : (t u : Bool) → t ≡ false → cond (t || u) 16 0 ≤ cond u 16 0
-no_more true u none = absurd (false≢true (sym none))
-no_more false u none = omega arith
-
--- each entry has a slot, and gc-done has one too
-slots_cost : (ss : List Slot) → sum_by entry_cost (filter_map entry_in ss) + cond (list_any holds_done ss) 16 0 ≤ 16 * length ss + sum_by (λ (f : Found). data_len f.entry.len) (filter_map entry_in ss)
-slots_cost [] = omega arith
-slots_cost (s ∷ ss) =
-    let rest = slots_cost ss in
-    elim (entry_cases s) [
-      | inl none ↦
-          let same : filter_map entry_in (s ∷ ss) ≡ filter_map entry_in ss = ap (λ (o : Option Found). cons_option o (filter_map entry_in ss)) none in
-          let costs = ap (sum_by entry_cost) same in
-          let lens = ap (sum_by (λ (f : Found). data_len f.entry.len)) same in
-          let marked = one_more (holds_done s) (list_any holds_done ss) in
-          omega arith
-      | inr (f, some, at) ↦
-          let same : filter_map entry_in (s ∷ ss) ≡ f ∷ filter_map entry_in ss = ap (λ (o : Option Found). cons_option o (filter_map entry_in ss)) some in
-          let costs = ap (sum_by entry_cost) same ∙ sum_by-cons entry_cost f (filter_map entry_in ss) in
-          let lens = ap (sum_by (λ (f : Found). data_len f.entry.len)) same ∙ sum_by-cons (λ (f : Found). data_len f.entry.len) f (filter_map entry_in ss) in
-          let unmarked = no_more (holds_done s) (list_any holds_done ss) (entry_not_done s f some) in
-          let own = entry_cost-le f in
-          omega arith
-    ]
-
 stored-le_slots : (b : List ℕ) → is_sound b ≡ true → stored_cost cost (pairs b) + cond (has_gc_done b) 16 0 ≤ 16 * length (valid_slots b) + data_end b
 stored-le_slots b sound =
     let costs = costs_are b sound in
-    let slots = slots_cost (valid_slots b) in
+    let slots = slots_cost entry_in holds_done 16 entry_cost (λ (f : Found). data_len f.entry.len) entry_cost-le entry_not_done (valid_slots b) in
     let above = end_of-above (entries b) in
     let sums = above.sums in
     omega arith

@@ -1,15 +1,14 @@
 -- One sector, as the calls on an area see it.
-use Rattle.std.proofs.Common.{◌≡◌, ℕ, ◌+◌, ◌-◌, ◌*◌, ◌/◌, ◌^◌, ◌<◌, ◌≤◌, min, Bool, true, false, not, ◌&&◌, ◌||◌, cond, eqb, leb, ltb, List, [], ◌∷◌, ◌++◌, length, map, get_or, take, Option, Some, None, refl, sym, ap, ◌∙◌, inl, inr, arith}
+use Rattle.std.proofs.Common.{◌≡◌, ℕ, ◌+◌, ◌-◌, ◌*◌, ◌/◌, ◌^◌, ◌<◌, ◌≤◌, min, Bool, true, false, not, ◌&&◌, ◌||◌, cond, eqb, leb, ltb, List, [], ◌∷◌, length, map, get_or, take, Option, Some, None, refl, sym, ap, ◌∙◌, inl, inr, arith}
 use Rattle.std.specs.Prelude.{sum_by, is_some}
-use Rattle.std.specs.List.{filter_map, cons_option, list_any, list_all, prefix_len}
+use Rattle.std.specs.List.{filter_map, list_any, list_all, prefix_len}
 use Rattle.std.specs.Option.{option_map_or}
-use Rattle.std.proofs.lemmas.Bool.{false≢true, cases_Bool, cases_lt, and_left, and_parts, eq-eqb, ne_eqb, lt-ltb, lt-leb, le-leb, not-true}
-use Rattle.std.proofs.lemmas.List.{append-nil}
-use Rattle.std.proofs.lemmas.List.Folds.{list_any-append}
+use Rattle.std.proofs.lemmas.Bool.{false≢true, cases_Bool, cases_lt, and_left, and_parts, or_parts, eq-eqb, ne_eqb, lt-ltb, lt-leb, le-leb, not-true}
 use Rattle.std.proofs.lemmas.List.FromFn.{length-map-range_with_len, get_or-map-range_with_len}
-use Rattle.std.proofs.lemmas.List.Sums.{fold_push, prefix_len_is, prefix_len_stops}
+use Rattle.std.proofs.lemmas.List.Sums.{prefix_len_is, prefix_len_stops}
 use Rattle.std.proofs.Math.Nat.{div-le_self}
 use Rattle.std.proofs.lemmas.Nat.{le-div}
+use Rattle.slot_list.proofs.SlotWalks as walks
 use Rattle.slot_list.specs.Slots.{Slot, slot_at, slots, used_slots}
 use Rattle.slot_list.proofs.SlotLemmas.{index-slot_at, length-used_slots}
 use Rattle.slot_list.proofs.SlotCounts.{slots_to_used, used_inside, used_count_fits}
@@ -21,7 +20,7 @@ use Rattle.zms_cycle.specs.Sector.{slot_of, is_valid, cycle_of, valid_slots, hol
 use Rattle.zms_cycle.specs.Entries.{decoded, is_special}
 use Rattle.zms_cycle.specs.States.{state_of}
 use Rattle.zms_cycle.proofs.Slots16.{entry_in-is}
-use Rattle.zms_cycle.proofs.Scanning.{entries_to, entries_more}
+use Rattle.zms_cycle.proofs.Scanning.{entries_to}
 use Rattle.zms_store.specs.Area.{is_begun, is_unused, is_overfull, entry_cost, reading, marks_of, placed_at, IsListed, last_in}
 
 -- What the state says.
@@ -164,10 +163,6 @@ none_over p (f ∷ fs) h =
       | inr over ↦ absurd (false≢true (sym h ∙ ap (λ (t : Bool). not t || list_any (λ f. not (p f)) fs) over))
     ]
 
-or_parts : (x y : Bool) → (x || y) ≡ false → (x ≡ false) × (y ≡ false)
-or_parts false y h = (refl, h)
-or_parts true y h = absurd (false≢true (sym h))
-
 -- what counts has its values under its guard slot
 pub sound_of : (b : List ℕ) → has_guard b ≡ true → is_overfull b ≡ false → is_sound b ≡ true
 unfolding is_overfull
@@ -193,25 +188,11 @@ unused_sound b long unused =
 
 -- Going over the entries.
 
-or-false : (t : Bool) → (t || false) ≡ t
-or-false true = refl
-or-false false = refl
-
-sum_more : (g : Found → ℕ) (fs : List Found) (o : Option Found) → sum_by g (fs ++ cons_option o []) ≡ sum_by g fs + option_map_or g o 0
-sum_more g fs None = ap (sum_by g) (append-nil fs) ∙ omega arith
-sum_more g fs (Some f) = fold_push (λ a f. a + g f) 0 fs f
-
-any_more : (p : Found → Bool) (fs : List Found) (o : Option Found) → list_any p (fs ++ cons_option o []) ≡ (list_any p fs || option_map_or p o false)
-any_more p fs None = ap (list_any p) (append-nil fs) ∙ sym (or-false (list_any p fs))
-any_more p fs (Some f) = list_any-append p fs (f ∷ []) ∙ ap (λ (t : Bool). list_any p fs || t) (or-false (p f))
-
 pub sum_step : (g : Found → ℕ) (b : List ℕ) (n k : ℕ) (o : Option Found) (sum add : ℕ) → k ≡ 2 + n → o ≡ entry_in (slot_of b k) → sum ≡ sum_by g (entries_to b n) → add ≡ option_map_or g o 0 → sum + add ≡ sum_by g (entries_to b (n + 1))
-sum_step g b n k o sum add at is so_far more =
-    ap (λ (x : ℕ). sum + x) more ∙ ap (λ (x : ℕ). x + option_map_or g o 0) so_far ∙ sym (ap (sum_by g) (entries_more b n k o at is) ∙ sum_more g (entries_to b n) o)
+sum_step g b n k o sum add at is so_far more = walks.sum_step entry_in 2 16 b g n k (n + 1) o sum add at refl is so_far more
 
 pub any_step : (p : Found → Bool) (b : List ℕ) (n k : ℕ) (o : Option Found) (before here : Bool) → k ≡ 2 + n → o ≡ entry_in (slot_of b k) → before ≡ list_any p (entries_to b n) → here ≡ option_map_or p o false → (before || here) ≡ list_any p (entries_to b (n + 1))
-any_step p b n k o before here at is so_far more =
-    ap (λ (t : Bool). before || t) more ∙ ap (λ (t : Bool). t || option_map_or p o false) so_far ∙ sym (ap (list_any p) (entries_more b n k o at is) ∙ any_more p (entries_to b n) o)
+any_step p b n k o before here at is so_far more = walks.any_step entry_in 2 16 b p n k (n + 1) o before here at refl is so_far more
 
 pub entries_all : (b : List ℕ) (n : ℕ) → n ≡ length (valid_slots b) → entries_to b n ≡ entries b
 entries_all b n is = ap (filter_map entry_in) (slots_to_used (is_valid (cycle_of b)) 2 16 b n is)
@@ -240,29 +221,14 @@ overfull_is b limit cap costs slots n over count to at room any sum =
 
 -- The search for an id, from the lowest slot up.
 
-in_more : (id : ℕ) (fs : List Found) (o : Option Found) → last_in id (fs ++ cons_option o []) ≡ option_map_or (λ f. cond (eqb f.entry.id id) (Some f) (last_in id fs)) o (last_in id fs)
-in_more id fs None = ap (last_in id) (append-nil fs)
-in_more id fs (Some f) = fold_push (λ last f. cond (eqb f.entry.id id) (Some f) last) None fs f
-
-find_more : (b : List ℕ) (id n k : ℕ) (o : Option Found) → k ≡ 2 + n → o ≡ entry_in (slot_of b k) → last_in id (entries_to b (n + 1)) ≡ option_map_or (λ f. cond (eqb f.entry.id id) (Some f) (last_in id (entries_to b n))) o (last_in id (entries_to b n))
-find_more b id n k o at is = ap (last_in id) (entries_more b n k o at is) ∙ in_more id (entries_to b n) o
-
 pub find_here : (b : List ℕ) (id count k : ℕ) (f : Found) (rest : Option Found) → 0 < count → k ≡ count + 1 → Some f ≡ entry_in (slot_of b k) → f.entry.id ≡ id → last_in id (entries_to b count) ≡ rest → Some f ≡ rest
-find_here b id count k f rest positive at is same later =
-    let back : count ≡ count - 1 + 1 = omega arith in
-    sym (sym later ∙ ap (λ (n : ℕ). last_in id (entries_to b n)) back ∙ find_more b id (count - 1) k (Some f) (omega arith) is
-    ∙ ap (λ (t : Bool). cond t (Some f) (last_in id (entries_to b (count - 1)))) (eq-eqb f.entry.id id same))
+find_here b id count k f rest positive at is same later = walks.found_here entry_in 2 16 b (λ (g : Found). eqb g.entry.id id) count k positive (omega arith) f rest is (eq-eqb f.entry.id id same) later
 
 pub find_other : (b : List ℕ) (id count k : ℕ) (f : Found) (rest : Option Found) → 0 < count → k ≡ count + 1 → Some f ≡ entry_in (slot_of b k) → (f.entry.id ≡ id → ⊥) → last_in id (entries_to b count) ≡ rest → last_in id (entries_to b (count - 1)) ≡ rest
-find_other b id count k f rest positive at is other later =
-    let back : count ≡ count - 1 + 1 = omega arith in
-    sym (ap (λ (n : ℕ). last_in id (entries_to b n)) back ∙ find_more b id (count - 1) k (Some f) (omega arith) is
-    ∙ ap (λ (t : Bool). cond t (Some f) (last_in id (entries_to b (count - 1)))) (ne_eqb f.entry.id id other)) ∙ later
+find_other b id count k f rest positive at is other later = walks.found_other entry_in 2 16 b (λ (g : Found). eqb g.entry.id id) count k positive (omega arith) f rest is (ne_eqb f.entry.id id other) later
 
 pub find_none : (b : List ℕ) (id count k : ℕ) (rest : Option Found) → 0 < count → k ≡ count + 1 → None ≡ entry_in (slot_of b k) → last_in id (entries_to b count) ≡ rest → last_in id (entries_to b (count - 1)) ≡ rest
-find_none b id count k rest positive at is later =
-    let back : count ≡ count - 1 + 1 = omega arith in
-    sym (ap (λ (n : ℕ). last_in id (entries_to b n)) back ∙ find_more b id (count - 1) k None (omega arith) is) ∙ later
+find_none b id count k rest positive at is later = walks.found_none entry_in 2 16 b (λ (g : Found). eqb g.entry.id id) count k positive (omega arith) rest is later
 
 -- The slot of an entry.
 

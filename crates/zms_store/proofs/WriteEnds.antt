@@ -21,7 +21,7 @@ use Rattle.zms_cycle.specs.Sector.{cost, capacity, fits}
 use Rattle.zms_cycle.proofs.Frames.{pad, data_len-short, data_len-long}
 use Rattle.zms_store.specs.declared.store.Zms.{Zms}
 use Rattle.zms_store.specs.Area.{reading}
-use Rattle.zms_store.specs.Ends.{Holds, Fits, IsShort, Writes, FindsNoSpace, StopsWriting, Deletes, StopsDeleting, DeleteEnds}
+use Rattle.zms_store.specs.Ends.{Holds, Fits, IsShort, IsCrammedFor, Writes, FindsNoSpace, StopsWriting, Deletes, StopsDeleting, DeleteEnds}
 use Rattle.zms_store.specs.Spending.{entry_units, most_units}
 use Rattle.zms_store.specs.Standing.{StandsOn, IsUndamaged, KeepsItems, list_on, items_on}
 
@@ -188,9 +188,10 @@ write_stops a d zms id bytes short other kept most unfit = record {
 -- no space
 pub write_full : (a d : Device) (zms later : Zms) (id : ℕ) (bytes : List ℕ) (need live : ℕ) → later.area ≡ zms.area → IsShort a zms.area (length bytes) → ¬ Holds a zms.area id bytes → KeepsItems a d zms.area
     → SpendsBetween a d 0 ((zms.area.sectors - 1) * (3 * (sector_size a zms.area / 16) + 9)) → (Fits a zms (length bytes) → d ≡ a) → StandsOn a zms → StandsOn d later → fits (sector_at (sectors_of d later.area) later.current) (length bytes) ≡ false
-    → (zms.area.sectors - 1) * (capacity (sector_size a zms.area) - cost (length bytes)) < live_cost cost (list_on a zms.area) → live_cost cost (list_on d zms.area) ≡ live_cost cost (list_on a zms.area)
+    → (zms.area.sectors - 1) * (capacity (sector_size a zms.area) - cost (length bytes)) < live_cost cost (list_on a zms.area)
+    → IsCrammedFor d zms.area (cost (length bytes)) → live_cost cost (list_on d zms.area) ≡ live_cost cost (list_on a zms.area)
     → need ≡ cost (length bytes) → live ≡ live_cost cost (list_on d later.area) → FindsNoSpace a d zms id bytes need live
-write_full a d zms later id bytes need live same_area short other kept most same stands there no_room full same_live needs lives =
+write_full a d zms later id bytes need live same_area short other kept most same stands there no_room full crammed same_live needs lives =
     let live_is : live ≡ live_cost cost (list_on a zms.area) = lives ∙ ap (λ (x : Area). live_cost cost (list_on d x)) same_area ∙ same_live in
     let product : (zms.area.sectors - 1) * (capacity (sector_size a zms.area) - need) ≡ (zms.area.sectors - 1) * (capacity (sector_size a zms.area) - cost (length bytes)) =
     ap (λ (n : ℕ). (zms.area.sectors - 1) * (capacity (sector_size a zms.area) - n)) needs in
@@ -199,6 +200,7 @@ write_full a d zms later id bytes need live same_area short other kept most same
       lives = live_is;
       short = short;
       full = omega arith;
+      crammed = subst (IsCrammedFor d zms.area) (sym needs) crammed;
       other = other;
       unfit = λ fitting.
           let at : later.current ≡ zms.current = there.current ∙ ap (λ (x : Area). open_sector reading (sectors_of d x)) same_area ∙ ap (λ (x : Device). open_sector reading (sectors_of x zms.area)) (same fitting) ∙ sym stands.current in

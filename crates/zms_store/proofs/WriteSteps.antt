@@ -16,17 +16,17 @@ use Rattle.flash_map.proofs.Touches.{then, untouched}
 use Rattle.slot_list.specs.Live.{live_pairs}
 use Rattle.sector_ring.specs.Area.{next, open_sector, area_pairs}
 use Rattle.sector_ring.specs.Forms.{AtRest, pairs_at, rest}
-use Rattle.sector_ring.specs.Rounds.{copies_cost, joined, live_cost, parts, collect_oldest, FindsNoRoom}
+use Rattle.sector_ring.specs.Rounds.{copies_cost, joined, live_cost, parts, collect_oldest, FindsNoRoom, IsCrammed}
 use Rattle.sector_ring.proofs.LiveCost.{live-le}
 use Rattle.sector_ring.proofs.Parts.{parts-list, parts-count}
 use Rattle.sector_ring.proofs.Places.{after-within}
 use Rattle.sector_ring.proofs.RingSteps.{reads}
-use Rattle.sector_ring.proofs.Rounding.{oldest-is, round-live, no_round, round_more, no_room}
+use Rattle.sector_ring.proofs.Rounding.{oldest-is, round-live, no_round, round_more, no_room, crammed}
 use Rattle.zms_cycle.specs.Sector.{cost, capacity, free, fits}
 use Rattle.zms_store.specs.declared.store.Zms.{Zms}
 use Rattle.zms_store.specs.Area.{is_unused, reading}
 use Rattle.zms_store.specs.Collecting.{TurnsAt}
-use Rattle.zms_store.specs.Ends.{Fits, IsShort}
+use Rattle.zms_store.specs.Ends.{Fits, IsShort, IsCrammedFor}
 use Rattle.zms_store.specs.Spending.{copied, round_units}
 use Rattle.zms_store.specs.Standing.{StandsOn, KeepsItems, list_on}
 use Rattle.zms_store.proofs.Areas.{roomy_of}
@@ -223,7 +223,18 @@ module _ (a d : Device) (start now : Zms) (len n : ℕ) (so_far : IsSearching a 
         unfit = λ any fitting. unfit_now no_room stands fitting;
       }
 
-  -- after all rounds: the live items leave no room
+  -- after a round for each sector but the blank one
+  finds_all : StandsOn a start → n + 1 ≡ start.area.sectors → fits (sector_at (sectors_of d now.area) now.current) len ≡ false
+      → FindsNoRoom cost (cost len) (capacity (sector_size a start.area)) (parts reading (sectors_of a start.area) start.current) (parts reading (sectors_of d start.area) now.current) (length (parts reading (sectors_of a start.area) start.current))
+  finds_all stands all unfitting =
+      let form = rest-stands a start stands in
+      let ring = form.ring in
+      let count = parts-count reading (sectors_of a start.area) start.current ring.within ring.several in
+      let many = length-sectors a start.area in
+      let n-is : n ≡ length (parts reading (sectors_of a start.area) start.current) = omega arith in
+      subst (λ (m : ℕ). FindsNoRoom cost (cost len) (capacity (sector_size a start.area)) (parts reading (sectors_of a start.area) start.current) (parts reading (sectors_of d start.area) now.current) m) n-is (so_far.none (sym fits_now ∙ unfitting))
+
+  -- the live items leave no room
   pub nothing_fits : StandsOn a start → IsShort a start.area len → n + 1 ≡ start.area.sectors → fits (sector_at (sectors_of d now.area) now.current) len ≡ false
       → (start.area.sectors - 1) * (capacity (sector_size a start.area) - cost len) < live_cost cost (list_on a start.area)
   nothing_fits stands short all unfitting =
@@ -232,9 +243,7 @@ module _ (a d : Device) (start now : Zms) (len n : ℕ) (so_far : IsSearching a 
       let count = parts-count reading (sectors_of a start.area) start.current ring.within ring.several in
       let many = length-sectors a start.area in
       let several = ring.several in
-      let n-is : n ≡ length (parts reading (sectors_of a start.area) start.current) = omega arith in
-      let finds = so_far.none (sym fits_now ∙ unfitting) in
-      let bound = no_room_left finds n-is (omega arith) short in
+      let bound = no_room cost (cost len) (capacity (sector_size a start.area)) (parts reading (sectors_of a start.area) start.current) (parts reading (sectors_of d start.area) now.current) (finds_all stands all unfitting) (omega arith) short in
       let product : (start.area.sectors - 1) * (capacity (sector_size a start.area) - cost len) ≡ length (parts reading (sectors_of a start.area) start.current) * (capacity (sector_size a start.area) - cost len) =
       ap (λ (m : ℕ). m * (capacity (sector_size a start.area) - cost len)) (omega arith) in
       let list_d : list_on d start.area ≡ joined (parts reading (sectors_of d start.area) now.current) =
@@ -242,11 +251,10 @@ module _ (a d : Device) (start now : Zms) (len n : ℕ) (so_far : IsSearching a 
       ∙ parts-list reading laws (sectors_of d start.area) now.current rest_now in
       let live : live_cost cost (joined (parts reading (sectors_of d start.area) now.current)) ≡ live_cost cost (list_on a start.area) = ap (live_cost cost) (sym list_d) ∙ so_far.live in
       omega arith
-    where
-      no_room_left : FindsNoRoom cost (cost len) (capacity (sector_size a start.area)) (parts reading (sectors_of a start.area) start.current) (parts reading (sectors_of d start.area) now.current) n
-          → n ≡ length (parts reading (sectors_of a start.area) start.current) → 0 < n → cost len ≤ capacity (sector_size a start.area)
-          → length (parts reading (sectors_of a start.area) start.current) * (capacity (sector_size a start.area) - cost len) < live_cost cost (joined (parts reading (sectors_of d start.area) now.current))
-      no_room_left finds is some short =
-          no_room cost (cost len) (capacity (sector_size a start.area)) (parts reading (sectors_of a start.area) start.current) (parts reading (sectors_of d start.area) now.current)
-          (subst (λ (m : ℕ). FindsNoRoom cost (cost len) (capacity (sector_size a start.area)) (parts reading (sectors_of a start.area) start.current) (parts reading (sectors_of d start.area) now.current) m) is finds)
-          (omega arith) short
+
+  -- and each sector but the blank one has live pairs alone, and no room
+  pub crammed_now : StandsOn a start → n + 1 ≡ start.area.sectors → fits (sector_at (sectors_of d now.area) now.current) len ≡ false → IsCrammedFor d start.area (cost len)
+  crammed_now stands all unfitting =
+      subst (λ (m : ℕ). IsCrammed reading cost (cost len) (capacity m) (sectors_of d start.area) (open_sector reading (sectors_of d start.area))) (sym size_same)
+      (subst (λ (k : ℕ). IsCrammed reading cost (cost len) (capacity (sector_size a start.area)) (sectors_of d start.area) k) current_now
+      (crammed reading laws cost (cost len) (capacity (sector_size a start.area)) (parts reading (sectors_of a start.area) start.current) (sectors_of d start.area) now.current rest_now (finds_all stands all unfitting)))

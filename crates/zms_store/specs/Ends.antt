@@ -1,5 +1,5 @@
 -- How the calls of a store end.
-use Rattle.std.specs.Prelude.{◌≡◌, ◌⊎◌, ℕ, ◌+◌, ◌-◌, ◌*◌, ◌<◌, ◌≤◌, Bool, true, false, List, length, Option, Some, None, IsTrue, Result, Ok, Err}
+use Rattle.std.specs.Prelude.{◌≡◌, ◌⊎◌, ℕ, ◌+◌, ◌-◌, ◌*◌, ◌<◌, ◌≤◌, List, length, Option, Some, None, IsTrue, Result, Ok, Err}
 use Rattle.std.specs.FinMap.{get, insert, remove}
 use Rattle.flash_sim.specs.Device.{Device}
 use Rattle.flash_sim.specs.declared.flash.PowerLost.{PowerLost as Lost}
@@ -11,22 +11,16 @@ use Rattle.flash_map.specs.declared.faults.WriteFault.TheVariants.{NoSpace, TooL
 use Rattle.flash_map.specs.Area.{sector_size, sectors_of, sector_bytes}
 use Rattle.flash_map.specs.Spending.{SpendsBetween}
 use Rattle.slot_list.specs.Items.{Items}
-use Rattle.sector_ring.specs.Rounds.{live_cost}
+use Rattle.sector_ring.specs.Area.{open_sector}
+use Rattle.sector_ring.specs.Rounds.{live_cost, IsCrammed}
 use Rattle.live_items.specs.NextIds.{IsBehind}
 use Rattle.zms_cycle.specs.Sector.{cost, capacity, fits}
-use Rattle.zms_store.specs.Area.{damage_of}
+use Rattle.zms_store.specs.Area.{reading, damage_of}
 use Rattle.zms_store.specs.declared.store.Zms.{Zms}
 use Rattle.zms_store.specs.Spending.{mount_units, entry_units, most_units}
 use Rattle.zms_store.specs.Standing.{list_on, items_on, StandsOn, KeepsItems}
 
 -- mounting
-
--- the answer says that power was lost
-abbrev pub mount_lost : {T : Type 0} → Result T MountFault → Bool
-mount_lost (Ok zms) = false
-mount_lost (Err (HasDamage damaged)) = false
-mount_lost (Err MountLost) = true
-mount_lost (Err NoMemory) = false
 
 -- The area is damaged, and then nothing changed; or it is not, and its items stay, whether power is lost or not.
 abbrev pub MountEnds : Device → Device → Area → Result Zms MountFault → Type 0
@@ -48,12 +42,6 @@ IsNextId items after (Some next) = IsBehind after next × (get items next ≡ No
 
 -- writing
 
-abbrev pub write_lost : {T : Type 0} → Result T WriteFault → Bool
-write_lost (Ok _) = false
-write_lost (Err (NoSpace need live)) = false
-write_lost (Err TooLong) = false
-write_lost (Err PowerLost) = true
-
 -- these bytes are the item's already
 abbrev pub Holds : Device → Area → ℕ → List ℕ → Type 0
 Holds d area id bytes = get (items_on d area) id ≡ Some bytes
@@ -66,6 +54,10 @@ Fits d zms len = IsTrue (fits (sector_bytes d zms.area zms.current) len)
 abbrev pub IsShort : Device → Area → ℕ → Type 0
 IsShort d area len = cost len ≤ capacity (sector_size d area)
 
+-- Each pair of the area is live, and each sector but the blank one has no room for so many bytes beside its pairs.
+abbrev pub IsCrammedFor : Device → Area → ℕ → Type 0
+IsCrammedFor d area need = IsCrammed reading cost need (capacity (sector_size d area)) (sectors_of d area) (open_sector reading (sectors_of d area))
+
 -- the item has these bytes, and all others stay
 pub record Writes (old new : Device) (zms : Zms) (id : ℕ) (bytes : List ℕ) : Type 0 where
   pub short : IsShort old zms.area (length bytes)
@@ -74,12 +66,14 @@ pub record Writes (old new : Device) (zms : Zms) (id : ℕ) (bytes : List ℕ) :
   pub fitting : ¬ Holds old zms.area id bytes → Fits old zms (length bytes) → SpendsBetween old new (entry_units (length bytes)) (entry_units (length bytes) + 4)
   pub at_most : SpendsBetween old new 0 (most_units (sector_size old zms.area) (zms.area.sectors - 1) (length bytes))
 
--- No round of collections makes room: the live items leave none in any of the sectors with values.
+-- No round of collections makes room: the live items leave none, neither in all sectors with values together nor in any
+-- of them.
 pub record FindsNoSpace (old new : Device) (zms : Zms) (id : ℕ) (bytes : List ℕ) (need live : ℕ) : Type 0 where
   pub needs : need ≡ cost (length bytes)
   pub lives : live ≡ live_cost cost (list_on old zms.area)
   pub short : IsShort old zms.area (length bytes)
   pub full : (zms.area.sectors - 1) * (capacity (sector_size old zms.area) - need) < live
+  pub crammed : IsCrammedFor new zms.area need
   pub other : ¬ Holds old zms.area id bytes
   pub unfit : ¬ Fits old zms (length bytes)
   pub items : items_on new zms.area ≡ items_on old zms.area

@@ -1,8 +1,9 @@
 -- From an entry of the list to the one before it.
-use Rattle.std.specs.Prelude.{◌≡◌, ℕ, ◌+◌, ◌-◌, List, [], ◌∷◌, ◌++◌, map, length, take, Option, Some, None, nat_lt, if◌then◌else◌}
-use Rattle.std.specs.List.{filter_map, flat_map, last_or, range_with_len}
+use Rattle.std.specs.Prelude.{◌≡◌, ℕ, List, [], ◌∷◌, ◌++◌, map, length, take, Option, Some, None, if◌then◌else◌}
+use Rattle.std.specs.List.{filter_map, flat_map, last_or}
 use Rattle.flash_map.specs.Area.{sector_at}
 use Rattle.sector_ring.specs.Area.{counts_at}
+use Rattle.sector_ring.specs.Walks.{places_before}
 use Rattle.zms_cycle.specs.declared.reading.Found.{Found}
 use Rattle.zms_cycle.specs.Sector.{entry_in, valid_slots}
 use Rattle.zms_store.specs.declared.sector.Placed.{Placed}
@@ -15,12 +16,6 @@ entries_within sector n = filter_map entry_in (take n (valid_slots sector))
 -- those with their places, where the sector counts with this one open
 abbrev pub counted_within : List (List ℕ) → ℕ → ℕ → ℕ → List Placed
 counted_within sectors current place n = if counts_at reading sectors current place then map (placed_at place) (entries_within (sector_at sectors place) n) else []
-
--- the sectors of the round to this open one before this place
-abbrev pub places_before : ℕ → ℕ → ℕ → List ℕ
-places_before count current place =
-    if nat_lt current place then range_with_len (current + 1) (place - (current + 1))
-    else range_with_len (current + 1) (count - (current + 1)) ++ range_with_len 0 place
 
 -- the entries of the sectors before this one, and those in its first so many valid slots
 abbrev pub placed_up_to : List (List ℕ) → ℕ → ℕ → ℕ → List Placed

@@ -14,9 +14,9 @@ ghost use Rattle.zms_store.specs.Standing.{IsZmsArea, IsUndamaged, KeepsItems};
 
 use crate::lookup::find;
 use crate::mounting::what_to_redo;
-use crate::places::{marks_at, next, sector_of};
+use crate::places::marks_at;
 use crate::sector::{Placed, Redo, placed_in};
-use flash_map::Area;
+use flash_map::{Area, sector_view};
 use flash_sim::{Flash, PowerLost, Steps};
 use std::sync::ledger::Ledger;
 use zms_cycle::{FIRST, close, copy_entry, empty_sector, entry_in, put_done};
@@ -79,7 +79,7 @@ pub fn live_in<F: Flash, L: Ledger>(
     requires listed { let d = F.device flash.now in slot < length (valid_slots (sector_at (sectors_of d area.now) place)) + 2 }
     ensures { let d = F.device flash.now in result ≡ live_in (sectors_of d area.now) place slot }
 {
-    let found = entry_in(sector_of(flash, area, place, steps), slot)?;
+    let found = entry_in(sector_view(flash, area, place, steps), slot)?;
     let placed = placed_in(found, place);
     if is_live(flash, area, current, &placed, steps) {
         Some(placed)
@@ -158,7 +158,7 @@ fn collect<F: Flash, L: Ledger>(
     ensures items { KeepsItems (F.device flash.old) (F.device flash.new) area.now }
     ensures spends { let d = F.device flash.old in SpendsBetween d (F.device flash.new) 0 (begin_units (sectors_of d area.now) current + 2 * copied (sectors_of d area.now) current / 16 + 5) }
 {
-    let victim = next(area, current);
+    let victim = area.next(current);
     begin_blank(flash, area, current, steps)?;
     copy_live(flash, area, current, victim, steps)?;
     put_done(flash, area, current, steps)?;
@@ -205,7 +205,7 @@ pub fn redo<F: Flash, L: Ledger>(
 {
     match what_to_redo(flash, area, current, steps) {
         Redo::Nothing => Ok(()),
-        Redo::EmptyNext => empty_sector(flash, area, next(area, current), steps),
+        Redo::EmptyNext => empty_sector(flash, area, area.next(current), steps),
         Redo::CollectAgain => collect_again(flash, area, current, steps),
     }
 }
@@ -230,7 +230,7 @@ pub fn round<F: Flash, L: Ledger>(
     ensures spends { let d = F.device flash.old in SpendsBetween d (F.device flash.new) 0 (round_units (sectors_of d area.now) current) }
 {
     close(flash, area, current, steps)?;
-    let opened = next(area, current);
+    let opened = area.next(current);
     redo(flash, area, opened, steps)?;
     Ok(opened)
 }

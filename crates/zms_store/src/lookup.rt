@@ -9,9 +9,9 @@ ghost use Rattle.sector_ring.specs.Area.{open_sector};
 ghost use Rattle.slot_list.specs.Items.{last, value_of};
 ghost use Rattle.zms_store.specs.Area.{reading, IsPlaced, counted_in, last_of, last_placed, list_of, placed_bytes};
 
-use crate::places::{counts, sector_of};
+use crate::places::counts;
 use crate::sector::{Placed, find_in, read_marks};
-use flash_map::Area;
+use flash_map::{Area, sector_view};
 use flash_sim::{Flash, Steps};
 use std::sync::ledger::Ledger;
 
@@ -32,7 +32,7 @@ fn find_at<F: Flash, L: Ledger>(
     ensures placed { let d = F.device flash.now in IfSome result (λ p. IsPlaced (sectors_of d area.now) current p) }
 {
     if counts(flash, area, current, place, steps) {
-        let bytes = sector_of(flash, area, place, steps);
+        let bytes = sector_view(flash, area, place, steps);
         find_in(bytes, read_marks(bytes).slots, place, id)
     } else {
         None

@@ -6,7 +6,7 @@ ghost use Rattle.flash_map.specs.Lawful.{IsLawfulFor};
 ghost use Rattle.sector_ring.specs.Area.{open_sector};
 ghost use Rattle.zms_store.specs.Area.{reading, redo_of, damage_of};
 
-use crate::places::{Sought, first, marks_at, next};
+use crate::places::{Sought, first, marks_at};
 use crate::sector::Redo;
 use flash_map::{Area, Damaged, Why};
 use flash_sim::{Flash, Steps};
@@ -70,7 +70,7 @@ pub fn what_to_redo<F: Flash, L: Ledger>(
     requires within { current < area.now.sectors }
     ensures { let d = F.device flash.now in result ≡ redo_of (sectors_of d area.now) current }
 {
-    if marks_at(flash, area, next(area, current), steps).closed {
+    if marks_at(flash, area, area.next(current), steps).closed {
         if marks_at(flash, area, current, steps).gc_done {
             Redo::EmptyNext
         } else {

@@ -9,7 +9,7 @@ ghost use Rattle.zms_store.specs.Area.{reading, marks_of, is_second_open, is_ove
 ghost use Rattle.zms_store.specs.Sought.{is_sought, NamesWithin};
 
 use crate::sector::{self, Marks};
-use flash_map::{Area, area_view, geometry};
+use flash_map::{Area, sector_view};
 use flash_sim::{Flash, Steps};
 use std::sync::ledger::Ledger;
 
@@ -27,45 +27,6 @@ pub enum Sought {
     Full(u32),
 }
 
-/// The next sector, round the end of the area.
-pub fn next(area: &Area, place: u32) -> u32
-    requires { place < area.now.sectors }
-    ensures value { result ≡ (if place + 1 == area.now.sectors then 0 else place + 1) }
-    ensures within { result < area.now.sectors }
-{
-    let count = area.sectors;
-    if place + 1 == count { 0 } else { place + 1 }
-}
-
-/// The sector before, round the start of the area.
-pub fn previous(area: &Area, place: u32) -> u32
-    requires { place < area.now.sectors }
-    ensures value { result ≡ (if place == 0 then area.now.sectors - 1 else place - 1) }
-    ensures within { result < area.now.sectors }
-{
-    if place == 0 {
-        area.sectors - 1
-    } else {
-        place - 1
-    }
-}
-
-/// The bytes of a whole sector. It is one step.
-pub fn sector_of<'a, F: Flash, L: Ledger>(
-    flash: &'a F,
-    area: &Area,
-    place: u32,
-    steps: &mut Steps<L>,
-) -> &'a [u8]
-    requires lawful { IsLawfulFor (F.device flash.now).banks area.now }
-    requires inside { place < area.now.sectors }
-    ensures bytes { result.now ≡ sector_at (sectors_of (F.device flash.now) area.now) place }
-    ensures long { length result.now ≡ sector_size (F.device flash.now) area.now }
-{
-    let size = geometry(flash, area).sector;
-    area_view(flash, area, place, 0, size, steps)
-}
-
 /// The marks of a sector. It is one step.
 pub fn marks_at<F: Flash, L: Ledger>(
     flash: &F,
@@ -78,7 +39,7 @@ pub fn marks_at<F: Flash, L: Ledger>(
     requires inside { place < area.now.sectors }
     ensures { let d = F.device flash.now in result ≡ marks_of (sector_at (sectors_of d area.now) place) }
 {
-    sector::read_marks(sector_of(flash, area, place, steps))
+    sector::read_marks(sector_view(flash, area, place, steps))
 }
 
 /// Whether a sector counts, with this one open.
@@ -94,7 +55,7 @@ pub fn counts<F: Flash, L: Ledger>(
     requires current { current < area.now.sectors }
     ensures { let d = F.device flash.now in result ≡ counts_at reading (sectors_of d area.now) current place }
 {
-    let after = next(area, current);
+    let after = area.next(current);
     if marks_at(flash, area, after, steps).closed {
         let hidden = if marks_at(flash, area, current, steps).gc_done {
             after
@@ -121,7 +82,7 @@ fn is_full<F: Flash, L: Ledger>(
     requires inside { place < area.now.sectors }
     ensures { let d = F.device flash.now in result ≡ is_overfull_at (sectors_of d area.now) current place }
 {
-    let bytes = sector_of(flash, area, place, steps);
+    let bytes = sector_view(flash, area, place, steps);
     let marks = sector::read_marks(bytes);
     if !marks.in_use() {
         return false;
@@ -145,7 +106,7 @@ fn is_opening<F: Flash, L: Ledger>(flash: &F, area: &Area, place: u32, steps: &m
     if marks_at(flash, area, place, steps).closed {
         return false;
     }
-    marks_at(flash, area, previous(area, place), steps).closed
+    marks_at(flash, area, area.previous(place), steps).closed
 }
 
 /// Whether a sector is not closed and not this one, and follows a closed one or has a valid slot 2.
@@ -171,7 +132,7 @@ fn is_second<F: Flash, L: Ledger>(
     if marks.begun {
         return true;
     }
-    marks_at(flash, area, previous(area, place), steps).closed
+    marks_at(flash, area, area.previous(place), steps).closed
 }
 
 /// Whether a sector is what is looked for.

@@ -15,11 +15,11 @@ ghost use Rattle.zms_store.specs.Walk.{IsNextOlder};
 
 use crate::collecting::live_in;
 use crate::lookup::find;
-use crate::places::{marks_at, sector_of};
+use crate::places::marks_at;
 use crate::sector::{Placed, cost, read_marks};
 use crate::store::Zms;
 use crate::walking::walk;
-use flash_map::{Area, area_view, geometry};
+use flash_map::{Area, area_view, geometry, sector_view};
 use flash_sim::{Flash, Steps};
 use std::sync::ledger::Ledger;
 use zms_cycle::{FIRST, Found, SLOT, entry_in, offset_of};
@@ -182,7 +182,7 @@ impl Zms {
             IsLeastOf (items_on d self.now.area) after (pairs (sector_at (sectors_of d self.now.area) place)) result }
     {
         let mut next = least;
-        let bytes = sector_of(flash, &self.area, place, steps);
+        let bytes = sector_view(flash, &self.area, place, steps);
         let slots = read_marks(bytes).slots;
         for slot in FIRST as u32..FIRST as u32 + slots {
             next = self.lesser_of(flash, entry_in(bytes, slot), after, next, steps);

@@ -6,7 +6,8 @@ ghost use Rattle.flash_map.specs.Touches.{Touches};
 ghost use Rattle.sector_ring.specs.Area.{is_blank_at};
 ghost use Rattle.zms_store.specs.Area.{reading, is_begun};
 ghost use Rattle.zms_store.specs.Collecting.{TurnsAt};
-ghost use Rattle.zms_store.specs.Ends.{mount_lost, MountEnds};
+ghost use Rattle.flash_map.specs.Faults.{mount_lost};
+ghost use Rattle.zms_store.specs.Ends.{MountEnds};
 ghost use Rattle.zms_store.specs.Spending.{round_units};
 ghost use Rattle.zms_store.specs.Standing.{IsZmsArea, StandsOn, KeepsItems};
 

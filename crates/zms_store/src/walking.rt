@@ -5,12 +5,13 @@ ghost use Rattle.flash_map.specs.declared.area.Role.TheVariants.{Zms};
 ghost use Rattle.flash_map.specs.Area.{sectors_of};
 ghost use Rattle.flash_map.specs.Lawful.{IsLawfulFor};
 ghost use Rattle.sector_ring.specs.Area.{open_sector};
+ghost use Rattle.sector_ring.specs.Walks.{places_before};
 ghost use Rattle.zms_store.specs.Area.{reading, placed_at, counted_in, all_placed, IsListed, IsPlaced};
-ghost use Rattle.zms_store.specs.Walk.{entries_within, counted_within, placed_up_to, places_before, IsNextOlder};
+ghost use Rattle.zms_store.specs.Walk.{entries_within, counted_within, placed_up_to, IsNextOlder};
 
-use crate::places::{counts, sector_of};
+use crate::places::counts;
 use crate::sector::{Placed, placed_in, read_marks};
-use flash_map::Area;
+use flash_map::{Area, sector_view};
 use flash_sim::{Flash, Steps};
 use std::sync::ledger::Ledger;
 use zms_cycle::entry_in;
@@ -54,7 +55,7 @@ fn newest_at<F: Flash, L: Ledger>(
     ensures placed { let d = F.device flash.now in IfSome result (λ p. IsPlaced (sectors_of d area.now) current p) }
 {
     if counts(flash, area, current, place, steps) {
-        let bytes = sector_of(flash, area, place, steps);
+        let bytes = sector_view(flash, area, place, steps);
         newest_in(bytes, place, slots)
     } else {
         None

@@ -7,7 +7,8 @@ ghost use Rattle.flash_map.specs.Touches.{Touches};
 ghost use Rattle.slot_list.specs.Items.{with_pair};
 ghost use Rattle.sector_ring.specs.Rounds.{live_cost};
 ghost use Rattle.zms_cycle.specs.Sector.{cost, capacity, fits};
-ghost use Rattle.zms_store.specs.Ends.{write_lost, Holds, Fits, IsShort, WriteEnds, DeleteEnds};
+ghost use Rattle.flash_map.specs.Faults.{write_lost};
+ghost use Rattle.zms_store.specs.Ends.{Holds, Fits, IsShort, IsCrammedFor, WriteEnds, DeleteEnds};
 ghost use Rattle.zms_store.specs.Spending.{entry_units};
 ghost use Rattle.zms_store.specs.Standing.{StandsOn, IsUndamaged, KeepsItems, list_on, items_on};
 
@@ -68,6 +69,7 @@ impl Zms {
         ensures room { IfOk result (λ room. room ≡ fits (sector_bytes (F.device flash.new) self.new.area self.new.current) len) }
         ensures full { let d = F.device flash.old in
             IfOk result (λ room. room ≡ false → (self.old.area.sectors - 1) * (capacity (sector_size d self.old.area) - cost len) < live_cost cost (list_on d self.old.area)) }
+        ensures crammed { IfOk result (λ room. room ≡ false → IsCrammedFor (F.device flash.new) self.old.area (cost len)) }
         ensures live { let d = F.device flash.old in
             OnOk result (live_cost cost (list_on (F.device flash.new) self.old.area) ≡ live_cost cost (list_on d self.old.area)) }
 
@@ -149,8 +151,9 @@ impl Zms {
     ///
     /// # Errors
     /// `TooLong` exactly where the bytes and their entry cost more than a sector has for them; then nothing was
-    /// programmed. `NoSpace` where no round of collections makes room; the items are then as before. `PowerLost`: the
-    /// items are as before, or with this one, and the store is down.
+    /// programmed. `NoSpace` where no round of collections makes room: each sector but the blank one then has live items
+    /// alone, which leave no room for this one; the items are as before. `PowerLost`: the items are as before, or with
+    /// this one, and the store is down.
     pub fn write<F: Flash, L: Ledger>(
         &mut self,
         flash: &mut F,

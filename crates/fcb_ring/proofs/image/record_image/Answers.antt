@@ -1,4 +1,4 @@
-use Rattle.std.proofs.Common.{ℕ, length, arith, sym, ap, ◌∙◌}
+use Rattle.std.proofs.Common.{length, arith, sym, ap, ◌∙◌}
 use Rattle.flash_map.proofs.Rounding.{padding}
 use Rattle.crc8_entry.specs.Crc.{crc}
 use Rattle.fcb_ring.proofs.BuildLemmas.{room-first, room-second, room-third, built}

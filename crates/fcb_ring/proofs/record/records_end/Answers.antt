@@ -1,6 +1,6 @@
 use Rattle.std.proofs.Common.{◌≡◌, ◌%◌, ◌∙◌, ℕ, length, sym, ap, Some, arith}
-use Rattle.fcb_ring.specs.Records.{record_at, records_end, walk_end}
-use Rattle.fcb_ring.proofs.Walks.{walk_end-next, walk_end-none}
+use Rattle.fcb_ring.specs.Records.{record_at, records, records_end}
+use Rattle.fcb_ring.proofs.Walks.{walk_end, walk_end-next, walk_end-none}
 use Rattle.fcb_ring.proofs.RecordLemmas.{advances, aligned_after, unit_there, header_fits}
 use Rattle.fcb_ring.proofs.record.records_end.Goals as goal
 
@@ -8,7 +8,7 @@ pub record_at-requires-clause-room : goal.record_at-requires-clause-room
 record_at-requires-clause-room c = λ lt. unit_there c.args.unit c.requires.is_unit (length c.args.sector.now) c.loop-record.end c.requires.whole c.loop-record.invariant.aligned lt
 
 pub loop-record-init : goal.loop-record-init
-unfolding records_end
+unfolding records records_end
 loop-record-init c =
     let header = header_fits c.args.unit c.requires.is_unit in
     let is = c.padded-end.ensures.value in

@@ -1,5 +1,6 @@
 use Rattle.std.proofs.Common.{◌≡◌, ◌-◌, ◌%◌, ◌≤◌, length}
-use Rattle.fcb_ring.specs.Records.{record_at, records_end, walk_end}
+use Rattle.fcb_ring.specs.Records.{record_at, records_end}
+use Rattle.fcb_ring.proofs.Walks.{walk_end}
 use Rattle.fcb_ring.proofs.record.records_end.Given as goal
 
 abbrev pub invariant-loop-record : goal.invariant-loop-record

@@ -1,5 +1,4 @@
-use Rattle.std.proofs.Common.{◌≡◌, ℕ, List, [], ◌∷◌, length, refl, sym, ap, subst, ◌∙◌, arith}
-use Rattle.flash_sim.specs.Bank.{IsLawful}
+use Rattle.std.proofs.Common.{arith}
 use Rattle.fcb_ring.proofs.TestBank.{one_lawful}
 use Rattle.fcb_ring.proofs.tests.load.Goals as goal
 

@@ -1,4 +1,4 @@
-use Rattle.std.proofs.Common.{◌≡◌, ◌%◌, ◌-◌, ◌/◌, ◌≤◌, ◌∷◌, [], false, length, take}
+use Rattle.std.proofs.Common.{◌≡◌, ◌%◌, ◌-◌, ◌/◌, ◌≤◌, ◌∷◌, [], false, take}
 use Rattle.flash_map.specs.Area.{unit_of, Writes}
 use Rattle.flash_map.specs.Copies.{source}
 use Rattle.flash_map.specs.Spending.{Spends}

@@ -3,7 +3,7 @@ use Rattle.std.proofs.lemmas.List.{length-map}
 use Rattle.flash_sim.specs.declared.flash.Bank.{Bank}
 use Rattle.flash_map.specs.declared.area.Area.{Area}
 use Rattle.image_file.specs.Format.{plain_area}
-use Rattle.image_file.specs.Parts.{parts, parts_of}
+use Rattle.text_parts.specs.Parts.{parts, parts_of}
 use Rattle.image_file.specs.Spec.{Listed, listed, nothing_listed, Adds, AddsAll, FirstBad}
 use Rattle.image_file.specs.Items.{IsListed}
 use Rattle.image_file.proofs.SpecLemmas.{nothing_lawful, item_taken, item_refused, refused_more, adds_listed, adds_count, left, left_shorter, memory_exit}

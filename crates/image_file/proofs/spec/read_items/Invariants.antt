@@ -1,5 +1,5 @@
 use Rattle.std.proofs.Common.{◌≡◌, ℕ, ◌+◌, List, length}
-use Rattle.image_file.specs.Parts.{parts, parts_of}
+use Rattle.text_parts.specs.Parts.{parts, parts_of}
 use Rattle.image_file.specs.Spec.{Listed, listed, nothing_listed, AddsAll, FirstBad}
 use Rattle.image_file.specs.Items.{IsListed}
 use Rattle.image_file.proofs.SpecLemmas.{left}

@@ -2,7 +2,7 @@ use Rattle.std.proofs.Common.{◌≡◌, ℕ, List, map, replicate, ap, subst, �
 use Rattle.flash_sim.specs.declared.flash.Bank.{Bank}
 use Rattle.flash_sim.specs.Bank.{capacity}
 use Rattle.flash_sim.specs.Contents.{contents}
-use Rattle.image_file.specs.Parts.{parts}
+use Rattle.text_parts.specs.Parts.{parts}
 use Rattle.image_file.specs.Spec.{AddsAll, listed, nothing_listed}
 use Rattle.image_file.proofs.SpecLemmas.{listed_image}
 use Rattle.image_file.proofs.spec.read_spec.Goals as goal

@@ -1,4 +1,4 @@
-use Rattle.std.proofs.Common.{◌≡◌, ◌∙◌, List, ap, refl, subst}
+use Rattle.std.proofs.Common.{◌∙◌, List, ap, refl, subst}
 use Rattle.flash_sim.specs.Device.{Device}
 use Rattle.zs_host.specs.Outside.{Outside}
 use Rattle.script_lines.specs.declared.line.Line.{Line}

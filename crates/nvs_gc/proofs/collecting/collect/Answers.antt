@@ -13,7 +13,7 @@ use Rattle.nvs_store.proofs.Views.{unit_is}
 use Rattle.nvs_gc.specs.Spending.{copied}
 use Rattle.nvs_gc.specs.Standing.{KeepsItems}
 use Rattle.nvs_gc.proofs.Areas.{keeps-on, stopped-keeps}
-use Rattle.nvs_gc.proofs.CollectSteps.{free_for_mark, mark_cut, erase_cut, whole, collected-keeps, all_spent, mark_most, erase_most, spends-erases, most-fails_erase, either}
+use Rattle.nvs_gc.proofs.CollectSteps.{free_for_mark, mark_cut, erase_cut, whole, whole_scan, collected-keeps, all_spent, mark_most, erase_most, spends-erases, most-fails_erase, either}
 use Rattle.nvs_gc.proofs.collecting.collect.Goals as goal
 
 pub next-victim-requires : goal.next-victim-requires
@@ -84,6 +84,21 @@ returns-clause-collects g c =
     on_ok_weaker c.area_erase.result
     (λ erased. whole a d area c.args.scan.now.current c.copy_live.new.scan (g.met.F.Flash.is_lawful c.args.flash.now) c.requires.area.lawful c.requires.collecting did.touches.banks did.copies did.scan did.current e then_did.ok then_did.sound f (sector_size e area)
     (erased ∙ ap (λ (k : ℕ). set (sectors_of e area) k (replicate (sector_size e area) 255)) at)) c.area_erase.ensures.erased
+
+pub returns-clause-scan : goal.returns-clause-scan
+returns-clause-scan g c =
+    let a : Device = g.F.Flash.device c.args.flash.now in
+    let d : Device = g.F.Flash.device c.copy_live.new.flash in
+    let e : Device = g.F.Flash.device c.put_done.new.flash in
+    let f : Device = g.F.Flash.device c.area_erase.new.flash in
+    let area : Area = c.args.area.now in
+    let did = c.in_ok-copy_live.ensures in
+    let then_did = c.in_ok-put_done.ensures in
+    let at : c.next-victim.result ≡ next (sectors_of a area) c.args.scan.now.current = c.next-victim.ensures.value ∙ next_there a area c.args.scan.now.current in
+    let marked : e.banks ≡ a.banks = then_did.touches.banks ∙ did.touches.banks in
+    on_ok_weaker c.area_erase.result
+    (λ erased. whole_scan a d area c.args.scan.now.current c.copy_live.new.scan (g.met.F.Flash.is_lawful c.args.flash.now) c.requires.area.lawful c.requires.collecting did.touches.banks did.copies did.scan did.current e then_did.ok then_did.sound f (sector_size e area) c.put_done.new.scan
+    marked (c.area_erase.ensures.touches.banks ∙ marked) then_did.scan (erased ∙ ap (λ (k : ℕ). set (sectors_of e area) k (replicate (sector_size e area) 255)) at)) c.area_erase.ensures.erased
 
 pub returns-clause-spent : goal.returns-clause-spent
 returns-clause-spent g c =

@@ -43,7 +43,7 @@ copy_slot-requires-clause-last g c =
     let d : Device = g.F.Flash.device c.loop-slot.flash in
     let area : Area = c.args.area.now in
     let is-unit = unit_is a area (g.met.F.Flash.is_lawful c.args.flash.now) c.requires.area.lawful.in_bank in
-    last_there a d area c.args.scan.now.current (c.loop-slot.slot - 1) c.loop-slot.scan is-unit c.requires.collecting c.loop-slot.invariant c.args.victim c.last_slots-last.result.slots c.last_slots-last.ensures
+    last_there a d area c.args.scan.now.current (c.loop-slot.slot - 1) c.loop-slot.scan is-unit c.requires.collecting c.loop-slot.invariant c.last_slots-last.result.sectors c.last_slots-last.result.slots c.last_slots-last.ensures
 
 pub copy_slot-requires-clause-inside : goal.copy_slot-requires-clause-inside
 copy_slot-requires-clause-inside g c =

@@ -66,5 +66,5 @@ returns g c =
     let unit : ℕ = unit_of d c.args.area.now in
     let sectors : List (List ℕ) = sectors_of d c.args.area.now in
     let current : ℕ = c.args.scan.now.current in
-    tells_all c.args.chosen c.note_among-2.new.last.slots unit sectors c.args.scan.now c.args.area.now.sectors (sym (length-sectors d c.args.area.now)) c.requires.scan
-    (c.note_among-2.ensures (among unit sectors current (current + 1) (c.args.area.now.sectors - (current + 1))) (c.note_among.ensures [] (c.new-last.ensures c.args.chosen)))
+    tells_all c.note_among-2.new.last.sectors c.note_among-2.new.last.slots unit sectors c.args.scan.now c.args.area.now.sectors (sym (length-sectors d c.args.area.now)) c.requires.scan
+    (c.note_among-2.ensures (among unit sectors current (current + 1) (c.args.area.now.sectors - (current + 1))) (c.note_among.ensures [] c.new-last.ensures))

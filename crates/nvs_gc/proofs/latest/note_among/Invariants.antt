@@ -8,4 +8,4 @@ use Rattle.nvs_gc.proofs.latest.note_among.Given as goal
 abbrev pub invariant-loop-place : goal.invariant-loop-place
 invariant-loop-place g l =
     let d = g.F.Flash.device l.flash in
-    (before : List Found) → Tells l.chosen l.initial.last.slots before → Tells l.chosen l.last.slots (before ++ among (unit_of d l.area) (sectors_of d l.area) l.scan.current l.first (l.place - l.first))
+    (before : List Found) → Tells l.initial.last.sectors l.initial.last.slots before → Tells l.last.sectors l.last.slots (before ++ among (unit_of d l.area) (sectors_of d l.area) l.scan.current l.first (l.place - l.first))

@@ -1,14 +1,31 @@
-use Rattle.std.proofs.Common.{◌≡◌, ℕ, ◌∙◌, ◌++◌, Bool, true, false, not, cond, List, [], map, sym, ap, subst}
+use Rattle.std.proofs.Common.{◌≡◌, ℕ, ◌∙◌, ◌++◌, Bool, true, false, not, cond, List, [], map, sym, ap, subst, arith}
 use Rattle.std.proofs.lemmas.List.{append-nil}
 use Rattle.flash_sim.specs.Device.{Device}
+use Rattle.flash_map.specs.declared.area.Geometry.{Geometry}
 use Rattle.flash_map.specs.Area.{unit_of, sector_at, sectors_of}
+use Rattle.flash_map.specs.Units.{IsUnit}
 use Rattle.sector_ring.specs.Area.{counts_at}
 use Rattle.nvs_store.specs.declared.scan.Found.{Found}
 use Rattle.nvs_store.specs.Sector.{entries}
 use Rattle.nvs_store.specs.Scans.{reading, found_at, counted_in}
 use Rattle.nvs_store.proofs.MountLemmas.{length-sectors}
+use Rattle.nvs_store.proofs.Views.{unit_is}
 use Rattle.nvs_gc.specs.Latest.{Tells}
 use Rattle.nvs_gc.proofs.latest.note_counting.Goals as goal
+
+pub note_sector-requires-clause-unit : goal.note_sector-requires-clause-unit
+note_sector-requires-clause-unit g c =
+    let d : Device = g.F.Flash.device c.args.flash.now in
+    subst (λ (x : Geometry). IsUnit x.unit) (sym c.geometry-unit.ensures) (unit_is d c.args.area.now (g.met.F.Flash.is_lawful c.args.flash.now) c.requires.area.lawful.in_bank)
+
+pub note_sector-requires-clause-long : goal.note_sector-requires-clause-long
+note_sector-requires-clause-long g c = omega (arith, c.sector_view.ensures.len, c.requires.area.lawful.at_least)
+
+pub note_sector-requires-clause-short : goal.note_sector-requires-clause-short
+note_sector-requires-clause-short g c = omega (arith, c.sector_view.ensures.len, c.requires.area.lawful.at_most)
+
+pub note_sector-requires-clause-few : goal.note_sector-requires-clause-few
+note_sector-requires-clause-few g c = omega (arith, c.requires.area.lawful.few)
 
 pub returns : goal.returns
 returns g c = λ before tells.
@@ -16,9 +33,11 @@ returns g c = λ before tells.
     let unit : ℕ = unit_of d c.args.area.now in
     let sectors : List (List ℕ) = sectors_of d c.args.area.now in
     let counts : counts_at (reading unit) sectors c.args.scan.now.current c.args.place ≡ true = c.is_hidden.ensures unit sectors (length-sectors d c.args.area.now) c.requires.scan ∙ ap not c.if-is_hidden.false in
-    let all : map (found_at c.args.place) (entries unit (sector_at sectors c.args.place)) ≡ counted_in unit sectors c.args.scan.now.current c.args.place =
-    sym (ap (λ (t : Bool). cond t (map (found_at c.args.place) (entries unit (sector_at sectors c.args.place))) []) counts) in
-    subst (λ (xs : List Found). Tells c.args.chosen c.note_sector.new.last.slots (before ++ xs)) all (c.note_sector.ensures before tells)
+    let all : map (found_at c.args.place) (entries c.geometry-unit.result.unit c.sector_view.result.now) ≡ counted_in unit sectors c.args.scan.now.current c.args.place =
+    ap (λ (x : Geometry). map (found_at c.args.place) (entries x.unit c.sector_view.result.now)) c.geometry-unit.ensures
+    ∙ ap (λ (b : List ℕ). map (found_at c.args.place) (entries unit b)) c.sector_view.ensures.bytes
+    ∙ sym (ap (λ (t : Bool). cond t (map (found_at c.args.place) (entries unit (sector_at sectors c.args.place))) []) counts) in
+    subst (λ (xs : List Found). Tells c.note_sector.new.last.sectors c.note_sector.new.last.slots (before ++ xs)) all (c.note_sector.ensures before tells)
 
 pub returns-then-is_hidden : goal.returns-then-is_hidden
 returns-then-is_hidden g c = λ before tells.
@@ -27,4 +46,4 @@ returns-then-is_hidden g c = λ before tells.
     let sectors : List (List ℕ) = sectors_of d c.args.area.now in
     let counts : counts_at (reading unit) sectors c.args.scan.now.current c.args.place ≡ false = c.is_hidden.ensures unit sectors (length-sectors d c.args.area.now) c.requires.scan ∙ ap not c.if-is_hidden.true in
     let none : [] ≡ counted_in unit sectors c.args.scan.now.current c.args.place = sym (ap (λ (t : Bool). cond t (map (found_at c.args.place) (entries unit (sector_at sectors c.args.place))) []) counts) in
-    subst (λ (xs : List Found). Tells c.args.chosen c.args.last.now.slots (before ++ xs)) none (subst (Tells c.args.chosen c.args.last.now.slots) (sym (append-nil before)) tells)
+    subst (λ (xs : List Found). Tells c.args.last.now.sectors c.args.last.now.slots (before ++ xs)) none (subst (Tells c.args.last.now.sectors c.args.last.now.slots) (sym (append-nil before)) tells)

@@ -1,32 +1,44 @@
-use Rattle.std.proofs.Common.{◌≡◌, ℕ, ◌+◌, ◌-◌, ◌++◌, List, map, subst, sym, arith}
+use Rattle.std.proofs.Common.{◌≡◌, ℕ, ◌+◌, ◌-◌, ◌++◌, List, length, map, subst, sym, arith}
 use Rattle.std.proofs.lemmas.List.{append-nil}
-use Rattle.flash_sim.specs.Device.{Device}
-use Rattle.flash_map.specs.Area.{unit_of, sector_at, sectors_of}
+use Rattle.slot_list.proofs.SlotLemmas.{factor_le}
 use Rattle.nvs_store.specs.declared.scan.Placed.{Placed}
+use Rattle.nvs_store.specs.Geometry.{slot_size}
 use Rattle.nvs_store.specs.Scans.{found_at}
-use Rattle.nvs_store.proofs.Lookups.{entries_to, entries_to_used}
+use Rattle.nvs_store.proofs.Lookups.{used_inside, entries_to, entries_to_used}
+use Rattle.nvs_store.proofs.SlotReads.{slot_size_bounds}
 use Rattle.nvs_gc.specs.Latest.{Tells}
 use Rattle.nvs_gc.proofs.LastSlots.{tells_slot}
 use Rattle.nvs_gc.proofs.latest.note_sector.Goals as goal
 
+pub overflow_add-slot-end : goal.overflow_add-slot-end
+overflow_add-slot-end c =
+    let size = slot_size_bounds c.args.unit c.requires.unit in
+    let inside = used_inside c.args.unit c.args.bytes.now c.used_count-used.result (omega arith) (omega arith) (omega arith) in
+    omega (arith, factor_le (c.used_count-used.result + 1) (slot_size c.args.unit) (length c.args.bytes.now) (omega arith) inside)
+
 pub loop-slot-init : goal.loop-slot-init
-loop-slot-init g c = λ before tells. subst (Tells c.args.chosen c.args.last.now.slots) (sym (append-nil before)) tells
+loop-slot-init c = λ before tells. subst (Tells c.args.last.now.sectors c.args.last.now.slots) (sym (append-nil before)) tells
+
+pub note_slot-requires-clause-inside : goal.note_slot-requires-clause-inside
+note_slot-requires-clause-inside c =
+    let size = slot_size_bounds c.args.unit c.requires.unit in
+    used_inside c.args.unit c.args.bytes.now c.loop-slot.slot (omega arith) (omega arith) (omega arith)
+
+pub note_slot-requires-clause-slot : goal.note_slot-requires-clause-slot
+note_slot-requires-clause-slot c =
+    let size = slot_size_bounds c.args.unit c.requires.unit in
+    let inside = used_inside c.args.unit c.args.bytes.now c.loop-slot.slot (omega arith) (omega arith) (omega arith) in
+    omega (arith, factor_le (c.loop-slot.slot + 1) (slot_size c.args.unit) (length c.args.bytes.now) (omega arith) inside)
 
 pub loop-slot-preserved : goal.loop-slot-preserved
-loop-slot-preserved g c = λ before tells.
-    let d : Device = g.F.Flash.device c.args.flash.now in
-    let unit : ℕ = unit_of d c.args.area.now in
-    let b : List ℕ = sector_at (sectors_of d c.args.area.now) c.args.place in
+loop-slot-preserved c = λ before tells.
     let at : c.loop-slot.slot ≡ c.loop-slot.slot - 1 + 1 = omega arith in
     let after : c.loop-slot.slot - 1 + 1 ≡ c.loop-slot.slot + 1 - 1 = omega arith in
-    subst (λ (n : ℕ). Tells c.args.chosen c.note_slot.new.last.slots (before ++ map (found_at c.args.place) (entries_to unit b n))) after
-    (tells_slot c.args.chosen c.note_slot.new.last.slots before unit c.args.place b (c.loop-slot.slot - 1) c.loop-slot.slot at
-    (c.note_slot.ensures (before ++ map (found_at c.args.place) (entries_to unit b (c.loop-slot.slot - 1))) (c.loop-slot.invariant before tells)))
+    subst (λ (n : ℕ). Tells c.note_slot.new.last.sectors c.note_slot.new.last.slots (before ++ map (found_at c.args.place) (entries_to c.args.unit c.args.bytes.now n))) after
+    (tells_slot c.note_slot.new.last.sectors c.note_slot.new.last.slots before c.args.unit c.args.place c.args.bytes.now (c.loop-slot.slot - 1) c.loop-slot.slot at
+    (c.note_slot.ensures (before ++ map (found_at c.args.place) (entries_to c.args.unit c.args.bytes.now (c.loop-slot.slot - 1))) (c.loop-slot.invariant before tells)))
 
 pub returns : goal.returns
-returns g c = λ before tells.
-    let d : Device = g.F.Flash.device c.args.flash.now in
-    let unit : ℕ = unit_of d c.args.area.now in
-    let b : List ℕ = sector_at (sectors_of d c.args.area.now) c.args.place in
-    subst (λ (ps : List Placed). Tells c.args.chosen c.loop-slot.last.slots (before ++ map (found_at c.args.place) ps)) (entries_to_used unit b (c.loop-slot.slot - 1) (omega (arith, c.used_slots-used.ensures.count)))
+returns c = λ before tells.
+    subst (λ (ps : List Placed). Tells c.loop-slot.last.sectors c.loop-slot.last.slots (before ++ map (found_at c.args.place) ps)) (entries_to_used c.args.unit c.args.bytes.now (c.loop-slot.slot - 1) (omega arith))
     (c.loop-slot.invariant before tells)

@@ -22,7 +22,7 @@ use Rattle.nvs_store.specs.Sector.{low, data_end, HasRoom, IsNext}
 use Rattle.nvs_store.specs.Scans.{reading, scan_at, scan_of, AddsPairAt, StopsAddingAt}
 use Rattle.nvs_store.proofs.Appending.{open_is, scan_there, fits_there, next_open, list_after, lost_list, undamaged_after, pair_used, stops_used, stops_closed, adds_sound, stops_sound, scan_added}
 use Rattle.nvs_store.proofs.Cuts.{HasRoom-from_fits}
-use Rattle.nvs_store.proofs.MountLemmas.{length-sectors}
+use Rattle.sector_ring.proofs.AreaReads.{length-sectors}
 use Rattle.nvs_store.proofs.Putting.{can_data, data_cut, data_most, can_entry_after, pair_put, entry_cut, pair_spent, pair_most}
 use Rattle.nvs_store.proofs.Views.{unit_is}
 use Rattle.nvs_store.proofs.calls.append.Goals as goal

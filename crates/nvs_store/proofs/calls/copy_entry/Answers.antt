@@ -21,7 +21,7 @@ use Rattle.nvs_store.specs.Entries.{encoded}
 use Rattle.nvs_store.specs.Sector.{low, data_end, HasRoom, IsNext}
 use Rattle.nvs_store.specs.Scans.{reading, found_bytes, scan_at, scan_of, AddsPairAt}
 use Rattle.nvs_store.proofs.Appending.{open_is, scan_there, pair_used, scan_added}
-use Rattle.nvs_store.proofs.MountLemmas.{length-sectors}
+use Rattle.sector_ring.proofs.AreaReads.{length-sectors}
 use Rattle.nvs_store.proofs.Putting.{can_data, data_cut, data_most, can_entry_after, pair_put, entry_cut, pair_spent, pair_most}
 use Rattle.nvs_store.proofs.SlotReads.{slot_widths}
 use Rattle.nvs_store.proofs.Views.{unit_is}

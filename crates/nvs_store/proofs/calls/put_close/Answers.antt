@@ -19,7 +19,7 @@ use Rattle.nvs_store.specs.Scans.{reading, scan_at}
 use Rattle.nvs_store.proofs.Appending.{open_is, scan_there}
 use Rattle.nvs_store.proofs.EntryBytes.{length-encoded}
 use Rattle.nvs_store.proofs.MarkPutting.{can_close, close_put, close_cut}
-use Rattle.nvs_store.proofs.MountLemmas.{length-sectors}
+use Rattle.sector_ring.proofs.AreaReads.{length-sectors}
 use Rattle.nvs_store.proofs.Putting.{slot_size-is}
 use Rattle.nvs_store.proofs.SlotReads.{slot_widths}
 use Rattle.nvs_store.proofs.Views.{unit_is}

@@ -22,7 +22,7 @@ use Rattle.nvs_store.specs.Scans.{reading, scan_at, scan_of, MarksDoneAt}
 use Rattle.nvs_store.proofs.Appending.{open_is, scan_there, scan_marked}
 use Rattle.nvs_store.proofs.EntryBytes.{length-encoded}
 use Rattle.nvs_store.proofs.MarkPutting.{done_room, can_done, done_put, done_cut}
-use Rattle.nvs_store.proofs.MountLemmas.{length-sectors}
+use Rattle.sector_ring.proofs.AreaReads.{length-sectors}
 use Rattle.nvs_store.proofs.Putting.{slot_size-is}
 use Rattle.nvs_store.proofs.SlotReads.{slot_widths}
 use Rattle.nvs_store.proofs.Sound.{marks-sound}

@@ -1,4 +1,4 @@
-use Rattle.std.proofs.Common.{◌≡◌, ℕ, ◌+◌, ◌*◌, ◌^◌, ◌<◌, ◌≤◌, List, length, sym, ap, ◌∙◌, arith}
+use Rattle.std.proofs.Common.{◌≡◌, ℕ, ◌+◌, ◌≤◌, List, length, ap, ◌∙◌, arith}
 use Rattle.flash_sim.specs.Device.{Device}
 use Rattle.flash_map.specs.declared.area.Geometry.{Geometry}
 use Rattle.flash_map.specs.Area.{unit_of, sector_at, sectors_of}
@@ -16,10 +16,10 @@ returns-clause-few g c =
     let unit : ℕ = unit_of d c.args.area.now in
     let b : List ℕ = sector_at (sectors_of d c.args.area.now) c.args.place in
     let size = slot_size_bounds unit (unit_is d c.args.area.now (g.met.F.Flash.is_lawful c.args.flash.now) c.requires.lawful.in_bank) in
-    let long : length c.sector_of.result.now ≡ length b = ap length c.sector_of.ensures.bytes in
-    let large : slot_size unit ≤ length b = omega (arith, c.sector_of.ensures.long, c.requires.lawful.at_least) in
+    let long : length c.sector_view.result.now ≡ length b = ap length c.sector_view.ensures.bytes in
+    let large : slot_size unit ≤ length b = omega (arith, c.sector_view.ensures.len, c.requires.lawful.at_least) in
     let count : c.used_count.result ≡ length (used_slots unit b) =
-    c.used_count.ensures ∙ ap (λ (x : Geometry). length (used_slots x.unit c.sector_of.result.now)) c.geometry-unit.ensures ∙ ap (λ (l : List ℕ). length (used_slots unit l)) c.sector_of.ensures.bytes in
+    c.used_count.ensures ∙ ap (λ (x : Geometry). length (used_slots x.unit c.sector_view.result.now)) c.geometry-unit.ensures ∙ ap (λ (l : List ℕ). length (used_slots unit l)) c.sector_view.ensures.bytes in
     let inside = used_inside unit b (length (used_slots unit b)) (omega arith) large (omega arith) in
     let le = factor_le (length (used_slots unit b) + 1) (slot_size unit) (length b) (omega arith) inside in
-    omega (arith, le, c.sector_of.ensures.long, c.requires.lawful.at_most)
+    omega (arith, le, c.sector_view.ensures.len, c.requires.lawful.at_most)

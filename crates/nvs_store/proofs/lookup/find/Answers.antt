@@ -11,7 +11,7 @@ use Rattle.nvs_store.specs.Scans.{reading, last_found, found_bytes, IsInArea}
 use Rattle.nvs_store.proofs.Appending.{open_is}
 use Rattle.nvs_store.proofs.FoundLemmas.{found-value, newest-decides, older-decides}
 use Rattle.nvs_store.proofs.InArea.{last_found-in}
-use Rattle.nvs_store.proofs.MountLemmas.{length-sectors}
+use Rattle.sector_ring.proofs.AreaReads.{length-sectors}
 use Rattle.nvs_store.proofs.lookup.find.Goals as goal
 
 pub overflow_add-current : goal.overflow_add-current

@@ -16,8 +16,8 @@ found g c =
     let d : Device = g.F.Flash.device c.args.flash.now in
     let unit : ℕ = unit_of d c.args.area.now in
     c.find_in.ensures
-    ∙ ap (λ (x : Geometry). option_map (found_at c.args.place) (last_placed c.args.wanted (entries_within x.unit c.sector_of-bytes.result.now c.args.slots))) c.geometry-unit.ensures
-    ∙ ap (λ (b : List ℕ). option_map (found_at c.args.place) (last_placed c.args.wanted (entries_within unit b c.args.slots))) c.sector_of-bytes.ensures.bytes
+    ∙ ap (λ (x : Geometry). option_map (found_at c.args.place) (last_placed c.args.wanted (entries_within x.unit c.sector_view-bytes.result.now c.args.slots))) c.geometry-unit.ensures
+    ∙ ap (λ (b : List ℕ). option_map (found_at c.args.place) (last_placed c.args.wanted (entries_within unit b c.args.slots))) c.sector_view-bytes.ensures.bytes
     ∙ counted-last unit (sectors_of d c.args.area.now) c.args.current c.args.place c.args.slots c.args.wanted (sym c.counts.ensures ∙ c.if-counts.true)
 
 pub returns-then-counts-clause-within : goal.returns-then-counts-clause-within

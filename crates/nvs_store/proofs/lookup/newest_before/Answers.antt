@@ -3,9 +3,11 @@ use Rattle.std.specs.List.{flat_map, range_with_len}
 use Rattle.flash_sim.specs.Device.{Device}
 use Rattle.flash_map.specs.Area.{unit_of, sectors_of}
 use Rattle.nvs_store.specs.declared.scan.Found.{Found}
+use Rattle.nvs_store.specs.Sector.{is_wanted}
 use Rattle.nvs_store.specs.Scans.{counted_in, last_wanted}
-use Rattle.nvs_store.proofs.MountLemmas.{length-sectors}
-use Rattle.nvs_store.proofs.Walking.{newest-behind, newest-before, before-round}
+use Rattle.sector_ring.proofs.AreaReads.{length-sectors}
+use Rattle.sector_ring.proofs.Newest.{newest-behind, newest-before}
+use Rattle.sector_ring.proofs.RoundAt.{before-round}
 use Rattle.nvs_store.proofs.lookup.newest_before.Goals as goal
 
 pub returns-then-is_some : goal.returns-then-is_some
@@ -16,8 +18,8 @@ returns-then-is_some g c =
     let current : ℕ = c.args.current in
     let older : List Found = flat_map (counted_in unit sectors current) (range_with_len (current + 1) (length sectors - (current + 1))) in
     let newer : List Found = flat_map (counted_in unit sectors current) (range_with_len 0 (c.args.place - 0)) in
-    newest-behind None older newer c.find_among-newest.result c.find_among-newest.ensures (sym c.is_some.ensures ∙ c.if-is_some.true)
-    ∙ ap (last_wanted None) (before-round unit sectors current c.args.place c.if-current-place.false)
+    newest-behind (λ f. is_wanted None f.entry) older newer c.find_among-newest.result c.find_among-newest.ensures (sym c.is_some.ensures ∙ c.if-is_some.true)
+    ∙ ap (last_wanted None) (before-round (counted_in unit sectors current) (length sectors) current c.args.place c.if-current-place.false)
 
 pub returns : goal.returns
 returns g c =
@@ -28,6 +30,6 @@ returns g c =
     let older : List Found = flat_map (counted_in unit sectors current) (range_with_len (current + 1) (length sectors - (current + 1))) in
     let newer : List Found = flat_map (counted_in unit sectors current) (range_with_len 0 (c.args.place - 0)) in
     let count : c.args.area.now.sectors ≡ length sectors = sym (length-sectors d c.args.area.now) in
-    newest-before None older newer c.find_among-newest.result c.find_among-2.result c.find_among-newest.ensures (sym c.is_some.ensures ∙ c.if-is_some.false)
+    newest-before (λ f. is_wanted None f.entry) older newer c.find_among-newest.result c.find_among-2.result c.find_among-newest.ensures (sym c.is_some.ensures ∙ c.if-is_some.false)
     (c.find_among-2.ensures ∙ ap (λ (n : ℕ). last_wanted None (flat_map (counted_in unit sectors current) (range_with_len (current + 1) (n - (current + 1))))) count)
-    ∙ ap (last_wanted None) (before-round unit sectors current c.args.place c.if-current-place.false)
+    ∙ ap (last_wanted None) (before-round (counted_in unit sectors current) (length sectors) current c.args.place c.if-current-place.false)

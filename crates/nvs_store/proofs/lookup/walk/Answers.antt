@@ -9,8 +9,10 @@ use Rattle.sector_ring.proofs.Stays.{open_within}
 use Rattle.nvs_store.specs.declared.scan.Found.{Found}
 use Rattle.nvs_store.specs.Scans.{reading, all_found, found_up_to, IsInArea, IsNextOlder}
 use Rattle.nvs_store.proofs.Appending.{open_is}
-use Rattle.nvs_store.proofs.InArea.{listed-in, last-from_all}
-use Rattle.nvs_store.proofs.MountLemmas.{length-sectors}
+use Rattle.sector_ring.proofs.Newest.{last-all}
+use Rattle.nvs_store.specs.Sector.{is_wanted}
+use Rattle.nvs_store.proofs.InArea.{listed-in}
+use Rattle.sector_ring.proofs.AreaReads.{length-sectors}
 use Rattle.nvs_store.proofs.Walking.{part_all, walked-newest, walked-older}
 use Rattle.nvs_store.proofs.lookup.walk.Goals as goal
 
@@ -75,7 +77,7 @@ returns-in-Some-clause-in_area g c =
     let high : c.in-Some.sector < length sectors = omega arith in
     let all : All (IsInArea c.args.area.now.sectors (sector_size d c.args.area.now)) (all_found unit sectors) = listed-in d c.args.area.now (g.met.F.Flash.is_lawful c.args.flash.now) c.requires.lawful.in_bank (omega (arith, c.requires.lawful.several)) in
     subst (λ (o : Option Found). IfSome o (IsInArea c.args.area.now.sectors (sector_size d c.args.area.now))) (sym c.newest_up_to.ensures)
-    (last-from_all (IsInArea c.args.area.now.sectors (sector_size d c.args.area.now)) None (found_up_to unit sectors c.args.scan.now.current c.in-Some.sector c.saturating_sub.result) None tt
+    (last-all (λ f. is_wanted None f.entry) (IsInArea c.args.area.now.sectors (sector_size d c.args.area.now)) (found_up_to unit sectors c.args.scan.now.current c.in-Some.sector c.saturating_sub.result) None tt
     (part_all unit sectors c.args.scan.now.current c.in-Some.sector c.saturating_sub.result is low high (IsInArea c.args.area.now.sectors (sector_size d c.args.area.now)) all))
 
 pub returns-in-None-clause-older : goal.returns-in-None-clause-older
@@ -103,5 +105,5 @@ returns-in-None-clause-in_area g c =
     let low : c.args.scan.now.current < length sectors = omega arith in
     let all : All (IsInArea c.args.area.now.sectors (sector_size d c.args.area.now)) (all_found unit sectors) = listed-in d c.args.area.now (g.met.F.Flash.is_lawful c.args.flash.now) c.requires.lawful.in_bank (omega (arith, c.requires.lawful.several)) in
     subst (λ (o : Option Found). IfSome o (IsInArea c.args.area.now.sectors (sector_size d c.args.area.now))) (sym c.newest_up_to-in-None.ensures)
-    (last-from_all (IsInArea c.args.area.now.sectors (sector_size d c.args.area.now)) None (found_up_to unit sectors c.args.scan.now.current c.args.scan.now.current 32768) None tt
+    (last-all (λ f. is_wanted None f.entry) (IsInArea c.args.area.now.sectors (sector_size d c.args.area.now)) (found_up_to unit sectors c.args.scan.now.current c.args.scan.now.current 32768) None tt
     (part_all unit sectors c.args.scan.now.current c.args.scan.now.current 32768 is low low (IsInArea c.args.area.now.sectors (sector_size d c.args.area.now)) all))

@@ -8,7 +8,8 @@ use Rattle.sector_ring.specs.Area.{openings}
 use Rattle.nvs_store.specs.declared.places.Sought.TheVariants as sought
 use Rattle.nvs_store.specs.Scans.{reading}
 use Rattle.nvs_store.specs.Sought.{is_sought}
-use Rattle.nvs_store.proofs.MountLemmas.{length-sectors, all_closed, two_open, dirty, unfenced, full}
+use Rattle.sector_ring.proofs.AreaReads.{length-sectors}
+use Rattle.nvs_store.proofs.MountLemmas.{all_closed, two_open, dirty, unfenced, full}
 use Rattle.nvs_store.proofs.mounting.damage.Goals as goal
 
 pub returns-in_default : goal.returns-in_default

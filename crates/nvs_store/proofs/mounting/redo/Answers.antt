@@ -5,7 +5,8 @@ use Rattle.sector_ring.specs.Area.{next, is_closed_at}
 use Rattle.flash_map.specs.Area.{sector_at}
 use Rattle.nvs_store.specs.Scans.{reading}
 use Rattle.nvs_store.specs.Sector.{has_gc_done}
-use Rattle.nvs_store.proofs.MountLemmas.{next_there, redo_is}
+use Rattle.sector_ring.proofs.AreaReads.{next_there}
+use Rattle.nvs_store.proofs.MountLemmas.{redo_is}
 use Rattle.nvs_store.proofs.mounting.redo.Goals as goal
 
 pub returns-then-has_gc_done : goal.returns-then-has_gc_done

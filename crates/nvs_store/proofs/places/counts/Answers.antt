@@ -2,8 +2,8 @@ use Rattle.std.proofs.Common.{◌≡◌, ℕ, true, false, sym, ap, ◌∙◌}
 use Rattle.flash_sim.specs.Device.{Device}
 use Rattle.flash_map.specs.Area.{unit_of, sectors_of}
 use Rattle.sector_ring.specs.Area.{next, is_closed_at}
+use Rattle.sector_ring.proofs.AreaReads.{next_there, counts_closed, counts_open}
 use Rattle.nvs_store.specs.Scans.{reading}
-use Rattle.nvs_store.proofs.MountLemmas.{next_there, counts_closed, counts_open}
 use Rattle.nvs_store.proofs.places.counts.Goals as goal
 use Rattle.nvs_store.proofs.places.counts.Goals.{then-has_gc_done, else-has_gc_done}
 
@@ -15,13 +15,13 @@ returns-after-has_gc_done g c =
     let shut : is_closed_at (reading unit) (sectors_of d c.args.area.now) (next (sectors_of d c.args.area.now) c.args.current) ≡ true =
     ap (is_closed_at (reading unit) (sectors_of d c.args.area.now)) (sym after) ∙ sym c.is_closed.ensures ∙ c.if-is_closed.true in
     elim c.if-has_gc_done.branch [
-      | then-has_gc_done w ↦ counts_closed unit (sectors_of d c.args.area.now) c.args.current c.args.place c.if-has_gc_done.hidden true shut (sym c.has_gc_done.ensures ∙ w.if-has_gc_done.true) (w.hidden-is ∙ after)
-      | else-has_gc_done w ↦ counts_closed unit (sectors_of d c.args.area.now) c.args.current c.args.place c.if-has_gc_done.hidden false shut (sym c.has_gc_done.ensures ∙ w.if-has_gc_done.false) w.hidden-is
+      | then-has_gc_done w ↦ counts_closed (reading unit) (sectors_of d c.args.area.now) c.args.current c.args.place c.if-has_gc_done.hidden true shut (sym c.has_gc_done.ensures ∙ w.if-has_gc_done.true) (w.hidden-is ∙ after)
+      | else-has_gc_done w ↦ counts_closed (reading unit) (sectors_of d c.args.area.now) c.args.current c.args.place c.if-has_gc_done.hidden false shut (sym c.has_gc_done.ensures ∙ w.if-has_gc_done.false) w.hidden-is
     ]
 
 pub returns-else-is_closed : goal.returns-else-is_closed
 returns-else-is_closed g c =
     let d : Device = g.F.Flash.device c.args.flash.now in
     let after : c.next-after.result ≡ next (sectors_of d c.args.area.now) c.args.current = c.next-after.ensures.value ∙ next_there d c.args.area.now c.args.current in
-    counts_open (unit_of d c.args.area.now) (sectors_of d c.args.area.now) c.args.current c.args.place
+    counts_open (reading (unit_of d c.args.area.now)) (sectors_of d c.args.area.now) c.args.current c.args.place
     (ap (is_closed_at (reading (unit_of d c.args.area.now)) (sectors_of d c.args.area.now)) (sym after) ∙ sym c.is_closed.ensures ∙ c.if-is_closed.false)

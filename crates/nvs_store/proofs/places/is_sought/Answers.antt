@@ -5,7 +5,8 @@ use Rattle.flash_map.specs.Area.{unit_of, sectors_of}
 use Rattle.sector_ring.specs.Area.{is_closed_at}
 use Rattle.nvs_store.specs.Scans.{reading}
 use Rattle.nvs_store.specs.Sector.{is_closed}
-use Rattle.nvs_store.proofs.MountLemmas.{previous_there, opening_is}
+use Rattle.sector_ring.proofs.AreaReads.{previous_there}
+use Rattle.nvs_store.proofs.MountLemmas.{opening_is}
 use Rattle.nvs_store.proofs.places.is_sought.Goals as goal
 
 pub returns-then-not-is_closed : goal.returns-then-not-is_closed
@@ -14,5 +15,5 @@ returns-then-not-is_closed g c =
     let unit : ℕ = unit_of d c.args.area.now in
     let sectors : List (List ℕ) = sectors_of d c.args.area.now in
     let here : is_closed_at (reading unit) sectors c.args.place ≡ false =
-    ap (is_closed unit) (sym c.sector_of-bytes.ensures.bytes) ∙ ap (λ (x : Geometry). is_closed x.unit c.sector_of-bytes.result.now) (sym c.geometry-unit.ensures) ∙ sym c.is_closed-in-Opening.ensures ∙ c.if-not-is_closed.true in
+    ap (is_closed unit) (sym c.sector_view-bytes.ensures.bytes) ∙ ap (λ (x : Geometry). is_closed x.unit c.sector_view-bytes.result.now) (sym c.geometry-unit.ensures) ∙ sym c.is_closed-in-Opening.ensures ∙ c.if-not-is_closed.true in
     opening_is unit sectors c.args.place c.previous.result c.args.sought c.is_closed-then-not-is_closed.result c.in-Opening.is here (c.previous.ensures.value ∙ previous_there d c.args.area.now c.args.place) c.is_closed-then-not-is_closed.ensures

@@ -1,10 +1,12 @@
 use Rattle.std.proofs.Common.{◌≡◌, ℕ, Some, ap, ◌∙◌, sym, arith}
 use Rattle.std.specs.Option.{option_map}
 use Rattle.nvs_store.specs.declared.scan.Found.{Found}
-use Rattle.nvs_store.specs.Sector.{last_placed}
+use Rattle.nvs_store.specs.Sector.{counting_entry, is_wanted, last_placed}
 use Rattle.nvs_store.specs.Scans.{found_at}
 use Rattle.nvs_store.proofs.SlotReads.{slot_size_bounds}
-use Rattle.nvs_store.proofs.Lookups.{entries_to, used_inside, entries_to_within, find_here, find_other, find_none}
+use Rattle.slot_list.proofs.SlotWalks.{found_here, found_other, found_none}
+use Rattle.nvs_store.specs.Geometry.{slot_size}
+use Rattle.nvs_store.proofs.Lookups.{entries_to, used_inside, entries_to_within}
 use Rattle.nvs_store.proofs.sector.find_in.Goals as goal
 use Rattle.nvs_store.proofs.sector.find_in.Goals.{in-Some+else-is_wanted, in_default}
 
@@ -20,14 +22,14 @@ counting_entry-requires-clause-inside c =
     used_inside c.args.unit c.args.bytes.now c.loop-index.index (omega arith) (omega arith) c.loop-index.invariant.inside
 
 pub returns-then-is_wanted : goal.returns-then-is_wanted
-returns-then-is_wanted c = ap (λ (f : Found). Some f) c.at.ensures ∙ ap (option_map (found_at c.args.place)) (find_here c.args.unit c.args.bytes.now c.args.wanted c.loop-index.index c.in-Some.placed _ c.loop-index-test.true c.in-Some.ensures (sym c.is_wanted.ensures ∙ c.if-is_wanted.true) c.loop-index.invariant.later)
+returns-then-is_wanted c = ap (λ (f : Found). Some f) c.at.ensures ∙ ap (option_map (found_at c.args.place)) (found_here (counting_entry c.args.unit) 1 (slot_size c.args.unit) c.args.bytes.now (λ f. is_wanted c.args.wanted f.entry) c.loop-index.index c.loop-index.index c.loop-index-test.true (omega arith) c.in-Some.placed _ c.in-Some.ensures (sym c.is_wanted.ensures ∙ c.if-is_wanted.true) c.loop-index.invariant.later)
 
 pub loop-index-preserved : goal.loop-index-preserved
 loop-index-preserved c = record {
   inside = omega arith;
   later = elim c.match-counting_entry.branch [
-    | in-Some+else-is_wanted w ↦ find_other c.args.unit c.args.bytes.now c.args.wanted c.loop-index.index w.in-Some.placed _ c.loop-index-test.true w.in-Some.ensures (sym w.is_wanted.ensures ∙ w.if-is_wanted.false) c.loop-index.invariant.later
-    | in_default w ↦ find_none c.args.unit c.args.bytes.now c.args.wanted c.loop-index.index _ c.loop-index-test.true (sym w.in_default.is ∙ c.counting_entry.ensures) c.loop-index.invariant.later
+    | in-Some+else-is_wanted w ↦ found_other (counting_entry c.args.unit) 1 (slot_size c.args.unit) c.args.bytes.now (λ f. is_wanted c.args.wanted f.entry) c.loop-index.index c.loop-index.index c.loop-index-test.true (omega arith) w.in-Some.placed _ w.in-Some.ensures (sym w.is_wanted.ensures ∙ w.if-is_wanted.false) c.loop-index.invariant.later
+    | in_default w ↦ found_none (counting_entry c.args.unit) 1 (slot_size c.args.unit) c.args.bytes.now (λ f. is_wanted c.args.wanted f.entry) c.loop-index.index c.loop-index.index c.loop-index-test.true (omega arith) _ (sym w.in_default.is ∙ c.counting_entry.ensures) c.loop-index.invariant.later
   ];
 }
 

@@ -4,9 +4,10 @@ use Rattle.std.specs.List.{list_any}
 use Rattle.slot_list.proofs.SlotLemmas.{factor_le}
 use Rattle.nvs_store.specs.declared.scan.Placed.{Placed}
 use Rattle.nvs_store.specs.Geometry.{slot_size, capacity}
-use Rattle.nvs_store.specs.Sector.{used_slots, low, placed_cost}
+use Rattle.nvs_store.specs.Sector.{counting_entry, used_slots, low, placed_cost}
 use Rattle.nvs_store.proofs.SlotReads.{slot_size_bounds}
-use Rattle.nvs_store.proofs.Lookups.{used_inside, entries_to_used, sum_step, any_step, overfull_is}
+use Rattle.slot_list.proofs.SlotWalks.{any_step, sum_step}
+use Rattle.nvs_store.proofs.Lookups.{used_inside, entries_to_used, overfull_is}
 use Rattle.nvs_store.proofs.sector.is_overfull.Goals as goal
 use Rattle.nvs_store.proofs.sector.is_overfull.Goals.{At-loop-index}
 
@@ -28,8 +29,8 @@ counting_entry-placed-requires-clause-inside c =
 
 pub loop-index-preserved : goal.loop-index-preserved
 loop-index-preserved c = record {
-  passes = any_step c.args.unit c.args.bytes.now (λ f. ltb c.saturating_sub-fence.result (f.entry.offset + f.entry.len)) c.loop-index.index c.counting_entry-placed.result c.loop-index.passes c.ends_above-passes.result (omega arith) c.counting_entry-placed.ensures c.loop-index.invariant.passes c.ends_above-passes.ensures;
-  costs = sum_step c.args.unit c.args.bytes.now (placed_cost c.args.unit) c.loop-index.index c.counting_entry-placed.result c.loop-index.costs c.data_cost-costs.result (omega arith) c.counting_entry-placed.ensures c.loop-index.invariant.costs c.data_cost-costs.ensures.value;
+  passes = any_step (counting_entry c.args.unit) 1 (slot_size c.args.unit) c.args.bytes.now (λ f. ltb c.saturating_sub-fence.result (f.entry.offset + f.entry.len)) (c.loop-index.index - 1) c.loop-index.index (c.loop-index.index + 1 - 1) c.counting_entry-placed.result c.loop-index.passes c.ends_above-passes.result (omega arith) (omega arith) c.counting_entry-placed.ensures c.loop-index.invariant.passes c.ends_above-passes.ensures;
+  costs = sum_step (counting_entry c.args.unit) 1 (slot_size c.args.unit) c.args.bytes.now (placed_cost c.args.unit) (c.loop-index.index - 1) c.loop-index.index (c.loop-index.index + 1 - 1) c.counting_entry-placed.result c.loop-index.costs c.data_cost-costs.result (omega arith) (omega arith) c.counting_entry-placed.ensures c.loop-index.invariant.costs c.data_cost-costs.ensures.value;
   small = omega (arith, c.data_cost-costs.ensures.small);
 }
 

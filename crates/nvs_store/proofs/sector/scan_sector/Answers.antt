@@ -4,9 +4,11 @@ use Rattle.std.specs.List.{list_any}
 use Rattle.nvs_store.specs.declared.scan.Placed.{Placed}
 use Rattle.nvs_store.specs.Geometry.{slot_size}
 use Rattle.flash_map.specs.Units.{padded}
-use Rattle.nvs_store.specs.Sector.{is_gc_done, used_slots, low, data_end, entry_end}
+use Rattle.nvs_store.specs.Sector.{counting_entry, is_gc_done, is_used, used_slots, low, data_end, entry_end}
 use Rattle.nvs_store.proofs.SlotReads.{slot_size_bounds}
-use Rattle.nvs_store.proofs.Lookups.{used_inside, slots_to_used, entries_to_used, ends_step, sum_step, done_step, data_end_is}
+use Rattle.nvs_store.proofs.Lookups.{used_inside, entries_to_used, data_end_is}
+use Rattle.slot_list.proofs.SlotCounts.{slots_to_used}
+use Rattle.slot_list.proofs.SlotWalks.{most_step, slot_step, sum_step}
 use Rattle.slot_list.proofs.SlotLemmas.{factor_le}
 use Rattle.nvs_store.proofs.ScanLemmas.{scan_is}
 use Rattle.nvs_store.proofs.sector.scan_sector.Goals as goal
@@ -41,11 +43,11 @@ overflow_add-lens c =
 
 pub loop-index-preserved : goal.loop-index-preserved
 loop-index-preserved c =
-    let ends : max c.end_of.result c.loop-index.ends ≡ _ = ends_step c.args.unit c.args.bytes.now c.loop-index.index c.counting_entry-placed.result c.loop-index.ends c.end_of.result (omega arith) c.counting_entry-placed.ensures c.loop-index.invariant.ends c.end_of.ensures.value in
+    let ends : max c.end_of.result c.loop-index.ends ≡ _ = most_step (counting_entry c.args.unit) 1 (slot_size c.args.unit) c.args.bytes.now (entry_end c.args.unit) (c.loop-index.index - 1) c.loop-index.index (c.loop-index.index + 1 - 1) c.counting_entry-placed.result c.loop-index.ends c.end_of.result (omega arith) (omega arith) c.counting_entry-placed.ensures c.loop-index.invariant.ends c.end_of.ensures.value in
     record {
       ends = c.max-ends.ensures ∙ ends;
-      lens = sum_step c.args.unit c.args.bytes.now (λ f. padded c.args.unit f.entry.len) c.loop-index.index c.counting_entry-placed.result c.loop-index.lens c.len_of-lens.result (omega arith) c.counting_entry-placed.ensures c.loop-index.invariant.lens c.len_of-lens.ensures.value;
-      gc_done = done_step c.args.unit c.args.bytes.now c.loop-index.index c.loop-index.gc_done c.is_gc_done-gc_done.result (omega arith) c.loop-index.invariant.gc_done c.is_gc_done-gc_done.ensures;
+      lens = sum_step (counting_entry c.args.unit) 1 (slot_size c.args.unit) c.args.bytes.now (λ f. padded c.args.unit f.entry.len) (c.loop-index.index - 1) c.loop-index.index (c.loop-index.index + 1 - 1) c.counting_entry-placed.result c.loop-index.lens c.len_of-lens.result (omega arith) (omega arith) c.counting_entry-placed.ensures c.loop-index.invariant.lens c.len_of-lens.ensures.value;
+      gc_done = slot_step is_gc_done 1 (slot_size c.args.unit) c.args.bytes.now (c.loop-index.index - 1) c.loop-index.index (c.loop-index.index + 1 - 1) c.loop-index.gc_done c.is_gc_done-gc_done.result (omega arith) (omega arith) c.loop-index.invariant.gc_done c.is_gc_done-gc_done.ensures;
       small = omega (arith, c.len_of-lens.ensures.small);
     }
 
@@ -66,4 +68,4 @@ returns c =
     let used : c.loop-index.index - 1 ≡ length (used_slots c.args.unit c.args.bytes.now) = omega arith in
     scan_is c.args.unit c.args.place c.args.bytes.now c.slot_start-low.result c.max-2.result c.loop-index.gc_done
     (c.slot_start-low.ensures ∙ ap (λ (n : ℕ). length c.args.bytes.now - (n + 1) * slot_size c.args.unit) c.used_count-used.ensures) (data_end-is c)
-    (c.loop-index.invariant.gc_done ∙ ap (list_any is_gc_done) (slots_to_used c.args.unit c.args.bytes.now (c.loop-index.index - 1) used))
+    (c.loop-index.invariant.gc_done ∙ ap (list_any is_gc_done) (slots_to_used is_used 1 (slot_size c.args.unit) c.args.bytes.now (c.loop-index.index - 1) used))

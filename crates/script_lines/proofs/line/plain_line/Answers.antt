@@ -1,6 +1,6 @@
 use Rattle.std.proofs.Common.{◌==◌}
-use Rattle.script_lines.specs.Parts.{parts_of}
-use Rattle.script_lines.proofs.PartLemmas.{some_parts}
+use Rattle.text_parts.specs.Parts.{parts_of}
+use Rattle.text_parts.proofs.PartLemmas.{some_parts}
 use Rattle.script_lines.proofs.LineLemmas.{no_plain}
 use Rattle.script_lines.proofs.line.plain_line.Goals as goal
 

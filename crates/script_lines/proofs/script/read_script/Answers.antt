@@ -1,6 +1,6 @@
 use Rattle.std.proofs.Common.{◌≡◌, ℕ, ◌+◌, List, [], ◌∷◌, ◌++◌, ◌∙◌, ap, subst, sym, arith}
 use Rattle.script_lines.specs.declared.line.Line.{Line}
-use Rattle.script_lines.specs.Parts.{parts, parts_of}
+use Rattle.text_parts.specs.Parts.{parts, parts_of}
 use Rattle.script_lines.specs.Script.{SpellsAll, told, FirstRefused}
 use Rattle.script_lines.proofs.ScriptLemmas.{left, left_shorter, fine, found_step, refused_step, no_more}
 use Rattle.script_lines.proofs.script.read_script.Goals as goal

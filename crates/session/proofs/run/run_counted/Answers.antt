@@ -1,7 +1,7 @@
 use Rattle.std.proofs.Common.{◌∷◌, List, subst}
 use Rattle.script_lines.specs.declared.line.Line.{Line}
 use Rattle.script_lines.specs.declared.line.Line.TheVariants.{Mount}
-use Rattle.session.proofs.SoFar.{SoFar, begun, one_more, whole, next_line, no_line}
+use Rattle.session.proofs.SoFar.{SoFar, begun, keeps_then, one_more, whole, next_line, no_line}
 use Rattle.session.proofs.run.run_counted.Goals as goal
 
 pub loop-line-init : goal.loop-line-init
@@ -29,3 +29,9 @@ returns-clause-runs g c =
     let device = g.B.Flash.device in
     let end = no_line c.args.lines.now c.loop-line.line-index c.loop-line-test.false in
     whole (subst (λ (rest : List Line). SoFar c.args.area.now (Mount ∷ c.args.lines.now) rest c.loop-line.answers (device c.args.bench.now) (device c.loop-line.bench)) end c.loop-line.invariant.so_far)
+
+pub returns-in_err-answer-clause-keeps : goal.returns-in_err-answer-clause-keeps
+returns-in_err-answer-clause-keeps g c = keeps_then c.loop-line.invariant.so_far.keeps c.run_line.ensures.keeps
+
+pub returns-in_err-push-2-clause-keeps : goal.returns-in_err-push-2-clause-keeps
+returns-in_err-push-2-clause-keeps g c = keeps_then c.loop-line.invariant.so_far.keeps c.run_line.ensures.keeps

@@ -3,7 +3,8 @@ use Rattle.std.specs.Prelude.{Result}
 use Rattle.flash_map.specs.declared.faults.WriteFault.{WriteFault}
 use Rattle.flash_map.specs.declared.faults.WriteFault.TheVariants.{NoSpace, TooLong, PowerLost}
 use Rattle.flash_map.specs.Touches.{Touches}
-use Rattle.nvs_gc.specs.Ends.{write_lost, WriteEnds, Writes, FindsNoSpace, StopsWriting}
+use Rattle.flash_map.specs.Faults.{write_lost}
+use Rattle.nvs_gc.specs.Ends.{WriteEnds, Writes, FindsNoSpace, StopsWriting}
 use Rattle.session.proofs.Lines.{set_done, set_full, set_lost, is_short}
 use Rattle.session.proofs.store.set_item.Goals as goal
 

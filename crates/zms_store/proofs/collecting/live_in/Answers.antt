@@ -5,4 +5,4 @@ use Rattle.zms_store.proofs.collecting.live_in.Goals as goal
 
 pub entry_in-requires : goal.entry_in-requires
 entry_in-requires g c =
-    subst (λ (b : List ℕ). (c.args.slot + 1) * 16 ≤ length b) (sym c.sector_of.ensures.bytes) (read_room (sector_at (sectors_of (g.F.Flash.device c.args.flash.now) c.args.area.now) c.args.place) c.args.slot c.requires.from c.requires.listed)
+    subst (λ (b : List ℕ). (c.args.slot + 1) * 16 ≤ length b) (sym c.sector_view.ensures.bytes) (read_room (sector_at (sectors_of (g.F.Flash.device c.args.flash.now) c.args.area.now) c.args.place) c.args.slot c.requires.from c.requires.listed)

@@ -11,7 +11,7 @@ pub returns-then-counts-clause-last : goal.returns-then-counts-clause-last
 returns-then-counts-clause-last g c =
     let d : Device = g.F.Flash.device c.args.flash.now in
     c.find_in.ensures.last
-    ∙ ap (λ (b : List ℕ). option_map (placed_at c.args.place) (last_in c.args.id (entries b))) c.sector_of-bytes.ensures.bytes
+    ∙ ap (λ (b : List ℕ). option_map (placed_at c.args.place) (last_in c.args.id (entries b))) c.sector_view-bytes.ensures.bytes
     ∙ counted-last (sectors_of d c.args.area.now) c.args.current c.args.place c.args.id (sym c.counts.ensures ∙ c.if-counts.true)
 
 pub returns-else-counts-clause-last : goal.returns-else-counts-clause-last

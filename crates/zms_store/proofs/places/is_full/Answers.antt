@@ -11,7 +11,7 @@ pub returns-then-not-in_use : goal.returns-then-not-in_use
 returns-then-not-in_use g c =
     let d : Device = g.F.Flash.device c.args.flash.now in
     let sectors : List (List ℕ) = sectors_of d c.args.area.now in
-    let marks : c.read_marks-marks.result ≡ marks_of (sector_at sectors c.args.place) = c.read_marks-marks.ensures ∙ ap marks_of c.sector_of-bytes.ensures.bytes in
+    let marks : c.read_marks-marks.result ≡ marks_of (sector_at sectors c.args.place) = c.read_marks-marks.ensures ∙ ap marks_of c.sector_view-bytes.ensures.bytes in
     let begun = ap (λ (m : Marks). m.begun) marks in
     let closed = ap (λ (m : Marks). m.closed) marks in
     full_unused sectors c.args.current c.args.place c.read_marks-marks.result.begun c.read_marks-marks.result.closed c.in_use.result c.in_use.ensures begun closed c.if-not-in_use.true
@@ -26,18 +26,18 @@ pub returns-then-not-has_guard : goal.returns-then-not-has_guard
 returns-then-not-has_guard g c =
     let d : Device = g.F.Flash.device c.args.flash.now in
     let sectors : List (List ℕ) = sectors_of d c.args.area.now in
-    let marks : c.read_marks-marks.result ≡ marks_of (sector_at sectors c.args.place) = c.read_marks-marks.ensures ∙ ap marks_of c.sector_of-bytes.ensures.bytes in
+    let marks : c.read_marks-marks.result ≡ marks_of (sector_at sectors c.args.place) = c.read_marks-marks.ensures ∙ ap marks_of c.sector_view-bytes.ensures.bytes in
     let begun = ap (λ (m : Marks). m.begun) marks in
     let closed = ap (λ (m : Marks). m.closed) marks in
-    let guard = sym (c.has_guard.ensures ∙ ap has_guard c.sector_of-bytes.ensures.bytes) ∙ c.if-not-has_guard.true in
+    let guard = sym (c.has_guard.ensures ∙ ap has_guard c.sector_view-bytes.ensures.bytes) ∙ c.if-not-has_guard.true in
     full_counts sectors c.args.current c.args.place c.read_marks-marks.result.begun c.read_marks-marks.result.closed c.in_use.result c.in_use.ensures begun closed c.if-not-in_use.false (sym c.counts.ensures ∙ c.if-not-counts.false) false (is_overfull (sector_at sectors c.args.place)) guard refl
 
 pub returns : goal.returns
 returns g c =
     let d : Device = g.F.Flash.device c.args.flash.now in
     let sectors : List (List ℕ) = sectors_of d c.args.area.now in
-    let marks : c.read_marks-marks.result ≡ marks_of (sector_at sectors c.args.place) = c.read_marks-marks.ensures ∙ ap marks_of c.sector_of-bytes.ensures.bytes in
+    let marks : c.read_marks-marks.result ≡ marks_of (sector_at sectors c.args.place) = c.read_marks-marks.ensures ∙ ap marks_of c.sector_view-bytes.ensures.bytes in
     let begun = ap (λ (m : Marks). m.begun) marks in
     let closed = ap (λ (m : Marks). m.closed) marks in
-    let guard = sym (c.has_guard.ensures ∙ ap has_guard c.sector_of-bytes.ensures.bytes) ∙ c.if-not-has_guard.false in
-    full_counts sectors c.args.current c.args.place c.read_marks-marks.result.begun c.read_marks-marks.result.closed c.in_use.result c.in_use.ensures begun closed c.if-not-in_use.false (sym c.counts.ensures ∙ c.if-not-counts.false) true c.is_overfull.result guard (sym (c.is_overfull.ensures ∙ ap is_overfull c.sector_of-bytes.ensures.bytes))
+    let guard = sym (c.has_guard.ensures ∙ ap has_guard c.sector_view-bytes.ensures.bytes) ∙ c.if-not-has_guard.false in
+    full_counts sectors c.args.current c.args.place c.read_marks-marks.result.begun c.read_marks-marks.result.closed c.in_use.result c.in_use.ensures begun closed c.if-not-in_use.false (sym c.counts.ensures ∙ c.if-not-counts.false) true c.is_overfull.result guard (sym (c.is_overfull.ensures ∙ ap is_overfull c.sector_view-bytes.ensures.bytes))

@@ -14,7 +14,7 @@ found : (g : Over) (c : After-newest_in g) → c.newest_in.result ≡ last_or No
 found g c =
     let d : Device = g.F.Flash.device c.args.flash.now in
     c.newest_in.ensures.last
-    ∙ ap (λ (b : List ℕ). last_or None (map (placed_at c.args.place) (entries_within b c.args.slots))) c.sector_of-bytes.ensures.bytes
+    ∙ ap (λ (b : List ℕ). last_or None (map (placed_at c.args.place) (entries_within b c.args.slots))) c.sector_view-bytes.ensures.bytes
     ∙ sym (ap (λ (t : Bool). last_or None (cond t (map (placed_at c.args.place) (entries_within (sector_at (sectors_of d c.args.area.now) c.args.place) c.args.slots)) [])) (sym c.counts.ensures ∙ c.if-counts.true))
 
 pub returns-then-counts-clause-within : goal.returns-then-counts-clause-within

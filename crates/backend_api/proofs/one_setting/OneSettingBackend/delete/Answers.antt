@@ -1,6 +1,6 @@
 use Rattle.std.proofs.Common.{refl, sym, ap, ◌∙◌, arith}
 use Rattle.backend_api.specs.Map.{IsAbsent}
-use Rattle.backend_api.specs.OneSetting.{setting_in, settings_of, settings_in}
+use Rattle.backend_api.specs.OneSetting.{setting_in, only_setting, settings_in}
 use Rattle.flash_map.specs.Area.{sectors_of, sector_bytes}
 use Rattle.backend_api.proofs.MapLemmas.{remove-absent}
 use Rattle.backend_api.proofs.RecordLemmas.{setting-erased}
@@ -21,7 +21,7 @@ returns-clause-ends g c =
     let some : ¬ IsAbsent (settings_in (sectors_of (g.F.Flash.device c.args.flash.now) c.args.self.now.area)) c.args.name.now =
     some_of (λ bytes. bytes.now) c.get.result _ c.get.ensures c.if-is_none.ensures in
     delete_ends d e _ _ c.args.name.now c.put.result some
-    (on_ok c.put.result (λ holds. ap settings_of (holds ∙ setting-erased 336 (omega arith)) ∙ sym (remove-only (setting_in (sector_bytes d area 0)) c.args.name.now some)) c.put.ensures.holds)
+    (on_ok c.put.result (λ holds. ap only_setting (holds ∙ setting-erased 336 (omega arith)) ∙ sym (remove-only (setting_in (sector_bytes d area 0)) c.args.name.now some)) c.put.ensures.holds)
     c.put.ensures.spends
 
 pub returns-clause-at_most : goal.returns-clause-at_most

@@ -1,5 +1,5 @@
 use Rattle.std.proofs.Common.{refl, sym, ap, ◌∙◌, arith}
-use Rattle.backend_api.specs.OneSetting.{setting_in, settings_of}
+use Rattle.backend_api.specs.OneSetting.{setting_in, only_setting}
 use Rattle.flash_map.specs.Area.{sector_bytes}
 use Rattle.backend_api.proofs.MapLemmas.{insert-stored}
 use Rattle.backend_api.proofs.SettingLemmas.{insert-only, no_both}
@@ -17,7 +17,7 @@ returns-in-Ok-clause-ends g c =
     let alone = sym c.has_other.ensures ∙ c.if-has_other.false in
     record {
       free = alone;
-      settings = ap settings_of (c.in-Ok.ensures.holds ∙ c.record_of.ensures) ∙ sym (insert-only (setting_in (sector_bytes d area 0)) c.args.name.now c.args.value.now alone);
+      settings = ap only_setting (c.in-Ok.ensures.holds ∙ c.record_of.ensures) ∙ sym (insert-only (setting_in (sector_bytes d area 0)) c.args.name.now c.args.value.now alone);
       same = λ stored. absurd (no_both c.stores.result (c.stores.ensures.1 stored) c.if-stores.false);
       spends = λ _. (21, omega arith, c.in-Ok.ensures.spends);
     }

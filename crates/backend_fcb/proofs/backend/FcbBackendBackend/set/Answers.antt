@@ -102,8 +102,8 @@ returns-in-Err-Full-clause-ends g c =
     let len : c.len.result ≡ length name + 1 + length value = c.len.ensures.value ∙ ap length c.body_of-body.ensures.items ∙ length-body_of name value in
     let settings : settings_on e c.put.new.ring.area ≡ settings_on d area = ap (λ (x : Area). settings_on e x) c.in-Err-Full.ensures.area ∙ full.settings in
     let new-unit : unit_of e c.put.new.ring.area ≡ unit_of d area = unit-after d e area c.put.new.ring.area c.in-Err-Full.ensures.touches.banks c.in-Err-Full.ensures.area in
-    finds-no_space d e ring c.put.new.ring name value ring.reserve (c.geometry-geometry.result.sectors - 1) c.from.result c.live_cost.result (stands-ready d c.args.self.now c.requires.lawful c.requires.stands) other c.requires.stands.reserve (omega (arith, c.requires.lawful.several)) is-full
-    (c.from.ensures ∙ c.record_cost.ensures.cost ∙ ap (λ (u : ℕ). record_cost u c.len.result) unit ∙ ap (record_cost (unit_of d area)) len)
+    finds-no_space d e ring c.put.new.ring name value ring.reserve (c.geometry-geometry.result.sectors - 1) c.from.result c.live_cost.result (stands-ready d c.args.self.now c.requires.lawful c.requires.stands) other c.requires.stands.reserve (omega (arith, c.requires.lawful.several)) c.in-Err-Full.ensures.area is-full
+    (c.from.ensures ∙ c.record_cost.ensures ∙ ap (λ (u : ℕ). record_cost u c.len.result) unit ∙ ap (record_cost (unit_of d area)) len)
     (c.live_cost.ensures ∙ ap (sum_by (pair_cost (unit_of e c.put.new.ring.area))) (ap entries settings) ∙ ap (λ (u : ℕ). sum_by (pair_cost u) (entries (settings_on d area))) new-unit)
 
 pub returns-in-Err-Full-clause-at_most : goal.returns-in-Err-Full-clause-at_most

@@ -4,7 +4,7 @@ use Rattle.std.proofs.lemmas.List.{length-take-le}
 use Rattle.flash_sim.specs.Device.{Device}
 use Rattle.flash_map.specs.Area.{unit_of, sectors_of, sector_size, sector_at}
 use Rattle.fcb_ring.specs.declared.ring.Ring.{Ring}
-use Rattle.fcb_ring.proofs.AreaLemmas.{HasSize, has_size, count-sectors}
+use Rattle.fcb_ring.proofs.AreaLemmas.{has_size, count-sectors}
 use Rattle.fcb_ring.proofs.ReadLemmas.{there}
 use Rattle.fcb_ring.proofs.ring.Ring.body_of.Goals as goal
 

@@ -1,16 +1,14 @@
-use Rattle.std.proofs.Common.{◌≡◌, ◌≤◌, ◌<◌, ◌+◌, ◌*◌, ◌/◌, ◌++◌, ◌∷◌, [], ℕ, List, Bool, true, length, cond, eqb, ap, sym, subst, refl, ◌∙◌, arith}
-use Rattle.std.specs.Prelude.{slice_range}
+use Rattle.std.proofs.Common.{◌≡◌, ◌≤◌, ◌+◌, ◌/◌, ◌++◌, ◌∷◌, [], ℕ, List, Bool, length, cond, eqb, ap, sym, subst, ◌∙◌, arith}
 use Rattle.std.proofs.lemmas.Bool.{eq-eqb}
 use Rattle.std.proofs.lemmas.List.{append-nil}
 use Rattle.flash_sim.specs.Device.{Device}
-use Rattle.flash_map.specs.Area.{unit_of, sector_size, sectors_of, sector_bytes}
+use Rattle.flash_map.specs.Area.{unit_of, sector_size, sectors_of}
 use Rattle.flash_map.specs.Spending.{Spends, SpendsAtMost}
 use Rattle.flash_map.proofs.PieceLemmas.{on_err}
 use Rattle.flash_map.proofs.Rounding.{padding}
 use Rattle.fcb_ring.specs.declared.record.RecordAt.{RecordAt}
 use Rattle.fcb_ring.specs.declared.ring.Ring.{Ring}
-use Rattle.fcb_ring.specs.declared.ring.Stage.{Stage}
-use Rattle.fcb_ring.specs.Changing.{newest_place, sector_list, CopiesRecord}
+use Rattle.fcb_ring.specs.Changing.{newest_place, sector_list}
 use Rattle.fcb_ring.specs.Entries.{HasEntries}
 use Rattle.fcb_ring.specs.Standing.{is_finished, entries_on}
 use Rattle.fcb_ring.specs.Writing.{record_cost}

@@ -1,13 +1,11 @@
-use Rattle.std.proofs.Common.{◌≡◌, ◌≤◌, ◌<◌, ◌+◌, ◌*◌, ◌/◌, ℕ, List, true, false, length, inl, inr, ◌∷◌, [], ap, sym, subst, ◌∙◌, arith}
+use Rattle.std.proofs.Common.{◌≡◌, ◌≤◌, ◌+◌, ℕ, true, false, length, inl, ◌∷◌, [], ap, sym, subst, ◌∙◌, arith}
 use Rattle.flash_sim.specs.Device.{Device}
 use Rattle.flash_map.specs.Area.{unit_of, sector_size}
 use Rattle.flash_map.specs.Touches.{Touches}
-use Rattle.flash_map.specs.Units.{padded}
 use Rattle.flash_map.specs.declared.area.Area.{Area}
 use Rattle.flash_map.proofs.PieceLemmas.{on_err}
 use Rattle.flash_map.proofs.Touches.{then}
 use Rattle.fcb_ring.specs.declared.ring.Ring.{Ring}
-use Rattle.fcb_ring.specs.declared.ring.Stage.TheVariants.{Ready}
 use Rattle.fcb_ring.specs.Standing.{is_finished}
 use Rattle.fcb_ring.specs.Writing.{record_cost}
 use Rattle.fcb_ring.proofs.AppendLemmas.{is_err_by, unit-after, size-after, adds-after, cut-after, spends-both, most-first, most-both}

@@ -3,9 +3,8 @@ use Rattle.std.specs.List.{list_any}
 use Rattle.std.specs.Str.{bytes_eq}
 use Rattle.arrayvec.specs.ArrayString.{ArrayString}
 use Rattle.indexmap.proofs.CallerLemmas.{insert_entry-new}
-use Rattle.flash_map.specs.declared.area.Area.{Area}
 use Rattle.flash_map.specs.Map.{has_label}
-use Rattle.flash_map.proofs.MapLemmas.{Entries, label_found, values_more, keys_more, not_some}
+use Rattle.flash_map.proofs.MapLemmas.{label_found, values_more, keys_more, not_some}
 use Rattle.flash_map.proofs.map.FlashMap.put.Goals as goal
 
 abbrev same_label : ArrayString → ArrayString → Bool

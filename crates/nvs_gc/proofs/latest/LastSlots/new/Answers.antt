@@ -3,4 +3,4 @@ use Rattle.nvs_gc.proofs.LastSlots.{tells_none}
 use Rattle.nvs_gc.proofs.latest.LastSlots.new.Goals as goal
 
 pub returns : goal.returns
-returns c = λ place. tells_none place 65536 refl
+returns c = tells_none 65536 refl

@@ -1,8 +1,10 @@
-use Rattle.std.proofs.Common.{◌≡◌, ℕ, ◌+◌, ◌-◌, ◌*◌, ◌≤◌, true, sym, ap, subst, ◌∙◌, arith}
+use Rattle.std.proofs.Common.{◌≡◌, ℕ, ◌+◌, ◌-◌, ◌*◌, ◌≤◌, Bool, true, ◌∷◌, [], sym, ap, subst, ◌∙◌, arith}
 use Rattle.std.proofs.Math.Nat.{mul-le-mul_left}
 use Rattle.flash_sim.specs.Device.{Device}
 use Rattle.flash_map.specs.declared.area.Geometry.{Geometry}
 use Rattle.flash_map.specs.Area.{unit_of, sectors_of}
+use Rattle.flash_map.specs.Touches.{Touches}
+use Rattle.flash_map.proofs.PieceLemmas.{on_err}
 use Rattle.flash_map.proofs.SpendingLemmas.{most_weaker}
 use Rattle.sector_ring.proofs.Parts.{parts-count}
 use Rattle.nvs_store.specs.Scans.{reading, fits}
@@ -10,7 +12,7 @@ use Rattle.nvs_store.proofs.MountLemmas.{length-sectors}
 use Rattle.nvs_gc.specs.declared.nvs.Nvs.{Nvs}
 use Rattle.nvs_gc.specs.Spending.{sector_units}
 use Rattle.nvs_gc.proofs.Standings.{rest-stands}
-use Rattle.nvs_gc.proofs.WriteSteps.{IsSearching, same_or_unfit, searching_start, searching_more, fits_now, used_now, unfit_now, most_more, items_more, touches_more, nothing_fits}
+use Rattle.nvs_gc.proofs.WriteSteps.{IsSearching, same_or_unfit, searching_start, searching_more, fits_now, used_now, unfit_now, most_more, items_more, touches_more, nothing_fits, crammed_now}
 use Rattle.nvs_gc.proofs.nvs.Nvs.make_room.Goals as goal
 
 pub loop-round-init : goal.loop-round-init
@@ -43,36 +45,37 @@ turn-requires-clause-used g c =
     let unfit = fits_now a d c.args.self.now c.loop-round.self c.args.len (c.loop-round._round - 1) c.loop-round.invariant bank ∙ ap (λ (x : Geometry). fits x.unit c.loop-round.self.scan c.args.len) (sym c.geometry-g.ensures) ∙ sym c.fits.ensures ∙ c.if-fits.false in
     used_now a d c.args.self.now c.loop-round.self c.args.len (c.loop-round._round - 1) c.loop-round.invariant bank c.requires.some c.requires.short unfit
 
-pub returns-in-Err-clause-touches : goal.returns-in-Err-clause-touches
-returns-in-Err-clause-touches g c =
+pub returns-in_err-turn-clause-touches : goal.returns-in_err-turn-clause-touches
+returns-in_err-turn-clause-touches g c =
     let a : Device = g.F.Flash.device c.args.flash.now in
     let d : Device = g.F.Flash.device c.loop-round.flash in
-    touches_more a d c.args.self.now c.loop-round.self c.args.len (c.loop-round._round - 1) c.loop-round.invariant (g.met.F.Flash.is_lawful c.loop-round.flash) (g.F.Flash.device c.turn.new.flash) true c.in-Err.ensures.touches
+    subst (λ (lost : Bool). Touches (c.args.self.now.area ∷ []) a (g.F.Flash.device c.turn.new.flash) lost) (sym c.from_residual.ensures.0)
+    (touches_more a d c.args.self.now c.loop-round.self c.args.len (c.loop-round._round - 1) c.loop-round.invariant (g.met.F.Flash.is_lawful c.loop-round.flash) (g.F.Flash.device c.turn.new.flash) true c.in_err-turn.ensures.touches)
 
-pub returns-in-Err-clause-items : goal.returns-in-Err-clause-items
-returns-in-Err-clause-items g c =
+pub returns-in_err-turn-clause-items : goal.returns-in_err-turn-clause-items
+returns-in_err-turn-clause-items g c =
     let a : Device = g.F.Flash.device c.args.flash.now in
     let d : Device = g.F.Flash.device c.loop-round.flash in
-    items_more a d c.args.self.now c.loop-round.self c.args.len (c.loop-round._round - 1) c.loop-round.invariant (g.met.F.Flash.is_lawful c.loop-round.flash) (g.F.Flash.device c.turn.new.flash) c.in-Err.ensures.items
+    items_more a d c.args.self.now c.loop-round.self c.args.len (c.loop-round._round - 1) c.loop-round.invariant (g.met.F.Flash.is_lawful c.loop-round.flash) (g.F.Flash.device c.turn.new.flash) c.in_err-turn.ensures.items
 
-pub returns-in-Err-clause-at_most : goal.returns-in-Err-clause-at_most
-returns-in-Err-clause-at_most g c =
+pub returns-in_err-turn-clause-at_most : goal.returns-in_err-turn-clause-at_most
+returns-in_err-turn-clause-at_most g c =
     let a : Device = g.F.Flash.device c.args.flash.now in
     let d : Device = g.F.Flash.device c.loop-round.flash in
     let e : Device = g.F.Flash.device c.turn.new.flash in
     let q = sector_units a c.args.self.now.area + 1 in
     let n = c.loop-round._round - 1 in
-    let most = most_more a d c.args.self.now c.loop-round.self c.args.len (c.loop-round._round - 1) c.loop-round.invariant (g.met.F.Flash.is_lawful c.loop-round.flash) e c.in-Err.ensures.bound in
+    let most = most_more a d c.args.self.now c.loop-round.self c.args.len (c.loop-round._round - 1) c.loop-round.invariant (g.met.F.Flash.is_lawful c.loop-round.flash) e c.in_err-turn.ensures.bound in
     let le : (sector_units a c.args.self.now.area + 1) * (c.loop-round._round - 1 + 1) ≤ (sector_units a c.args.self.now.area + 1) * (c.args.self.now.area.sectors - 1) = mul-le-mul_left (sector_units a c.args.self.now.area + 1) (omega arith) in
     most_weaker a e ((n + 1) * q) ((c.args.self.now.area.sectors - 1) * q) (omega arith) most
 
-pub returns-in-Err-clause-unfit : goal.returns-in-Err-clause-unfit
-returns-in-Err-clause-unfit g c =
+pub returns-in_err-turn-clause-unfit : goal.returns-in_err-turn-clause-unfit
+returns-in_err-turn-clause-unfit g c =
     let a : Device = g.F.Flash.device c.args.flash.now in
     let d : Device = g.F.Flash.device c.loop-round.flash in
     let bank = g.met.F.Flash.is_lawful c.loop-round.flash in
     let unfit = fits_now a d c.args.self.now c.loop-round.self c.args.len (c.loop-round._round - 1) c.loop-round.invariant bank ∙ ap (λ (x : Geometry). fits x.unit c.loop-round.self.scan c.args.len) (sym c.geometry-g.ensures) ∙ sym c.fits.ensures ∙ c.if-fits.false in
-    λ fitting. unfit_now a d c.args.self.now c.loop-round.self c.args.len (c.loop-round._round - 1) c.loop-round.invariant bank unfit c.requires.stands fitting
+    on_err c.from_residual.result (λ fitting. unfit_now a d c.args.self.now c.loop-round.self c.args.len (c.loop-round._round - 1) c.loop-round.invariant bank unfit c.requires.stands fitting)
 
 pub loop-round-preserved : goal.loop-round-preserved
 loop-round-preserved g c =
@@ -87,7 +90,7 @@ loop-round-preserved g c =
     let count = parts-count (reading (unit_of a start.area)) (sectors_of a start.area) start.scan.current ring.within ring.several in
     let many = length-sectors a start.area in
     let same : c.loop-round._round - 1 + 1 ≡ c.loop-round._round + 1 - 1 = omega arith in
-    let did = c.in-Ok.ensures in
+    let did = c.in_ok-turn.ensures in
     subst (λ (n : ℕ). IsSearching a e start c.turn.new.self c.args.len n) same
     (searching_more a d start c.loop-round.self c.args.len (c.loop-round._round - 1) c.loop-round.invariant bank e c.turn.new.self c.requires.some c.requires.short c.requires.stands (omega arith) unfit
     did.touches did.area did.items did.stands did.turns did.units)
@@ -108,7 +111,7 @@ pub returns-clause-room : goal.returns-clause-room
 returns-clause-room g c =
     let a : Device = g.F.Flash.device c.args.flash.now in
     let d : Device = g.F.Flash.device c.loop-round.flash in
-    c.fits-room.ensures ∙ ap (λ (x : Geometry). fits x.unit c.loop-round.self.scan c.args.len) c.geometry-g.ensures
+    c.fits-2.ensures ∙ ap (λ (x : Geometry). fits x.unit c.loop-round.self.scan c.args.len) c.geometry-g.ensures
     ∙ sym (fits_now a d c.args.self.now c.loop-round.self c.args.len (c.loop-round._round - 1) c.loop-round.invariant (g.met.F.Flash.is_lawful c.loop-round.flash))
 
 pub returns-clause-full : goal.returns-clause-full
@@ -117,5 +120,14 @@ returns-clause-full g c =
     let d : Device = g.F.Flash.device c.loop-round.flash in
     let bank = g.met.F.Flash.is_lawful c.loop-round.flash in
     λ none.
-    let unfit = fits_now a d c.args.self.now c.loop-round.self c.args.len (c.loop-round._round - 1) c.loop-round.invariant bank ∙ ap (λ (x : Geometry). fits x.unit c.loop-round.self.scan c.args.len) (sym c.geometry-g.ensures) ∙ sym c.fits-room.ensures ∙ none in
+    let unfit = fits_now a d c.args.self.now c.loop-round.self c.args.len (c.loop-round._round - 1) c.loop-round.invariant bank ∙ ap (λ (x : Geometry). fits x.unit c.loop-round.self.scan c.args.len) (sym c.geometry-g.ensures) ∙ sym c.fits-2.ensures ∙ none in
     nothing_fits a d c.args.self.now c.loop-round.self c.args.len (c.loop-round._round - 1) c.loop-round.invariant bank c.requires.stands c.requires.short (omega (arith, c.requires.stands.area.lawful.several)) unfit
+
+pub returns-clause-crammed : goal.returns-clause-crammed
+returns-clause-crammed g c =
+    let a : Device = g.F.Flash.device c.args.flash.now in
+    let d : Device = g.F.Flash.device c.loop-round.flash in
+    let bank = g.met.F.Flash.is_lawful c.loop-round.flash in
+    λ none.
+    let unfit = fits_now a d c.args.self.now c.loop-round.self c.args.len (c.loop-round._round - 1) c.loop-round.invariant bank ∙ ap (λ (x : Geometry). fits x.unit c.loop-round.self.scan c.args.len) (sym c.geometry-g.ensures) ∙ sym c.fits-2.ensures ∙ none in
+    crammed_now a d c.args.self.now c.loop-round.self c.args.len (c.loop-round._round - 1) c.loop-round.invariant bank c.requires.stands (omega (arith, c.requires.stands.area.lawful.several)) unfit

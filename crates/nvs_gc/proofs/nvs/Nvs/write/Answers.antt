@@ -111,7 +111,7 @@ returns-in-Ok-false-clause-ends g c =
     let short = short-by a nvs.area c.geometry-g.result (length c.args.bytes.now) c.is_too_long.result c.geometry-g.ensures c.is_too_long.ensures c.if-is_too_long.false in
     let did = c.in-Ok-false.ensures in
     let need : c.cost.result ≡ cost (unit_of a nvs.area) (length c.args.bytes.now) = c.cost.ensures.value ∙ ap (λ (x : Geometry). cost x.unit (length c.args.bytes.now)) c.geometry-g.ensures in
-    write_full a d nvs c.make_room.new.self c.args.id c.args.bytes.now c.cost.result c.live_cost.result did.area did.touches.banks short c.if-holds.ensures did.items did.at_most did.same c.requires.stands did.stands (sym did.room ∙ c.in-Ok-false.field-0-test) (did.full c.in-Ok-false.field-0-test) did.live need c.live_cost.ensures
+    write_full a d nvs c.make_room.new.self c.args.id c.args.bytes.now c.cost.result c.live_cost.result did.area did.touches.banks short c.if-holds.ensures did.items did.at_most did.same c.requires.stands did.stands (sym did.room ∙ c.in-Ok-false.field-0-test) (did.full c.in-Ok-false.field-0-test) (did.crammed c.in-Ok-false.field-0-test) did.live need c.live_cost.ensures
 
 pub put-requires-clause-fits : goal.put-requires-clause-fits
 put-requires-clause-fits g c = sym c.in-Ok-true.ensures.room ∙ c.in-Ok-true.field-0-test

@@ -8,7 +8,7 @@ use Rattle.zms_store.specs.declared.store.Zms.{Zms}
 use Rattle.zms_store.specs.Area.{reading}
 use Rattle.zms_store.proofs.MountLemmas.{length-sectors}
 use Rattle.zms_store.proofs.Standings.{rest-stands}
-use Rattle.zms_store.proofs.WriteSteps.{IsSearching, same_or_unfit, searching_start, searching_more, used_now, unfit_now, most_more, items_more, touches_more, nothing_fits}
+use Rattle.zms_store.proofs.WriteSteps.{IsSearching, same_or_unfit, searching_start, searching_more, used_now, unfit_now, most_more, items_more, touches_more, nothing_fits, crammed_now}
 use Rattle.zms_store.proofs.store.Zms.make_room.Goals as goal
 
 pub loop-round-init : goal.loop-round-init
@@ -99,3 +99,9 @@ returns-clause-full g c =
     let a : Device = g.F.Flash.device c.args.flash.now in
     let d : Device = g.F.Flash.device c.loop-round.flash in
     λ none. nothing_fits a d c.args.self.now c.loop-round.self c.args.len (c.loop-round._round - 1) c.loop-round.invariant (g.met.F.Flash.is_lawful c.loop-round.flash) c.requires.stands c.requires.short (omega (arith, c.requires.stands.area.lawful.several)) (sym c.has_room-room.ensures ∙ none)
+
+pub returns-clause-crammed : goal.returns-clause-crammed
+returns-clause-crammed g c =
+    let a : Device = g.F.Flash.device c.args.flash.now in
+    let d : Device = g.F.Flash.device c.loop-round.flash in
+    λ none. crammed_now a d c.args.self.now c.loop-round.self c.args.len (c.loop-round._round - 1) c.loop-round.invariant (g.met.F.Flash.is_lawful c.loop-round.flash) c.requires.stands (omega (arith, c.requires.stands.area.lawful.several)) (sym c.has_room-room.ensures ∙ none)

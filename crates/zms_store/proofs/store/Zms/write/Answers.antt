@@ -103,7 +103,7 @@ returns-in-Ok-false-clause-ends g c =
     let d : Device = g.F.Flash.device c.make_room.new.flash in
     let short = short-by a zms.area c.geometry.result (length c.args.bytes.now) c.is_too_long.result c.geometry.ensures c.is_too_long.ensures c.if-is_too_long.false in
     let did = c.in-Ok-false.ensures in
-    write_full a d zms c.make_room.new.self c.args.id c.args.bytes.now c.from.result c.live_cost.result did.area short c.if-holds.ensures did.items did.at_most did.same c.requires.stands did.stands (sym did.room ∙ c.in-Ok-false.field-0-test) (did.full c.in-Ok-false.field-0-test) did.live (c.from.ensures ∙ c.cost.ensures.value) c.live_cost.ensures
+    write_full a d zms c.make_room.new.self c.args.id c.args.bytes.now c.from.result c.live_cost.result did.area short c.if-holds.ensures did.items did.at_most did.same c.requires.stands did.stands (sym did.room ∙ c.in-Ok-false.field-0-test) (did.full c.in-Ok-false.field-0-test) (did.crammed c.in-Ok-false.field-0-test) did.live (c.from.ensures ∙ c.cost.ensures.value) c.live_cost.ensures
 
 pub put-requires-clause-fits : goal.put-requires-clause-fits
 put-requires-clause-fits g c = sym c.in-Ok-true.ensures.room ∙ c.in-Ok-true.field-0-test

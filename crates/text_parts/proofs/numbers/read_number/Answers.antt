@@ -2,8 +2,8 @@ use Rattle.std.proofs.Common.{◌∙◌, sym, subst, arith}
 use Rattle.std.specs.Str.{IsUtf8}
 use Rattle.std.proofs.lemmas.Fmt.{IsAscii-decimal}
 use Rattle.std.proofs.lemmas.Str.{IsUtf8-from_ascii}
-use Rattle.script_lines.proofs.NumberLemmas.{not_parsed, too_large, otherwise_written}
-use Rattle.script_lines.proofs.line.read_number.Goals as goal
+use Rattle.text_parts.proofs.NumberLemmas.{not_parsed, too_large, otherwise_written}
+use Rattle.text_parts.proofs.numbers.read_number.Goals as goal
 
 pub returns-in_default : goal.returns-in_default
 returns-in_default c = λ n small is.
@@ -19,4 +19,4 @@ returns-then-n-limit c =
 
 pub returns : goal.returns
 returns c =
-    otherwise_written c.args.limit c.args.word.now c.in-Ok.text.now c.as_bytes.result.now c.parse.result c.in-Ok-parse.n (omega arith) c.in-Ok.ensures.cases.0 c.parse.ensures.value.0 c.in-Ok-parse.is (c.as_bytes.ensures.value ∙ c.in-Ok-to_string.ensures.ok) (sym c.if-eq.ensures)
+    otherwise_written c.args.limit c.args.word.now c.in-Ok.text.now c.as_bytes.result.now c.parse.result c.in-Ok-parse.n (omega arith) c.in-Ok.ensures.cases.0 c.parse.ensures.value.0 c.in-Ok-parse.is (c.as_bytes.ensures.value ∙ c.in_ok-written.ensures.ok) (sym c.if-eq.ensures)

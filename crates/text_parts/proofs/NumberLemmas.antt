@@ -5,7 +5,7 @@ use Rattle.std.specs.Str.{bytes_eq}
 use Rattle.std.specs.Str.Parse.{ParsesUnsigned}
 use Rattle.std.proofs.lemmas.Fmt.{parse-decimal}
 use Rattle.std.proofs.lemmas.Slice.Eq.{bytes_eq-Decides}
-use Rattle.script_lines.specs.Line.{IsNoNumber}
+use Rattle.text_parts.specs.Numbers.{IsNoNumber}
 
 -- what does not parse is no number
 pub not_parsed : {E : Type 0} (limit : ℕ) (word text : List ℕ) (r : Result ℕ E) (e : E) → limit < 2 ^ 64 → text ≡ word → ParsesUnsigned 64 10 text r → r ≡ Err e → IsNoNumber limit word

@@ -1,7 +1,7 @@
 use Rattle.std.proofs.Common.{ℕ, ◌∙◌, ap, sym}
-use Rattle.nvs_gc.proofs.LastSlots.{counts_all, counts_but_victim, counts_but_open}
+use Rattle.nvs_store.proofs.HiddenSectors.{counts_all, counts_but_victim, counts_but_open}
 use Rattle.sector_ring.proofs.Places.{after}
-use Rattle.nvs_gc.proofs.latest.is_hidden.Goals as goal
+use Rattle.nvs_store.proofs.scan.is_hidden.Goals as goal
 
 pub returns-in-Nothing : goal.returns-in-Nothing
 returns-in-Nothing c = λ unit sectors long is. counts_all unit sectors c.args.scan.now c.args.place is c.in-Nothing.is

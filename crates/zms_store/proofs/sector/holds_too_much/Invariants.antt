@@ -1,10 +1,9 @@
 use Rattle.std.proofs.Common.{◌≡◌, ◌-◌, ◌*◌, ◌^◌, ◌≤◌, not}
 use Rattle.std.specs.Prelude.{sum_by}
 use Rattle.std.specs.List.{list_any}
-use Rattle.zms_cycle.specs.Sector.{is_under}
+use Rattle.zms_cycle.specs.Sector.{is_under, entry_cost}
 use Rattle.zms_cycle.proofs.Scanning.{entries_to}
-use Rattle.zms_store.specs.Area.{entry_cost}
-use Rattle.zms_store.proofs.sector.is_overfull.Given as goal
+use Rattle.zms_store.proofs.sector.holds_too_much.Given as goal
 
 abbrev pub invariant-loop-slot : goal.invariant-loop-slot
 invariant-loop-slot l = record {

@@ -1,11 +1,10 @@
 use Rattle.std.proofs.Common.{◌≡◌, ℕ, ◌+◌, ◌-◌, ◌*◌, not, ◌||◌, Bool, List, length, ltb, refl, sym, ap, ◌∙◌, arith}
 use Rattle.std.specs.Prelude.{sum_by}
 use Rattle.std.specs.List.{list_any}
-use Rattle.zms_cycle.specs.Sector.{is_under}
+use Rattle.zms_cycle.specs.Sector.{is_under, entry_cost}
 use Rattle.zms_cycle.proofs.Scanning.{entries_to}
-use Rattle.zms_store.specs.Area.{entry_cost}
-use Rattle.zms_store.proofs.Sectors.{few_slots, read_room, any_step, sum_step, overfull_is}
-use Rattle.zms_store.proofs.sector.is_overfull.Goals as goal
+use Rattle.zms_store.proofs.Sectors.{few_slots, read_room, any_step, sum_step, too_much_is}
+use Rattle.zms_store.proofs.sector.holds_too_much.Goals as goal
 
 pub overflow_add-slot-end : goal.overflow_add-slot-end
 overflow_add-slot-end c = let few = few_slots c.args.sector.now in omega (arith, c.requires.slots)
@@ -37,11 +36,11 @@ returns-then-over c =
     let b : List ℕ = c.args.sector.now in
     let cap : ℕ = length b - 80 in
     c.if-over.true ∙ sym (ap (λ (t : Bool). t || ltb cap c.loop-slot.costs) c.if-over.true)
-    ∙ overfull_is b c.saturating_sub-limit.result cap c.loop-slot.costs c.args.slots (c.loop-slot.slot - 2) c.loop-slot.over c.requires.slots (omega arith) (c.saturating_sub-limit.ensures ∙ ap (λ (n : ℕ). length b - (n + 3) * 16) c.from.ensures) refl kept.over kept.costs
+    ∙ too_much_is b c.saturating_sub-limit.result cap c.loop-slot.costs c.args.slots (c.loop-slot.slot - 2) c.loop-slot.over c.requires.slots (omega arith) (c.saturating_sub-limit.ensures ∙ ap (λ (n : ℕ). length b - (n + 3) * c.from-2.result) c.from.ensures ∙ ap (λ (n : ℕ). length b - (c.args.slots + 3) * n) c.from-2.ensures) refl kept.over kept.costs
 
 pub returns-else-over : goal.returns-else-over
 returns-else-over c =
     let kept = c.loop-slot.invariant in
     let b : List ℕ = c.args.sector.now in
-    sym (ap (λ (t : Bool). t || ltb c.saturating_sub.result c.loop-slot.costs) c.if-over.false)
-    ∙ overfull_is b c.saturating_sub-limit.result c.saturating_sub.result c.loop-slot.costs c.args.slots (c.loop-slot.slot - 2) c.loop-slot.over c.requires.slots (omega arith) (c.saturating_sub-limit.ensures ∙ ap (λ (n : ℕ). length b - (n + 3) * 16) c.from.ensures) c.saturating_sub.ensures kept.over kept.costs
+    sym (ap (λ (t : Bool). t || ltb c.from-else-over.result c.loop-slot.costs) c.if-over.false)
+    ∙ too_much_is b c.saturating_sub-limit.result c.from-else-over.result c.loop-slot.costs c.args.slots (c.loop-slot.slot - 2) c.loop-slot.over c.requires.slots (omega arith) (c.saturating_sub-limit.ensures ∙ ap (λ (n : ℕ). length b - (n + 3) * c.from-2.result) c.from.ensures ∙ ap (λ (n : ℕ). length b - (c.args.slots + 3) * n) c.from-2.ensures) (c.from-else-over.ensures ∙ c.capacity.ensures) kept.over kept.costs

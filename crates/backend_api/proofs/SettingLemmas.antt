@@ -1,5 +1,5 @@
 -- A store of at most one setting as a map.
-use Rattle.std.proofs.Common.{◌≡◌, ℕ, zero, suc, ◌+◌, ◌-◌, ◌*◌, ◌/◌, ◌<◌, ◌≤◌, Bool, true, false, cond, eqb, not, ◌||◌, List, [], ◌∷◌, ◌++◌, length, set, take, drop, replicate, map, Some, None, inl, inr, refl, sym, ap, ◌∙◌, subst, append_assoc, arith}
+use Rattle.std.proofs.Common.{◌≡◌, ℕ, zero, suc, ◌+◌, ◌-◌, ◌*◌, ◌/◌, ◌<◌, ◌≤◌, Bool, true, false, cond, not, ◌||◌, List, [], ◌∷◌, ◌++◌, length, set, take, drop, replicate, map, Some, None, inl, inr, refl, sym, ap, ◌∙◌, subst, append_assoc, arith}
 use Rattle.std.specs.Prelude.{count_by, Option, Result, Ok, Err, OnOk, OnErr, IsOk, is_err, is_some, option_map, find, IsTrue}
 use Rattle.std.specs.List.{list_any}
 use Rattle.std.specs.Result.{result_ok}
@@ -8,7 +8,7 @@ use Rattle.std.specs.Ordering.{nat_cmp}
 use Rattle.std.specs.Str.{bytes_eq}
 use Rattle.std.specs.Cmp.Lexicographic.{slice_cmp}
 use Rattle.std.proofs.Math.Nat.{mul-le-mul}
-use Rattle.std.proofs.lemmas.Bool.{cases_Bool, and_parts, cond-true, cond-false, eqb-true}
+use Rattle.std.proofs.lemmas.Bool.{cases_Bool, cond-true, cond-false}
 use Rattle.std.proofs.lemmas.Slice.Eq.{bytes_eq-Decides}
 use Rattle.std.proofs.lemmas.List.Sums.{sum_by-append, count_by_more_yes, count_by_more_no}
 use Rattle.std.proofs.lemmas.List.{drop_all, drop_more, take-append-drop, append-nil, get_or-append_right, get_or-drop, get_or-replicate, length-replicate, replicate-append-replicate, set-get_or, set-append_right}
@@ -23,14 +23,14 @@ use Rattle.flash_map.specs.declared.area.Role.{Role}
 use Rattle.flash_map.specs.Area.{sectors_of, sector_at, sector_bytes, sector_size, unit_of, Writes}
 use Rattle.flash_map.specs.Lawful.{HasUnit, IsLawfulFor}
 use Rattle.flash_map.specs.Spending.{Spends, SpendsAtMost}
-use Rattle.flash_map.specs.Units.{is_erased}
+use Rattle.flash_map.specs.Sectors.{blanked, blanked_up_to}
+use Rattle.flash_map.specs.Units.{is_written}
 use Rattle.flash_map.proofs.Places.{length-sector}
 use Rattle.flash_map.proofs.Sectors.{length-sectors_from}
 use Rattle.flash_map.proofs.Sequence.{sector_written}
 use Rattle.flash_map.proofs.SpendingLemmas.{spends-programs, spends_then, spends_then_most, most_weaker}
 use Rattle.backend_api.specs.Map.{Map, IsStored, IsAbsent, next_name, is_behind}
 use Rattle.backend_api.specs.Room.{most_units}
-use Rattle.backend_api.specs.Formats.{is_written, blanked, blanked_up_to}
 use Rattle.backend_api.specs.Ends.{DeleteEnds}
 use Rattle.backend_api.specs.OneSetting.{setting_in, only_setting, settings_in, has_other, IsOwnArea}
 use Rattle.backend_api.specs.OneSettingLaws.{entries-empty, entries-one}
@@ -179,12 +179,6 @@ delete_ends d e before after name (Ok x) some settings spends = record { setting
 delete_ends d e before after name (Err lost) some settings spends = some
 
 -- ---- erasing
-
-pub erased_is : (xs : List ℕ) → is_erased xs ≡ true → xs ≡ replicate (length xs) 255
-erased_is [] e = refl
-erased_is (x ∷ xs) e =
-    let parts = and_parts (eqb x 255) (is_erased xs) e in
-    ap (λ (n : ℕ). n ∷ xs) (eqb-true x 255 parts.0) ∙ ap (λ (l : List ℕ). 255 ∷ l) (erased_is xs parts.1)
 
 pub blank-same : (d : Device) (area : Area) (sector : ℕ) (seen : List ℕ) → seen ≡ sector_bytes d area sector → length seen ≡ sector_size d area → seen ≡ replicate (length seen) 255
     → sectors_of d area ≡ set (sectors_of d area) sector (replicate (sector_size d area) 255)

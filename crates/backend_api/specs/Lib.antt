@@ -1,5 +1,4 @@
 pub mod Ends
-pub mod Formats
 pub mod Map
 pub mod OneSetting
 pub mod OneSettingLaws

@@ -3,16 +3,11 @@ use Rattle.std.specs.Prelude.{◌≡◌, ℕ, ◌^◌, ◌<◌, ◌≤◌, Bool,
 use Rattle.std.specs.FinMap.{FinMap, get, keys, values, len}
 use Rattle.std.specs.Ordering.{nat_cmp, is_lt}
 use Rattle.std.specs.Cmp.Lexicographic.{slice_cmp}
-use Rattle.flash_map.specs.declared.area.Area.{Area}
 use Rattle.setting_name.specs.Name.{IsName}
 
 -- from names to values, in the byte order of the names
 abbrev pub Map : Type 0
 Map = FinMap (slice_cmp nat_cmp) (List ℕ)
-
--- the most bytes of a value in an area; `Area::value_limit` answers it
-abbrev pub value_limit : Area → ℕ
-value_limit area = 256
 
 -- 1 to 256 bytes
 abbrev pub IsValue : List ℕ → Type 0

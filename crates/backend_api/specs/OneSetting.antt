@@ -1,7 +1,7 @@
 -- A store of at most one setting, in the first bytes of the first sector of an area with units of 16 bytes.
 use Rattle.std.specs.Prelude.{◌≡◌, ℕ, ◌+◌, ◌*◌, Bool, not, ◌&&◌, List, Option, Some, None, slice_index, slice_range, nat_le, if◌then◌else◌}
 use Rattle.std.specs.List.{list_any}
-use Rattle.std.specs.FinMap.{empty, insert, keys, len}
+use Rattle.std.specs.FinMap.{empty, insert, keys}
 use Rattle.std.specs.Str.{bytes_eq}
 use Rattle.setting_name.specs.Name.{is_name}
 use Rattle.flash_sim.specs.declared.flash.Bank.{Bank}
@@ -47,13 +47,14 @@ settings_in sectors = only_setting (setting_in (sector_at sectors 0))
 abbrev pub has_other : Map → List ℕ → Bool
 has_other settings name = list_any (λ other. not (bytes_eq other name)) (keys settings)
 
--- A setting takes 21 units, and there is room for one.
+-- Each sector has room for a setting, which is written over the last one. So none takes room from another: all
+-- costs are 0, and no area has no room.
 abbrev pub room : ℕ → Room
 room size = record {
   cap = size;
-  cost = λ settings. 336 * len settings;
-  need = λ settings name value. 336;
-  largest = λ settings name value. 336;
+  cost = λ settings. 0;
+  need = λ settings name value. 0;
+  largest = λ settings name value. 0;
   too_many = has_other;
 }
 

@@ -6,14 +6,15 @@ ghost use Rattle.flash_sim.specs.Device.{Device};
 ghost use Rattle.flash_map.specs.declared.area.Role.{Role as role_type};
 ghost use Rattle.flash_map.specs.declared.area.Area.{Area as area_type};
 ghost use Rattle.flash_map.specs.declared.faults.Damaged.{Damaged as damaged_type};
-ghost use Rattle.flash_map.specs.Area.{unit_of, sector_size, sectors_of};
+ghost use Rattle.flash_map.specs.Area.{unit_of, sector_size, sectors_of, value_limit};
 ghost use Rattle.flash_map.specs.Lawful.{IsLawfulFor};
+ghost use Rattle.flash_map.specs.Sectors.{blanked_up_to};
 ghost use Rattle.flash_map.specs.Spending.{Spends, SpendsAtMost};
 ghost use Rattle.flash_map.specs.Touches.{Touches};
-ghost use Rattle.backend_api.specs.Map.{Map, IsSettings, value_limit, next_name};
+ghost use Rattle.flash_map.specs.Units.{is_written};
+ghost use Rattle.backend_api.specs.Map.{Map, IsSettings, next_name};
 ghost use Rattle.backend_api.specs.Room.{Room, most_units};
 ghost use Rattle.flash_map.specs.Faults.{mount_lost};
-ghost use Rattle.backend_api.specs.Formats.{is_written, blanked_up_to};
 ghost use Rattle.backend_api.specs.Ends.{MountEnds, set_lost, SetEnds, DeleteEnds};
 
 use flash_map::{Area, MountFault};
@@ -30,6 +31,7 @@ pub enum SetFault {
     NoSpace { need: u64, live: u64 },
     /// The name would be one too many.
     TooManyNames,
+    /// Power was off, or was lost in the call.
     PowerLost,
 }
 
@@ -59,7 +61,8 @@ pub trait Backend: Drop {
     /// Mounts a backend on an area. The map stays, also where power is lost. It takes all its memory before its first unit.
     ///
     /// # Errors
-    /// `Damaged` exactly where the area reads as no map, and then nothing was programmed; `PowerLost`; `NoMemory`.
+    /// `Damaged` exactly where the area reads as no map, and then nothing was programmed; `PowerLost`; `NoMemory`, and then
+    /// nothing was programmed either.
     fn mount<F: Flash, L: Ledger>(
         alloc: Global,
         flash: &mut F,
@@ -74,6 +77,7 @@ pub trait Backend: Drop {
         ensures sound { damage area.role (unit_of (F.device flash.old) area) (sectors_of (F.device flash.old) area) ≡ None → damage area.role (unit_of (F.device flash.new) area) (sectors_of (F.device flash.new) area) ≡ None }
         ensures keeps { damage area.role (unit_of (F.device flash.old) area) (sectors_of (F.device flash.old) area) ≡ None
             → contents area.role (unit_of (F.device flash.new) area) (sectors_of (F.device flash.new) area) ≡ contents area.role (unit_of (F.device flash.old) area) (sectors_of (F.device flash.old) area) }
+        ensures at_most { let d = F.device flash.old in SpendsAtMost d (F.device flash.new) (most_units area.sectors (sector_size d area / unit_of d area)) }
         ensures on { IfOk result (λ state. mounted_on state ≡ area) }
         ensures stands { IfOk result (λ state. stands state (unit_of (F.device flash.new) area) (sectors_of (F.device flash.new) area)) };
 

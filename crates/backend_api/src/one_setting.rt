@@ -4,7 +4,7 @@ ghost use Rattle.flash_map.specs.declared.area.Role.TheVariants.{Zms};
 ghost use Rattle.flash_map.specs.Area.{sectors_of, sector_size, sector_bytes};
 ghost use Rattle.flash_map.specs.Spending.{Spends, SpendsAtMost};
 ghost use Rattle.flash_map.specs.Touches.{Touches};
-ghost use Rattle.backend_api.specs.Formats.{is_written};
+ghost use Rattle.flash_map.specs.Units.{is_written};
 ghost use Rattle.backend_api.specs.Map.{IsStored};
 ghost use Rattle.backend_api.specs.OneSettingLaws.{lawful_settings};
 ghost use Rattle.backend_api.specs.OneSetting.{setting_in, settings_in, has_other, room, IsOwnArea};

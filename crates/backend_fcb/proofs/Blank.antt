@@ -7,11 +7,12 @@ use Rattle.std.proofs.lemmas.List.Elements.{All-nil}
 use Rattle.flash_sim.specs.Bank.{IsLawful}
 use Rattle.flash_sim.specs.Device.{Device}
 use Rattle.flash_map.specs.Area.{unit_of, sector_size, sectors_of, sector_at}
+use Rattle.flash_map.specs.Sectors.{blanked}
 use Rattle.flash_map.specs.declared.area.Area.{Area}
 use Rattle.fcb_ring.specs.declared.sector.SectorState.{SectorState}
 use Rattle.fcb_ring.specs.Entries.{states, bodies, HasEntries}
 use Rattle.fcb_ring.specs.Rings.{state_at, turned, IsRing}
-use Rattle.fcb_ring.specs.SectorStates.{blanked, state_of}
+use Rattle.fcb_ring.specs.SectorStates.{state_of}
 use Rattle.fcb_ring.specs.Standing.{IsRingArea}
 use Rattle.fcb_ring.proofs.AreaLemmas.{has_size, count-sectors, area_after, length-states, state-at}
 use Rattle.fcb_ring.proofs.RingLemmas.{turned-within, undamaged}

@@ -1,11 +1,13 @@
 -- How the calls of the backend end.
-use Rattle.std.proofs.Common.{◌≡◌, ℕ, ◌+◌, ◌-◌, ◌*◌, ◌/◌, ◌<◌, ◌≤◌, Bool, true, false, cond, eqb, List, [], length, bytes_eq, Option, Some, None, inl, inr, refl, sym, ap, subst, ◌∙◌, arith}
+use Rattle.std.proofs.Common.{◌≡◌, ℕ, ◌+◌, ◌-◌, ◌*◌, ◌/◌, ◌<◌, ◌≤◌, Bool, true, false, cond, eqb, not, List, [], length, bytes_eq, Option, Some, None, inl, inr, refl, sym, ap, subst, ◌∙◌, arith}
 use Rattle.std.specs.FinMap as finite
 use Rattle.std.specs.Option.{option_map, is_some}
 use Rattle.std.proofs.lemmas.Bool.{cases_Bool, both_ways, ne_eqb}
 use Rattle.std.proofs.lemmas.Option.{none-some}
 use Rattle.std.proofs.lemmas.Slice.Eq.{bytes_eq-Decides}
-use Rattle.std.proofs.Math.Nat.{mul-le-mul_right}
+use Rattle.std.specs.Prelude.{count_by}
+use Rattle.std.proofs.Math.Nat.{mul-le-mul, mul-le-mul_right}
+use Rattle.std.proofs.lemmas.List.Sums.{count_by-le-length}
 use Rattle.flash_sim.specs.Bank.{IsLawful}
 use Rattle.flash_sim.specs.Device.{Device}
 use Rattle.flash_map.specs.Area.{unit_of, sector_size, sectors_of}
@@ -16,11 +18,12 @@ use Rattle.flash_map.specs.Units.{padded}
 use Rattle.flash_map.proofs.Rounding.{padding}
 use Rattle.setting_name.specs.Name.{IsName}
 use Rattle.fcb_ring.specs.declared.ring.Ring.{Ring}
-use Rattle.fcb_ring.specs.Rings.{first_damage}
-use Rattle.fcb_ring.specs.Standing.{IsRingArea, StandsOn as RingStandsOn, states_on}
+use Rattle.fcb_ring.specs.Rings.{is_full, first_damage}
+use Rattle.fcb_ring.specs.Standing.{IsRingArea, StandsOn as RingStandsOn, states_on, erases_due}
+use Rattle.fcb_ring.specs.declared.sector.SectorState.{SectorState}
 use Rattle.fcb_ring.specs.Writing.{record_cost}
 use Rattle.fcb_ring.proofs.AppendLemmas.{unit-after, size-after, ready-used}
-use Rattle.fcb_ring.proofs.AreaLemmas.{has_size}
+use Rattle.fcb_ring.proofs.AreaLemmas.{has_size, count-sectors, length-states}
 use Rattle.backend_api.specs.Ends.{SpendsSome, Sets, FindsNoSpace, Deletes}
 use Rattle.backend_api.specs.Map.{Map, IsStored, IsAbsent}
 use Rattle.backend_api.specs.Room.{HasNoRoom, most_units}
@@ -89,6 +92,17 @@ get-empty d area name value last empty = get-on d area name ∙ ap stored last �
 
 pub get-some : (d : Device) (area : Area) (name value : List ℕ) → last_value name (bodies_on d area) ≡ Some value → eqb (length value) 0 ≡ false → finite.get (settings_on d area) name ≡ Some value
 get-some d area name value last some = get-on d area name ∙ ap stored last ∙ ap (λ (b : Bool). cond b None (Some value)) some
+
+-- whether it has one
+pub has-none : (d : Device) (area : Area) (name : List ℕ) → last_value name (bodies_on d area) ≡ None → finite.contains_key (settings_on d area) name ≡ false
+has-none d area name last = ap is_some (get-none d area name last)
+
+pub has-some : (d : Device) (area : Area) (name value : List ℕ) → last_value name (bodies_on d area) ≡ Some value → finite.contains_key (settings_on d area) name ≡ not (eqb (length value) 0)
+has-some d area name value last = ap is_some (get-on d area name ∙ ap stored last) ∙ there (eqb (length value) 0)
+  where
+    there : (b : Bool) → is_some (cond b None (Some value)) ≡ not b
+    there true = refl
+    there false = refl
 
 pub stored-yes : (d : Device) (area : Area) (name value other : List ℕ) → 0 < length value → last_value name (bodies_on d area) ≡ Some other → bytes_eq other value ≡ true → IsStored (settings_on d area) name value
 stored-yes d area name value other some last same = is-stored d area name value some (last ∙ ap Some ((bytes_eq-Decides other value).0 same))
@@ -196,6 +210,26 @@ few-rounds d ring rounds le =
 
 pub two-rounds : (d : Device) (ring : Ring) → 2 ≤ ring.area.sectors → (1 + 1) * collect_units d ring ≤ most_units ring.area.sectors (sector_size d ring.area / unit_of d ring.area)
 two-rounds d ring several = few-rounds d ring 1 several
+
+-- the erases of mounting
+pub due-few : (d : Device) (area other : Area) → IsLawfulFor d.banks area → other ≡ area → erases_due (states_on d other) ≤ most_units area.sectors (sector_size d area / unit_of d area)
+due-few d area other lawful same = subst (λ (x : Area). erases_due (states_on d x) ≤ most_units area.sectors (sector_size d area / unit_of d area)) (sym same) few
+  where
+    torn : count_by (λ (s : SectorState). s.is_torn) (states_on d area) ≤ length (states_on d area)
+    torn = count_by-le-length (λ (s : SectorState). s.is_torn) (states_on d area)
+
+    long : length (states_on d area) ≡ area.sectors
+    long = length-states (unit_of d area) (sectors_of d area) ∙ count-sectors d area
+
+    full : (b : Bool) → cond b 1 0 ≤ 1
+    full true = omega arith
+    full false = omega arith
+
+    all : 12 * area.sectors * 3 ≤ most_units area.sectors (sector_size d area / unit_of d area)
+    all = mul-le-mul {n₁ = 12 * area.sectors} {m₁ = 3} {n₂ = 12 * area.sectors} {m₂ = sector_size d area / unit_of d area + 3} (omega arith) (omega arith)
+
+    few : erases_due (states_on d area) ≤ most_units area.sectors (sector_size d area / unit_of d area)
+    few = omega (arith, torn, long, full (is_full (states_on d area)), all, lawful.several)
 
 -- ---- whether a name has a value
 

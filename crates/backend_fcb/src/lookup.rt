@@ -1,5 +1,6 @@
 // Looking records up.
 ghost use Rattle.std.specs.Prelude.{◌≡◌, ◌≤◌, Contains, option_map};
+ghost use Rattle.std.specs.FinMap.{contains_key};
 ghost use Rattle.flash_map.specs.Area.{unit_of, sector_size};
 ghost use Rattle.fcb_ring.specs.Standing.{StandsOn as RingStandsOn, entries_on, record_places};
 ghost use Rattle.settings_list.specs.Last.{last_value as last_value_of};
@@ -13,6 +14,7 @@ use crate::record::{put_cost, setting_in};
 use fcb_ring::{RecordAt, Ring};
 use flash_map::geometry;
 use flash_sim::{Flash, Steps};
+use setting_name::Name;
 use std::sync::ledger::Ledger;
 
 // The value that a body gives to this name, where it is of the name; no bytes where it takes the value away.
@@ -43,6 +45,22 @@ pub(crate) fn last_value<'a, F: Flash, L: Ledger>(
         at = ring.next(flash, Some(entry), steps);
     }
     found
+}
+
+// Whether a name has a value.
+pub(crate) fn has_value<F: Flash, L: Ledger>(
+    ring: &Ring,
+    flash: &F,
+    name: &Name,
+    steps: &mut Steps<L>,
+) -> bool
+    requires { RingStandsOn (F.device flash.now) ring.now }
+    ensures { result ≡ contains_key (settings_on (F.device flash.now) ring.now.area) name.now }
+{
+    match last_value(ring, flash, name.bytes(), steps) {
+        Some(value) => !value.is_empty(),
+        None => false,
+    }
 }
 
 // Whether a body is a setting of this name.

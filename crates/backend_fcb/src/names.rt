@@ -1,15 +1,17 @@
 // Names in order.
-ghost use Rattle.std.specs.Prelude.{◌≡◌, ◌&&◌, Contains, option_map};
-ghost use Rattle.fcb_ring.specs.Standing.{StandsOn as RingStandsOn, entries_on, record_places};
+ghost use Rattle.std.specs.Prelude.{◌≡◌, ◌&&◌, option_map};
+ghost use Rattle.fcb_ring.specs.Standing.{StandsOn as RingStandsOn};
 ghost use Rattle.backend_api.specs.Map.{is_behind, next_name as next_name_of};
-ghost use Rattle.settings_list.specs.Least.{is_before};
-ghost use Rattle.backend_fcb.specs.Standing.{settings_on};
-ghost use Rattle.backend_fcb.specs.Walking.{TellsName};
+ghost use Rattle.settings_list.specs.Least.{is_before, IsLeast};
+ghost use Rattle.settings_list.specs.Live.{names};
+ghost use Rattle.settings_list.specs.Settings.{setting_of};
+ghost use Rattle.backend_fcb.specs.Standing.{bodies_on, settings_on};
+ghost use Rattle.backend_fcb.specs.Walking.{name_between};
 
-use crate::lookup::is_live;
+use crate::lookup::has_value;
 use crate::record::setting_in;
 use backend_api::is_behind;
-use fcb_ring::{RecordAt, Ring};
+use fcb_ring::Ring;
 use flash_sim::{Flash, Steps};
 use setting_name::Name;
 use std::sync::ledger::Ledger;
@@ -31,30 +33,39 @@ fn is_between(name: &[u8], after: Option<&Name>, before: Option<&Name>) -> bool
     is_behind(name, after) && is_before(name, before)
 }
 
-// The name that a live record gives a value, where it is between these two.
-fn name_between<F: Flash, L: Ledger>(
-    ring: &Ring,
-    flash: &F,
-    entry: RecordAt,
-    after: Option<&Name>,
-    before: Option<&Name>,
-    steps: &mut Steps<L>,
-) -> Option<Name>
-    requires stands { RingStandsOn (F.device flash.now) ring.now }
-    requires listed { Contains (record_places (entries_on (F.device flash.now) ring.now.area)) entry }
-    ensures { TellsName (entries_on (F.device flash.now) ring.now.area) entry (option_map (λ other. other.now) after.entry) (option_map (λ other. other.now) before.entry) result }
+// The name of a record, where it is between these two.
+fn name_between(body: &[u8], after: Option<&Name>, before: Option<&Name>) -> Option<Name>
+    ensures { result ≡ name_between (option_map (λ other. other.now) after.entry) (option_map (λ other. other.now) before.entry) (setting_of body.now) }
 {
-    let setting = setting_in(ring.body(flash, &entry, steps))?;
+    let setting = setting_in(body)?;
     if !is_between(setting.name, after, before) {
-        return None;
-    }
-    if !is_live(ring, flash, entry, steps) {
         return None;
     }
     Name::read(setting.name).ok()
 }
 
-// The least name with a value that is greater than this one, or the least of all.
+// The least name of a record that is greater than this one, or the least of all; it may have no value any more.
+fn least_name<F: Flash, L: Ledger>(
+    ring: &Ring,
+    flash: &F,
+    after: Option<&Name>,
+    steps: &mut Steps<L>,
+) -> Option<Name>
+    requires { RingStandsOn (F.device flash.now) ring.now }
+    ensures { IsLeast (option_map (λ other. other.now) after.entry) (λ name. names name (bodies_on (F.device flash.now) ring.now.area)) result }
+{
+    let mut least = None;
+    let mut at = ring.next(flash, None, steps);
+    while let Some(entry) = at {
+        let name = name_between(ring.body(flash, &entry, steps), after, least.as_ref());
+        least = name.or(least);
+        at = ring.next(flash, Some(entry), steps);
+    }
+    least
+}
+
+// The least name with a value that is greater than this one, or the least of all. It goes over the records twice for each
+// name that it looks at.
 pub(crate) fn next_name<F: Flash, L: Ledger>(
     ring: &Ring,
     flash: &F,
@@ -64,12 +75,9 @@ pub(crate) fn next_name<F: Flash, L: Ledger>(
     requires { RingStandsOn (F.device flash.now) ring.now }
     ensures { result ≡ next_name_of (settings_on (F.device flash.now) ring.now.area) (option_map (λ name. name.now) after.entry) }
 {
-    let mut least = None;
-    let mut at = ring.next(flash, None, steps);
-    while let Some(entry) = at {
-        let name = name_between(ring, flash, entry, after, least.as_ref(), steps);
-        least = name.or(least);
-        at = ring.next(flash, Some(entry), steps);
+    let mut name = least_name(ring, flash, after, steps)?;
+    while !has_value(ring, flash, &name, steps) {
+        name = least_name(ring, flash, Some(&name), steps)?;
     }
-    least
+    Some(name)
 }

@@ -14,7 +14,7 @@ use Rattle.fcb_ring.specs.declared.record.RecordAt.{RecordAt}
 use Rattle.fcb_ring.specs.declared.ring.Ring.{Ring}
 use Rattle.fcb_ring.specs.declared.ring.Stage.{Stage}
 use Rattle.fcb_ring.specs.declared.ring.Stage.TheVariants.{Ready}
-use Rattle.fcb_ring.specs.Changing.{newest_place, next_place, PutsRecord, AddsRecord, CutList, CutAppend, append_units, GoesOn, has_room, is_scratch_left}
+use Rattle.fcb_ring.specs.Changing.{newest_place, next_place, KeepsOthers, PutsRecord, AddsRecord, CutList, CutAppend, append_units, GoesOn, has_room, is_scratch_left}
 use Rattle.fcb_ring.specs.Entries.{states, HasEntries}
 use Rattle.fcb_ring.specs.Rings.{turned}
 use Rattle.fcb_ring.specs.Standing.{StandsOn, FitsStage, entries_on, KeepsEntries}
@@ -40,7 +40,7 @@ adds-here old new ring body free puts =
     (puts.at, puts.sector, subst (λ (b : Bool). HasEntries (unit_of new ring.area) (sectors_of new ring.area) (entries_on old ring.area ++ cond b [] ((puts.at, body) ∷ []))) (ne_eqb ring.used ring.area.sectors (λ (e : ring.used ≡ ring.area.sectors). omega arith)) puts.list)
 
 -- the sector that was opened is the newest then
-opened-place : (before ring : Ring) → ring.area ≡ before.area → ring.oldest ≡ before.oldest → ring.used ≡ before.used + 1 → newest_place ring ≡ next_place before
+pub opened-place : (before ring : Ring) → ring.area ≡ before.area → ring.oldest ≡ before.oldest → ring.used ≡ before.used + 1 → newest_place ring ≡ next_place before
 opened-place before ring same oldest more =
     let back : ring.used - 1 ≡ before.used = omega arith in
     ap (λ (x : Area). turned x.sectors ring.oldest (ring.used - 1)) same ∙ ap (λ (o : ℕ). turned before.area.sectors o (ring.used - 1)) oldest ∙ ap (turned before.area.sectors before.oldest) back
@@ -60,7 +60,15 @@ cut-after a b c before ring body same oldest more kept power cut = by (subst (λ
   where
     by : CutAppend b c before.area (next_place before) body → CutAppend a c before.area (next_place before) body
     by (inl (list, loss)) = inl (subst (λ (l : List (RecordAt × List ℕ)). HasEntries (unit_of c before.area) (sectors_of c before.area) l) kept.are list, λ (on : a.is_on ≡ true). loss (power ∙ on))
-    by (inr (done, loss, list)) = inr (done, loss, subst (λ (l : List (RecordAt × List ℕ)). CutList (unit_of c before.area) (sectors_of c before.area) l (next_place before) body done) kept.are list)
+    by (inr (offset, done, loss, list)) = inr (offset, done, loss, subst (λ (l : List (RecordAt × List ℕ)). CutList (unit_of c before.area) (sectors_of c before.area) l (next_place before) body done) kept.are list)
+
+-- the sectors that neither call changed
+pub others-after : (a b c : Device) (before ring : Ring) → ring.area ≡ before.area → ring.oldest ≡ before.oldest → ring.used ≡ before.used + 1 → KeepsOthers a b before.area (next_place before) → KeepsOthers b c ring.area (newest_place ring)
+    → KeepsOthers a c before.area (next_place before)
+others-after a b c before ring same oldest more first second =
+    let there : KeepsOthers b c before.area (next_place before) =
+    subst (λ (p : ℕ). KeepsOthers b c before.area p) (opened-place before ring same oldest more) (subst (λ (x : Area). KeepsOthers b c x (newest_place ring)) same second) in
+    λ other apart. there other apart ∙ first other apart
 
 -- what both calls spend
 pub spends-both : (a b c : Device) (area other : Area) (len : ℕ) → b.banks ≡ a.banks → other ≡ area → Spends a b (padded (unit_of a area) 8 / unit_of a area) → Spends b c (record_cost (unit_of b other) len / unit_of b other)

@@ -1,11 +1,14 @@
 -- A ring that collects, and the area once the oldest sector is erased.
-use Rattle.std.proofs.Common.{◌≡◌, ℕ, zero, suc, ◌+◌, ◌-◌, ◌%◌, ◌<◌, min, List, [], ◌++◌, length, set, replicate, None, inl, inr, refl, sym, ap, subst, ◌∙◌, arith}
+use Rattle.std.proofs.Common.{◌≡◌, ℕ, zero, suc, ◌+◌, ◌-◌, ◌*◌, ◌%◌, ◌<◌, min, true, List, [], ◌++◌, length, set, replicate, Some, None, inl, inr, refl, sym, ap, subst, ◌∙◌, arith}
 use Rattle.std.specs.List.{range_with_len, flat_map}
-use Rattle.std.proofs.lemmas.Bool.{cases_lt}
+use Rattle.std.proofs.lemmas.Bool.{cases_lt, both_ways}
 use Rattle.std.proofs.lemmas.List.{append-nil, length-set, get_or-set_same, get_or-set_other}
 use Rattle.std.proofs.lemmas.Grind.{flat_map-append}
-use Rattle.flash_sim.specs.Bank.{IsLawful}
+use Rattle.flash_sim.specs.Bank.{IsLawful, bank_at}
 use Rattle.flash_sim.specs.Device.{Device, FailsToErase}
+use Rattle.flash_sim.specs.declared.flash.Bank.{Bank}
+use Rattle.flash_sim.specs.declared.flash.Loss.{Loss}
+use Rattle.flash_map.specs.declared.area.Area.{Area}
 use Rattle.flash_map.specs.Spending.{SpendsAtMost}
 use Rattle.flash_map.specs.Area.{unit_of, sector_size, sectors_of, sector_at}
 use Rattle.fcb_ring.specs.declared.record.RecordAt.{RecordAt}
@@ -13,7 +16,7 @@ use Rattle.fcb_ring.specs.declared.ring.Ring.{Ring}
 use Rattle.fcb_ring.specs.declared.ring.Stage.{Stage}
 use Rattle.fcb_ring.specs.declared.ring.Stage.TheVariants.{Ready, Collecting}
 use Rattle.fcb_ring.specs.declared.sector.SectorState.{SectorState}
-use Rattle.fcb_ring.specs.Changing.{newest_place, sector_list, EndsCollection}
+use Rattle.fcb_ring.specs.Changing.{newest_place, sector_list, IsEraseLoss, EndsCollection}
 use Rattle.fcb_ring.specs.Entries.{states, sector_entries, entries, HasEntries}
 use Rattle.fcb_ring.specs.Rings.{state_at, turned, first_damage, IsRing, AreClean}
 use Rattle.fcb_ring.specs.SectorStates.{state_of}
@@ -234,3 +237,15 @@ module _ (d : Device) (ring : Ring) (lawful : IsLawful d.banks d.bytes) (on : St
 pub erase-most : (old new : Device) (bank sector : ℕ) → FailsToErase old new bank sector → SpendsAtMost old new 1
 erase-most old new bank sector (inl off) = let same : new.spent ≡ old.spent = ap (λ (x : Device). x.spent) off.is in (0, omega arith, omega arith)
 erase-most old new bank sector (inr cuts) = (0, omega arith, ap (λ (x : Device). x.spent) cuts.is)
+
+-- the loss of an erase that was cut
+pub erase-lost : (old new : Device) (area : Area) (place : ℕ) → new.banks ≡ old.banks → FailsToErase old new area.bank (area.first + place) → old.is_on ≡ true → IsEraseLoss new area place
+erase-lost old new area place banks (inl off) is_on = absurd (both_ways old.is_on off.off is_on)
+erase-lost old new area place banks (inr cuts) is_on =
+    let none : (area.first + place) * sector_size old area ≡ (area.first + place) * sector_size old area + 0 = omega arith in
+    ap (λ (x : Device). x.last_loss) cuts.is
+    ∙ ap (λ (n : ℕ). Some (loss_of n)) none
+    ∙ ap (λ (all : List Bank). Some (loss_of ((area.first + place) * (bank_at all area.bank).sector + 0))) (sym banks)
+  where
+    loss_of : ℕ → Loss
+    loss_of n = record { at = record { bank = area.bank; offset = n }; want = record { items = [] }; done = 0 }

@@ -13,7 +13,7 @@ use Rattle.fcb_ring.specs.Records.{record_at, walk, last_end, records, records_e
 use Rattle.fcb_ring.specs.Entries.{entry_of, sector_entries}
 use Rattle.fcb_ring.specs.Writing.{record_cost}
 use Rattle.fcb_ring.proofs.RecordLemmas.{read, end-fields, body-of}
-use Rattle.fcb_ring.proofs.Walks.{walk_end}
+use Rattle.fcb_ring.proofs.Walks.{walk_end, last_end-more}
 
 -- the bytes that the records of a list take
 abbrev pub list_cost : ℕ → List (RecordAt × List ℕ) → ℕ
@@ -57,6 +57,7 @@ module _ (unit place : ℕ) (s : List ℕ) (is_unit : IsUnit unit) where
           let h = one r at e in
           let m = more r (walk (record_at unit s) n r.end) r.checks refl h.1 in
           let behind = rest r.end in
+          let end = last_end-more at r (walk (record_at unit s) n r.end) in
           omega arith
 
 -- the records that check take no more than what lies between the header and the end of all records

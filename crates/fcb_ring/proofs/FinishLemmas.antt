@@ -1,7 +1,7 @@
 -- The ring before and after the erases of mounting.
 use Rattle.std.proofs.Common.{◌≡◌, ℕ, ◌+◌, ◌-◌, ◌<◌, ◌≤◌, min, Bool, true, false, cond, List, [], length, map, set, replicate, inl, inr, refl, sym, ap, subst, ◌∙◌, arith}
 use Rattle.std.specs.Prelude.{count_by}
-use Rattle.std.proofs.lemmas.Bool.{cases_eq, cases_Bool}
+use Rattle.std.proofs.lemmas.Bool.{cases_eq, cases_Bool, cond-true, cond-false}
 use Rattle.std.proofs.lemmas.List.{get_or-set_same, get_or-set_other}
 use Rattle.std.proofs.lemmas.List.Folds.{fold-map}
 use Rattle.flash_sim.specs.Bank.{bank_at}
@@ -14,11 +14,11 @@ use Rattle.fcb_ring.specs.declared.ring.Stage.{Stage}
 use Rattle.fcb_ring.specs.declared.ring.Stage.TheVariants.{Inspected, Ready, Collecting, Down}
 use Rattle.fcb_ring.specs.declared.sector.SectorState.{SectorState}
 use Rattle.fcb_ring.specs.SectorStates.{is_torn, mended, mended_up_to, state_of}
-use Rattle.fcb_ring.specs.Rings.{state_at, turned, is_full, IsRing, AreClean}
+use Rattle.fcb_ring.specs.Rings.{state_at, before, turned, oldest_place, is_full, IsRing, AreClean}
 use Rattle.fcb_ring.specs.Entries.{states, entries, HasEntries}
 use Rattle.flash_map.specs.Area.{sector_at}
-use Rattle.fcb_ring.specs.Standing.{Stands, FitsStage, IsWritten, is_finished, is_uncounted, uncounted, erases_due}
-use Rattle.fcb_ring.proofs.RingLemmas.{turned-within, full-yes, full-no}
+use Rattle.fcb_ring.specs.Standing.{Stands, FitsStage, IsWritten, is_finished, is_uncounted, uncounted, erases_due, newest_of_all, mounted_sectors}
+use Rattle.fcb_ring.proofs.RingLemmas.{turned-within, full-yes, full-no, newest-is}
 use Rattle.fcb_ring.proofs.AreaLemmas.{HasSize, count-sectors, state-at, length-states}
 use Rattle.fcb_ring.proofs.StandLemmas.{KeepsRun, kept-form, kept-clean, kept-has, same-state, mended-run, mended-at, length-mended, mended-untorn, erased-run, blank-untorn}
 use Rattle.fcb_ring.proofs.MountLemmas.{mends_all}
@@ -192,10 +192,35 @@ module _ (unit size : ℕ) (old : List (List ℕ)) (has : HasSize unit size old)
 
   -- ---- what they spend
 
+  full-is : is_full (states unit old) ≡ is_uncounted ring.stage
+  full-is = elim (cases_Bool (is_uncounted ring.stage)) [
+    | inl full ↦ full-yes (states unit old) ring.oldest all stands.form (counts.2 full) ∙ sym full
+    | inr free ↦ let none : uncounted ring.stage ≡ 0 = ap (λ (t : Bool). cond t 1 0) free in full-no (states unit old) ring.oldest all stands.form (omega (arith, counts.1)) ∙ sym free
+  ]
+
   pub due-is : (due : Bool) → due ≡ is_uncounted ring.stage → erases_due (states unit old) ≡ count_by is_torn old + cond due 1 0
   due-is due is =
-      let same : is_full (states unit old) ≡ is_uncounted ring.stage = elim (cases_Bool (is_uncounted ring.stage)) [
-        | inl full ↦ full-yes (states unit old) ring.oldest all stands.form (counts.2 full) ∙ sym full
-        | inr free ↦ let none : uncounted ring.stage ≡ 0 = ap (λ (t : Bool). cond t 1 0) free in full-no (states unit old) ring.oldest all stands.form (omega (arith, counts.1)) ∙ sym free
-      ] in
-      ap (λ (n : ℕ). n + cond (is_full (states unit old)) 1 0) (count-torn unit old) ∙ ap (λ (t : Bool). count_by is_torn old + cond t 1 0) (same ∙ sym is)
+      ap (λ (n : ℕ). n + cond (is_full (states unit old)) 1 0) (count-torn unit old) ∙ ap (λ (t : Bool). count_by is_torn old + cond t 1 0) (full-is ∙ sym is)
+
+  -- ---- and which sectors they leave
+
+  newest-place : is_uncounted ring.stage ≡ true → newest_of_all unit old ≡ turned (length old) ring.oldest ring.used
+  newest-place full =
+      let one : uncounted ring.stage ≡ 1 = ap (λ (t : Bool). cond t 1 0) full in
+      let last : length (states unit old) - 1 ≡ ring.used = omega (arith, counts.2 full) in
+      ap (λ (n : ℕ). before n (oldest_place (states unit old))) (sym long)
+      ∙ newest-is (states unit old) ring.oldest all stands.form
+      ∙ ap (λ (n : ℕ). turned n ring.oldest (length (states unit old) - 1)) long
+      ∙ ap (turned (length old) ring.oldest) last
+
+  mounted-by : (due : Bool) → due ≡ is_uncounted ring.stage → cond due (set (map mended old) (turned (length old) ring.oldest ring.used) (replicate size 255)) (map mended old) ≡ mounted_sectors unit old
+  mounted-by true is =
+      let place = newest-place (sym is) in
+      let inside : newest_of_all unit old < length old = omega (arith, place, turned-within (length old) ring.oldest ring.used place-within.0 place-within.1) in
+      ap (λ (p : ℕ). set (map mended old) p (replicate size 255)) (sym place)
+      ∙ ap (λ (n : ℕ). set (map mended old) (newest_of_all unit old) (replicate n 255)) (sym (has.each (newest_of_all unit old) inside))
+      ∙ sym (cond-true (is_full (states unit old)) (set (map mended old) (newest_of_all unit old) (replicate (length (sector_at old (newest_of_all unit old))) 255)) (map mended old) (full-is ∙ sym is))
+  mounted-by false is = sym (cond-false (is_full (states unit old)) (set (map mended old) (newest_of_all unit old) (replicate (length (sector_at old (newest_of_all unit old))) 255)) (map mended old) (full-is ∙ sym is))
+
+  pub mounted-is : (c : List (List ℕ)) (due : Bool) → due ≡ is_uncounted ring.stage → c ≡ cond due (set (map mended old) (turned (length old) ring.oldest ring.used) (replicate size 255)) (map mended old) → c ≡ mounted_sectors unit old
+  mounted-is c due is after = after ∙ mounted-by due is

@@ -3,9 +3,9 @@ use Rattle.std.proofs.Common.{◌≡◌, ℕ, ◌+◌, ◌-◌, ◌<◌, ◌≤�
 use Rattle.std.proofs.lemmas.Bool.{cases_Bool, cond-true, cond-false, not_from_true, not_from_false}
 use Rattle.std.proofs.lemmas.List.{set-get_or, take_all, drop_all, append-nil, length-map, length-take-le, get_or-append_right, get_or-drop, set-append_right, drop_more, map_more}
 use Rattle.flash_map.specs.Units.{is_erased}
-use Rattle.fcb_ring.specs.SectorStates.{blanked, blanked_up_to}
+use Rattle.flash_map.specs.Sectors.{blanked, blanked_up_to}
 use Rattle.flash_map.specs.Area.{sector_at}
-use Rattle.fcb_ring.proofs.LayLemmas.{erased_is}
+use Rattle.flash_map.proofs.ErasedBytes.{erased_is}
 
 -- a sector that is erased already
 erased-same : (sector : List ℕ) → is_erased sector ≡ true → blanked sector ≡ sector

@@ -12,7 +12,8 @@ use Rattle.fcb_ring.specs.Entries.{entry_of, sector_entries}
 use Rattle.fcb_ring.specs.Writing.{filled, header_image}
 use Rattle.fcb_ring.proofs.RecordLemmas.{header_fits, reads_none}
 use Rattle.fcb_ring.proofs.Walks.{walk-none, walk_end-none}
-use Rattle.fcb_ring.proofs.LayLemmas.{blank_none, erased_from, header_used}
+use Rattle.flash_map.proofs.ErasedBytes.{erased_from}
+use Rattle.fcb_ring.proofs.LayLemmas.{blank_none, header_used}
 use Rattle.fcb_ring.proofs.StandLemmas.{blank-free}
 
 -- the eight bytes of a header

@@ -1,5 +1,5 @@
 -- A record that is laid behind the records of a sector, whole or cut.
-use Rattle.std.proofs.Common.{◌≡◌, ℕ, zero, suc, ◌+◌, ◌-◌, ◌%◌, ◌<◌, ◌≤◌, Bool, true, false, cond, not, ◌&&◌, eqb, ltb, ◌||◌, List, [], ◌∷◌, ◌++◌, length, map, get_or, take, drop, replicate, Some, None, inl, inr, refl, sym, ap, subst, ◌∙◌, arith, rules}
+use Rattle.std.proofs.Common.{◌≡◌, ℕ, ◌+◌, ◌-◌, ◌%◌, ◌<◌, ◌≤◌, Bool, true, false, cond, not, ◌&&◌, eqb, ltb, ◌||◌, List, [], ◌∷◌, ◌++◌, length, map, get_or, take, drop, replicate, Some, None, inl, inr, refl, sym, ap, subst, ◌∙◌, arith, rules}
 use Rattle.std.specs.Prelude.{slice_range, nat_eq}
 use Rattle.std.specs.List.{filter, starts_with}
 use Rattle.std.proofs.lemmas.Bool.{cases_lt, and_from, and_left, and_right, lt-ltb, le-ltb, eq-eqb, not_from_false, not_from_true, and_parts, eqb-true, ne_eqb, or_from}
@@ -7,6 +7,7 @@ use Rattle.std.proofs.lemmas.List.{places, same_lists, take-take, get_or-drop, g
 use Rattle.std.proofs.lemmas.List.Elements.{filter-append}
 use Rattle.flash_sim.specs.Device.{overwritten}
 use Rattle.flash_map.specs.Units.{IsUnit, padded, is_erased}
+use Rattle.flash_map.proofs.ErasedBytes.{erased_from}
 use Rattle.flash_map.proofs.Ranges.{range_below, get_or_below, drop-put, take-put}
 use Rattle.flash_map.proofs.Rounding.{by_unit, padding}
 use Rattle.flash_map.proofs.Sectors.{length-overwritten}
@@ -47,16 +48,6 @@ blank_none s at pair blank = elim (cases_lt at (length s)) [
       (not_from_true (eqb (get_or s at 0) 255 && eqb (get_or s (at + 1) 0) 255) (and_from (eqb (get_or s at 0) 255) (eqb (get_or s (at + 1) 0) 255) (eq-eqb (get_or s at 0) 255 first) (eq-eqb (get_or s (at + 1) 0) 255 second)))
   | inr ge ↦ and_left (ltb at (length s)) (not (eqb (get_or s at 0) 255 && eqb (get_or s (at + 1) 0) 255)) (le-ltb at (length s) ge)
 ]
-
-pub erased_is : (xs : List ℕ) → is_erased xs ≡ true → xs ≡ replicate (length xs) 255
-erased_is [] e = refl
-erased_is (x ∷ xs) e =
-    let parts = and_parts (eqb x 255) (is_erased xs) e in
-    ap (λ (n : ℕ). n ∷ xs) (eqb-true x 255 parts.0) ∙ ap (λ (l : List ℕ). 255 ∷ l) (erased_is xs parts.1)
-
-pub erased_from : (n : ℕ) → is_erased (replicate n 255) ≡ true
-erased_from zero = refl
-erased_from (suc n) = erased_from n
 
 -- a sector with a header is not free
 pub header_used : (s : List ℕ) → starts_with nat_eq s lead ≡ true → (is_erased s || is_torn s) ≡ false

@@ -14,13 +14,14 @@ use Rattle.fcb_ring.specs.declared.ring.Stage.TheVariants.{Inspected, Ready, Col
 use Rattle.fcb_ring.specs.declared.sector.SectorState.{SectorState}
 use Rattle.fcb_ring.specs.Records.{records_end, checks_at}
 use Rattle.fcb_ring.specs.SectorStates.{IsSector, state_of}
-use Rattle.fcb_ring.specs.Rings.{state_at, turned, first_damage, IsRing, AreClean}
+use Rattle.fcb_ring.specs.Rings.{state_at, turned, is_full, first_damage, IsRing, AreClean}
 use Rattle.fcb_ring.specs.Entries.{states, sector_entries, entries}
 use Rattle.fcb_ring.specs.Standing.{Stands, FitsStage, is_finished, uncounted}
 use Rattle.fcb_ring.proofs.PlaceLemmas.{range-append}
-use Rattle.fcb_ring.proofs.RingLemmas.{turned-within}
+use Rattle.fcb_ring.proofs.RingLemmas.{turned-within, full-yes}
 use Rattle.fcb_ring.proofs.AreaLemmas.{HasSize, state-at, length-states, sector_is}
-use Rattle.fcb_ring.proofs.LayLemmas.{CanLay, erased_is, laid-header, laid-id, laid-used, laid-end_state, laid-not_overfull, laid-not_dirty, laid_entry, laid-entries}
+use Rattle.flash_map.proofs.ErasedBytes.{erased_is}
+use Rattle.fcb_ring.proofs.LayLemmas.{CanLay, laid-header, laid-id, laid-used, laid-end_state, laid-not_overfull, laid-not_dirty, laid_entry, laid-entries}
 use Rattle.fcb_ring.proofs.StandLemmas.{part, entries-are}
 use Rattle.fcb_ring.proofs.GrowLemmas.{IsGood, there, elsewhere, grown-form, grown-clean, grown-entries, grown-uncounted, grown-undamaged}
 
@@ -154,6 +155,10 @@ module _ (unit size : ℕ) (old : List (List ℕ)) (has : HasSize unit size old)
 
       pub put-undamaged : first_damage (states unit laid_area) ≡ None
       put-undamaged = grown-undamaged unit old ring.oldest ring.used j t run-form (omega arith) (omega arith) inside good follows old-clean
+
+      -- where all sectors are used no sector is free
+      pub put-full : ring.used ≡ length old → is_full (states unit laid_area) ≡ true
+      put-full full = full-yes (states unit laid_area) ring.oldest ring.used put-form (omega (arith, full, states-long, long))
 
       -- the records of the sector
       pub put-here : sector_entries unit (turned (length old) ring.oldest (ring.used - 1)) (sector_at laid_area (turned (length old) ring.oldest (ring.used - 1)))

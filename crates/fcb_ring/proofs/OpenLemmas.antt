@@ -18,7 +18,7 @@ use Rattle.fcb_ring.specs.Changing.{FitsOpened}
 use Rattle.fcb_ring.specs.Writing.{header_image}
 use Rattle.fcb_ring.proofs.RingLemmas.{turned-within}
 use Rattle.fcb_ring.proofs.AreaLemmas.{HasSize, state-at, length-states}
-use Rattle.fcb_ring.proofs.LayLemmas.{erased_is}
+use Rattle.flash_map.proofs.ErasedBytes.{erased_is}
 use Rattle.fcb_ring.proofs.StandLemmas.{KeepsRun, kept-has, part, entries-are, set-there, set-elsewhere}
 use Rattle.fcb_ring.proofs.HeaderLemmas.{opened, opened-entries, opened-header, opened-used, opened-id, opened-not_overfull, opened-not_dirty, opened-end_state, cut_header}
 use Rattle.fcb_ring.proofs.GrowLemmas.{IsGood, there, elsewhere, grown-form, grown-clean, grown-entries, grown-uncounted, grown-undamaged}

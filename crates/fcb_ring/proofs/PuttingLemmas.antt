@@ -3,17 +3,18 @@ use Rattle.std.proofs.Common.{◌≡◌, ℕ, ◌+◌, ◌-◌, ◌*◌, ◌/◌
 use Rattle.std.specs.Prelude.{slice_range}
 use Rattle.std.specs.Str.{bytes_eq}
 use Rattle.std.proofs.lemmas.Bool.{both_ways, cases_eq, eq-eqb, ne_eqb}
-use Rattle.std.proofs.lemmas.List.{append-nil, take-replicate, set-get_or, length-take-le}
+use Rattle.std.proofs.lemmas.List.{append-nil, take-replicate, set-get_or, get_or-set_same, take_all, length-take-le}
 use Rattle.std.proofs.lemmas.Slice.Eq.{bytes_eq-Decides}
 use Rattle.flash_sim.specs.Bank.{IsLawful, bank_at}
 use Rattle.flash_sim.specs.Device.{Device, overwritten, Programs, FailsToProgram, CutsShort, units_in}
 use Rattle.flash_sim.specs.declared.flash.Bank.{Bank}
 use Rattle.flash_sim.specs.declared.flash.Loss.{Loss}
-use Rattle.flash_map.specs.Area.{unit_of, sector_size, sectors_of, sector_at, place_of, CanProgramIn, Writes}
+use Rattle.flash_map.specs.Area.{unit_of, sector_size, sectors_of, sector_at, sector_bytes, place_of, CanProgramIn, Writes}
 use Rattle.flash_map.specs.Spending.{Spends, SpendsAtMost}
 use Rattle.flash_map.specs.Units.{padded}
 use Rattle.flash_map.proofs.PieceLemmas.{next_fits}
 use Rattle.flash_map.proofs.Places.{writes_put}
+use Rattle.flash_map.proofs.Ranges.{range_at}
 use Rattle.flash_map.proofs.Rounding.{IsPadding, padding}
 use Rattle.flash_map.proofs.Sectors.{overwritten_nil}
 use Rattle.flash_map.proofs.SpendingLemmas.{spends-programs, most-fails}
@@ -22,17 +23,17 @@ use Rattle.fcb_ring.specs.declared.ring.Ring.{Ring}
 use Rattle.fcb_ring.specs.Changing.{newest_place, sector_list, PutsRecord, CutList, IsRecordLoss, CutAppend}
 use Rattle.fcb_ring.specs.Entries.{states, sector_entries, HasEntries}
 use Rattle.fcb_ring.specs.Records.{body_len, checks_at, record_of, records_end}
-use Rattle.fcb_ring.specs.Rings.{turned}
+use Rattle.fcb_ring.specs.Rings.{turned, is_full}
 use Rattle.fcb_ring.specs.SectorStates.{IsSector}
-use Rattle.fcb_ring.specs.Standing.{Stands, StandsOn, entries_on, KeepsEntries, is_finished}
+use Rattle.fcb_ring.specs.Standing.{Stands, StandsOn, states_on, entries_on, KeepsEntries, is_finished}
 use Rattle.fcb_ring.specs.Writing.{record_image, record_cost, cut_record, spelled, IsChance}
-use Rattle.fcb_ring.proofs.AreaLemmas.{HasSize, has_size, count-sectors, area_after}
+use Rattle.fcb_ring.proofs.AreaLemmas.{HasSize, has_size, count-sectors, length-states, area_after}
 use Rattle.fcb_ring.proofs.FinishLemmas.{with_unit}
 use Rattle.fcb_ring.proofs.ImageLemmas.{image-long, image-says, image-there, image-body, image-checks, cut-long, cut-says, cut-there, cut-laid}
 use Rattle.fcb_ring.proofs.LayLemmas.{CanLay, end-after-header, laid_entry, laid-body}
 use Rattle.fcb_ring.proofs.RecordLemmas.{header_fits, unit_aligned}
-use Rattle.fcb_ring.proofs.RingLemmas.{undamaged}
-use Rattle.fcb_ring.proofs.NewestLemmas.{run-form, run-within, newest-in, newest-long, newest-sector, newest-end, newest-blank, laid_area, put-stands, put-undamaged, put-here, put-list, put-uncounted}
+use Rattle.fcb_ring.proofs.RingLemmas.{undamaged, full-yes}
+use Rattle.fcb_ring.proofs.NewestLemmas.{run-form, run-within, newest-in, newest-long, newest-sector, newest-end, newest-blank, laid_area, put-stands, put-undamaged, put-full, put-here, put-list, put-uncounted}
 
 pub record-checks : (unit : ℕ) (y : List ℕ) (len : ℕ) → body_len (get_or y 0 0) (get_or y 1 0) ≡ len → (record_of unit y 0).checks ≡ checks_at y 0 unit len (unit + padded unit len)
 unfolding record_of
@@ -190,6 +191,23 @@ module _ (d : Device) (ring : Ring) (lawful : IsLawful d.banks d.bytes) (on : St
         list = with_unit (λ (u : ℕ). HasEntries u (sectors_of new ring.area) (entries_on d ring.area ++ cond (eqb ring.used ring.area.sectors) [] ((at-record, body) ∷ []))) d new ring.area banks list-after;
       }
 
+      pub record-stands : (end : ℕ) → end ≡ ring.end + length bytes → slice_range (sector_bytes new ring.area (newest_place ring)) (end - record_cost (unit_of new ring.area) (length body)) end ≡ record_image (unit_of new ring.area) body
+      record-stands end end-of =
+          let n : length bytes ≡ record_cost (unit_of d ring.area) (length body) = record-long bytes is in
+          let inside = newest-in unit size old has ring on.sectors writes some in
+          let from : end - record_cost (unit_of d ring.area) (length body) ≡ ring.end = omega arith in
+          let here : at < length (sectors_of d ring.area) = omega (arith, inside, at-is, place-newest) in
+          let sector-long : length (sector_at (sectors_of d ring.area) at) ≡ sector_size d ring.area = has.each at here in
+          with_unit (λ (u : ℕ). slice_range (sector_bytes new ring.area (newest_place ring)) (end - record_cost u (length body)) end ≡ record_image u body) d new ring.area banks
+          (ap (λ (k : ℕ). slice_range (sector_bytes new ring.area (newest_place ring)) k end) from
+          ∙ ap (λ (k : ℕ). slice_range (sector_bytes new ring.area (newest_place ring)) ring.end k) end-of
+          ∙ ap (λ (p : ℕ). slice_range (sector_bytes new ring.area p) ring.end (ring.end + length bytes)) (sym at-is)
+          ∙ ap (λ (l : List (List ℕ)). slice_range (sector_at l at) ring.end (ring.end + length bytes)) written
+          ∙ ap (λ (l : List ℕ). slice_range l ring.end (ring.end + length bytes)) (get_or-set_same (sectors_of d ring.area) at (overwritten (sector_at (sectors_of d ring.area) at) ring.end bytes) [] here)
+          ∙ range_at (sector_at (sectors_of d ring.area) at) ring.end bytes (length bytes) (omega arith) (omega arith)
+          ∙ take_all (length bytes) bytes (omega arith)
+          ∙ is)
+
       pub record-spends : Programs d new (place_of d ring.area at ring.end) bytes → Spends d new (record_cost (unit_of d ring.area) (length body) / unit_of d ring.area)
       record-spends programs = subst (λ (n : ℕ). Spends d new (n / unit_of d ring.area)) (ap length is ∙ image-long unit has.is_unit body few) (spends-programs d new (place_of d ring.area at ring.end) bytes programs)
 
@@ -203,6 +221,9 @@ module _ (d : Device) (ring : Ring) (lawful : IsLawful d.banks d.bytes) (on : St
       undamaged = undamaged (states unit old) ring.oldest ring.used (run-form unit size old has ring on.sectors writes) (λ k lt. on.sectors.clean k (omega arith));
       are = refl;
     }
+
+    old-full : ring.used ≡ ring.area.sectors → is_full (states (unit_of d ring.area) (sectors_of d ring.area)) ≡ true
+    old-full full = full-yes (states unit old) ring.oldest ring.used (run-form unit size old has ring on.sectors writes) (omega (arith, full, count, length-states unit old))
 
     -- the first units of the record stand behind the others
     module _ (at done : ℕ) (at-is : at ≡ newest_place ring) (below : done < record_cost (unit_of d ring.area) (length body) / unit_of d ring.area) (written : Writes d new ring.area at ring.end (take (done * unit_of d ring.area) (record_image (unit_of d ring.area) body))) where
@@ -277,12 +298,23 @@ module _ (d : Device) (ring : Ring) (lawful : IsLawful d.banks d.bytes) (on : St
               torn-list free true is,
             ))
 
+        torn-full : ring.used ≡ ring.area.sectors → is_full (states (unit_of d ring.area) (sectors_of new ring.area)) ≡ true
+        torn-full full =
+            ap (λ (l : List (List ℕ)). is_full (states (unit_of d ring.area) l)) after-cut
+            ∙ put-full unit size old has ring on.sectors writes some torn (length body) lay-cut (full ∙ sym count)
+
         torn-kept : ring.used ≡ ring.area.sectors → HasEntries (unit_of d ring.area) (sectors_of new ring.area) (entries_on d ring.area)
         torn-kept full = subst (λ (l : List (List ℕ)). HasEntries (unit_of d ring.area) l (entries_on d ring.area)) (sym after-cut)
             (record {
               undamaged = put-undamaged unit size old has ring on.sectors writes some torn (length body) lay-cut;
               are = put-uncounted unit size old has ring on.sectors writes some torn (length body) lay-cut (full ∙ sym count);
             })
+
+      cut-full : ring.used ≡ ring.area.sectors → is_full (states (unit_of d ring.area) (sectors_of new ring.area)) ≡ true
+      cut-full full = elim (cases_eq done 0) [
+        | inl none ↦ ap (λ (l : List (List ℕ)). is_full (states (unit_of d ring.area) l)) (nothing-put none) ∙ old-full full
+        | inr more ↦ torn-full (omega (arith, more)) full
+      ]
 
       cut-list : ring.used < ring.area.sectors → CutList (unit_of d ring.area) (sectors_of new ring.area) (entries_on d ring.area) (newest_place ring) body done
       cut-list free = elim (cases_eq done 0) [
@@ -310,13 +342,12 @@ module _ (d : Device) (ring : Ring) (lawful : IsLawful d.banks d.bytes) (on : St
         (fewer, subst (λ (l : List ℕ). Writes d new ring.area at ring.end (take (done * unit_of d ring.area) l)) is written)
 
     record-loss : (at : ℕ) (bytes : List ℕ) → at ≡ newest_place ring → bytes ≡ record_image (unit_of d ring.area) body → (done : ℕ) → done < record_cost (unit_of d ring.area) (length body) / unit_of d ring.area → CutsShort d new (place_of d ring.area at ring.end) bytes done
-        → IsRecordLoss new ring.area at body done
+        → IsRecordLoss new ring.area at ring.end body done
     record-loss at bytes at-is is done fewer cuts =
         let inside = newest-in unit size old has ring on.sectors writes some in
         let there = end-after-header unit s sector in
         let header = header_fits unit has.is_unit in
         record {
-          offset = ring.end;
           has_sector = omega (arith, inside, count, at-is, place-newest);
           behind_header = omega (arith, end-is, there.0, header.1);
           in_sector = subst (λ (all : List Bank). ring.end + record_cost (bank_at all ring.area.bank).unit (length body) ≤ (bank_at all ring.area.bank).sector) (sym banks) fits;
@@ -336,8 +367,9 @@ module _ (d : Device) (ring : Ring) (lawful : IsLawful d.banks d.bytes) (on : St
     record-cut at bytes at-is is (inr (done, below, cuts)) free =
         let w = cut-written at bytes at-is is done below cuts in
         inr (
+          ring.end,
           done,
-          subst (λ (p : ℕ). IsRecordLoss new ring.area p body done) at-is (record-loss at bytes at-is is done w.0 cuts),
+          subst (λ (p : ℕ). IsRecordLoss new ring.area p ring.end body done) at-is (record-loss at bytes at-is is done w.0 cuts),
           with_unit (λ (u : ℕ). CutList u (sectors_of new ring.area) (entries_on d ring.area) (newest_place ring) body done) d new ring.area banks (cut-list at done at-is w.0 w.1 free),
         )
 
@@ -346,3 +378,20 @@ module _ (d : Device) (ring : Ring) (lawful : IsLawful d.banks d.bytes) (on : St
     record-kept at bytes at-is is (inr (done, below, cuts)) full =
         let w = cut-written at bytes at-is is done below cuts in
         with_unit (λ (u : ℕ). HasEntries u (sectors_of new ring.area) (entries_on d ring.area)) d new ring.area banks (cut-kept at done at-is w.0 w.1 full)
+
+    pub record-full : (at : ℕ) (bytes : List ℕ) → at ≡ newest_place ring → bytes ≡ record_image (unit_of d ring.area) body → FailsToProgram d new (place_of d ring.area at ring.end) bytes → ring.used ≡ ring.area.sectors → is_full (states_on new ring.area) ≡ true
+    record-full at bytes at-is is (inl off) full = subst (λ (x : Device). is_full (states_on x ring.area) ≡ true) (sym off.is) (old-full full)
+    record-full at bytes at-is is (inr (done, below, cuts)) full =
+        let w = cut-written at bytes at-is is done below cuts in
+        with_unit (λ (u : ℕ). is_full (states u (sectors_of new ring.area)) ≡ true) d new ring.area banks (cut-full at done at-is w.0 w.1 full)
+
+    pub record-lost : (at : ℕ) (bytes : List ℕ) → at ≡ newest_place ring → bytes ≡ record_image (unit_of d ring.area) body → FailsToProgram d new (place_of d ring.area at ring.end) bytes → d.is_on ≡ true → (done : ℕ) × IsRecordLoss new ring.area (newest_place ring) ring.end body done
+    record-lost at bytes at-is is (inl off) is_on = absurd (both_ways d.is_on off.off is_on)
+    record-lost at bytes at-is is (inr (done, below, cuts)) is_on =
+        let w = cut-written at bytes at-is is done below cuts in
+        (done, subst (λ (p : ℕ). IsRecordLoss new ring.area p ring.end body done) at-is (record-loss at bytes at-is is done w.0 cuts))
+
+    pub record-written : (at : ℕ) (bytes : List ℕ) → at ≡ newest_place ring → bytes ≡ record_image (unit_of d ring.area) body → Writes d new ring.area at ring.end bytes → Writes d new ring.area (newest_place ring) ring.end (record_image (unit_of d ring.area) body)
+    record-written at bytes at-is is written =
+        subst (λ (p : ℕ). Writes d new ring.area p ring.end (record_image (unit_of d ring.area) body)) at-is
+        (subst (λ (l : List ℕ). Writes d new ring.area at ring.end l) is written)

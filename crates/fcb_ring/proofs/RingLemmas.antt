@@ -195,7 +195,7 @@ module _ (states : List SectorState) (oldest used : ℕ) (r : IsRing states olde
   pub full-no : used < length states → is_full states ≡ false
   full-no free = list_all_at (λ state. not state.is_free) states (turned (length states) oldest used) no_state (turned-within (length states) oldest used r.within (omega arith)) (free-there used (omega arith) free)
 
-  newest-is : before (length states) (oldest_place states) ≡ turned (length states) oldest (length states - 1)
+  pub newest-is : before (length states) (oldest_place states) ≡ turned (length states) oldest (length states - 1)
   newest-is = ap (before (length states)) oldest-is ∙ before-start (length states) oldest r.within
 
   pub counts-yes : (k : ℕ) → k < min used (length states - 1) → counts states (turned (length states) oldest k) ≡ true

@@ -14,7 +14,7 @@ use Rattle.fcb_ring.specs.Rings.{state_at, turned, oldest_place, first_damage, I
 use Rattle.fcb_ring.specs.Entries.{states, sector_entries, entries, HasEntries}
 use Rattle.flash_map.specs.Area.{sector_at}
 use Rattle.fcb_ring.specs.Standing.{Stands, FitsStage, uncounted}
-use Rattle.fcb_ring.proofs.LayLemmas.{erased_from}
+use Rattle.flash_map.proofs.ErasedBytes.{erased_from}
 use Rattle.fcb_ring.proofs.PlaceLemmas.{All-range, flat_map-agree, flat_map-map}
 use Rattle.fcb_ring.proofs.RingLemmas.{turned-within, turned-same, ring-form, clean-form, counting-is, undamaged}
 use Rattle.fcb_ring.proofs.AreaLemmas.{state-at, length-states}

@@ -1,9 +1,19 @@
 -- Records that are read one after the other, whatever the step is that reads one.
 use Rattle.std.proofs.Common.{◌≡◌, ℕ, zero, suc, ◌+◌, ◌<◌, ◌≤◌, Bool, true, false, cond, map, List, [], ◌∷◌, ◌++◌, Option, Some, None, ◌⊎◌, inl, inr, refl, sym, ap, ◌∙◌, arith}
-use Rattle.std.specs.List.{filter}
+use Rattle.std.specs.List.{filter, last_or}
 use Rattle.std.specs.Option.{option_map_or}
 use Rattle.fcb_ring.specs.declared.record.Record.{Record}
 use Rattle.fcb_ring.specs.Records.{walk, last_end}
+
+-- the end of a last record does not depend on the place
+last_end-place : (place other : ℕ) (r : Record) (rs : List Record) → option_map_or (λ (q : Record). q.end) (last_or (Some r) rs) place ≡ option_map_or (λ (q : Record). q.end) (last_or (Some r) rs) other
+last_end-place place other r [] = refl
+last_end-place place other r (q ∷ rs) = last_end-place place other q rs
+
+-- with one record more in front
+pub last_end-more : (place : ℕ) (r : Record) (rs : List Record) → last_end place (r ∷ rs) ≡ last_end r.end rs
+last_end-more place r [] = refl
+last_end-more place r (q ∷ rs) = last_end-place place r.end q rs
 
 -- where a walk from a place ends
 abbrev pub walk_end : (ℕ → Option Record) → ℕ → ℕ → ℕ
@@ -28,7 +38,7 @@ pub walk-some : (step : ℕ → Option Record) (n at : ℕ) (r : Record) → ste
 walk-some step n at r some = ap (λ o. option_map_or (λ q. q ∷ walk step n q.end) o []) some
 
 pub walk_end-some : (step : ℕ → Option Record) (n at : ℕ) (r : Record) → step at ≡ Some r → walk_end step (suc n) at ≡ walk_end step n r.end
-walk_end-some step n at r some = ap (last_end at) (walk-some step n at r some)
+walk_end-some step n at r some = ap (last_end at) (walk-some step n at r some) ∙ last_end-more at r (walk step n r.end)
 
 -- at the end of the size there is none
 pub none_at_end : (step : ℕ → Option Record) (size at : ℕ) → Advances step size → size ≤ at → step at ≡ None

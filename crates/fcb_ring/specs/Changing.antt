@@ -80,9 +80,8 @@ CutList unit sectors list place body done =
     ⊎ ((at : RecordAt) × (at.sector ≡ place) × (cut_record unit body done ≡ record_image unit body) × HasEntries unit sectors (list ++ (at, body) ∷ []))
     ⊎ ((at : RecordAt) × (at.sector ≡ place) × IsChance unit body done × HasEntries unit sectors (list ++ (at, spelled unit body done) ∷ []))
 
--- power was lost after so many units of a record in this sector, which it does not begin
-pub record IsRecordLoss (new : Device) (area : Area) (place : ℕ) (body : List ℕ) (done : ℕ) : Type 0 where
-  pub offset : ℕ
+-- power was lost after so many units of a record at this offset of this sector, which it does not begin
+pub record IsRecordLoss (new : Device) (area : Area) (place offset : ℕ) (body : List ℕ) (done : ℕ) : Type 0 where
   pub has_sector : place < area.sectors
   pub behind_header : 8 ≤ offset
   pub in_sector : offset + record_cost (unit_of new area) (length body) ≤ sector_size new area
@@ -93,11 +92,15 @@ pub record IsRecordLoss (new : Device) (area : Area) (place : ℕ) (body : List 
 abbrev pub IsHeaderLoss : Device → Area → Type 0
 IsHeaderLoss new area = (place : ℕ) × (loss : Loss) × (place < area.sectors) × (new.last_loss ≡ Some loss) × (loss.at ≡ place_of new area place 0)
 
+-- power was lost in the erase of this sector
+abbrev pub IsEraseLoss : Device → Area → ℕ → Type 0
+IsEraseLoss new area place = new.last_loss ≡ Some (record { at = place_of new area place 0; want = record { items = [] }; done = 0 })
+
 -- an append to this sector that was cut, in the sector's header or in the record
 abbrev pub CutAppend : Device → Device → Area → ℕ → List ℕ → Type 0
 CutAppend old new area place body =
     (KeepsEntries old new area × (old.is_on ≡ true → IsHeaderLoss new area))
-    ⊎ ((done : ℕ) × IsRecordLoss new area place body done × CutList (unit_of new area) (sectors_of new area) (entries_on old area) place body done)
+    ⊎ ((offset : ℕ) × (done : ℕ) × IsRecordLoss new area place offset body done × CutList (unit_of new area) (sectors_of new area) (entries_on old area) place body done)
 
 -- ---- calls
 
@@ -121,6 +124,11 @@ pub record GoesOn (before after : Ring) (stays : Bool) : Type 0 where
   pub oldest : after.oldest ≡ before.oldest
   pub used : after.used ≡ before.used + (if stays then 0 else 1)
   pub id : after.id ≡ (if stays then before.id else next_id before)
+
+-- a record with this body is the last thing in this sector before the ring's end
+abbrev pub EndsWithRecord : Device → Ring → ℕ → List ℕ → Type 0
+EndsWithRecord d ring place body =
+    slice_range (sector_bytes d ring.area place) (ring.end - record_cost (unit_of d ring.area) (length body)) ring.end ≡ record_image (unit_of d ring.area) body
 
 -- the ring stands, ready for the next record, and just so many units were spent
 pub record IsReady (old new : Device) (after : Ring) (spent : ℕ) : Type 0 where
@@ -175,7 +183,7 @@ RotateEnds old new before after (Err TooLong) = ⊥
 RotateEnds old new before after (Err Full) = (is_scratch_left before ≡ true) × IsRefused old new before after
 RotateEnds old new before after (Err PowerLost) =
     let unit = unit_of old before.area in
-    (is_scratch_left before ≡ false) × KeepsEntries old new before.area × IsDown old new after (padded unit 8 / unit)
+    (is_scratch_left before ≡ false) × KeepsEntries old new before.area × (old.is_on ≡ true → IsHeaderLoss new before.area) × IsDown old new after (padded unit 8 / unit)
 
 -- The oldest sector is erased, and the next is the oldest: its records are gone from the list's front, and the copies stand at its end.
 pub record EndsCollection (old new : Device) (before after : Ring) : Type 0 where
@@ -186,7 +194,11 @@ pub record EndsCollection (old new : Device) (before after : Ring) : Type 0 wher
   pub used : after.used + 1 ≡ before.used
   pub id : after.id ≡ before.id
 
+-- the body of a record
+abbrev pub body_at : Device → Area → RecordAt → List ℕ
+body_at d area r = slice_range (sector_bytes d area r.sector) r.body (r.body + r.len)
+
 -- a record with the body of this one stands behind the copies in the newest sector
 abbrev pub CopiesRecord : Device → Device → Ring → RecordAt → Type 0
 CopiesRecord old new ring r =
-    (at : RecordAt) × (at.sector ≡ newest_place ring) × (sector_list new ring.area (newest_place ring) ≡ sector_list old ring.area (newest_place ring) ++ (at, slice_range (sector_bytes old ring.area r.sector) r.body (r.body + r.len)) ∷ [])
+    (at : RecordAt) × (at.sector ≡ newest_place ring) × (sector_list new ring.area (newest_place ring) ≡ sector_list old ring.area (newest_place ring) ++ (at, body_at old ring.area r) ∷ [])

@@ -1,5 +1,6 @@
 -- The records of a sector, one behind the other. A record is a length field, a body and a CRC, each padded to the unit.
 use Rattle.std.specs.Prelude.{ℕ, zero, suc, ◌+◌, ◌*◌, ◌%◌, Bool, not, ◌&&◌, List, [], ◌∷◌, ◌++◌, length, slice_index, slice_range, Option, Some, None, ◌==◌, nat_lt, nat_le, if◌then◌else◌}
+use Rattle.std.specs.List.{last_or}
 use Rattle.std.specs.Option.{option_map_or}
 use Rattle.crc8_entry.specs.Crc.{crc}
 use Rattle.flash_map.specs.Units.{padded}
@@ -43,10 +44,9 @@ walk step (suc n) at = option_map_or (λ r. r ∷ walk step n r.end) (step at) [
 unfoldable pub records : ℕ → List ℕ → List Record
 records unit sector = walk (record_at unit sector) (length sector) (padded unit 8)
 
--- the end of the last of these records, or a place where there is none
+-- the end of the last of these records; where there is none, this place
 abbrev pub last_end : ℕ → List Record → ℕ
-last_end place [] = place
-last_end place (r ∷ rs) = last_end r.end rs
+last_end place records = option_map_or (λ r. r.end) (last_or None records) place
 
 -- where the sector's records end; with none, behind the header
 unfoldable pub records_end : ℕ → List ℕ → ℕ

@@ -12,9 +12,6 @@ pub record IsSector (unit : ℕ) (bytes : List ℕ) : Type 0 where
   pub short : length bytes ≤ 32768
   pub whole : length bytes % unit ≡ 0
 
-abbrev pub is_written : List ℕ → Bool
-is_written bytes = not (is_erased bytes)
-
 -- the four bytes that a header begins with
 abbrev pub magic : List ℕ
 magic = 0xEE ∷ 0xEE ∷ 0xFF ∷ 0xC0 ∷ []
@@ -50,10 +47,3 @@ mended sector = if is_torn sector then replicate (length sector) 0xFF else secto
 -- the first so many sectors are
 abbrev pub mended_up_to : ℕ → List (List ℕ) → List (List ℕ)
 mended_up_to n sectors = map mended (take n sectors) ++ drop n sectors
-
--- a sector all of which is erased
-abbrev pub blanked : List ℕ → List ℕ
-blanked sector = replicate (length sector) 0xFF
-
-abbrev pub blanked_up_to : ℕ → List (List ℕ) → List (List ℕ)
-blanked_up_to n sectors = map blanked (take n sectors) ++ drop n sectors

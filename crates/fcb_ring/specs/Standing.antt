@@ -1,5 +1,5 @@
 -- When a ring stands on the bytes of its area.
-use Rattle.std.specs.Prelude.{◌≡◌, ◌⊎◌, ℕ, ◌+◌, ◌-◌, ◌<◌, ◌≤◌, Bool, true, false, List, length, map, count_by, Option, Some, None, if◌then◌else◌, Result, Ok, Err}
+use Rattle.std.specs.Prelude.{◌≡◌, ◌⊎◌, ℕ, ◌+◌, ◌-◌, ◌<◌, ◌≤◌, Bool, true, false, List, length, map, count_by, slice_set, Option, Some, None, if◌then◌else◌, Result, Ok, Err}
 use Rattle.std.specs.List.{slice_get}
 use Rattle.flash_sim.specs.Device.{Device, counted}
 use Rattle.flash_sim.specs.declared.flash.Bank.{Bank}
@@ -7,8 +7,9 @@ use Rattle.flash_map.specs.declared.area.Area.{Area}
 use Rattle.flash_map.specs.declared.faults.MountFault.{MountFault}
 use Rattle.flash_map.specs.declared.faults.MountFault.TheVariants.{Damaged as HasDamage, PowerLost, NoMemory}
 use Rattle.flash_map.specs.declared.area.Role.TheVariants.{Fcb, Sel}
-use Rattle.flash_map.specs.Area.{unit_of, sectors_of}
+use Rattle.flash_map.specs.Area.{unit_of, sectors_of, sector_at}
 use Rattle.flash_map.specs.Lawful.{IsLawfulFor}
+use Rattle.flash_map.specs.Sectors.{blanked}
 use Rattle.flash_map.specs.Spending.{SpendsAtMost}
 use Rattle.fcb_ring.specs.declared.record.RecordAt.{RecordAt}
 use Rattle.fcb_ring.specs.declared.ring.Ring.{Ring}
@@ -16,7 +17,8 @@ use Rattle.fcb_ring.specs.declared.ring.Stage.{Stage}
 use Rattle.fcb_ring.specs.declared.ring.Stage.TheVariants.{Inspected, Ready, Collecting, Down}
 use Rattle.fcb_ring.specs.declared.sector.SectorState.{SectorState}
 use Rattle.fcb_ring.specs.Entries.{states, entries, HasEntries}
-use Rattle.fcb_ring.specs.Rings.{state_at, turned, is_full, first_damage, IsRing, AreClean}
+use Rattle.fcb_ring.specs.SectorStates.{mended}
+use Rattle.fcb_ring.specs.Rings.{state_at, before, turned, oldest_place, is_full, first_damage, IsRing, AreClean}
 
 -- an area on which a ring may stand
 pub record IsRingArea (banks : List Bank) (area : Area) : Type 0 where
@@ -92,6 +94,15 @@ IsNext list (Some r) next = (i : ℕ) → slice_get (record_places list) i ≡ S
 -- what mounting erases: each sector with a torn header, and the newest one where no sector is free
 abbrev pub erases_due : List SectorState → ℕ
 erases_due sectors = count_by (λ state. state.is_torn) sectors + (if is_full sectors then 1 else 0)
+
+-- the newest sector, where no sector is free
+abbrev pub newest_of_all : ℕ → List (List ℕ) → ℕ
+newest_of_all unit sectors = before (length sectors) (oldest_place (states unit sectors))
+
+-- The sectors after these erases: each with a torn header is blank, and so is the newest one where no sector is free.
+abbrev pub mounted_sectors : ℕ → List (List ℕ) → List (List ℕ)
+mounted_sectors unit sectors =
+    if is_full (states unit sectors) then slice_set (map mended sectors) (newest_of_all unit sectors) (blanked (sector_at sectors (newest_of_all unit sectors))) else map mended sectors
 
 -- how mounting ends: the damage of the area, and then nothing changed; or it is not damaged
 abbrev pub MountEnds : Device → Device → Area → ℕ → Result Ring MountFault → Type 0

@@ -1,12 +1,13 @@
 // Collecting: the records of the oldest sector that are to stay are copied into the scratch sector.
-ghost use Rattle.std.specs.Prelude.{◌≡◌, ◌+◌, ◌-◌, ◌/◌, ◌<◌, ◌≤◌, ◌∷◌, [], true, false, is_err, Contains, length, slice_range, OnOk, OnErr};
-ghost use Rattle.flash_map.specs.Area.{unit_of, sector_size, sector_bytes};
+ghost use Rattle.std.specs.Prelude.{◌≡◌, ◌+◌, ◌-◌, ◌/◌, ◌<◌, ◌≤◌, ◌∷◌, [], ℕ, true, false, is_err, Contains, length, OnOk, OnErr};
+ghost use Rattle.flash_map.specs.Area.{unit_of, sector_size, Writes};
 ghost use Rattle.flash_map.specs.Spending.{Spends, SpendsAtMost};
 ghost use Rattle.flash_map.specs.Touches.{Touches};
 ghost use Rattle.flash_map.specs.Units.{padded};
-ghost use Rattle.fcb_ring.specs.Changing.{is_scratch_left, newest_place, next_place, KeepsOthers, sector_list, GoesOn, CopiesRecord, EndsCollection};
-ghost use Rattle.fcb_ring.specs.Standing.{StandsOn, entries_on, KeepsEntries, record_places, is_up};
-ghost use Rattle.fcb_ring.specs.Writing.{record_cost};
+ghost use Rattle.fcb_ring.specs.Changing.{is_scratch_left, newest_place, next_place, KeepsOthers, sector_list, GoesOn, IsRecordLoss, IsHeaderLoss, IsEraseLoss, body_at, CopiesRecord, EndsCollection};
+ghost use Rattle.fcb_ring.specs.Rings.{is_full};
+ghost use Rattle.fcb_ring.specs.Standing.{StandsOn, entries_on, KeepsEntries, record_places, states_on, is_up};
+ghost use Rattle.fcb_ring.specs.Writing.{record_image, record_cost};
 
 use crate::image::RECORD;
 use crate::record::RecordAt;
@@ -50,6 +51,7 @@ impl Ring {
         ensures units { OnOk result (Spends (F.device flash.old) (F.device flash.new) (padded (unit_of (F.device flash.old) self.old.area) 8 / unit_of (F.device flash.old) self.old.area)) }
 
         ensures down { OnErr result (is_up self.new.stage ≡ false) }
+        ensures lost { OnErr result ((F.device flash.old).is_on ≡ true → IsHeaderLoss (F.device flash.new) self.old.area) }
         ensures bound { OnErr result (SpendsAtMost (F.device flash.old) (F.device flash.new) (padded (unit_of (F.device flash.old) self.old.area) 8 / unit_of (F.device flash.old) self.old.area)) }
     {
         self.open_next(flash, Stage::Collecting)
@@ -65,7 +67,7 @@ impl Ring {
         requires stands { StandsOn (F.device flash.now) self.now }
         requires listed { Contains (record_places (entries_on (F.device flash.now) self.now.area)) r.now }
         requires short { r.now.len ≤ 400 }
-        ensures bytes { result.items ≡ slice_range (sector_bytes (F.device flash.now) self.now.area r.now.sector) r.now.body (r.now.body + r.now.len) }
+        ensures bytes { result.items ≡ body_at (F.device flash.now) self.now.area r.now }
         ensures len { length result.items ≡ r.now.len }
     {
         copy_of(self.body(flash, r, steps))
@@ -100,10 +102,13 @@ impl Ring {
         ensures oldest { OnOk result (self.new.oldest ≡ self.old.oldest) }
         ensures used { OnOk result (self.new.used ≡ self.old.used) }
         ensures end { OnOk result (self.new.end ≡ self.old.end + record_cost (unit_of (F.device flash.old) self.old.area) r.now.len) }
+        ensures written { OnOk result (Writes (F.device flash.old) (F.device flash.new) self.old.area (newest_place self.old) self.old.end (record_image (unit_of (F.device flash.old) self.old.area) (body_at (F.device flash.old) self.old.area r.now))) }
         ensures copies { OnOk result (CopiesRecord (F.device flash.old) (F.device flash.new) self.old r.now) }
         ensures units { OnOk result (Spends (F.device flash.old) (F.device flash.new) (record_cost (unit_of (F.device flash.old) self.old.area) r.now.len / unit_of (F.device flash.old) self.old.area)) }
 
         ensures down { OnErr result (is_up self.new.stage ≡ false) }
+        ensures full { OnErr result (is_full (states_on (F.device flash.new) self.old.area) ≡ true) }
+        ensures lost { OnErr result ((F.device flash.old).is_on ≡ true → (done : ℕ) × IsRecordLoss (F.device flash.new) self.old.area (newest_place self.old) self.old.end (body_at (F.device flash.old) self.old.area r.now) done) }
         ensures bound { OnErr result (SpendsAtMost (F.device flash.old) (F.device flash.new) (record_cost (unit_of (F.device flash.old) self.old.area) r.now.len / unit_of (F.device flash.old) self.old.area)) }
     {
         let body = self.body_of(flash, r, steps);
@@ -132,6 +137,7 @@ impl Ring {
 
         ensures list { OnErr result (KeepsEntries (F.device flash.old) (F.device flash.new) self.old.area) }
         ensures down { OnErr result (is_up self.new.stage ≡ false) }
+        ensures lost { OnErr result ((F.device flash.old).is_on ≡ true → IsEraseLoss (F.device flash.new) self.old.area self.old.oldest) }
         ensures bound { OnErr result (SpendsAtMost (F.device flash.old) (F.device flash.new) 1) }
     {
         let oldest = self.oldest;

@@ -2,14 +2,16 @@
 ghost use Rattle.std.specs.Prelude.{◌≡◌, ◌<◌, ◌∷◌, [], ℕ, is_err, map, replicate, count_by, slice_set, OnOk, OnErr, if◌then◌else◌};
 ghost use Rattle.flash_sim.specs.Device.{counted};
 ghost use Rattle.flash_map.specs.Area.{sectors_of, sector_size};
+ghost use Rattle.flash_map.specs.Sectors.{blanked, blanked_up_to};
 ghost use Rattle.flash_map.specs.Touches.{Touches};
-ghost use Rattle.fcb_ring.specs.SectorStates.{is_torn, is_written, mended, mended_up_to, blanked, blanked_up_to};
+ghost use Rattle.flash_map.specs.Units.{is_written};
+ghost use Rattle.fcb_ring.specs.SectorStates.{is_torn, mended, mended_up_to};
 ghost use Rattle.flash_map.specs.Spending.{SpendsAtMost};
 ghost use Rattle.fcb_ring.specs.Standing.{IsRingArea};
 
-use crate::ring::{Ring, sector_view};
+use crate::ring::Ring;
 use crate::sector::is_torn;
-use flash_map::{Area, area_erase, is_erased};
+use flash_map::{Area, area_erase, is_erased, sector_view};
 use flash_sim::{Flash, PowerLost, Steps};
 use std::sync::ledger::Ledger;
 

@@ -1,9 +1,10 @@
 // Mounting.
-ghost use Rattle.std.specs.Prelude.{◌≡◌, ◌<◌, ◌∷◌, [], None};
+ghost use Rattle.std.specs.Prelude.{◌≡◌, ◌<◌, ◌∷◌, [], None, IfOk};
+ghost use Rattle.flash_map.specs.Area.{unit_of, sectors_of};
 ghost use Rattle.flash_map.specs.Touches.{Touches};
 ghost use Rattle.fcb_ring.specs.Rings.{first_damage};
 ghost use Rattle.flash_map.specs.Faults.{mount_lost};
-ghost use Rattle.fcb_ring.specs.Standing.{IsRingArea, states_on, KeepsEntries, MountEnds};
+ghost use Rattle.fcb_ring.specs.Standing.{IsRingArea, states_on, KeepsEntries, mounted_sectors, MountEnds};
 
 use crate::ring::Ring;
 use flash_map::{Area, MountFault};
@@ -11,7 +12,7 @@ use flash_sim::{Flash, Steps};
 use std::sync::ledger::Ledger;
 
 impl Ring {
-    /// `inspect`, and then `finish`. It takes no memory.
+    /// `inspect`, and then `finish`, with a reserve in bytes. It takes no memory.
     ///
     /// # Errors
     /// `Damaged`, and then nothing was programmed, or `PowerLost`. Never `NoMemory`.
@@ -25,6 +26,7 @@ impl Ring {
         requires { IsRingArea (F.device flash.old).banks area }
         ensures touches { Touches (area ∷ []) (F.device flash.old) (F.device flash.new) (mount_lost result) }
         ensures ends { MountEnds (F.device flash.old) (F.device flash.new) area reserve result }
+        ensures erased { IfOk result (λ ring. sectors_of (F.device flash.new) area ≡ mounted_sectors (unit_of (F.device flash.old) area) (sectors_of (F.device flash.old) area)) }
         ensures list { first_damage (states_on (F.device flash.old) area) ≡ None → KeepsEntries (F.device flash.old) (F.device flash.new) area }
     {
         match Ring::inspect(flash, area, reserve, steps) {

@@ -8,9 +8,9 @@ ghost use Rattle.flash_map.specs.Area.{sector_at};
 ghost use Rattle.fcb_ring.specs.Standing.{StandsOn, entries_on, record_places, IsNext};
 
 use crate::record::{RecordAt, next_checked};
-use crate::ring::{Ring, sector_view};
+use crate::ring::Ring;
 use crate::sequence::distance;
-use flash_map::{geometry, padded};
+use flash_map::{geometry, padded, sector_view};
 use flash_sim::{Flash, Steps};
 use std::sync::ledger::Ledger;
 

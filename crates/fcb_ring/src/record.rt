@@ -10,22 +10,28 @@ use flash_map::padded;
 /// A record that a sector holds, whether it checks or not. Places are bytes from the sector's start.
 #[derive(Clone, Copy, Debug, PartialEq, Eq)]
 pub struct Record {
+    /// Where its length field starts.
     pub offset: u32,
-    /// Where the body starts, and its bytes.
+    /// Where its body starts.
     pub body: u32,
+    /// The bytes of the body, without their padding.
     pub len: u32,
     /// Where the next record would start.
     pub end: u32,
+    /// Its CRC is that of the length field and the body.
     pub checks: bool,
 }
 
 /// A record that checks, in a sector of the area. Places are bytes from the sector's start.
 #[derive(Clone, Copy, Debug, PartialEq, Eq)]
 pub struct RecordAt {
+    /// Which of the area's sectors, from 0.
     pub sector: u32,
+    /// Where its length field starts.
     pub offset: u32,
-    /// Where the body starts, and its bytes.
+    /// Where its body starts.
     pub body: u32,
+    /// The bytes of the body, without their padding.
     pub len: u32,
 }
 

@@ -1,19 +1,19 @@
 // The ring over one area.
-ghost use Rattle.std.specs.Prelude.{◌≡◌, ◌+◌, ◌-◌, ◌<◌, ◌≤◌, ◌∷◌, [], Some, None, is_err, length, min, IfOk, OnOk, OnErr, MatchResult, false, true};
+ghost use Rattle.std.specs.Prelude.{◌≡◌, ◌+◌, ◌-◌, ◌<◌, ◌≤◌, ◌∷◌, [], ℕ, Some, None, is_err, length, min, IfOk, OnOk, OnErr, MatchResult, false, true};
 ghost use Rattle.flash_sim.specs.Device.{counted};
-ghost use Rattle.flash_map.specs.Area.{unit_of, sectors_of, sector_size};
+ghost use Rattle.flash_map.specs.Area.{unit_of, sectors_of};
 ghost use Rattle.flash_map.specs.Spending.{SpendsAtMost};
 ghost use Rattle.flash_map.specs.Touches.{Touches};
-ghost use Rattle.fcb_ring.specs.SectorStates.{IsSector, state_of};
+ghost use Rattle.fcb_ring.specs.SectorStates.{state_of, mended_up_to};
 ghost use Rattle.fcb_ring.specs.Rings.{state_at, turned, oldest_place, first_damage};
 ghost use Rattle.flash_map.specs.Area.{sector_at};
-ghost use Rattle.fcb_ring.specs.Standing.{IsRingArea, StandsOn, states_on, KeepsEntries, is_up, is_finished, is_collecting, is_uncounted, erases_due};
+ghost use Rattle.fcb_ring.specs.Standing.{IsRingArea, StandsOn, states_on, KeepsEntries, is_up, is_finished, is_collecting, is_uncounted, erases_due, mounted_sectors};
 
 use crate::erasing::{erase_if, erase_torn};
 use crate::sector::{SectorState, state_of};
 use crate::sequence::{first_damage, oldest_place, turned, used_from};
 use arrayvec::ArrayVec;
-use flash_map::{Area, Damaged, geometry};
+use flash_map::{Area, Damaged, geometry, sector_view};
 use flash_sim::{Flash, PowerLost, Steps};
 use std::sync::ledger::Ledger;
 
@@ -22,7 +22,9 @@ use std::sync::ledger::Ledger;
 pub enum Stage {
     /// The erases of mounting are to come. Where no sector is free, the newest counts for nothing, and waits to be erased.
     Inspected { newest_waits: bool },
+    /// A sector is free, and the ring takes records.
     Ready,
+    /// No sector is free: the newest takes copies, and the oldest is to be erased.
     Collecting,
     /// A call answered that power was lost.
     Down,
@@ -41,23 +43,6 @@ pub struct Ring {
     pub(crate) id: u16,
     pub(crate) end: u32,
     pub(crate) stage: Stage,
-}
-
-// All bytes of a sector. It is one step.
-pub(crate) fn sector_view<'a, F: Flash, L: Ledger>(
-    flash: &'a F,
-    area: &Area,
-    sector: u32,
-    steps: &mut Steps<L>,
-) -> &'a [u8]
-    requires area { IsRingArea (F.device flash.now).banks area.now }
-    requires has_sector { sector < area.now.sectors }
-    ensures bytes { result.now ≡ sector_at (sectors_of (F.device flash.now) area.now) sector }
-    ensures sector { IsSector (unit_of (F.device flash.now) area.now) result.now }
-    ensures len { length result.now ≡ sector_size (F.device flash.now) area.now }
-    ensures step { steps.new ≡ steps.old + 1 }
-{
-    flash_map::sector_view(flash, area, sector, steps)
 }
 
 // The state of one sector.
@@ -106,7 +91,8 @@ fn newest_state(states: &[SectorState], oldest: usize, used: usize) -> SectorSta
 }
 
 impl Ring {
-    /// Reads the area, and programs nothing. The ring gives the records that count, and is not finished.
+    /// Reads the area, and programs nothing. The ring gives the records that count, and is not finished. Records that do
+    /// not go into the reserve are to leave `reserve` bytes of their sector.
     ///
     /// # Errors
     /// The damage of the area: the lowest sector of the first kind that it shows.
@@ -196,9 +182,11 @@ impl Ring {
 
         ensures stands { OnOk result (StandsOn (F.device flash.new) self.new) }
         ensures ready { OnOk result (self.new.stage ≡ Stage.Ready) }
+        ensures erased { OnOk result (sectors_of (F.device flash.new) self.old.area ≡ mounted_sectors (unit_of (F.device flash.old) self.old.area) (sectors_of (F.device flash.old) self.old.area)) }
         ensures units { OnOk result ((F.device flash.new).spent ≡ counted (F.device flash.old).spent (erases_due (states_on (F.device flash.old) self.old.area))) }
 
         ensures down { OnErr result (is_up self.new.stage ≡ false) }
+        ensures part { OnErr result ((n : ℕ) × (sectors_of (F.device flash.new) self.old.area ≡ mended_up_to n (sectors_of (F.device flash.old) self.old.area))) }
         ensures bound { OnErr result (SpendsAtMost (F.device flash.old) (F.device flash.new) (erases_due (states_on (F.device flash.old) self.old.area))) }
     {
         let is_full = self.is_uncounted();

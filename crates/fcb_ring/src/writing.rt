@@ -1,12 +1,13 @@
 // Opening sectors, and putting records.
-ghost use Rattle.std.specs.Prelude.{◌≡◌, ◌+◌, ◌-◌, ◌/◌, ◌<◌, ◌≤◌, ◌∷◌, [], true, false, is_err, length, OnOk, OnErr, ◌==◌, if◌then◌else◌};
-ghost use Rattle.flash_map.specs.Area.{unit_of, sector_size};
+ghost use Rattle.std.specs.Prelude.{◌≡◌, ◌+◌, ◌-◌, ◌/◌, ◌<◌, ◌≤◌, ◌∷◌, [], ℕ, true, false, is_err, length, OnOk, OnErr, ◌==◌, if◌then◌else◌};
+ghost use Rattle.flash_map.specs.Area.{unit_of, sector_size, Writes};
 ghost use Rattle.flash_map.specs.Spending.{Spends, SpendsAtMost};
 ghost use Rattle.flash_map.specs.Touches.{Touches};
 ghost use Rattle.flash_map.specs.Units.{IsUnit, padded};
-ghost use Rattle.fcb_ring.specs.Changing.{kept_room, is_too_long, has_room, is_scratch_left, newest_place, next_place, KeepsOthers, sector_list, FitsOpened, PutsRecord, IsHeaderLoss, CutAppend, AddsRecord, GoesOn, next_id, IsReady, IsDown, append_units, append_lost, AppendEnds, RotateEnds};
-ghost use Rattle.fcb_ring.specs.Standing.{StandsOn, KeepsEntries, is_finished, is_up};
-ghost use Rattle.fcb_ring.specs.Writing.{record_cost};
+ghost use Rattle.fcb_ring.specs.Changing.{kept_room, is_too_long, has_room, is_scratch_left, newest_place, next_place, KeepsOthers, sector_list, FitsOpened, PutsRecord, IsRecordLoss, IsHeaderLoss, CutAppend, AddsRecord, GoesOn, EndsWithRecord, next_id, IsReady, IsDown, append_units, append_lost, place_for, AppendEnds, RotateEnds};
+ghost use Rattle.fcb_ring.specs.Rings.{is_full};
+ghost use Rattle.fcb_ring.specs.Standing.{StandsOn, states_on, KeepsEntries, is_finished, is_up};
+ghost use Rattle.fcb_ring.specs.Writing.{record_image, record_cost};
 
 use crate::image::{header_image, record_cost, record_image};
 use crate::ring::{Ring, Stage};
@@ -20,6 +21,7 @@ pub enum AppendFault {
     Full,
     /// No sector could hold the record.
     TooLong,
+    /// Power was off, or was lost in the call.
     PowerLost,
 }
 
@@ -139,11 +141,15 @@ impl Ring {
         ensures id { OnOk result (self.new.id ≡ self.old.id) }
         ensures end { OnOk result (self.new.end ≡ self.old.end + record_cost (unit_of (F.device flash.old) self.old.area) (length body.now)) }
         ensures stage { OnOk result (self.new.stage ≡ self.old.stage) }
+        ensures written { OnOk result (Writes (F.device flash.old) (F.device flash.new) self.old.area (newest_place self.old) self.old.end (record_image (unit_of (F.device flash.old) self.old.area) body.now)) }
+        ensures ends_with { OnOk result (EndsWithRecord (F.device flash.new) self.new (newest_place self.old) body.now) }
         ensures puts { OnOk result (PutsRecord (F.device flash.old) (F.device flash.new) self.old body.now) }
         ensures units { OnOk result (Spends (F.device flash.old) (F.device flash.new) (record_cost (unit_of (F.device flash.old) self.old.area) (length body.now) / unit_of (F.device flash.old) self.old.area)) }
 
         ensures down { OnErr result (is_up self.new.stage ≡ false) }
         ensures counted { OnErr result (self.old.used < self.old.area.sectors → CutAppend (F.device flash.old) (F.device flash.new) self.old.area (newest_place self.old) body.now) }
+        ensures lost { OnErr result ((F.device flash.old).is_on ≡ true → (done : ℕ) × IsRecordLoss (F.device flash.new) self.old.area (newest_place self.old) self.old.end body.now done) }
+        ensures full { OnErr result (self.old.used ≡ self.old.area.sectors → is_full (states_on (F.device flash.new) self.old.area) ≡ true) }
         ensures uncounted { OnErr result (self.old.used ≡ self.old.area.sectors → KeepsEntries (F.device flash.old) (F.device flash.new) self.old.area) }
         ensures bound { OnErr result (SpendsAtMost (F.device flash.old) (F.device flash.new) (record_cost (unit_of (F.device flash.old) self.old.area) (length body.now) / unit_of (F.device flash.old) self.old.area)) }
     {
@@ -172,8 +178,11 @@ impl Ring {
         ensures area { self.new.area ≡ self.old.area }
         ensures reserve { self.new.reserve ≡ self.old.reserve }
 
+        ensures others { KeepsOthers (F.device flash.old) (F.device flash.new) self.old.area (next_place self.old) }
+
         ensures adds { OnOk result (AddsRecord (F.device flash.old) (F.device flash.new) self.old.area (next_place self.old) body.now) }
         ensures goes_on { OnOk result (GoesOn self.old self.new false) }
+        ensures ends_with { OnOk result (EndsWithRecord (F.device flash.new) self.new (next_place self.old) body.now) }
         ensures ready { OnOk result (IsReady (F.device flash.old) (F.device flash.new) self.new (append_units (unit_of (F.device flash.old) self.old.area) (length body.now) false)) }
 
         ensures cut { OnErr result (CutAppend (F.device flash.old) (F.device flash.new) self.old.area (next_place self.old) body.now) }
@@ -205,6 +214,8 @@ impl Ring {
         ensures touches { Touches (self.old.area ∷ []) (F.device flash.old) (F.device flash.new) (append_lost result) }
         ensures area { self.new.area ≡ self.old.area }
         ensures reserve { self.new.reserve ≡ self.old.reserve }
+        ensures others { KeepsOthers (F.device flash.old) (F.device flash.new) self.old.area (place_for (F.device flash.old) self.old body.now (kept_room self.old into_reserve)) }
+        ensures written { OnOk result (EndsWithRecord (F.device flash.new) self.new (place_for (F.device flash.old) self.old body.now (kept_room self.old into_reserve)) body.now) }
         ensures ends { AppendEnds (F.device flash.old) (F.device flash.new) self.old self.new body.now (kept_room self.old into_reserve) result }
     {
         let geometry = geometry(flash, &self.area);

@@ -5,9 +5,9 @@ ghost use Rattle.fcb_ring.specs.Changing.{is_scratch_left};
 ghost use Rattle.fcb_ring.specs.Standing.{StandsOn, entries_on, record_places};
 
 use crate::random_areas::summary;
-use crate::ring::sector_view;
 use crate::tests::{area, image, mounted, next_with};
 use crate::{AppendFault, RecordAt, Ring, Stage, record_cost};
+use flash_map::sector_view;
 use flash_sim::{Bench, Flash, FlatSim, PowerLost, Steps};
 use std::alloc::Global;
 use std::marker::Brand;

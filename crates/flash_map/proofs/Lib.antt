@@ -1,6 +1,7 @@
 pub mod Apart
 pub mod AreaCalls
 pub mod CopyLemmas
+pub mod ErasedBytes
 pub mod MapLemmas
 pub mod OneCall
 pub mod PieceLemmas

@@ -1,5 +1,5 @@
 -- Whole units, and erased bytes.
-use Rattle.std.specs.Prelude.{◌≡◌, ℕ, ◌+◌, ◌-◌, ◌*◌, ◌/◌, ◌⊎◌, Bool, List, ◌++◌, length, replicate, ◌==◌}
+use Rattle.std.specs.Prelude.{◌≡◌, ℕ, ◌+◌, ◌-◌, ◌*◌, ◌/◌, ◌⊎◌, Bool, not, List, ◌++◌, length, replicate, ◌==◌}
 use Rattle.std.specs.List.{list_all}
 
 -- the units that a bank may have, in bytes
@@ -17,3 +17,7 @@ padded_bytes unit bytes = bytes ++ replicate (padded unit (length bytes) - lengt
 -- each byte is FF
 abbrev pub is_erased : List ℕ → Bool
 is_erased bytes = list_all (λ byte. byte == 0xFF) bytes
+
+-- a byte is not FF
+abbrev pub is_written : List ℕ → Bool
+is_written bytes = not (is_erased bytes)

@@ -11,7 +11,7 @@ use crate::{Area, area_program, area_view, geometry, padded};
 use flash_sim::{Flash, PowerLost, Steps};
 use std::sync::ledger::Ledger;
 
-/// A range of bytes of an area.
+/// A range of bytes of one sector of an area: the number of the sector, and the offset and the length in bytes.
 #[derive(Clone, Copy, Debug, PartialEq, Eq)]
 pub struct Source {
     pub sector: u32,
@@ -43,6 +43,9 @@ fn piece_of<F: Flash, L: Ledger>(
 
 /// Programs a range of another sector's bytes, with FF behind them up to whole units, upward and in pieces of at most
 /// 32 bytes through a buffer of its own. Each piece is one step.
+///
+/// # Errors
+/// Where power was off, nothing changed. Where it was lost in the call, fewer than all units were put, the lowest first.
 #[tactic(auto, using(crate::proofs::Touches::then))]
 pub fn copy_padded<F: Flash, L: Ledger>(
     flash: &mut F,

@@ -26,18 +26,24 @@ pub struct Damaged {
     pub why: Why,
 }
 
+/// Why a mount gives no store.
 #[derive(Clone, Copy, Debug, PartialEq, Eq)]
 pub enum MountFault {
+    /// The bytes of the area are those of no store, and nothing was programmed or erased.
     Damaged(Damaged),
+    /// Power was off, or was lost in the mount, which may then be made again.
     PowerLost,
+    /// There was not enough memory.
     NoMemory,
 }
 
+/// Why an item was not written.
 #[derive(Clone, Copy, Debug, PartialEq, Eq)]
 pub enum WriteFault {
-    /// No round of collections makes room: the bytes that the write needs, and those of all live items.
+    /// No round of collections makes room: the bytes that the write needs, and those of all live items. The items stay.
     NoSpace { need: u64, live: u64 },
-    /// The item is too long for a sector.
+    /// The item is too long for a sector, and nothing was programmed or erased.
     TooLong,
+    /// Power was off, or was lost in the call. The item is as it was or as it was to be, and the others stay.
     PowerLost,
 }

@@ -12,7 +12,7 @@ use indexmap::IndexMap;
 use std::alloc::{AllocFailed, Global};
 use std::marker::Model;
 
-/// Why an area was not added: the first of these that holds.
+/// Why an area was not added: the first of these that holds. Want of memory is looked at last.
 #[derive(Clone, Copy, Debug, PartialEq, Eq)]
 pub enum AddFault {
     /// An area has that label.
@@ -21,6 +21,7 @@ pub enum AddFault {
     OutOfBank,
     /// A sector belongs to another area.
     Overlaps,
+    /// There was not enough memory.
     NoMemory,
 }
 
@@ -32,7 +33,8 @@ impl<T: Drop> From<AllocFailed<T>> for AddFault {
     }
 }
 
-/// Areas that share no label and no sector. Contracts see the list of the areas, in the order in which they were added.
+/// Areas, each found by its label, which no other has. Contracts see the list of the areas, in the order in which they
+/// were added.
 #[derive(Drop)]
 pub struct FlashMap {
     areas: IndexMap<ArrayString<8>, Area>,
@@ -60,7 +62,11 @@ impl FlashMap {
         }
     }
 
-    /// Adds an area of `banks` behind the others. A refusal changes nothing.
+    /// Adds an area of `banks` behind the others, where it has two sectors or more, lies in its bank and shares no label and
+    /// no sector with them.
+    ///
+    /// # Errors
+    /// The first cause of `AddFault` that holds, or `NoMemory`. The map is as it was.
     pub fn add(&mut self, banks: &[Bank], area: Area) -> Result<(), AddFault>
         ensures { Adds banks.now self.old self.new area result }
     {

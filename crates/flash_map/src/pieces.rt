@@ -16,6 +16,9 @@ const PIECE: usize = 400;
 const UNIT: usize = 16;
 
 /// Programs any number of whole units of one sector, upward and in calls of at most 400 bytes.
+///
+/// # Errors
+/// Where power was off, nothing changed. Where it was lost in the call, fewer than all units were put, the lowest first.
 #[tactic(auto, using(crate::proofs::Touches::then))]
 pub fn program_all<F: Flash>(
     flash: &mut F,
@@ -43,7 +46,7 @@ pub fn program_all<F: Flash>(
     Ok(())
 }
 
-/// The bytes with FF behind them.
+// The bytes with FF behind them.
 fn last_unit(bytes: &[u8]) -> [u8; UNIT]
     requires { length bytes.now ≤ 16 }
     ensures { result ≡ bytes.now ++ replicate (16 - length bytes.now) 0xFF }
@@ -54,6 +57,9 @@ fn last_unit(bytes: &[u8]) -> [u8; UNIT]
 }
 
 /// Programs any number of bytes of one sector, with FF behind them up to whole units.
+///
+/// # Errors
+/// Where power was off, nothing changed. Where it was lost in the call, fewer than all units were put, the lowest first.
 pub fn program_padded<F: Flash>(
     flash: &mut F,
     area: &Area,

@@ -1,16 +1,16 @@
 -- A file of which all fields are what they must be is that of the image that it says.
-use Rattle.std.proofs.Common.{◌≡◌, Bool, true, false, ℕ, zero, suc, ◌+◌, ◌-◌, ◌*◌, ◌<◌, ◌≤◌, List, [], ◌∷◌, ◌++◌, length, get_or, map, take, drop, refl, sym, ap, subst, ◌∙◌, append_assoc, inl, inr, arith}
-use Rattle.std.specs.List.{range_with_len, flat_map, concat, sum_by}
+use Rattle.std.proofs.Common.{◌≡◌, Bool, true, false, ℕ, zero, suc, ◌+◌, ◌-◌, ◌<◌, ◌≤◌, List, [], ◌∷◌, ◌++◌, length, get_or, map, take, drop, refl, sym, ap, subst, ◌∙◌, append_assoc, inl, inr, arith}
+use Rattle.std.specs.List.{range_with_len, flat_map, concat}
 use Rattle.std.proofs.lemmas.List.{take-append-drop, drop-drop, drop_all, append-nil, length-take, length-drop, get_or-drop}
 use Rattle.std.proofs.lemmas.List.Concat.{concat_is}
 use Rattle.std.proofs.lemmas.List.FromFn.{length-map-range_with_len, get_or-map-range_with_len, take-map-range_with_len}
-use Rattle.flash_sim.specs.Bank.{bank_at, no_bank, capacity}
+use Rattle.flash_sim.specs.Bank.{bank_at, no_bank}
 use Rattle.flash_sim.specs.declared.flash.Bank.{Bank}
 use Rattle.flash_map.specs.declared.area.Area.{Area}
 use Rattle.image_file.specs.Format.{Plain, plain_area, bank_text, area_text, file_of}
 use Rattle.image_file.specs.Lawful.{IsImage, IsImageBank, IsImageArea, HasNeeded, area_at, no_area}
 use Rattle.image_file.specs.Said.{field_at, bank_said, area_said, bank_count, area_count, bank_place, area_place, all_banks, all_areas, areas_said, contents_place, contents_size, contents_said, image_said}
-use Rattle.image_file.specs.Table.{Row, BankAt, AreaAt, ContentsAt, Needed, End, Holds, AllHold, FirstFault, IsBankText, IsAreaText, header_rows, rows_of, contents_rows, rows}
+use Rattle.image_file.specs.Table.{Row, BankAt, AreaAt, ContentsAt, Needed, End, Holds, AllHold, FirstFault, header_rows, rows_of, contents_rows, rows}
 use Rattle.image_file.specs.Reading.{IsImageFile}
 use Rattle.image_file.proofs.FieldLemmas.{first_four}
 use Rattle.image_file.proofs.ReadingLemmas.{length-all_banks, contents_next}

@@ -7,4 +7,5 @@ pub mod SaidLemmas
 pub mod WritingLemmas
 pub mod NumberLemmas
 pub mod SpecLemmas
+pub mod OneSpecLemmas
 pub mod ServingLemmas

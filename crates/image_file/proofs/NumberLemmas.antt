@@ -1,9 +1,10 @@
 -- Numbers in decimal.
-use Rattle.std.proofs.Common.{◌∷◌, [], get_or, length, ap, Option, Some, None, inl, inr, ◌≡◌, ◌≢◌, ℕ, ◌^◌, ◌<◌, List, Bool, false, true, Result, Ok, Err, refl, sym, ◌∙◌, subst, arith}
+use Rattle.std.proofs.Common.{◌∷◌, [], get_or, length, ap, Option, Some, None, inl, inr, ◌≡◌, ℕ, ◌^◌, ◌<◌, List, sym, ◌∙◌, subst, arith}
 use Rattle.std.specs.Prelude.{MatchOption, IfSome}
 use Rattle.std.specs.Option.{option_map}
 use Rattle.std.specs.Fmt.{decimal}
 use Rattle.std.proofs.lemmas.Fmt.{decimal_injective}
+use Rattle.text_parts.specs.Numbers.{IsNoNumber}
 use Rattle.arrayvec.specs.ArrayString.{ArrayString}
 use Rattle.flash_sim.specs.declared.flash.Bank.{Bank}
 use Rattle.flash_sim.specs.declared.flash.Kind.{Kind}
@@ -11,39 +12,22 @@ use Rattle.flash_map.specs.Units.{IsUnit}
 use Rattle.flash_map.specs.declared.area.Area.{Area}
 use Rattle.flash_map.specs.declared.area.Role.{Role}
 use Rattle.image_file.specs.Format.{plain_area}
-use Rattle.image_file.specs.Lawful.{IsLabel, IsImageBank}
+use Rattle.image_file.specs.Lawful.{IsLabel}
 use Rattle.text_parts.specs.Parts.{parts}
 use Rattle.image_file.specs.Spec.{IsNumber, IsKind, IsRole, IsBankItem, IsAreaItem, bank_word, area_word, bank_words, area_words, bank_from, area_from}
-use Rattle.std.specs.Str.{bytes_eq}
-use Rattle.std.specs.Str.Parse.{ParsesUnsigned}
-use Rattle.std.proofs.lemmas.Fmt.{parse-decimal}
-use Rattle.std.proofs.lemmas.Slice.Eq.{bytes_eq-Decides}
-
--- what does not parse is no decimal
-pub not_parsed : {E : Type 0} (word text : List ℕ) (r : Result ℕ E) (e : E) → text ≡ word → ParsesUnsigned 32 10 text r → r ≡ Err e → (n : ℕ) → n < 2 ^ 32 → word ≢ decimal n
-not_parsed word text r e same parses err n small is =
-    let got = parse-decimal 32 n text r small (omega arith) (same ∙ is) parses in cc
-
--- what parses and is written otherwise is no decimal
-pub otherwise_written : {E : Type 0} (word text written : List ℕ) (r : Result ℕ E) (m : ℕ) → text ≡ word → ParsesUnsigned 32 10 text r → r ≡ Ok m → written ≡ decimal m → bytes_eq written word ≡ false → (n : ℕ) → n < 2 ^ 32 → word ≢ decimal n
-otherwise_written word text written r m same parses ok wrote differs n small is =
-    let got : r ≡ Ok n = parse-decimal 32 n text r small (omega arith) (same ∙ is) parses in
-    let alike : m ≡ n = cc in
-    let equal : bytes_eq written word ≡ true = (bytes_eq-Decides written word).1 (wrote ∙ ap decimal alike ∙ sym is) in
-    cc
 
 -- what was read is the only number that the word is
-pub number_is : (word : List ℕ) (found : Option ℕ) → MatchOption found ((n : ℕ) → n < 2 ^ 32 → word ≢ decimal n) (λ n. (word ≡ decimal n) × (n < 2 ^ 32)) → IsNumber word found
+pub number_is : (word : List ℕ) (found : Option ℕ) → MatchOption found (IsNoNumber (2 ^ 32) word) (λ n. (word ≡ decimal n) × (n < 2 ^ 32)) → IsNumber word found
 number_is word None none = record { sound = tt; only = λ n small is. absurd (none n small is) }
 number_is word (Some m) is = record {
   sound = is.0;
   only = λ n small other. ap Some (decimal_injective m n (omega (arith, is.1)) (omega arith) (sym is.0 ∙ other));
 }
 
-first_of_four : (a b c d e f g h : List ℕ) → a ∷ b ∷ c ∷ d ∷ [] ≡ e ∷ f ∷ g ∷ h ∷ [] → (a ≡ e) × (b ≡ f) × (c ≡ g) × (d ≡ h)
+pub first_of_four : (a b c d e f g h : List ℕ) → a ∷ b ∷ c ∷ d ∷ [] ≡ e ∷ f ∷ g ∷ h ∷ [] → (a ≡ e) × (b ≡ f) × (c ≡ g) × (d ≡ h)
 first_of_four a b c d e f g h is = (ap (λ (l : List (List ℕ)). get_or l 0 []) is, ap (λ (l : List (List ℕ)). get_or l 1 []) is, ap (λ (l : List (List ℕ)). get_or l 2 []) is, ap (λ (l : List (List ℕ)). get_or l 3 []) is)
 
-small_unit : (unit : ℕ) → IsUnit unit → unit < 2 ^ 32
+pub small_unit : (unit : ℕ) → IsUnit unit → unit < 2 ^ 32
 small_unit unit (inl is) = omega arith
 small_unit unit (inr (inl is)) = omega arith
 small_unit unit (inr (inr is)) = omega arith
@@ -74,7 +58,7 @@ module _ (item w0 w1 w2 w3 : List ℕ) (words : parts 47 item ≡ w0 ∷ w1 ∷ 
 pub no_bank_item : (item : List ℕ) → (length (parts 47 item) ≡ 4 → ⊥) → IsBankItem item None
 no_bank_item item not = record { sound = tt; only = λ bank lawful is. absurd (not (ap length is)) }
 
-first_of_five : (a b c d e a' b' c' d' e' : List ℕ) → a ∷ b ∷ c ∷ d ∷ e ∷ [] ≡ a' ∷ b' ∷ c' ∷ d' ∷ e' ∷ [] → (a ≡ a') × (b ≡ b') × (c ≡ c') × (d ≡ d') × (e ≡ e')
+pub first_of_five : (a b c d e a' b' c' d' e' : List ℕ) → a ∷ b ∷ c ∷ d ∷ e ∷ [] ≡ a' ∷ b' ∷ c' ∷ d' ∷ e' ∷ [] → (a ≡ a') × (b ≡ b') × (c ≡ c') × (d ≡ d') × (e ≡ e')
 first_of_five a b c d e a' b' c' d' e' is = (ap (λ (l : List (List ℕ)). get_or l 0 []) is, ap (λ (l : List (List ℕ)). get_or l 1 []) is, ap (λ (l : List (List ℕ)). get_or l 2 []) is, ap (λ (l : List (List ℕ)). get_or l 3 []) is, ap (λ (l : List (List ℕ)). get_or l 4 []) is)
 
 module _ (item w0 w1 w2 w3 w4 : List ℕ) (words : parts 47 item ≡ w0 ∷ w1 ∷ w2 ∷ w3 ∷ w4 ∷ []) where

@@ -1,11 +1,11 @@
 -- What reading the fields one after another has found.
-use Rattle.std.proofs.Common.{◌≡◌, ◌⊎◌, inl, inr, ℕ, zero, suc, ◌+◌, ◌*◌, ◌<◌, ◌≤◌, Result, Ok, Err, List, [], ◌∷◌, ◌++◌, length, get_or, map, take, drop, refl, sym, ap, subst, ◌∙◌, arith}
+use Rattle.std.proofs.Common.{◌≡◌, inl, ℕ, ◌+◌, ◌<◌, ◌≤◌, Result, Ok, Err, List, [], ◌∷◌, ◌++◌, length, map, take, sym, ap, subst, ◌∙◌, arith}
 use Rattle.std.specs.Prelude.{IsErrAnd}
 use Rattle.std.specs.List.{sum_by}
 use Rattle.std.proofs.lemmas.List.{map_push}
 use Rattle.std.proofs.lemmas.List.FromFn.{length-map-range_with_len, map-range_with_len_more}
 use Rattle.std.proofs.lemmas.List.Sums.{sum_by_more}
-use Rattle.flash_sim.specs.Bank.{bank_at, no_bank, capacity}
+use Rattle.flash_sim.specs.Bank.{no_bank, capacity}
 use Rattle.flash_sim.specs.declared.flash.Bank.{Bank}
 use Rattle.flash_map.specs.declared.area.Area.{Area}
 use Rattle.image_file.specs.declared.image.ImageFault.{ImageFault}
@@ -14,8 +14,8 @@ use Rattle.image_file.specs.declared.image.ImageWhy.{ImageWhy}
 use Rattle.image_file.specs.declared.image.ImageWhy.TheVariants.{Short}
 use Rattle.image_file.specs.Format.{plain_area}
 use Rattle.image_file.specs.Lawful.{IsImageArea}
-use Rattle.image_file.specs.Said.{field_at, area_said, bank_said, bank_count, area_count, area_place, bank_place, all_banks, areas_said, banks_said, contents_place, contents_size, contents_said}
-use Rattle.image_file.specs.Table.{Row, AreaAt, BankAt, ContentsAt, Rule, Holds, Departs, EndsInside, IsSpelled, IsAreaText, place, size}
+use Rattle.image_file.specs.Said.{field_at, area_said, bank_said, bank_count, area_place, bank_place, all_banks, areas_said, banks_said, contents_place, contents_size, contents_said}
+use Rattle.image_file.specs.Table.{Row, AreaAt, Rule, Holds, Departs, IsSpelled, IsAreaText, place, size}
 use Rattle.image_file.specs.Reading.{Reads}
 
 -- a fault, whatever would have been read

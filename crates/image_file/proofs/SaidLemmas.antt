@@ -1,8 +1,7 @@
 -- The fields of a lawful image's file say that image, and are what they must be.
-use Rattle.std.proofs.Common.{◌≡◌, ℕ, zero, suc, ◌+◌, ◌*◌, ◌<◌, ◌≤◌, List, [], ◌∷◌, ◌++◌, length, get_or, map, take, drop, refl, sym, ap, subst, ◌∙◌, append_assoc, inl, inr, arith}
-use Rattle.std.specs.List.{range_with_len, flat_map, concat, sum_by}
-use Rattle.std.proofs.lemmas.List.{take_at, drop_at, drop-drop, take_all, append-nil, length-append, get_or-map, length-map}
-use Rattle.std.proofs.lemmas.List.Concat.{concat_is}
+use Rattle.std.proofs.Common.{◌≡◌, ℕ, zero, suc, ◌+◌, ◌*◌, ◌<◌, ◌≤◌, List, [], ◌∷◌, ◌++◌, length, get_or, take, drop, refl, sym, ap, subst, ◌∙◌, append_assoc, arith}
+use Rattle.std.specs.List.{flat_map, concat, sum_by}
+use Rattle.std.proofs.lemmas.List.{take_at, drop_at, drop-drop, take_all, length-append, get_or-map}
 use Rattle.std.proofs.lemmas.List.Sums.{sum_by-cons, sum_by_more_le}
 use Rattle.std.proofs.lemmas.List.FromFn.{fill_by_all, take-map-range_with_len}
 use Rattle.flash_sim.specs.Bank.{bank_at, no_bank, capacity}
@@ -11,9 +10,9 @@ use Rattle.flash_map.specs.declared.area.Area.{Area}
 use Rattle.image_file.specs.Format.{Plain, plain_area, bank_text, area_text, file_of}
 use Rattle.image_file.specs.Lawful.{IsImage, IsImageBank, IsImageArea, HasNeeded, area_at, no_area}
 use Rattle.image_file.specs.Said.{field_at, bank_said, area_said, bank_count, area_count, bank_place, area_place, all_banks, all_areas, areas_said, contents_place, contents_size, contents_said, image_said}
-use Rattle.image_file.specs.Table.{Row, BankAt, AreaAt, ContentsAt, Needed, End, Holds, AllHold, IsBankText, IsAreaText, header_rows, rows_of, contents_rows, rows}
+use Rattle.image_file.specs.Table.{BankAt, AreaAt, ContentsAt, Needed, End, Holds, AllHold, header_rows, rows_of, contents_rows, rows}
 use Rattle.image_file.proofs.FieldLemmas.{bank_said-text, area_said-text, length-bank_text, length-area_text}
-use Rattle.image_file.proofs.ImageLemmas.{same_image, plain_from}
+use Rattle.image_file.proofs.ImageLemmas.{same_image}
 use Rattle.image_file.proofs.RowLemmas.{all_rows, AllHold-append, no_fault, one_fault}
 use Rattle.image_file.specs.Laws.{OneImage, NotBoth, OneFault}
 

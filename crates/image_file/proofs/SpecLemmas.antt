@@ -1,7 +1,6 @@
 -- Items that are added one after another.
-use Rattle.std.proofs.Common.{◌≡◌, ◌⊎◌, inl, inr, ℕ, zero, suc, ◌+◌, ◌-◌, ◌^◌, ◌<◌, ◌≤◌, Bool, true, false, Option, Some, None, Result, Ok, Err, List, [], ◌∷◌, ◌++◌, length, get_or, map, take, replicate, refl, sym, ap, subst, ◌∙◌, arith, Bor}
-use Rattle.std.specs.Prelude.{count_by, IfSome, IsErrAnd}
-use Rattle.std.specs.Option.{option_map}
+use Rattle.std.proofs.Common.{◌≡◌, inl, inr, ℕ, ◌+◌, ◌-◌, ◌<◌, ◌≤◌, Bool, true, false, Option, Some, None, Result, Ok, Err, List, [], ◌∷◌, ◌++◌, length, get_or, map, take, replicate, refl, sym, ap, subst, ◌∙◌, arith, Bor}
+use Rattle.std.specs.Prelude.{IfSome, IsErrAnd}
 use Rattle.std.specs.Fmt.{decimal}
 use Rattle.std.proofs.lemmas.Bool.{cases_lt}
 use Rattle.std.proofs.lemmas.List.{length-append, length-map, get_or-map, map_push, take-append-le, take_all, get_or_append_left, get_or-append_right, length-replicate}
@@ -9,10 +8,10 @@ use Rattle.flash_sim.specs.Bank.{bank_at, no_bank, capacity}
 use Rattle.flash_sim.specs.declared.flash.Bank.{Bank}
 use Rattle.flash_sim.specs.declared.flash.NoMemory.{NoMemory as OutOfMemory}
 use Rattle.flash_map.specs.declared.area.Area.{Area}
-use Rattle.image_file.specs.Format.{Plain, plain_area}
-use Rattle.image_file.specs.Lawful.{IsImage, IsImageBank, IsImageArea, HasNeeded, is_selector, area_at, no_area}
-use Rattle.text_parts.specs.Parts.{parts, parts_of}
-use Rattle.image_file.specs.Spec.{Listed, listed, nothing_listed, Adds, AddsBank, AddsArea, AddsAll, FirstBad, IsBankItem, IsAreaItem, FitsItem, bank_word, area_word, bank_words, area_words}
+use Rattle.image_file.specs.Format.{plain_area}
+use Rattle.image_file.specs.Lawful.{IsImage, IsImageBank, IsImageArea, HasNeeded, area_at, no_area}
+use Rattle.text_parts.specs.Parts.{parts}
+use Rattle.image_file.specs.Spec.{Listed, listed, nothing_listed, Adds, FirstBad, IsBankItem, IsAreaItem, FitsItem, bank_word, area_word, bank_words, area_words}
 use Rattle.image_file.specs.Items.{IsListed, TakesBank, TakesListed, TakesFound, TakesItem, ReadsItems, IsAlone}
 use Rattle.image_file.specs.Takes.{TakesArea}
 use Rattle.image_file.specs.declared.spec.Items.{Items}
@@ -34,11 +33,11 @@ no_areas (area ∷ areas) is = cc
 differ : (a b c d e f g h i : List ℕ) → a ∷ b ∷ c ∷ d ∷ [] ≡ e ∷ f ∷ g ∷ h ∷ i ∷ [] → ⊥
 differ a b c d e f g h i same = cc
 
-four_is_five : (bank : Bank) (area : Area) (words : List (List ℕ)) → words ≡ bank_words bank → words ≡ area_words area → ⊥
+pub four_is_five : (bank : Bank) (area : Area) (words : List (List ℕ)) → words ≡ bank_words bank → words ≡ area_words area → ⊥
 four_is_five bank area words four five = differ (bank_word bank.kind) (decimal bank.unit) (decimal bank.sector) (decimal bank.count) (area_word area.role) area.label.bytes (decimal area.bank) (decimal area.first) (decimal area.sectors) (sym four ∙ five)
 
 -- numbers of a lawful area are small
-fits_item : (banks : List Bank) (others : List Area) (area : Area) → length banks ≤ 2 → ((i : ℕ) → i < length banks → IsImageBank (bank_at banks i)) → IsImageArea banks others area → FitsItem area
+pub fits_item : (banks : List Bank) (others : List Area) (area : Area) → length banks ≤ 2 → ((i : ℕ) → i < length banks → IsImageBank (bank_at banks i)) → IsImageArea banks others area → FitsItem area
 fits_item banks others area few each is =
     let count = (each area.bank is.in_bank.has_bank).few in
     record {

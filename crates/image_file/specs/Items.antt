@@ -1,5 +1,5 @@
 -- What taking an item makes of the banks and areas so far.
-use Rattle.std.specs.Prelude.{◌≡◌, ◌⊎◌, ⊤, ℕ, ◌+◌, ◌<◌, ◌≤◌, Bool, true, false, Option, Some, None, Result, Ok, Err, List, [], ◌∷◌, ◌++◌, length, map, take, count_by}
+use Rattle.std.specs.Prelude.{◌≡◌, ⊤, ℕ, ◌+◌, ◌<◌, ◌≤◌, Bool, true, false, Option, Some, None, Result, Ok, Err, List, [], ◌∷◌, ◌++◌, length, map, take, count_by}
 use Rattle.flash_sim.specs.Bank.{bank_at}
 use Rattle.flash_sim.specs.declared.flash.Bank.{Bank}
 use Rattle.flash_sim.specs.declared.flash.NoMemory.{NoMemory as OutOfMemory}

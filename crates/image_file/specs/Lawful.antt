@@ -1,5 +1,5 @@
 -- Which images are lawful.
-use Rattle.std.specs.Prelude.{◌≡◌, ℕ, ◌+◌, ◌%◌, ◌^◌, ◌<◌, ◌≤◌, ◌==◌, ◌||◌, ◌&&◌, nat_le, not, Bool, true, false, List, [], length, map, take, count_by, slice_index_or, IsTrue}
+use Rattle.std.specs.Prelude.{◌≡◌, ℕ, ◌+◌, ◌%◌, ◌^◌, ◌<◌, ◌≤◌, ◌||◌, ◌&&◌, nat_le, Bool, true, false, List, [], length, map, take, count_by, slice_index_or}
 use Rattle.std.specs.List.{list_all}
 use Rattle.flash_sim.specs.Bank.{bank_at, capacity}
 use Rattle.flash_sim.specs.declared.flash.Bank.{Bank}

@@ -1,5 +1,5 @@
 -- What the fields of a file say.
-use Rattle.std.specs.Prelude.{ℕ, zero, suc, ◌+◌, ◌*◌, List, [], length, map, take, drop, slice_index}
+use Rattle.std.specs.Prelude.{ℕ, zero, suc, ◌+◌, ◌*◌, List, [], map, take, drop, slice_index}
 use Rattle.std.specs.List.{range_with_len, sum_by}
 use Rattle.std.specs.Int.{w16, w32, from_le_bytes}
 use Rattle.flash_sim.specs.Bank.{bank_at, capacity}

@@ -1,6 +1,6 @@
 -- What may be done with a lawful image.
 use Rattle.std.specs.Prelude.{ℕ, ◌<◌, length}
-use Rattle.flash_sim.specs.Bank.{IsLawful, bank_at}
+use Rattle.flash_sim.specs.Bank.{IsLawful}
 use Rattle.flash_map.specs.Lawful.{IsLawfulFor}
 use Rattle.image_file.specs.Format.{Plain}
 use Rattle.image_file.specs.Lawful.{IsImage, area_at}

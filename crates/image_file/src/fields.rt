@@ -15,7 +15,10 @@ use arrayvec::ArrayString;
 use flash_map::{Area, Role};
 use flash_sim::{Bank, Kind};
 
-/// The bytes of a field, if the file does not end inside it.
+/// The bytes of a field, from a place on and so many, both in bytes.
+///
+/// # Errors
+/// `Bad`, with `Short` at the file's end, only where the file ends inside the field.
 pub fn field(bytes: &[u8], at: usize, size: usize) -> Result<&[u8], ImageFault>
     requires { at ≤ length bytes.now }
     ensures { Reads (λ text. (at + size ≤ length bytes.now) × (text.now ≡ field_at bytes.now at size) × (length text.now ≡ size))
@@ -69,7 +72,7 @@ fn role_of(byte: u8) -> Option<Role>
     }
 }
 
-/// The lawful bank that a field spells.
+/// The lawful bank that a field spells; none where it spells none.
 #[tactic(auto, unfolding(crate::specs::Said::bank_said))]
 pub fn bank_of(text: &[u8]) -> Option<Bank>
     requires { length text.now ≡ 12 }
@@ -89,7 +92,7 @@ pub fn bank_of(text: &[u8]) -> Option<Bank>
     }
 }
 
-/// The area that a field spells, wherever it stands.
+/// The area that a field spells, wherever it stands; none where it spells none with a lawful label.
 #[tactic(auto, unfolding(crate::specs::Said::area_said))]
 pub fn area_of(text: &[u8]) -> Option<Area>
     requires { length text.now ≡ 16 }
@@ -136,7 +139,7 @@ fn all_zero(bytes: &[u8]) -> bool
     bytes.iter().all(|byte| *byte == 0)
 }
 
-/// The label that these bytes are.
+/// The label that these bytes are; none where they are no lawful one.
 pub fn label_from(label: &[u8]) -> Option<ArrayString<8>>
     ensures { MatchOption result (IsLabel label.now → ⊥) (λ text. (text.bytes ≡ label.now) × IsLabel label.now) }
 {

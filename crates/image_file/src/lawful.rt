@@ -48,6 +48,9 @@ fn stands_on(role: Role, bank: &Bank) -> bool
 }
 
 /// Adds an area that may stand beside those of the map, and says whether it may. A refusal leaves the map as it was.
+///
+/// # Errors
+/// Want of memory alone.
 pub fn take_area(areas: &mut FlashMap, banks: &[Bank], area: Area) -> Result<bool, NoMemory>
     requires { IsLabel area.label.bytes }
     ensures { TakesArea banks.now areas.old areas.new area result }
@@ -93,7 +96,7 @@ pub fn count_selectors(areas: &FlashMap) -> usize
     count
 }
 
-/// The bytes of a bank.
+/// How many bytes a bank has.
 pub fn capacity(bank: &Bank) -> usize
     requires { IsImageBank bank.now }
     ensures { result ≡ capacity bank.now }

@@ -9,32 +9,18 @@ use arrayvec::ArrayString;
 use flash_map::{Area, Role};
 use flash_sim::{Bank, Kind};
 use std::alloc::{AllocError, Global};
+use text_parts::read_number;
 
-// A number in decimal, without a sign or leading zeros.
-fn read_number(alloc: Global, word: &[u8]) -> Result<Option<u32>, AllocError>
-    ensures { IfOk result (λ found. MatchOption found ((n : ℕ) → n < 2 ^ 32 → word.now ≢ decimal n) (λ n. (word.now ≡ decimal n) × (n < 2 ^ 32))) }
-{
-    let Ok(text) = str::from_utf8(word) else {
-        return Ok(None);
-    };
-    let Ok(n) = text.parse::<u32>() else {
-        return Ok(None);
-    };
-    let written = n.to_string(alloc)?;
-    if written.as_bytes() == word {
-        Ok(Some(n))
-    } else {
-        Ok(None)
-    }
-}
+/// The numbers of items end here.
+const NUMBERS_END: u64 = 4_294_967_296;
 
 // The number that a word is.
 fn number_of(alloc: Global, word: &[u8]) -> Result<Option<u32>, AllocError>
     ensures { IfOk result (IsNumber word.now) }
 {
-    match read_number(alloc, word) {
-        Ok(found) => Ok(found),
-        Err(fault) => Err(fault),
+    match read_number(alloc, word, NUMBERS_END)? {
+        Some(n) => Ok(Some(n as u32)),
+        None => Ok(None),
     }
 }
 
@@ -87,7 +73,10 @@ fn bank_from(
     })
 }
 
-/// The bank that an item describes.
+/// The bank that an item describes; none only where it describes no lawful one.
+///
+/// # Errors
+/// Want of memory alone.
 pub fn bank_item(alloc: Global, item: &[u8]) -> Result<Option<Bank>, AllocError>
     ensures { IfOk result (IsBankItem item.now) }
 {
@@ -122,7 +111,10 @@ fn area_from(
     })
 }
 
-/// The area that an item describes.
+/// The area that an item describes; none only where it describes none with a lawful label and numbers below 2^32.
+///
+/// # Errors
+/// Want of memory alone.
 pub fn area_item(alloc: Global, item: &[u8]) -> Result<Option<Area>, AllocError>
     ensures { IfOk result (IsAreaItem item.now) }
 {

@@ -176,7 +176,11 @@ fn read_contents(
     Ok(copies)
 }
 
-/// The image of a file, or the first place where the file departs from the format, and how.
+/// The image that the bytes of a file are.
+///
+/// # Errors
+/// `Bad` only where the bytes are the file of no image: the first place, in bytes, where they depart from the format,
+/// and how. `NoMemory`.
 pub fn read_image(alloc: Global, bytes: &[u8]) -> Result<Image, ImageFault>
     ensures { ReadsImage bytes.now result }
 {

@@ -143,9 +143,14 @@ fn blank_banks(alloc: Global, banks: &[Bank]) -> Result<Vec<Vec<u8>>, AllocError
     Ok(copies)
 }
 
-/// The blank image that a word describes, all FF, or the number of its first unlawful item.
+/// The blank image that a word describes, all FF.
 ///
-/// The items stand between commas, the banks first: `bank=KIND/UNIT/SECTOR/COUNT` and `area=ROLE/LABEL/BANK/FIRST/SECTORS`.
+/// The items stand between commas, the banks first: `bank=KIND/UNIT/SECTOR/COUNT`, a unit and a sector in bytes, and
+/// `area=ROLE/LABEL/BANK/FIRST/SECTORS`, the bank and the area's first sector counted from 0.
+///
+/// # Errors
+/// `BadSpec` only where the word describes no image: the first item that may not be added to those before it, counted
+/// from 1, or the number of items and one more where an area is missing that the whole needs. `NoMemory`.
 pub fn read_spec(alloc: Global, word: &str) -> Result<Image, SpecFault>
     ensures { ReadsSpec word.now result }
 {

@@ -130,7 +130,10 @@ fn put_image(
     Ok(())
 }
 
-/// The file of a lawful image of these banks, areas and bytes.
+/// The bytes of the file of a lawful image: of these banks, areas and bytes of each bank.
+///
+/// # Errors
+/// Want of memory alone.
 pub fn write_image(
     alloc: Global,
     banks: &[Bank],

@@ -1,8 +1,10 @@
 -- When a host failed, and which lines a script has.
-use Rattle.std.proofs.Common.{◌≡◌, ℕ, ◌-◌, ◌^◌, List, [], ◌∷◌, All, ap, inl, inr, arith}
+use Rattle.std.proofs.Common.{◌≡◌, ℕ, ◌-◌, ◌^◌, List, [], ◌∷◌, ap, inl, inr, arith}
 use Rattle.std.specs.List.{AllByRecursion}
 use Rattle.std.proofs.lemmas.Bool.{cases_lt}
 use Rattle.std.proofs.lemmas.List.Elements.{All-from_recursion}
+use Rattle.flash_map.specs.Area.{value_limit}
+use Rattle.flash_map.specs.declared.area.Area.{Area}
 use Rattle.zs_host.specs.Outside.{Outside, failed}
 use Rattle.zs_host.specs.Host.{PrintsPart}
 use Rattle.script_lines.specs.declared.line.Line.{Line}
@@ -10,7 +12,7 @@ use Rattle.script_lines.specs.declared.line.Line.TheVariants.{Set, Get, Delete, 
 use Rattle.text_parts.specs.Parts.{parts}
 use Rattle.script_lines.specs.Line.{Spells}
 use Rattle.script_lines.specs.Script.{SpellsAll, told, IsScript}
-use Rattle.session.specs.LineDone.{IsLawfulLine}
+use Rattle.session.specs.LineDone.{AreLawfulFor, IsLawfulLine}
 use Rattle.image_tool.specs.Reading.{Fails}
 
 pub fails_by : (old new : Outside) → new.faults ≡ (failed old).faults → Fails old new
@@ -23,19 +25,19 @@ fails_reading old new is = fails_by old new (ap (λ (o : Outside). o.faults) is)
 pub fails_printing : (old new : Outside) (bytes : List ℕ) → PrintsPart (failed old) new bytes → Fails old new
 fails_printing old new bytes part = fails_by old new (ap (λ (o : Outside). o.faults) part.2)
 
-lawful_line : (text : List ℕ) (line : Line) → Spells (parts 32 text) line → IsLawfulLine line
-lawful_line text (Set id value) spells = (spells.2, spells.3.1, spells.3.2)
-lawful_line text (Get id) spells = spells.1
-lawful_line text (Delete id) spells = spells.1
-lawful_line text (Cut units) spells = tt
-lawful_line text Uncut spells = tt
-lawful_line text Mount spells = tt
+lawful_line : (area : Area) (text : List ℕ) (line : Line) → Spells (parts 32 text) line → IsLawfulLine (value_limit area) line
+lawful_line area text (Set id value) spells = (spells.2, spells.3.1, spells.3.2)
+lawful_line area text (Get id) spells = spells.1
+lawful_line area text (Delete id) spells = spells.1
+lawful_line area text (Cut units) spells = tt
+lawful_line area text Uncut spells = tt
+lawful_line area text Mount spells = tt
 
-each_lawful : (texts : List (List ℕ)) (lines : List Line) → SpellsAll texts lines → AllByRecursion IsLawfulLine lines
-each_lawful [] [] spells = tt
-each_lawful [] (line ∷ lines) spells = absurd spells
-each_lawful (text ∷ texts) [] spells = absurd spells
-each_lawful (text ∷ texts) (line ∷ lines) spells = (lawful_line text line spells.0, each_lawful texts lines spells.1)
+each_lawful : (area : Area) (texts : List (List ℕ)) (lines : List Line) → SpellsAll texts lines → AllByRecursion (IsLawfulLine (value_limit area)) lines
+each_lawful area [] [] spells = tt
+each_lawful area [] (line ∷ lines) spells = absurd spells
+each_lawful area (text ∷ texts) [] spells = absurd spells
+each_lawful area (text ∷ texts) (line ∷ lines) spells = (lawful_line area text line spells.0, each_lawful area texts lines spells.1)
 
-pub lawful_lines : (text : List ℕ) (lines : List Line) → IsScript text lines → All IsLawfulLine lines
-lawful_lines text lines is = All-from_recursion IsLawfulLine lines (each_lawful (told (parts 10 text)) lines is)
+pub lawful_lines : (text : List ℕ) (lines : List Line) → IsScript text lines → (area : Area) → AreLawfulFor area lines
+lawful_lines text lines is area = All-from_recursion (IsLawfulLine (value_limit area)) lines (each_lawful area (told (parts 10 text)) lines is)

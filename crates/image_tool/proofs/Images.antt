@@ -1,5 +1,5 @@
 -- An image on a bench, and its one area as a session sees it.
-use Rattle.std.proofs.Common.{◌≡◌, ℕ, zero, suc, ◌<◌, get_or, ◌≤◌, Some, None, List, [], ◌∷◌, length, map, refl, sym, ap, subst, ◌∙◌, arith}
+use Rattle.std.proofs.Common.{◌≡◌, ℕ, zero, suc, ◌<◌, get_or, ◌≤◌, true, Some, None, List, [], ◌∷◌, length, map, refl, sym, ap, subst, ◌∙◌, arith}
 use Rattle.std.specs.List.{slice_get}
 use Rattle.std.proofs.lemmas.List.{length-map}
 use Rattle.flash_sim.specs.Bank.{IsLawful, bank_at, capacity}
@@ -20,8 +20,9 @@ use Rattle.image_file.proofs.ServingLemmas.{may_be_served}
 use Rattle.nvs_store.specs.Scans.{damage_of}
 use Rattle.session.specs.Contents.{items_in}
 use Rattle.nvs_gc.specs.Standing.{IsNvsArea}
-use Rattle.session.specs.LineDone.{Keeps, Runs}
-use Rattle.image_tool.specs.Outcomes.{IsUndamaged}
+use Rattle.session.specs.LineDone.{EndsSafely, Runs}
+use Rattle.session.specs.Standing as session
+use Rattle.image_tool.specs.Outcomes.{IsUndamaged, IsAtRest}
 use Rattle.image_tool.specs.Served.{area_bank, area_items, area_sectors, first_area, held, left, IsLoaded, IsServedImage}
 
 some_area : (a b : Area) → Some a ≡ Some b → a ≡ b
@@ -110,20 +111,29 @@ module _ (areas : List Area) (d : Device) (area : Area) (first : slice_get areas
     spent = is.spent;
     losses = is.losses;
     planned = is.planned;
-    unplanned = is.unplanned;
   })
 
-  pub keeps_first : (new : Device) → Keeps area d new → Keeps (first_area (held areas d)) d new
-  keeps_first new is = subst (λ (a : Area). Keeps a d new) (sym (first_is areas area first)) (record {
-    banks = is.banks;
-    loads = is.loads;
-    outside = λ bank offset out. is.outside bank offset (λ there. out (in_plain d.banks bank offset area there));
+  pub safely_first : (lines : List Line) (new : Device) → EndsSafely area lines d new → EndsSafely (first_area (held areas d)) lines d new
+  safely_first lines new is = subst (λ (a : Area). EndsSafely a lines d new) (sym (first_is areas area first)) (record {
+    keeps = record {
+      banks = is.keeps.banks;
+      loads = is.keeps.loads;
+      outside = λ bank offset out. is.keeps.outside bank offset (λ there. out (in_plain d.banks bank offset area there));
+    };
+    unplanned = is.unplanned;
+    undamaged = is.undamaged;
+    damaged = is.damaged;
   })
 
   pub left_first : (new : Device) → new.banks ≡ d.banks → damage_of (unit_of new area) (sectors_of new area) ≡ None → IsUndamaged (left (held areas d) new) (first_area (held areas d))
   left_first new same is =
       let whole = subst (λ (a : Area). IsUndamaged (held areas new) a) (sym (first_is areas area first)) is in
       subst (λ (banks : List Bank). IsUndamaged (record { banks = banks; areas = map plain_area areas; bytes = new.bytes }) (first_area (held areas d))) same whole
+
+  pub rested_first : (new : Device) → new.banks ≡ d.banks → (new.is_on ≡ true → session.IsAtRest new area) → new.is_on ≡ true → IsAtRest (left (held areas d) new) (first_area (held areas d))
+  rested_first new same is on =
+      let whole = subst (λ (a : Area). IsAtRest (held areas new) a) (sym (first_is areas area first)) (is on) in
+      subst (λ (banks : List Bank). IsAtRest (record { banks = banks; areas = map plain_area areas; bytes = new.bytes }) (first_area (held areas d))) same whole
 
   pub served_by : length (map plain_area areas) ≡ 1 → area.role ≡ Nvs → IsServedImage (held areas d)
   served_by one role = record { one = one; role = ap (λ (a : Area). a.role) (first_is areas area first) ∙ role }

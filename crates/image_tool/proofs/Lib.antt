@@ -1,3 +1,4 @@
 pub mod Ends
 pub mod HostLemmas
 pub mod Images
+pub mod Stopping

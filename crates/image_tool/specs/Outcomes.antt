@@ -1,5 +1,5 @@
 -- What a command prints and writes when it is done.
-use Rattle.std.specs.Prelude.{◌≡◌, ℕ, Option, Some, None, List, [], ◌∷◌, ◌++◌, flat_map, codes}
+use Rattle.std.specs.Prelude.{◌≡◌, ℕ, true, Option, Some, None, List, [], ◌∷◌, ◌++◌, flat_map, codes}
 use Rattle.std.specs.Fmt.{decimal}
 use Rattle.hex.specs.Hex.{encode_lower}
 use Rattle.flash_sim.specs.Device.{Device}
@@ -14,10 +14,11 @@ use Rattle.image_file.specs.Reading.{IsImageFile}
 use Rattle.image_file.specs.Spec.{IsSpec}
 use Rattle.command_words.specs.declared.commands.Command.{Command}
 use Rattle.command_words.specs.declared.commands.Command.TheVariants.{Build, Run, Dump}
-use Rattle.nvs_store.specs.Scans.{damage_of}
+use Rattle.nvs_store.specs.declared.scan.Redo.TheVariants.{Nothing}
+use Rattle.nvs_store.specs.Scans.{damage_of, scan_of}
 use Rattle.session.specs.declared.listing.Item.{Item}
 use Rattle.session.specs.Listing.{listed}
-use Rattle.session.specs.LineDone.{Keeps, Runs}
+use Rattle.session.specs.LineDone.{EndsSafely, Runs}
 use Rattle.image_tool.specs.declared.outcome.OutFile.{OutFile}
 use Rattle.image_tool.specs.Reading.{HasImage, HasScript}
 use Rattle.image_tool.specs.Served.{IsServedImage, first_area, area_bank, area_sectors, area_items, left, begun}
@@ -51,6 +52,10 @@ pub record Builds (out spec : List ℕ) (text : List ℕ) (file : Option File) :
 abbrev pub IsUndamaged : Plain → Area → Type 0
 IsUndamaged image area = damage_of (area_bank image area).unit (area_sectors image area) ≡ None
 
+-- nothing that a loss left undone is left in the area
+abbrev pub IsAtRest : Plain → Area → Type 0
+IsAtRest image area = (scan_of (area_bank image area).unit (area_sectors image area)).redo ≡ Nothing
+
 -- IMAGE is an image file that is served
 pub record Opens (host : Outside) (name : List ℕ) (image : Plain) : Type 0 where
   pub has : HasImage host name image
@@ -63,20 +68,22 @@ texts answers = flat_map text_of answers
 
 -- What a run from a bench with the image leaves: the answers of a plain map that begins with what the image's area
 -- holds, wherever power is lost, and the file of the image with the bytes that the bench then holds: those of the image
--- outside its area, and in the area bytes that are not damaged.
+-- outside its area, and in the area bytes that are not damaged and, where power is on in the end, at rest.
 pub record LeavesImage (image : Plain) (lines : List Line) (old new : Device) (answers : List Answer) (bytes : List ℕ) : Type 0 where
   pub undamaged : IsUndamaged image (first_area image)
   pub runs : Runs (first_area image) (Mount ∷ lines) answers old new
-  -- no byte outside the area changed
-  pub keeps : Keeps (first_area image) old new
+  -- no byte outside the area changed, and with no plan at the start power was lost only where a line is `cut`
+  pub safely : EndsSafely (first_area image) lines old new
   -- the next mount finds the items
   pub left_undamaged : IsUndamaged (left image new) (first_area image)
+  -- and has nothing to do again where power is on
+  pub rested : new.is_on ≡ true → IsAtRest (left image new) (first_area image)
   pub is_file : IsImageFile bytes (left image new)
 
 -- THE HEADLINE.
 -- The text is that of the answers that a plain map gives to the opening mount and the lines of the script, wherever
 -- power was lost; OUT is the image file with the banks and areas of IMAGE and the bytes that are left: outside the area
--- those of IMAGE, and in the area bytes that are not damaged.
+-- those of IMAGE, and in the area bytes that are not damaged and, where power is on in the end, at rest.
 pub record RunsScript (name script out : List ℕ) (host : Outside) (bench bench' : Device) (text : List ℕ) (file : Option File) : Type 0 where
   pub image : Plain
   pub opens : Opens host name image

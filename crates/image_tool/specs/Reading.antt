@@ -58,6 +58,13 @@ OnRefused (Err (Refused refusal)) P = P
 OnRefused (Err HostFailed) P = ⊤
 OnRefused (Err NoMemory) P = ⊤
 
+-- this holds where it stopped: the host failed, or memory ran out
+abbrev pub OnStopped : {X : Type 0} → Result X Stop → Type 0 → Type 0
+OnStopped (Ok x) P = ⊤
+OnStopped (Err (Refused refusal)) P = ⊤
+OnStopped (Err HostFailed) P = P
+OnStopped (Err NoMemory) P = P
+
 -- ---- an image
 
 -- IMAGE is the file of this image

@@ -13,6 +13,7 @@ use Rattle.image_tool.specs.declared.status.Status.TheVariants as status
 use Rattle.image_tool.specs.Outcomes.{File, file_of, Does, delivered}
 use Rattle.image_tool.specs.Reading.{Fails, Stays, ReadsOr}
 use Rattle.image_tool.specs.Refusals.{Causes, status_of, line_of, usage_line}
+use Rattle.image_tool.specs.Stopped.{Stops}
 use Rattle.image_tool.specs.Telling.{PrintsFront, PrintsAll}
 
 -- ---- what a command is to print and write, before anything is printed
@@ -33,11 +34,11 @@ Tells c host bench bench' text =
 abbrev pub WritesOut : Command → Outside → Outside → Device → Device → Type 0
 WritesOut c host host' bench bench' = (text : List ℕ) × (file : Option File) × Does c host bench bench' text file × PrintsAll host host' text file
 
--- Nothing was printed, or a front of what the command would print, and no file changed; or all was printed, and OUT
--- may hold anything.
+-- Nothing was printed, and the command stopped; or a front of what it would print was, and no file changed; or all was
+-- printed, and OUT may hold anything.
 abbrev pub EndsEarly : Command → Outside → Outside → Device → Device → Type 0
 EndsEarly c host host' bench bench' =
-    Stays host host'
+    (Stays host host' × Stops c host bench bench')
     ⊎ ((text : List ℕ) × Tells c host bench bench' text × PrintsFront host host' text)
     ⊎ WritesOut c host host' bench bench'
 

@@ -9,6 +9,9 @@ use image_file::{SpecFault, read_spec, write_image};
 use std::alloc::Global;
 
 /// The blank image that the word describes, to be written into OUT.
+///
+/// # Errors
+/// Refused where the word is not lawful; or there was not enough memory.
 pub fn build<'a>(alloc: Global, out: &'a str, spec: &'a str) -> Result<Outcome<'a>, Stop<'a>>
     ensures { MakesOr (λ outcome. Builds out.now spec.now outcome.text.items (file_of outcome.file)) (BuildCauses spec.now) result }
 {

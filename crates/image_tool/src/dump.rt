@@ -1,9 +1,10 @@
 // The command `dump`.
 ghost use Rattle.image_file.specs.Lawful.{IsImage};
 ghost use Rattle.image_tool.specs.Outcomes.{Dumps, ListsItems, file_of};
-ghost use Rattle.image_tool.specs.Reading.{MakesOr, ReadsOr};
+ghost use Rattle.image_tool.specs.Reading.{MakesOr, OnStopped, ReadsOr};
 ghost use Rattle.image_tool.specs.Refusals.{DumpCauses, IsDamaged};
 ghost use Rattle.image_tool.specs.Served.{IsServedImage, held};
+ghost use Rattle.image_tool.specs.Stopped.{DumpStops};
 
 use crate::outcome::Outcome;
 use crate::printing::item_lines;
@@ -34,14 +35,18 @@ fn dump_image<'a, B: Bench>(alloc: Global, areas: &FlashMap, bench: &B) -> Resul
     }
 }
 
-/// A line for each item of the image, by rising ids.
+/// A line for each item of the image, by rising ids. No file is written.
+///
+/// # Errors
+/// As those of `open_image`; and refused where the area is damaged.
 pub fn dump<'a, H: Host, B: Bench>(
     alloc: Global,
     image: &'a str,
     host: &mut H,
     bench: &mut B,
 ) -> Result<Outcome<'a>, Stop<'a>>
-    ensures { ReadsOr (λ outcome. Dumps image.now (H.outside host.old) (B.device bench.old) (B.device bench.new) outcome.text.items (file_of outcome.file)) (DumpCauses image.now (H.outside host.old) (B.device bench.old) (B.device bench.new)) (H.outside host.old) (H.outside host.new) result }
+    ensures dumps { ReadsOr (λ outcome. Dumps image.now (H.outside host.old) (B.device bench.old) (B.device bench.new) outcome.text.items (file_of outcome.file)) (DumpCauses image.now (H.outside host.old) (B.device bench.old) (B.device bench.new)) (H.outside host.old) (H.outside host.new) result }
+    ensures stopped { OnStopped result (DumpStops image.now (H.outside host.old) (B.device bench.old) (B.device bench.new)) }
 {
     let image = match open_image(alloc, image, host) {
         Ok(image) => image,

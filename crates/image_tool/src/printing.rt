@@ -15,6 +15,9 @@ use session::Item;
 use std::alloc::{AllocError, Global};
 
 /// The texts of all answers.
+///
+/// # Errors
+/// Want of memory alone.
 pub fn all_texts(alloc: Global, answers: &[Answer]) -> Result<Vec<u8>, NoMemory>
     ensures { IfOk result (λ text. text.items ≡ texts answers.now) }
 {
@@ -35,6 +38,9 @@ fn item_line(alloc: Global, item: &Item) -> Result<String, AllocError>
 }
 
 /// A line for each item.
+///
+/// # Errors
+/// Want of memory alone.
 pub fn item_lines(alloc: Global, items: &[Item]) -> Result<Vec<u8>, NoMemory>
     ensures { IfOk result (λ text. text.items ≡ flat_map item_line items.now) }
 {
@@ -124,6 +130,9 @@ fn bad_area(alloc: Global, label: &ArrayString<8>, damage: &Damaged) -> Result<S
 pub const USAGE: &str = "usage: image_tool build OUT SPEC | run IMAGE SCRIPT OUT | dump IMAGE\n";
 
 /// The line that a refusal prints.
+///
+/// # Errors
+/// Want of memory alone.
 pub fn refusal_line(alloc: Global, refusal: &Refusal<'_>) -> Result<String, AllocError>
     ensures { IfOk result (λ text. string_bytes text ≡ line_of refusal.now) }
 {

@@ -1,7 +1,8 @@
 // Reading an image and a script.
-ghost use Rattle.std.specs.Prelude.{◌≡◌, All};
+ghost use Rattle.std.specs.Prelude.{◌≡◌};
+ghost use Rattle.flash_map.specs.declared.area.Area.{Area as area};
 ghost use Rattle.image_file.specs.Format.{plain};
-ghost use Rattle.session.specs.LineDone.{IsLawfulLine};
+ghost use Rattle.session.specs.LineDone.{AreLawfulFor};
 ghost use Rattle.image_tool.specs.declared.stops.Refusal.TheVariants.{BadFile, BadScript};
 ghost use Rattle.image_tool.specs.declared.stops.Stop.TheVariants.{Refused};
 ghost use Rattle.image_tool.specs.Reading.{ReadsOr, HasImage, LacksImage, HasScript, LacksScript};
@@ -31,6 +32,9 @@ fn bad_script<'a>(line: u64, why: LineWhy) -> Stop<'a>
 }
 
 /// The image of a file. Nothing is printed or written.
+///
+/// # Errors
+/// Refused where there is no such file, or it is no image file; or the host failed, or there was not enough memory.
 pub fn read_image_file<'a, H: Host>(
     alloc: Global,
     name: &'a str,
@@ -53,12 +57,15 @@ pub fn read_image_file<'a, H: Host>(
 }
 
 /// The lines of a script. Nothing is printed or written.
+///
+/// # Errors
+/// Refused where there is no such file, or it is no script; or the host failed, or there was not enough memory.
 pub fn read_lines<'a, H: Host>(
     alloc: Global,
     name: &'a str,
     host: &mut H,
 ) -> Result<Vec<Line>, Stop<'a>>
-    ensures { ReadsOr (λ lines. HasScript (H.outside host.old) name.now lines.items × All IsLawfulLine lines.items) (LacksScript (H.outside host.old) name.now) (H.outside host.old) (H.outside host.new) result }
+    ensures { ReadsOr (λ lines. HasScript (H.outside host.old) name.now lines.items × ((a : area) → AreLawfulFor a lines.items)) (LacksScript (H.outside host.old) name.now) (H.outside host.old) (H.outside host.new) result }
 {
     let text = match host.read_whole(alloc, name, MOST_SCRIPT) {
         Ok(text) => text,

@@ -1,11 +1,12 @@
 // The command `run`.
-ghost use Rattle.std.specs.Prelude.{◌≡◌, true, All};
+ghost use Rattle.std.specs.Prelude.{◌≡◌, true};
 ghost use Rattle.image_file.specs.Lawful.{IsImage};
-ghost use Rattle.session.specs.LineDone.{IsLawfulLine};
+ghost use Rattle.session.specs.LineDone.{AreLawfulFor, EndsSafely};
 ghost use Rattle.image_tool.specs.Outcomes.{LeavesImage, RunsScript, file_of};
-ghost use Rattle.image_tool.specs.Reading.{MakesOr, OnRefused, ReadsOr};
+ghost use Rattle.image_tool.specs.Reading.{MakesOr, OnRefused, OnStopped, ReadsOr};
 ghost use Rattle.image_tool.specs.Refusals.{IsDamaged, RunCauses};
-ghost use Rattle.image_tool.specs.Served.{IsServedImage, held};
+ghost use Rattle.image_tool.specs.Served.{IsServedImage, first_area, held};
+ghost use Rattle.image_tool.specs.Stopped.{RunStops};
 
 use crate::outcome::{OutFile, Outcome};
 use crate::printing::all_texts;
@@ -36,8 +37,9 @@ fn run_image<'a, B: Bench>(
     requires image { IsImage (held areas.now (B.device bench.old)) }
     requires served { IsServedImage (held areas.now (B.device bench.old)) }
     requires on { (B.device bench.old).is_on ≡ true }
-    requires lines { All IsLawfulLine lines.now }
+    requires lines { AreLawfulFor (first_area (held areas.now (B.device bench.old))) lines.now }
     ensures ran { let image = held areas.now (B.device bench.old) in MakesOr (λ ran. LeavesImage image lines.now (B.device bench.old) (B.device bench.new) ran.answers ran.file.items) (IsDamaged image) result }
+    ensures safely { EndsSafely (first_area (held areas.now (B.device bench.old))) lines.now (B.device bench.old) (B.device bench.new) }
     ensures stays { OnRefused result (B.device bench.new ≡ B.device bench.old) }
 {
     let Some(area) = areas.at(0) else {
@@ -57,6 +59,9 @@ fn run_image<'a, B: Bench>(
 }
 
 /// Runs the lines of the script on the image: the texts of all answers, and the image that is left.
+///
+/// # Errors
+/// As those of `open_image` and `read_lines`; and refused where the area is damaged.
 pub fn run<'a, H: Host, B: Bench>(
     alloc: Global,
     image: &'a str,
@@ -65,7 +70,8 @@ pub fn run<'a, H: Host, B: Bench>(
     host: &mut H,
     bench: &mut B,
 ) -> Result<Outcome<'a>, Stop<'a>>
-    ensures { ReadsOr (λ outcome. RunsScript image.now script.now out.now (H.outside host.old) (B.device bench.old) (B.device bench.new) outcome.text.items (file_of outcome.file)) (RunCauses image.now script.now (H.outside host.old) (B.device bench.old) (B.device bench.new)) (H.outside host.old) (H.outside host.new) result }
+    ensures runs { ReadsOr (λ outcome. RunsScript image.now script.now out.now (H.outside host.old) (B.device bench.old) (B.device bench.new) outcome.text.items (file_of outcome.file)) (RunCauses image.now script.now (H.outside host.old) (B.device bench.old) (B.device bench.new)) (H.outside host.old) (H.outside host.new) result }
+    ensures stopped { OnStopped result (RunStops image.now script.now (H.outside host.old) (B.device bench.old) (B.device bench.new)) }
 {
     let image = match open_image(alloc, image, host) {
         Ok(image) => image,

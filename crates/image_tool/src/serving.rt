@@ -31,7 +31,10 @@ fn serve<'a>(image: Image) -> Result<Image, Stop<'a>>
     Ok(image)
 }
 
-/// The image of a file, if it is one that this program serves. Nothing is printed or written.
+/// The image of a file that this program serves. Nothing is printed or written.
+///
+/// # Errors
+/// As those of `read_image_file`; and refused where the image is not served.
 pub fn open_image<'a, H: Host>(
     alloc: Global,
     name: &'a str,
@@ -46,6 +49,9 @@ pub fn open_image<'a, H: Host>(
 }
 
 /// Loads the bench with the image's banks and bytes, and keeps its areas.
+///
+/// # Errors
+/// `NoMemory`, and the bench is as before.
 pub fn load_image<B: Bench>(
     alloc: Global,
     image: Image,
@@ -61,6 +67,9 @@ pub fn load_image<B: Bench>(
 }
 
 /// The file of the image of these areas that the bench holds.
+///
+/// # Errors
+/// Want of memory alone.
 pub fn image_left<B: Bench>(alloc: Global, areas: &FlashMap, bench: &B) -> Result<Vec<u8>, NoMemory>
     requires { IsImage (held areas.now (B.device bench.now)) }
     ensures { IfOk result (λ file. IsImageFile file.items (held areas.now (B.device bench.now))) }

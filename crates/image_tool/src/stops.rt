@@ -59,8 +59,11 @@ impl Refusal<'_> {
 /// Why a command stops before its end.
 #[derive(Clone, Copy, Debug, PartialEq, Eq)]
 pub enum Stop<'a> {
+    /// What was asked for is refused, and the line of the refusal is printed.
     Refused(Refusal<'a>),
+    /// A call of the host failed.
     HostFailed,
+    /// There was not enough memory.
     NoMemory,
 }
 

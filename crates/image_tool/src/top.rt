@@ -3,6 +3,8 @@ ghost use Rattle.std.specs.Prelude.{◌≡◌, List, ℕ, map};
 ghost use Rattle.std.specs.String.{string_bytes};
 ghost use Rattle.command_words.specs.Commands.{IsCommand};
 ghost use Rattle.command_words.specs.declared.commands.Command.{Command as command};
+ghost use Rattle.image_tool.specs.Reading.{OnStopped};
+ghost use Rattle.image_tool.specs.Stopped.{Stops};
 ghost use Rattle.image_tool.specs.Tool.{Prepares, CommandEnds, NoCommandEnds, ToolEnds, MayWrite};
 
 use crate::build::build;
@@ -25,7 +27,8 @@ fn prepare<'a, H: Host, B: Bench>(
     host: &mut H,
     bench: &mut B,
 ) -> Result<Outcome<'a>, Stop<'a>>
-    ensures { Prepares command.now (H.outside host.old) (H.outside host.new) (B.device bench.old) (B.device bench.new) result }
+    ensures prepares { Prepares command.now (H.outside host.old) (H.outside host.new) (B.device bench.old) (B.device bench.new) result }
+    ensures stopped { OnStopped result (Stops command.now (H.outside host.old) (B.device bench.old) (B.device bench.new)) }
 {
     match *command {
         Command::Build { out, spec } => build(alloc, out, spec),
@@ -64,7 +67,8 @@ pub fn no_words<H: Host>(alloc: Global, host: &mut H) -> Status
 ///
 /// `build OUT SPEC` writes the blank image of SPEC. `run IMAGE SCRIPT OUT` runs the lines of SCRIPT on the image, prints
 /// the texts of all answers, and then writes the image that is left. `dump IMAGE` prints the items of the image. What is
-/// refused prints one line, and nothing is written.
+/// refused prints one line, and nothing is written. Where the host fails or memory runs out before anything is printed,
+/// the bench is as it was, or it holds the image of IMAGE, for `run` with what its lines may have made of it.
 pub fn tool<H: Host, B: Bench>(
     alloc: Global,
     words: &[String],

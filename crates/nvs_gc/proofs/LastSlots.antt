@@ -1,5 +1,5 @@
 -- The last entry of each id, one entry after another.
-use Rattle.std.proofs.Common.{◌≡◌, ℕ, ◌+◌, ◌-◌, ◌^◌, ◌<◌, ◌≤◌, Bool, true, false, not, ◌&&◌, cond, eqb, ltb, List, [], ◌∷◌, ◌++◌, length, map, Option, Some, None, refl, sym, ap, subst, ◌∙◌, inl, inr, append_assoc, arith}
+use Rattle.std.proofs.Common.{◌≡◌, ℕ, ◌+◌, ◌-◌, ◌^◌, ◌<◌, ◌≤◌, Bool, true, false, ◌&&◌, cond, eqb, ltb, List, [], ◌∷◌, ◌++◌, length, map, Option, Some, None, refl, sym, ap, subst, ◌∙◌, inl, inr, append_assoc, arith}
 use Rattle.std.specs.Prelude.{replicate, slice_set, slice_index}
 use Rattle.std.specs.List.{cons_option, flat_map, range_with_len}
 use Rattle.std.specs.Option.{option_map, option_map_or, option_and_then, option_to_list}
@@ -8,53 +8,22 @@ use Rattle.std.proofs.lemmas.List.{map-append, append-nil, length-replicate, len
 use Rattle.std.proofs.lemmas.Grind.{get_or-set_at}
 use Rattle.std.proofs.lemmas.List.Concat.{flat_map-append, flat_map-cons}
 use Rattle.std.proofs.lemmas.List.Sums.{fold_push}
-use Rattle.sector_ring.specs.Area.{next, round, is_closed_at, counts_at}
+use Rattle.sector_ring.specs.Area.{round}
 use Rattle.flash_map.specs.Area.{sector_at}
 use Rattle.sector_ring.proofs.Places.{range-append, range_one}
 use Rattle.nvs_store.specs.declared.scan.Found.{Found}
 use Rattle.nvs_store.specs.declared.scan.Placed.{Placed}
-use Rattle.nvs_store.specs.declared.scan.Redo.{Redo}
-use Rattle.nvs_store.specs.declared.scan.Redo.TheVariants.{Nothing, EraseNext, CollectAgain}
 use Rattle.nvs_store.specs.declared.scan.Scan.{Scan}
 use Rattle.nvs_store.specs.Geometry.{slot_size}
-use Rattle.nvs_store.specs.Sector.{slot_at, counting_entry, has_gc_done}
-use Rattle.nvs_store.specs.Scans.{reading, redo_of, scan_of, found_at, counted_in, all_found, last_of}
-use Rattle.nvs_store.proofs.Appending.{open_is, scan_there, next_open}
+use Rattle.nvs_store.specs.Sector.{slot_at, counting_entry}
+use Rattle.nvs_store.specs.Scans.{scan_of, found_at, counted_in, all_found, last_of}
+use Rattle.nvs_store.proofs.Appending.{open_is}
 use Rattle.nvs_store.proofs.FoundLemmas.{among}
 use Rattle.nvs_store.proofs.Lookups.{entries_to, entries_to_more}
 use Rattle.nvs_store.proofs.Marks.{counting_entry_counts}
-use Rattle.nvs_store.proofs.MountLemmas.{counts_closed, counts_open}
 use Rattle.nvs_gc.specs.Collecting.{is_live, live_in}
 use Rattle.nvs_gc.specs.Latest.{sector_in, slot_in, Tells}
 use Rattle.slot_list.proofs.SlotLemmas.{index-slot_at}
-
--- ---- which sector counts for nothing
-
-redo_tells : (unit : ℕ) (sectors : List (List ℕ)) (scan : Scan) → scan ≡ scan_of unit sectors → scan.redo ≡ redo_of unit sectors scan.current
-redo_tells unit sectors scan is = ap (λ (s : Scan). s.redo) (scan_there unit sectors scan is)
-
-erases_by : (closed done : Bool) (redo : Redo) → redo ≡ EraseNext → redo ≡ cond closed (cond done EraseNext CollectAgain) Nothing → (closed ≡ true) × (done ≡ true)
-erases_by true true redo is tells = (refl, refl)
-erases_by true false redo is tells = absurd (cc)
-erases_by false done redo is tells = absurd (cc)
-
-collects_by : (closed done : Bool) (redo : Redo) → redo ≡ CollectAgain → redo ≡ cond closed (cond done EraseNext CollectAgain) Nothing → (closed ≡ true) × (done ≡ false)
-collects_by true false redo is tells = (refl, refl)
-collects_by true true redo is tells = absurd (cc)
-collects_by false done redo is tells = absurd (cc)
-
-pub counts_all : (unit : ℕ) (sectors : List (List ℕ)) (scan : Scan) (place : ℕ) → scan ≡ scan_of unit sectors → scan.redo ≡ Nothing → counts_at (reading unit) sectors scan.current place ≡ true
-counts_all unit sectors scan place is redo = sym (counts_open unit sectors scan.current place (next_open unit sectors scan is redo))
-
-pub counts_but_victim : (unit : ℕ) (sectors : List (List ℕ)) (scan : Scan) (place hidden : ℕ) → scan ≡ scan_of unit sectors → scan.redo ≡ EraseNext → hidden ≡ next sectors scan.current → counts_at (reading unit) sectors scan.current place ≡ not (eqb place hidden)
-counts_but_victim unit sectors scan place hidden is redo at =
-    let shut = erases_by (is_closed_at (reading unit) sectors (next sectors scan.current)) (has_gc_done unit (sector_at sectors scan.current)) scan.redo redo (redo_tells unit sectors scan is) in
-    sym (counts_closed unit sectors scan.current place hidden true shut.0 shut.1 at)
-
-pub counts_but_open : (unit : ℕ) (sectors : List (List ℕ)) (scan : Scan) (place : ℕ) → scan ≡ scan_of unit sectors → scan.redo ≡ CollectAgain → counts_at (reading unit) sectors scan.current place ≡ not (eqb place scan.current)
-counts_but_open unit sectors scan place is redo =
-    let shut = collects_by (is_closed_at (reading unit) sectors (next sectors scan.current)) (has_gc_done unit (sector_at sectors scan.current)) scan.redo redo (redo_tells unit sectors scan is) in
-    sym (counts_closed unit sectors scan.current place scan.current false shut.0 shut.1 refl)
 
 -- ---- one entry more
 

@@ -8,9 +8,9 @@ use Rattle.sector_ring.specs.Rounds.{copies_cost, live_cost}
 use Rattle.live_items.proofs.LiveSum as live
 use Rattle.nvs_store.specs.Geometry.{cost}
 use Rattle.nvs_store.specs.Sector.{used_slots}
-use Rattle.nvs_store.specs.Scans.{reading, list_of}
+use Rattle.nvs_store.specs.Scans.{reading, list_of, nvs}
 use Rattle.nvs_gc.specs.Collecting.{live_to}
-use Rattle.nvs_store.proofs.NvsEntries.{nvs, are_nvs}
+use Rattle.nvs_store.proofs.NvsEntries.{are_nvs}
 
 -- what the live pairs of one sector cost
 abbrev pub cost_at : ℕ → List (List ℕ) → ℕ → ℕ

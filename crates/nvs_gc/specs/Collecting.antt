@@ -1,36 +1,29 @@
 -- How far a collection has come, and what its steps make of an area.
-use Rattle.std.specs.Prelude.{◌≡◌, ℕ, ◌+◌, ◌*◌, ◌<◌, ◌≤◌, Bool, true, false, ◌&&◌, List, length, map, Option, Some, None, ◌==◌, nat_lt, if◌then◌else◌}
-use Rattle.std.specs.List.{filter_map, range_with_len}
-use Rattle.std.specs.Option.{option_and_then, option_map, option_map_or}
+use Rattle.std.specs.Prelude.{◌≡◌, ℕ, ◌+◌, ◌*◌, ◌<◌, ◌≤◌, Bool, true, false, List, length, Option, Some, None}
 use Rattle.flash_map.specs.Area.{sector_at}
 use Rattle.flash_map.specs.Units.{is_erased}
 use Rattle.sector_ring.specs.Area.{next}
 use Rattle.sector_ring.specs.Forms.{to_copy, pairs_at}
 use Rattle.sector_ring.specs.Rounds.{copies_cost, Collects, IsRound}
+use Rattle.live_items.specs.Live as live
 use Rattle.nvs_store.specs.declared.scan.Found.{Found}
 use Rattle.nvs_store.specs.declared.scan.Redo.TheVariants.{Nothing}
 use Rattle.nvs_store.specs.declared.scan.Scan.{Scan}
 use Rattle.nvs_store.specs.Geometry.{slot_size, cost, capacity}
-use Rattle.nvs_store.specs.Sector.{slot_at, counting_entry, pairs, low, data_end, is_closed, has_gc_done}
-use Rattle.nvs_store.specs.Scans.{reading, scan_of, fits, found_at, found_bytes, last_found, ChangesOnly, AddsPairAt}
+use Rattle.nvs_store.specs.Sector.{pairs, low, data_end, is_closed, has_gc_done}
+use Rattle.nvs_store.specs.Scans.{reading, nvs, scan_of, fits, found_bytes, ChangesOnly, AddsPairAt}
 
 -- the entry is the last of its id in the list, and has data
 abbrev pub is_live : ℕ → List (List ℕ) → Found → Bool
-is_live unit sectors found =
-    option_map_or (λ last. (last.sector == found.sector) && (last.slot == found.slot) && nat_lt 0 found.entry.len) (last_found unit sectors found.entry.id) false
+is_live unit sectors found = live.is_live (nvs unit) sectors found
 
 -- the live entry in this slot
 abbrev pub live_in : ℕ → List (List ℕ) → ℕ → ℕ → Option Found
-live_in unit sectors place slot =
-    option_and_then (λ found. if is_live unit sectors found then Some found else None)
-    (option_map (found_at place) (counting_entry unit (slot_at unit (sector_at sectors place) slot)))
-
-abbrev pub pair_of_found : List (List ℕ) → Found → ℕ × List ℕ
-pair_of_found sectors found = (found.entry.id, found_bytes sectors found)
+live_in unit sectors place slot = live.live_in (nvs unit) sectors place slot
 
 -- the pairs of the live entries in the first slots of a sector
 abbrev pub live_to : ℕ → List (List ℕ) → ℕ → ℕ → List (ℕ × List ℕ)
-live_to unit sectors place slots = map (pair_of_found sectors) (filter_map (live_in unit sectors place) (range_with_len 1 slots))
+live_to unit sectors place slots = live.live_to (nvs unit) sectors place slots
 
 -- The open sector was blank, and these pairs were copied into it. No other sector changed.
 pub record HasCopied (unit : ℕ) (old new : List (List ℕ)) (place : ℕ) (copies : List (ℕ × List ℕ)) : Type 0 where
@@ -64,10 +57,9 @@ abbrev pub CopiesOne : ℕ → List (List ℕ) → List (List ℕ) → ℕ → O
 CopiesOne unit old new place None = new ≡ old
 CopiesOne unit old new place (Some found) = AddsPairAt unit old new place found.entry.id (found_bytes old found)
 
--- it costs so many bytes
+-- what an entry costs in bytes, if there is one
 abbrev pub cost_of : ℕ → Option Found → ℕ
-cost_of unit None = 0
-cost_of unit (Some found) = cost unit found.entry.len
+cost_of unit found = live.cost_of (nvs unit) found
 
 -- the same scan with nothing left to do
 abbrev pub rested : Scan → Scan

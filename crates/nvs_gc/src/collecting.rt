@@ -17,11 +17,11 @@ ghost use Rattle.nvs_gc.specs.Spending.{copied, redo_units, round_units};
 ghost use Rattle.nvs_gc.specs.Standing.{IsNvsArea, IsUndamaged, KeepsItems};
 
 use crate::latest::{LastSlots, last_slots};
-use flash_map::{Area, area_erase, geometry};
+use crate::reading::live_at;
+use flash_map::{Area, area_erase, geometry, sector_view};
 use flash_sim::{Flash, PowerLost, Steps};
 use nvs_store::{
-    Found, Redo, Scan, blank_scan, copy_entry, entry_in, is_blank, is_closed, put_close, put_done,
-    used_slots,
+    Found, Redo, Scan, blank_scan, copy_entry, is_blank, is_closed, put_close, put_done, used_count,
 };
 use std::sync::ledger::Ledger;
 
@@ -89,12 +89,9 @@ pub fn live_in<F: Flash, L: Ledger>(
     ensures in_area { IfSome result (IsInArea area.now.sectors (sector_size (F.device flash.now) area.now)) }
     ensures place { IfSome result (λ found. found.sector ≡ place) }
 {
-    let found = entry_in(flash, area, place, slot, steps)?;
-    if last.is_live(&found) {
-        Some(found)
-    } else {
-        None
-    }
+    let unit = geometry(flash, area).unit;
+    let bytes = sector_view(flash, area, place, steps);
+    live_at(bytes, unit, last, place, slot)
 }
 
 // Copies the entry in a slot of the victim, if it is live.
@@ -150,7 +147,8 @@ fn copy_live<F: Flash, L: Ledger>(
     ensures lost { let d = F.device flash.old in OnErr result (StopsCopying (unit_of d area.now) (sectors_of d area.now) (sectors_of (F.device flash.new) area.now) scan.old.current) }
     ensures spent_at_most { let d = F.device flash.old in let unit = unit_of d area.now in OnErr result (SpendsAtMost d (F.device flash.new) (copied unit (sectors_of d area.now) scan.old.current / unit)) }
 {
-    let used = used_slots(flash, area, victim, steps);
+    let unit = geometry(flash, area).unit;
+    let used = used_count(sector_view(flash, area, victim, steps), unit);
     let last = last_slots(flash, area, scan, steps);
     for slot in 1..used + 1 {
         copy_slot(flash, area, scan, &last, victim, slot, steps)?;

@@ -14,7 +14,7 @@ ghost use Rattle.nvs_gc.specs.Standing.{IsNvsArea};
 
 use flash_map::{Area, geometry, sector_view};
 use flash_sim::{Flash, Steps};
-use nvs_store::{Found, Redo, Scan, counting_entry, used_count};
+use nvs_store::{Found, Scan, counting_entry, is_hidden, used_count};
 use std::sync::ledger::Ledger;
 
 // There are so many ids of 16 bits.
@@ -58,18 +58,6 @@ impl LastSlots {
         let sector = u32::from(self.sectors[id]);
         let slot = u32::from(self.slots[id]);
         sector == found.sector && slot == found.slot && found.entry.len > 0
-    }
-}
-
-/// Whether a sector counts for nothing: while a collection is not done, one sector does.
-pub fn is_hidden(area: &Area, scan: &Scan, place: u32) -> bool
-    requires { scan.now.current < area.now.sectors }
-    ensures { (unit : ℕ) (sectors : List (List ℕ)) → length sectors ≡ area.now.sectors → scan.now ≡ scan_of unit sectors → counts_at (reading unit) sectors scan.now.current place ≡ not result }
-{
-    match scan.redo {
-        Redo::Nothing => false,
-        Redo::EraseNext => place == area.next(scan.current),
-        Redo::CollectAgain => place == scan.current,
     }
 }
 

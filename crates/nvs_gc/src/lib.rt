@@ -8,7 +8,6 @@ mod nvs;
 mod reading;
 mod writing;
 
-pub use latest::is_hidden;
 pub use nvs::Nvs;
 
 #[cfg(test)]

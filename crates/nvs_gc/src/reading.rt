@@ -84,7 +84,7 @@ fn next_in<F: Flash, L: Ledger>(
 }
 
 // The live entry in a slot of a sector with these bytes, by what is known of each id's last entry.
-fn live_at(bytes: &[u8], unit: u32, last: &LastSlots, place: u32, slot: u32) -> Option<Found>
+pub fn live_at(bytes: &[u8], unit: u32, last: &LastSlots, place: u32, slot: u32) -> Option<Found>
     requires unit { IsUnit unit }
     requires short { length bytes.now ≤ 2 ^ 15 }
     requires inside { (slot + 1) * slot_size unit ≤ length bytes.now }

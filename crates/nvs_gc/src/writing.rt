@@ -182,8 +182,8 @@ impl Nvs {
         }
     }
 
-    /// Deletes an item. Where the id has none, nothing is programmed. It always finds room, after one collection at
-    /// most.
+    /// Deletes an item. Where the id has none, as the reserved id FFFF never has, nothing is programmed. It always finds
+    /// room, after one collection at most.
     ///
     /// # Errors
     /// `PowerLost`: the items are as before, or without this one, and the store is down.
@@ -193,8 +193,7 @@ impl Nvs {
         id: u16,
         steps: &mut Steps<L>,
     ) -> Result<(), PowerLost>
-        requires stands { StandsOn (F.device flash.old) self.old }
-        requires ordinary { id < 0xFFFF }
+        requires { StandsOn (F.device flash.old) self.old }
 
         ensures touches { Touches (self.old.area ∷ []) (F.device flash.old) (F.device flash.new) (is_err result) }
         ensures area { self.new.area ≡ self.old.area }

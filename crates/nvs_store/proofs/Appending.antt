@@ -18,10 +18,11 @@ use Rattle.nvs_store.specs.declared.scan.Redo.{Redo}
 use Rattle.nvs_store.specs.declared.scan.Redo.TheVariants.{Nothing, EraseNext, CollectAgain}
 use Rattle.nvs_store.specs.declared.scan.Scan.{Scan}
 use Rattle.nvs_store.specs.Geometry.{slot_size, cost, capacity}
-use Rattle.nvs_store.specs.Sector.{HasRoom, AddsPair, StopsAdding, is_sound, is_closed, has_gc_done, low, data_end, pairs, pairs_cost}
+use Rattle.nvs_store.specs.Sector.{AddsPair, StopsAdding, is_sound, is_closed, has_gc_done, low, data_end, pairs, pairs_cost}
 use Rattle.nvs_store.specs.Scans.{reading, sector_scan, scan_at, scan_of, redo_of, fits, damage_of, list_of, marked_redo, ChangesOnly, AddsPairAt, StopsAddingAt, MarksDoneAt}
 use Rattle.nvs_store.proofs.Blank.{reads-blank}
 use Rattle.nvs_store.proofs.Sound.{sound-costs, keeps-further, adds-further, adds-used, fits-costs}
+use Rattle.nvs_store.proofs.Room.{HasRoom}
 
 -- the sector that the scan names is the open one, and the scan is its own
 pub open_is : (unit : ℕ) (sectors : List (List ℕ)) (scan : Scan) → scan ≡ scan_of unit sectors → open_sector (reading unit) sectors ≡ scan.current

@@ -5,7 +5,7 @@ use Rattle.flash_map.specs.Units.{IsUnit, padded}
 use Rattle.nvs_store.specs.Geometry.{slot_size, cost}
 use Rattle.nvs_store.specs.Entries.{encoded}
 use Rattle.flash_sim.specs.Device.{overwritten}
-use Rattle.nvs_store.specs.Sector.{data_end, HasRoom, IsNext, AddsPair, StopsAdding, data_image, entry_image, with_slot, has_gc_done}
+use Rattle.nvs_store.specs.Sector.{data_end, AddsPair, StopsAdding, has_gc_done}
 use Rattle.nvs_store.specs.Scans.{sector_scan, fits, free}
 use Rattle.flash_map.proofs.Rounding.{padding, by_unit}
 use Rattle.nvs_store.proofs.SlotReads.{slot_widths}
@@ -14,6 +14,8 @@ use Rattle.nvs_store.proofs.EntryBytes.{length-encoded}
 use Rattle.std.proofs.lemmas.Bool.{cases_lt, eqb-true, leb-true}
 use Rattle.std.proofs.Math.Nat.{mul-le-mul_right, zero-mod}
 use Rattle.std.proofs.lemmas.List.{take_all, take-append-le}
+use Rattle.nvs_store.specs.Images.{data_image, entry_image, with_slot}
+use Rattle.nvs_store.proofs.Room.{HasRoom, IsNext}
 
 -- After the data and some units of the entry, the list is as it was or has the pair.
 abbrev AnyUnits : ℕ → Type 0

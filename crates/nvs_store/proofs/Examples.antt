@@ -9,7 +9,8 @@ use Rattle.slot_list.specs.Slots as shared
 use Rattle.nvs_store.specs.declared.scan.Scan.{Scan}
 use Rattle.nvs_store.specs.declared.scan.Redo.TheVariants.{Nothing, EraseNext, CollectAgain}
 use Rattle.nvs_store.specs.Geometry.{slot_size}
-use Rattle.nvs_store.specs.Entries.{decoded}
+use Rattle.nvs_store.specs.Entries.{encoded, decoded}
+use Rattle.nvs_store.specs.Images.{after_append, after_gc_done, after_close}
 use Rattle.nvs_store.specs.Sector.{counting_entry, is_gc_done, written_end, data_end}
 use Rattle.nvs_store.specs.Scans.{all_found, damage_of, list_of, scan_of}
 
@@ -574,3 +575,21 @@ area_16-84 = refl
 area_16-85 : read 16 (marked_16 ∷ zeros_closed_16 ∷ marked_closed_16 ∷ deletes_closed_16 ∷ []) ≡ record { damage = None; scan = record { current = 0; low = 64; data_end = 16; gc_done = true; redo = EraseNext }; places = ((2, 1) ∷ (3, 1) ∷ (0, 1) ∷ []); list = ((1, (17 ∷ 18 ∷ [])) ∷ (1, ([])) ∷ (1, (17 ∷ 18 ∷ [])) ∷ []) }
 unfolding area_pairs first_damage open_sector shared.slot_at shared.used_slots counting_entry is_gc_done written_end data_end padded slot_size decoded crc extended bits_of
 area_16-85 = refl
+
+-- ---- what a step leaves: bytes 11 12 of id 1 in a blank sector, and then a delete of id 2, gc-done, or the close entry
+
+step-append : after_append 4 (replicate 64 255) 1 (17 ∷ 18 ∷ []) ≡ one_4
+unfolding shared.slot_at shared.used_slots counting_entry is_gc_done written_end data_end padded slot_size encoded decoded crc extended bits_of
+step-append = refl
+
+step-delete : after_append 4 one_4 2 [] ≡ (17 ∷ 18 ∷ []) ++ replicate 38 255 ++ (2 ∷ 0 ∷ 4 ∷ 0 ∷ 0 ∷ 0 ∷ 255 ∷ 129 ∷ 1 ∷ 0 ∷ 0 ∷ 0 ∷ 2 ∷ 0 ∷ 255 ∷ 190 ∷ []) ++ replicate 8 255
+unfolding shared.slot_at shared.used_slots counting_entry is_gc_done written_end data_end padded slot_size encoded decoded crc extended bits_of
+step-delete = refl
+
+step-gc_done : after_gc_done 4 one_4 ≡ (17 ∷ 18 ∷ []) ++ replicate 38 255 ++ (255 ∷ 255 ∷ 4 ∷ 0 ∷ 0 ∷ 0 ∷ 255 ∷ 211 ∷ 1 ∷ 0 ∷ 0 ∷ 0 ∷ 2 ∷ 0 ∷ 255 ∷ 190 ∷ []) ++ replicate 8 255
+unfolding shared.slot_at shared.used_slots counting_entry is_gc_done written_end data_end padded slot_size encoded decoded crc extended bits_of
+step-gc_done = refl
+
+step-close : after_close 4 one_4 ≡ (17 ∷ 18 ∷ []) ++ replicate 46 255 ++ (1 ∷ 0 ∷ 0 ∷ 0 ∷ 2 ∷ 0 ∷ 255 ∷ 190 ∷ 255 ∷ 255 ∷ 48 ∷ 0 ∷ 0 ∷ 0 ∷ 255 ∷ 10 ∷ [])
+unfolding shared.slot_at shared.used_slots counting_entry is_gc_done written_end data_end padded slot_size encoded decoded crc extended bits_of
+step-close = refl

@@ -10,6 +10,7 @@ use Rattle.slot_list.specs.Items.{last, value_of}
 use Rattle.slot_list.proofs.SlotCounts.{used_count_fits}
 use Rattle.sector_ring.specs.Area.{round, counts_at, open_sector}
 use Rattle.sector_ring.proofs.Newest as newest
+use Rattle.live_items.specs.Walk as walk
 use Rattle.live_items.proofs.LastLemmas as live
 use Rattle.live_items.proofs.SlotEntries.{read-within}
 use Rattle.live_items.proofs.WalkLemmas as walks
@@ -17,16 +18,18 @@ use Rattle.nvs_store.specs.declared.scan.Found.{Found}
 use Rattle.nvs_store.specs.declared.scan.Placed.{Placed}
 use Rattle.nvs_store.specs.Geometry.{slot_size}
 use Rattle.nvs_store.specs.Sector.{counting_entry, entries_within, is_used, is_wanted, last_placed, used_slots}
-use Rattle.nvs_store.specs.Scans.{reading, found_at, found_bytes, counted_in, counted_within, all_found, last_wanted, last_found, list_of}
-use Rattle.nvs_store.proofs.NvsEntries.{nvs, are_nvs}
+use Rattle.nvs_store.specs.Scans.{reading, found_at, found_bytes, counted_in, counted_within, all_found, last_wanted, last_found, list_of, nvs}
+use Rattle.nvs_store.proofs.NvsEntries.{are_nvs}
 
 -- the last one of a sector that counts, or none
 pub counted-last : (unit : ℕ) (sectors : List (List ℕ)) (current place n : ℕ) (wanted : Option ℕ) → counts_at (reading unit) sectors current place ≡ true → option_map (found_at place) (last_placed wanted (entries_within unit (sector_at sectors place) n)) ≡ last_wanted wanted (counted_within unit sectors current place n)
 counted-last unit sectors current place n wanted counts =
-    sym (ap (λ (t : Bool). last_wanted wanted (cond t (map (found_at place) (entries_within unit (sector_at sectors place) n)) [])) counts ∙ newest.last-map (λ f. is_wanted wanted f.entry) (found_at place) (entries_within unit (sector_at sectors place) n))
+    let here : List Placed = walk.entries_within (nvs unit) (sector_at sectors place) n in
+    ap (λ (es : List Placed). option_map (found_at place) (last_placed wanted es)) (read-within (counting_entry unit) is_used 1 (slot_size unit) (sector_at sectors place) n)
+    ∙ sym (ap (λ (t : Bool). last_wanted wanted (cond t (map (found_at place) here) [])) counts ∙ newest.last-map (λ f. is_wanted wanted f.entry) (found_at place) here)
 
 pub counted-none : (unit : ℕ) (sectors : List (List ℕ)) (current place n : ℕ) (wanted : Option ℕ) → counts_at (reading unit) sectors current place ≡ false → None ≡ last_wanted wanted (counted_within unit sectors current place n)
-counted-none unit sectors current place n wanted passed = sym (ap (λ (t : Bool). last_wanted wanted (cond t (map (found_at place) (entries_within unit (sector_at sectors place) n)) [])) passed)
+counted-none unit sectors current place n wanted passed = sym (ap (λ (t : Bool). last_wanted wanted (cond t (map (found_at place) (walk.entries_within (nvs unit) (sector_at sectors place) n)) [])) passed)
 
 -- there are no more slots than bytes
 pub few_slots : (unit : ℕ) (b : List ℕ) → length (used_slots unit b) ≤ length b
@@ -36,8 +39,7 @@ few_slots unit b = let fits = used_count_fits is_used 1 (slot_size unit) b in le
 pub counted-whole : (unit : ℕ) (sectors : List (List ℕ)) (current place n : ℕ) → length (sector_at sectors place) ≤ n → counted_within unit sectors current place n ≡ counted_in unit sectors current place
 counted-whole unit sectors current place n enough =
     let few = few_slots unit (sector_at sectors place) in
-    ap (λ (es : List Placed). cond (counts_at (reading unit) sectors current place) (map (found_at place) es) []) (read-within (counting_entry unit) is_used 1 (slot_size unit) (sector_at sectors place) n)
-    ∙ walks.counted-whole (nvs unit) (are_nvs unit) sectors current place n (omega arith)
+    walks.counted-whole (nvs unit) (are_nvs unit) sectors current place n (omega arith)
 
 abbrev pub among : ℕ → List (List ℕ) → ℕ → ℕ → ℕ → List Found
 among unit sectors current first n = flat_map (counted_in unit sectors current) (range_with_len first n)

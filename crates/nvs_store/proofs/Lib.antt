@@ -5,6 +5,7 @@ pub mod Cuts
 pub mod EntryBytes
 mod Examples
 pub mod FoundLemmas
+pub mod HiddenSectors
 pub mod InArea
 pub mod Lookups
 pub mod MarkPutting

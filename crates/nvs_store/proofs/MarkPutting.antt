@@ -17,15 +17,17 @@ use Rattle.flash_map.proofs.Sectors.{overwritten_nil}
 use Rattle.nvs_store.specs.declared.entry.Entry.{Entry}
 use Rattle.nvs_store.specs.Geometry.{slot_size}
 use Rattle.nvs_store.specs.Entries.{encoded}
-use Rattle.nvs_store.specs.Sector.{is_closed, low, data_end, HasRoom, KeepsList, MarksDone, Closes, entry_image, special_entry, with_mark, with_close}
-use Rattle.nvs_store.specs.Scans.{MarksDoneAt, StopsMarkingAt, ClosesAt}
+use Rattle.nvs_store.specs.Sector.{is_closed, low, data_end, KeepsList, MarksDone, Closes, special_entry}
+use Rattle.flash_map.specs.Area.{sector_at}
+use Rattle.nvs_store.specs.Scans.{ChangesOnly, MarksDoneAt, StopsMarkingAt, ClosesAt}
 use Rattle.nvs_store.proofs.Appends.{length-entry_image}
 use Rattle.nvs_store.proofs.Cuts.{sizes}
 use Rattle.nvs_store.proofs.EntryBytes.{length-encoded}
 use Rattle.nvs_store.proofs.Marks.{put_done, put_cut_done, put_close_units}
 use Rattle.nvs_store.proofs.Putting.{erased-is, entry_image-is, changed_to, can_entry, inside}
-use Rattle.nvs_store.proofs.Room.{erased_from_range}
+use Rattle.nvs_store.proofs.Room.{erased_from_range, HasRoom}
 use Rattle.nvs_store.proofs.SlotReads.{slot_widths, slot_at-parts}
+use Rattle.nvs_store.specs.Images.{entry_image, with_mark, with_close, after_gc_done, after_close}
 
 pub done_room : (unit : ℕ) (b : List ℕ) → IsUnit unit → length b ≤ 2 ^ 15 → data_end unit b + 2 * slot_size unit ≤ low unit b → HasRoom unit b 0
 done_room unit b is-unit short free =
@@ -85,11 +87,19 @@ module _ (a : Device) (area : Area) (lawful : IsLawful a.banks a.bytes) (is_area
     pub can_done : CanProgramAll a area place (low (unit_of a area) (sector_bytes a area place) - slot_size (unit_of a area)) (padded_bytes (unit_of a area) (encoded (special_entry (data_end (unit_of a area) (sector_bytes a area place)))))
     can_done = subst (λ (xs : List ℕ). CanProgramAll a area place (low (unit_of a area) (sector_bytes a area place) - slot_size (unit_of a area)) xs) (sym (entry_image-is (unit_of a area) (special_entry (data_end (unit_of a area) (sector_bytes a area place))))) (can_entry a area lawful is_area place has_sector 0 (special_entry (data_end (unit_of a area) (sector_bytes a area place))) h)
 
-    pub done_put : Writes a c area place (low (unit_of a area) (sector_bytes a area place) - slot_size (unit_of a area)) (padded_bytes (unit_of a area) (encoded (special_entry (data_end (unit_of a area) (sector_bytes a area place))))) → MarksDoneAt (unit_of a area) (sectors_of a area) (sectors_of c area) place
-    done_put writes =
+    done_bytes : Writes a c area place (low (unit_of a area) (sector_bytes a area place) - slot_size (unit_of a area)) (padded_bytes (unit_of a area) (encoded (special_entry (data_end (unit_of a area) (sector_bytes a area place)))))
+        → (sector_at (sectors_of c area) place ≡ after_gc_done (unit_of a area) (sector_bytes a area place)) × ChangesOnly (sectors_of a area) (sectors_of c area) place
+    done_bytes writes =
         let e = special_entry (data_end (unit_of a area) (sector_bytes a area place)) in
         let image = subst (λ (xs : List ℕ). Writes a c area place (low (unit_of a area) (sector_bytes a area place) - slot_size (unit_of a area)) xs) (entry_image-is (unit_of a area) e) writes in
-        let to = changed_to (sectors_of a area) (sectors_of c area) place (with_mark (unit_of a area) (sector_bytes a area place) (entry_image (unit_of a area) e)) within image in
+        changed_to (sectors_of a area) (sectors_of c area) place (after_gc_done (unit_of a area) (sector_bytes a area place)) within image
+
+    pub done_image : Writes a c area place (low (unit_of a area) (sector_bytes a area place) - slot_size (unit_of a area)) (padded_bytes (unit_of a area) (encoded (special_entry (data_end (unit_of a area) (sector_bytes a area place))))) → sector_at (sectors_of c area) place ≡ after_gc_done (unit_of a area) (sector_bytes a area place)
+    done_image writes = (done_bytes writes).0
+
+    pub done_put : Writes a c area place (low (unit_of a area) (sector_bytes a area place) - slot_size (unit_of a area)) (padded_bytes (unit_of a area) (encoded (special_entry (data_end (unit_of a area) (sector_bytes a area place))))) → MarksDoneAt (unit_of a area) (sectors_of a area) (sectors_of c area) place
+    done_put writes =
+        let to = done_bytes writes in
         record { only = to.1; marks = subst (λ (new : List ℕ). MarksDone (unit_of a area) (sector_bytes a area place) new) (sym to.0) (put_done (unit_of a area) (sector_bytes a area place) h) }
 
     pub done_cut : WritesPart a c area place (low (unit_of a area) (sector_bytes a area place) - slot_size (unit_of a area)) (padded_bytes (unit_of a area) (encoded (special_entry (data_end (unit_of a area) (sector_bytes a area place))))) → StopsMarkingAt (unit_of a area) (sectors_of a area) (sectors_of c area) place
@@ -134,6 +144,16 @@ module _ (a : Device) (area : Area) (lawful : IsLawful a.banks a.bytes) (is_area
         let widths = slot_widths (unit_of a area) unit-ok in
         put_close_units (unit_of a area) (low (unit_of a area) (sector_bytes a area place)) (sector_bytes a area place) units unit-ok (omega (arith, long)) (omega (arith, long)) some
 
+    close_bytes : Writes a c area place (length (sector_bytes a area place) - slot_size (unit_of a area)) (padded_bytes (unit_of a area) (encoded (special_entry (low (unit_of a area) (sector_bytes a area place)))))
+        → (sector_at (sectors_of c area) place ≡ after_close (unit_of a area) (sector_bytes a area place)) × ChangesOnly (sectors_of a area) (sectors_of c area) place
+    close_bytes writes =
+        let e = special_entry (low (unit_of a area) (sector_bytes a area place)) in
+        let image = subst (λ (xs : List ℕ). Writes a c area place (length (sector_bytes a area place) - slot_size (unit_of a area)) xs) (entry_image-is (unit_of a area) e) writes in
+        changed_to (sectors_of a area) (sectors_of c area) place (after_close (unit_of a area) (sector_bytes a area place)) within image
+
+    pub close_image : Writes a c area place (length (sector_bytes a area place) - slot_size (unit_of a area)) (padded_bytes (unit_of a area) (encoded (special_entry (low (unit_of a area) (sector_bytes a area place))))) → sector_at (sectors_of c area) place ≡ after_close (unit_of a area) (sector_bytes a area place)
+    close_image writes = (close_bytes writes).0
+
     pub close_put : Writes a c area place (length (sector_bytes a area place) - slot_size (unit_of a area)) (padded_bytes (unit_of a area) (encoded (special_entry (low (unit_of a area) (sector_bytes a area place))))) → ClosesAt (unit_of a area) (sectors_of a area) (sectors_of c area) place
     close_put writes =
         let e = special_entry (low (unit_of a area) (sector_bytes a area place)) in
@@ -141,8 +161,7 @@ module _ (a : Device) (area : Area) (lawful : IsLawful a.banks a.bytes) (is_area
         let positive = (padding (unit_of a area) unit-ok).positive in
         let whole : take (slot_size (unit_of a area) * unit_of a area) (entry_image (unit_of a area) e) ≡ entry_image (unit_of a area) e =
         take_all (slot_size (unit_of a area) * unit_of a area) (entry_image (unit_of a area) e) (omega (arith, length-entry_image (unit_of a area) e unit-ok, product (slot_size (unit_of a area)) (unit_of a area) positive)) in
-        let image = subst (λ (xs : List ℕ). Writes a c area place (length (sector_bytes a area place) - slot_size (unit_of a area)) xs) (entry_image-is (unit_of a area) e) writes in
-        let to = changed_to (sectors_of a area) (sectors_of c area) place (with_close (unit_of a area) (sector_bytes a area place) (entry_image (unit_of a area) e)) within image in
+        let to = close_bytes writes in
         record {
           only = to.1;
           closes = subst (λ (new : List ℕ). Closes (unit_of a area) (sector_bytes a area place) new) (sym to.0)

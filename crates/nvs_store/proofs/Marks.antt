@@ -14,7 +14,7 @@ use Rattle.nvs_store.specs.Geometry.{slot_size}
 use Rattle.nvs_store.specs.Entries.{encoded, decoded, entry_of}
 use Rattle.flash_sim.specs.Device.{overwritten}
 use Rattle.slot_list.specs.Slots.{Slot}
-use Rattle.nvs_store.specs.Sector.{slot_at, is_used, used_slots, counting_entry, entries, is_gc_done, low, data_end, entry_end, written_end, pair_of, HasRoom, KeepsList, entry_image, special_entry, with_mark, with_slot, with_close, MarksDone, Closes, counts}
+use Rattle.nvs_store.specs.Sector.{slot_at, is_used, used_slots, counting_entry, entries, is_gc_done, low, data_end, entry_end, written_end, pair_of, KeepsList, special_entry, MarksDone, Closes, counts}
 use Rattle.flash_map.proofs.Rounding.{padding, by_unit}
 use Rattle.nvs_store.proofs.SlotReads.{slot_widths, slot_at-parts}
 use Rattle.std.proofs.Math.Nat.{zero-mod}
@@ -23,8 +23,9 @@ use Rattle.slot_list.proofs.SlotCounts.{slots_to_used}
 use Rattle.flash_map.proofs.Sectors.{length-overwritten, overwritten_nil}
 use Rattle.flash_map.proofs.Ranges.{get_or_below, range_below, range_at}
 use Rattle.nvs_store.proofs.EntryBytes.{cut_entry, decoded_cases, decoded-encoded, counting_entry-is, is_gc_done-is}
-use Rattle.nvs_store.proofs.Room.{erased_above, written_end-le, data_end-above}
+use Rattle.nvs_store.proofs.Room.{erased_above, written_end-le, data_end-above, HasRoom}
 use Rattle.nvs_store.proofs.Appends.{put_cut, has_slot_more, new_slot, kept, length-entry_image}
+use Rattle.nvs_store.specs.Images.{entry_image, with_mark, with_slot, with_close}
 
 -- ---- written_end does not change where only erased bytes leave it
 
@@ -111,6 +112,7 @@ put_done unit b h =
       closed = more.closed;
       long = more.long;
       lower = more.lower;
+      same_entries = found;
       same_end = data_end-by unit b new written found;
     } in
     subst (λ (xs : List ℕ). MarksDone unit b (overwritten xs (low unit b - slot_size unit) image)) mid marks

@@ -1,33 +1,15 @@
 -- The entries of NVS, as the laws on live items ask for them.
-use Rattle.std.proofs.Common.{◌≡◌, ℕ, ◌+◌, ◌-◌, true, List, length, Some, None, refl, sym, ap, ◌∙◌, inl, inr, arith}
+use Rattle.std.proofs.Common.{◌≡◌, ℕ, ◌+◌, ◌-◌, List, length, Some, None, refl, sym, ap, ◌∙◌, inl, inr, arith}
 use Rattle.std.specs.Prelude.{slice_range}
 use Rattle.std.proofs.lemmas.List.Edits.{length-between}
 use Rattle.slot_list.proofs.SlotLemmas.{index-slot_at, start-slot_at}
-use Rattle.live_items.specs.Entries.{Entries, AreEntries}
+use Rattle.live_items.specs.Entries.{AreEntries}
 use Rattle.live_items.proofs.SlotEntries.{read-slots}
-use Rattle.nvs_store.specs.declared.scan.Found.{Found}
 use Rattle.nvs_store.specs.declared.scan.Placed.{Placed}
-use Rattle.nvs_store.specs.Geometry.{slot_size, cost}
-use Rattle.nvs_store.specs.Sector.{slot_at, is_used, counting_entry, entries, used_slots}
-use Rattle.nvs_store.specs.Scans.{reading, found_at}
+use Rattle.nvs_store.specs.Geometry.{slot_size}
+use Rattle.nvs_store.specs.Sector.{slot_at, is_used, counting_entry}
+use Rattle.nvs_store.specs.Scans.{nvs}
 use Rattle.nvs_store.proofs.Marks.{counting_entry_counts, counting_entry_under}
-
-abbrev pub nvs : ℕ → Entries Placed Found
-nvs unit = record {
-  reading = reading unit;
-  entries = entries unit;
-  in_slot = λ b n. counting_entry unit (slot_at unit b n);
-  first = 1;
-  slots = λ b. length (used_slots unit b);
-  is_sound = λ b. true;
-  placed_at = found_at;
-  sector = λ f. f.sector;
-  slot = λ f. f.slot;
-  id = λ f. f.entry.id;
-  len = λ f. f.entry.len;
-  bytes = λ b f. slice_range b f.entry.offset (f.entry.offset + f.entry.len);
-  cost = cost unit;
-}
 
 none_some : {X : Type 0} {x : X} → None ≡ Some x → ⊥
 none_some e = cc

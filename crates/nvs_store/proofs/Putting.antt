@@ -24,14 +24,15 @@ use Rattle.flash_map.proofs.SpendingLemmas.{spends_then, spends_then_most, most_
 use Rattle.nvs_store.specs.declared.entry.Entry.{Entry}
 use Rattle.nvs_store.specs.Geometry.{slot_size, cost}
 use Rattle.nvs_store.specs.Entries.{encoded}
-use Rattle.nvs_store.specs.Sector.{used_slots, low, data_end, HasRoom, IsNext, AddsPair, StopsAdding, data_image, entry_image, with_slot}
+use Rattle.nvs_store.specs.Sector.{used_slots, low, data_end, AddsPair, StopsAdding}
 use Rattle.flash_map.specs.Area.{sector_at}
 use Rattle.nvs_store.specs.Scans.{ChangesOnly, AddsPairAt, StopsAddingAt}
 use Rattle.nvs_store.proofs.Appends.{fence_of, put_entry, length-entry_image}
 use Rattle.nvs_store.proofs.Cuts.{put_units, data-stops}
 use Rattle.nvs_store.proofs.EntryBytes.{length-encoded}
-use Rattle.nvs_store.proofs.Room.{data_end-above, data_end-aligned, erased_above, erased_from_range}
+use Rattle.nvs_store.proofs.Room.{data_end-above, data_end-aligned, erased_above, erased_from_range, HasRoom, IsNext}
 use Rattle.nvs_store.proofs.SlotReads.{slot_widths, slot_at-parts}
+use Rattle.nvs_store.specs.Images.{data_image, entry_image, with_slot, after_append}
 
 -- ---- numbers and lists
 
@@ -165,12 +166,25 @@ module _ (a : Device) (area : Area) (lawful : IsLawful a.banks a.bytes) (is_area
         (omega (arith, long, image_long)) (inr (omega (arith, image_long))) (can_entry (length bytes) e h))
 
     -- data and entry are whole
+    pair_bytes : (c : Device) (e : Entry) → Writes m c area place (low (unit_of a area) (sector_bytes a area place) - slot_size (unit_of a area)) (padded_bytes (unit_of m area) (encoded e))
+        → (sector_at (sectors_of c area) place ≡ with_slot (unit_of a area) (sector_bytes a area place) (data_image (unit_of a area) bytes) (entry_image (unit_of a area) e)) × ChangesOnly (sectors_of a area) (sectors_of c area) place
+    pair_bytes c e entry_written =
+        let both = writes_twice a m c area place (data_end (unit_of a area) (sector_bytes a area place)) (low (unit_of a area) (sector_bytes a area place) - slot_size (unit_of a area)) (padded_bytes (unit_of a area) bytes) (entry_image (unit_of a area) e) has_sector data_written
+        (subst (λ (xs : List ℕ). Writes m c area place (low (unit_of a area) (sector_bytes a area place) - slot_size (unit_of a area)) xs) (entry_is e) entry_written) in
+        changed_to (sectors_of a area) (sectors_of c area) place (with_slot (unit_of a area) (sector_bytes a area place) (data_image (unit_of a area) bytes) (entry_image (unit_of a area) e)) inside both
+
+    pub pair_image : (c : Device) (id offset len : ℕ) → offset ≡ data_end (unit_of a area) (sector_bytes a area place) → len ≡ length bytes
+        → Writes m c area place (low (unit_of a area) (sector_bytes a area place) - slot_size (unit_of a area)) (padded_bytes (unit_of m area) (encoded (record { id = id; offset = offset; len = len; part = 0xFF })))
+        → sector_at (sectors_of c area) place ≡ after_append (unit_of a area) (sector_bytes a area place) id bytes
+    pair_image c id offset len at long entry_written =
+        (pair_bytes c (record { id = id; offset = offset; len = len; part = 0xFF }) entry_written).0
+        ∙ ap (λ (n : ℕ). with_slot (unit_of a area) (sector_bytes a area place) (data_image (unit_of a area) bytes) (entry_image (unit_of a area) (record { id = id; offset = n; len = len; part = 0xFF }))) at
+        ∙ ap (λ (n : ℕ). with_slot (unit_of a area) (sector_bytes a area place) (data_image (unit_of a area) bytes) (entry_image (unit_of a area) (record { id = id; offset = data_end (unit_of a area) (sector_bytes a area place); len = n; part = 0xFF }))) long
+
     pub pair_put : (c : Device) (e : Entry) → IsNext (unit_of a area) (sector_bytes a area place) e bytes
         → Writes m c area place (low (unit_of a area) (sector_bytes a area place) - slot_size (unit_of a area)) (padded_bytes (unit_of m area) (encoded e)) → AddsPairAt (unit_of a area) (sectors_of a area) (sectors_of c area) place e.id bytes
     pair_put c e next entry_written =
-        let both = writes_twice a m c area place (data_end (unit_of a area) (sector_bytes a area place)) (low (unit_of a area) (sector_bytes a area place) - slot_size (unit_of a area)) (padded_bytes (unit_of a area) bytes) (entry_image (unit_of a area) e) has_sector data_written
-        (subst (λ (xs : List ℕ). Writes m c area place (low (unit_of a area) (sector_bytes a area place) - slot_size (unit_of a area)) xs) (entry_is e) entry_written) in
-        let to = changed_to (sectors_of a area) (sectors_of c area) place (with_slot (unit_of a area) (sector_bytes a area place) (data_image (unit_of a area) bytes) (entry_image (unit_of a area) e)) inside both in
+        let to = pair_bytes c e entry_written in
         record {
           only = to.1;
           adds = subst (λ (new : List ℕ). AddsPair (unit_of a area) (sector_bytes a area place) new e.id bytes) (sym to.0) (put_entry (unit_of a area) (sector_bytes a area place) e bytes h next);

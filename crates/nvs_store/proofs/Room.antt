@@ -1,5 +1,5 @@
--- Where the data ends.
-use Rattle.std.proofs.Common.{◌≡◌, ℕ, ◌+◌, ◌-◌, ◌%◌, ◌<◌, ◌≤◌, max, Bool, true, false, cond, eqb, List, [], ◌∷◌, ◌++◌, length, map, get_or, take, Some, None, sym, ap, subst, ◌∙◌, inl, inr, ◌⊎◌, arith}
+-- Where the data ends, and the room that a step asks for.
+use Rattle.std.proofs.Common.{◌≡◌, ℕ, ◌+◌, ◌-◌, ◌%◌, ◌*◌, ◌^◌, ◌<◌, ◌≤◌, max, Bool, true, false, cond, eqb, List, [], ◌∷◌, ◌++◌, length, map, get_or, take, Some, None, sym, ap, subst, ◌∙◌, inl, inr, ◌⊎◌, arith}
 use Rattle.std.specs.Prelude.{fold, sum_by, slice_range, reverse}
 use Rattle.std.specs.List.{filter_map, suffix_len}
 use Rattle.std.proofs.Math.Nat.{zero-mod}
@@ -8,6 +8,7 @@ use Rattle.std.proofs.lemmas.List.{length-take-le, length-reverse, get_or-revers
 use Rattle.std.proofs.lemmas.List.Sums.{prefix_len_passes, prefix_len_stops, fold_push, sum_by_push, list_all-from_AllPass, AllPass-from_list_all}
 use Rattle.std.proofs.lemmas.List.Elements.{All-from_get_or}
 use Rattle.std.proofs.lemmas.List.Edits.{length-between, get_or-between}
+use Rattle.nvs_store.specs.declared.entry.Entry.{Entry}
 use Rattle.nvs_store.specs.declared.scan.Placed.{Placed}
 use Rattle.flash_map.specs.Units.{IsUnit, padded, is_erased}
 use Rattle.nvs_store.specs.Geometry.{slot_size}
@@ -17,6 +18,20 @@ use Rattle.nvs_store.specs.Sector.{counts, counting_entry, entries, used_slots, 
 use Rattle.flash_map.proofs.Rounding.{IsPadding, padding}
 use Rattle.nvs_store.proofs.SlotReads.{slot_widths}
 use Rattle.nvs_store.proofs.EntryBytes.{decoded_cases, counting_entry-is}
+
+-- ---- what a step asks for
+
+-- Data of this length has room, and so have its entry and the fence under that.
+pub record HasRoom (unit : ℕ) (sector : List ℕ) (len : ℕ) : Type 0 where
+  pub is_unit : IsUnit unit
+  pub short : length sector ≤ 2 ^ 15
+  pub room : data_end unit sector + padded unit len + 2 * slot_size unit ≤ low unit sector
+
+-- an ordinary entry for these bytes, whose data stands at the data end
+pub record IsNext (unit : ℕ) (sector : List ℕ) (e : Entry) (bytes : List ℕ) : Type 0 where
+  pub ordinary : e.id < 0xFFFF
+  pub place : e.offset ≡ data_end unit sector
+  pub long : e.len ≡ length bytes
 
 -- ---- bytes that are erased
 

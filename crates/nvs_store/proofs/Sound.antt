@@ -11,18 +11,19 @@ use Rattle.flash_map.specs.Units.{IsUnit, padded, is_erased}
 use Rattle.nvs_store.specs.Geometry.{slot_size, cost, capacity}
 use Rattle.nvs_store.specs.Entries.{entry_of}
 use Rattle.slot_list.specs.Slots.{Slot}
-use Rattle.nvs_store.specs.Sector.{slot_at, slots, is_used, used_slots, counting_entry, counts, entries, is_gc_done, has_gc_done, low, data_end, entry_end, pairs, HasRoom, KeepsList, AddsPair, MarksDone, Closes}
-use Rattle.nvs_store.specs.Scans.{fits, free, sector_scan}
+use Rattle.nvs_store.specs.Sector.{slot_at, slots, is_used, used_slots, counting_entry, counts, entries, is_gc_done, has_gc_done, low, data_end, entry_end, pairs, KeepsList, AddsPair, MarksDone, Closes}
+use Rattle.sector_ring.specs.Steps.{IsFurther}
+use Rattle.nvs_store.specs.Scans.{reading, fits, free, sector_scan, nvs}
 use Rattle.flash_map.proofs.Rounding.{IsPadding, padding}
 use Rattle.nvs_store.proofs.SlotReads.{slot_widths}
 use Rattle.slot_list.proofs.SlotLemmas.{HasFence-from_low}
-use Rattle.nvs_store.proofs.NvsEntries.{nvs, are_nvs}
-use Rattle.nvs_store.proofs.Room.{data_end-above}
+use Rattle.nvs_store.proofs.NvsEntries.{are_nvs}
+use Rattle.nvs_store.proofs.Room.{data_end-above, HasRoom}
 use Rattle.nvs_store.proofs.EntryBytes.{decoded_cases, counting_entry-is, is_gc_done-is}
 use Rattle.slot_list.proofs.SlotCosts as by_slots
 use Rattle.slot_list.proofs.SlotCosts.{fold_max-ge}
 use Rattle.live_items.proofs.SectorCosts.{costs_are}
-use Rattle.nvs_store.specs.Sector.{is_used, has_fence, is_overfull, is_sound, placed_cost, pairs_cost, IsFurther}
+use Rattle.nvs_store.specs.Sector.{is_used, has_fence, is_overfull, is_sound, placed_cost, pairs_cost}
 use Rattle.nvs_store.proofs.Blank.{blank-pairs, blank-used}
 
 -- ---- costs by entries and by pairs
@@ -76,7 +77,7 @@ sound-costs unit b sound =
 
 -- ---- steps keep a sector sound
 
-pub keeps-further : (unit len : ℕ) (old new : List ℕ) → HasRoom unit old len → is_sound unit old ≡ true → KeepsList unit old new → IsFurther unit old new
+pub keeps-further : (unit len : ℕ) (old new : List ℕ) → HasRoom unit old len → is_sound unit old ≡ true → KeepsList unit old new → IsFurther (reading unit) old new
 keeps-further unit len old new h sound keeps =
     let above = data_end-above unit old in
     let room = h.room in
@@ -101,7 +102,7 @@ adds-used unit id old new bytes is-unit room adds =
           absurd (omega (arith, widths.no_less))
     ]
 
-pub adds-further : (unit id : ℕ) (old new bytes : List ℕ) → HasRoom unit old (length bytes) → pairs_cost unit (pairs unit old) + cond (eqb (length bytes) 0) 0 (cost unit (length bytes)) ≤ capacity unit (length old) → AddsPair unit old new id bytes → IsFurther unit old new
+pub adds-further : (unit id : ℕ) (old new bytes : List ℕ) → HasRoom unit old (length bytes) → pairs_cost unit (pairs unit old) + cond (eqb (length bytes) 0) 0 (cost unit (length bytes)) ≤ capacity unit (length old) → AddsPair unit old new id bytes → IsFurther (reading unit) old new
 adds-further unit id old new bytes h costs adds =
     let above = data_end-above unit new in
     let room = h.room in

@@ -1,5 +1,6 @@
 pub mod Entries
 pub mod Geometry
+pub mod Images
 pub mod Scans
 pub mod Sector
 pub mod Sought

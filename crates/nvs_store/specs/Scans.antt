@@ -1,19 +1,21 @@
 -- What a scan says of an area, its list, and what is wrong with it.
-use Rattle.std.specs.Prelude.{◌≡◌, ℕ, ◌+◌, ◌-◌, ◌*◌, ◌<◌, ◌≤◌, Bool, List, [], ◌∷◌, ◌++◌, length, map, fold, slice_range, slice_set, Option, Some, None, ◌==◌, nat_le, if◌then◌else◌}
-use Rattle.std.specs.List.{flat_map, last_or}
+use Rattle.std.specs.Prelude.{◌≡◌, ℕ, ◌+◌, ◌-◌, ◌*◌, ◌<◌, ◌≤◌, Bool, true, List, ◌∷◌, ◌++◌, length, fold, slice_range, slice_set, Option, Some, None, ◌==◌, nat_le, if◌then◌else◌}
+use Rattle.std.specs.List.{last_or}
 use Rattle.flash_map.specs.declared.faults.Damaged.{Damaged}
 use Rattle.flash_map.specs.Units.{is_erased}
-use Rattle.sector_ring.specs.Area.{next, round, is_closed_at, counts_at, open_sector, area_pairs, first_damage}
+use Rattle.sector_ring.specs.Area.{next, is_closed_at, open_sector, first_damage}
 use Rattle.flash_map.specs.Area.{sector_at}
 use Rattle.sector_ring.specs.Reading.{Reading}
-use Rattle.sector_ring.specs.Walks.{places_before}
+use Rattle.live_items.specs.Entries.{Entries}
+use Rattle.live_items.specs.Live as live
+use Rattle.live_items.specs.Walk as walk
 use Rattle.nvs_store.specs.declared.scan.Found.{Found}
 use Rattle.nvs_store.specs.declared.scan.Placed.{Placed}
 use Rattle.nvs_store.specs.declared.scan.Redo.{Redo}
 use Rattle.nvs_store.specs.declared.scan.Redo.TheVariants.{Nothing, EraseNext, CollectAgain}
 use Rattle.nvs_store.specs.declared.scan.Scan.{Scan}
 use Rattle.nvs_store.specs.Geometry.{slot_size, cost}
-use Rattle.nvs_store.specs.Sector.{entries, entries_within, is_wanted, pairs, low, data_end, has_gc_done, is_closed, has_fence, is_overfull, AddsPair, StopsAdding, KeepsList, MarksDone, Closes}
+use Rattle.nvs_store.specs.Sector.{slot_at, used_slots, counting_entry, entries, is_wanted, pairs, low, data_end, has_gc_done, is_closed, has_fence, is_overfull, AddsPair, StopsAdding, KeepsList, MarksDone, Closes}
 
 -- how NVS reads a sector
 abbrev pub reading : ℕ → Reading
@@ -24,6 +26,27 @@ reading unit = record {
   pairs = pairs unit;
   has_fence = has_fence unit;
   is_overfull = is_overfull unit;
+}
+
+abbrev pub found_at : ℕ → Placed → Found
+found_at place placed = record { sector = place; slot = placed.slot; entry = placed.entry }
+
+-- how the entries of NVS stand in slots, and what they say
+abbrev pub nvs : ℕ → Entries Placed Found
+nvs unit = record {
+  reading = reading unit;
+  entries = entries unit;
+  in_slot = λ b n. counting_entry unit (slot_at unit b n);
+  first = 1;
+  slots = λ b. length (used_slots unit b);
+  is_sound = λ b. true;
+  placed_at = found_at;
+  sector = λ f. f.sector;
+  slot = λ f. f.slot;
+  id = λ f. f.entry.id;
+  len = λ f. f.entry.len;
+  bytes = λ b f. slice_range b f.entry.offset (f.entry.offset + f.entry.len);
+  cost = cost unit;
 }
 
 -- ---- the scan
@@ -71,28 +94,23 @@ damage_of unit sectors = first_damage (reading unit) sectors
 
 -- ids with their bytes, from the oldest to the newest
 abbrev pub list_of : ℕ → List (List ℕ) → List (ℕ × List ℕ)
-list_of unit sectors = area_pairs (reading unit) sectors (open_sector (reading unit) sectors)
-
-abbrev pub found_at : ℕ → Placed → Found
-found_at place placed = record { sector = place; slot = placed.slot; entry = placed.entry }
+list_of unit sectors = live.list_of (nvs unit) sectors
 
 -- the entries of a sector with their places, where it counts with this one open
 abbrev pub counted_in : ℕ → List (List ℕ) → ℕ → ℕ → List Found
-counted_in unit sectors current place = if counts_at (reading unit) sectors current place then map (found_at place) (entries unit (sector_at sectors place)) else []
+counted_in unit sectors current place = live.counted_in (nvs unit) sectors current place
 
 -- those of them in the first so many slots
 abbrev pub counted_within : ℕ → List (List ℕ) → ℕ → ℕ → ℕ → List Found
-counted_within unit sectors current place n = if counts_at (reading unit) sectors current place then map (found_at place) (entries_within unit (sector_at sectors place) n) else []
+counted_within unit sectors current place n = walk.counted_within (nvs unit) sectors current place n
 
 -- the entries of the sectors before this one, and those in its first so many slots
 abbrev pub found_up_to : ℕ → List (List ℕ) → ℕ → ℕ → ℕ → List Found
-found_up_to unit sectors current place n = flat_map (counted_in unit sectors current) (places_before (length sectors) current place) ++ counted_within unit sectors current place n
+found_up_to unit sectors current place n = walk.placed_up_to (nvs unit) sectors current place n
 
 -- the entries of the list, with their places
 abbrev pub all_found : ℕ → List (List ℕ) → List Found
-all_found unit sectors =
-    let current = open_sector (reading unit) sectors in
-    flat_map (counted_in unit sectors current) (round (length sectors) current)
+all_found unit sectors = live.all_placed (nvs unit) sectors
 
 -- the last entry that is looked for
 abbrev pub last_wanted : Option ℕ → List Found → Option Found
@@ -103,7 +121,7 @@ last_of id found = last_wanted (Some id) found
 
 -- the last entry of an id, a delete too
 abbrev pub last_found : ℕ → List (List ℕ) → ℕ → Option Found
-last_found unit sectors id = last_of id (all_found unit sectors)
+last_found unit sectors id = live.last_placed (nvs unit) sectors id
 
 -- The next older entry of a list: the one before the entry at this place, or the newest where no place is named.
 abbrev pub IsNextOlder : List Found → Option (ℕ × ℕ) → Option Found → Type 0

@@ -1,15 +1,14 @@
 -- How one sector reads. Data grows upward from the sector's start, and slots of entries grow downward from its end.
-use Rattle.std.specs.Prelude.{◌≡◌, ◌⊎◌, ℕ, ◌+◌, ◌-◌, ◌*◌, ◌%◌, ◌^◌, ◌<◌, ◌≤◌, max, Bool, true, false, not, ◌&&◌, ◌||◌, List, [], ◌∷◌, ◌++◌, length, take, replicate, map, fold, sum_by, slice_range, Option, Some, None, ◌==◌, nat_le, nat_lt, if◌then◌else◌}
+use Rattle.std.specs.Prelude.{◌≡◌, ◌⊎◌, ℕ, ◌+◌, ◌-◌, ◌%◌, ◌≤◌, max, Bool, true, false, not, ◌&&◌, ◌||◌, List, [], ◌∷◌, ◌++◌, length, take, map, fold, sum_by, slice_range, Option, Some, None, ◌==◌, nat_le, nat_lt, if◌then◌else◌}
 use Rattle.std.specs.List.{suffix_len, filter_map, list_any}
 use Rattle.std.specs.Option.{option_and_then, option_map_or}
-use Rattle.flash_sim.specs.Device.{overwritten}
-use Rattle.flash_map.specs.Units.{IsUnit, padded, is_erased}
+use Rattle.flash_map.specs.Units.{padded, is_erased}
 use Rattle.slot_list.specs.Slots as shared
 use Rattle.slot_list.specs.Slots.{Slot}
 use Rattle.nvs_store.specs.declared.entry.Entry.{Entry}
 use Rattle.nvs_store.specs.declared.scan.Placed.{Placed}
 use Rattle.nvs_store.specs.Geometry.{slot_size, cost, capacity}
-use Rattle.nvs_store.specs.Entries.{encoded, decoded}
+use Rattle.nvs_store.specs.Entries.{decoded}
 
 -- ---- slots
 
@@ -42,6 +41,10 @@ counting_entry unit slot =
 abbrev pub entries : ℕ → List ℕ → List Placed
 entries unit sector = filter_map (counting_entry unit) (used_slots unit sector)
 
+-- the entry of close and of gc-done
+abbrev pub special_entry : ℕ → Entry
+special_entry place = record { id = 0xFFFF; offset = place; len = 0; part = 0xFF }
+
 unfoldable pub is_gc_done : Slot → Bool
 is_gc_done slot = option_map_or (λ e. (e.id == 0xFFFF) && (e.len == 0)) (decoded slot.bytes) false
 
@@ -69,12 +72,6 @@ unfoldable pub data_end : ℕ → List ℕ → ℕ
 data_end unit sector =
     max (written_end unit (low unit sector - slot_size unit) sector)
     (max (fold max 0 (map (entry_end unit) (entries unit sector))) (sum_by (λ f. padded unit f.entry.len) (entries unit sector)))
-
--- Data of this length has room, and so have its entry and the fence under that.
-pub record HasRoom (unit : ℕ) (sector : List ℕ) (len : ℕ) : Type 0 where
-  pub is_unit : IsUnit unit
-  pub short : length sector ≤ 2 ^ 15
-  pub room : data_end unit sector + padded unit len + 2 * slot_size unit ≤ low unit sector
 
 -- ---- pairs
 
@@ -151,48 +148,13 @@ pub record StopsAdding (unit : ℕ) (old new : List ℕ) (id : ℕ) (bytes : Lis
   pub lower : low unit old ≤ low unit new + slot_size unit
   pub grown : data_end unit new ≤ data_end unit old + padded unit (length bytes)
 
--- what programming in a sector keeps
-pub record IsFurther (unit : ℕ) (old new : List ℕ) : Type 0 where
-  pub used : is_erased old ≡ false → is_erased new ≡ false
-  pub sound : is_sound unit new ≡ true
-
--- an ordinary entry for these bytes, whose data stands at the data end
-pub record IsNext (unit : ℕ) (sector : List ℕ) (e : Entry) (bytes : List ℕ) : Type 0 where
-  pub ordinary : e.id < 0xFFFF
-  pub place : e.offset ≡ data_end unit sector
-  pub long : e.len ≡ length bytes
-
--- data, padded to the unit
-abbrev pub data_image : ℕ → List ℕ → List ℕ
-data_image unit bytes = bytes ++ replicate (padded unit (length bytes) - length bytes) 0xFF
-
--- an entry, padded to its slot
-abbrev pub entry_image : ℕ → Entry → List ℕ
-entry_image unit e = encoded e ++ replicate (slot_size unit - 8) 0xFF
-
--- the sector after the data and these bytes of the next slot
-abbrev pub with_slot : ℕ → List ℕ → List ℕ → List ℕ → List ℕ
-with_slot unit sector lower upper = overwritten (overwritten sector (data_end unit sector) lower) (low unit sector - slot_size unit) upper
-
--- ---- special entries
-
-abbrev pub special_entry : ℕ → Entry
-special_entry place = record { id = 0xFFFF; offset = place; len = 0; part = 0xFF }
-
--- the sector after these bytes of the next slot, with no data
-abbrev pub with_mark : ℕ → List ℕ → List ℕ → List ℕ
-with_mark unit sector upper = overwritten sector (low unit sector - slot_size unit) upper
-
--- the sector after these bytes of slot 0
-abbrev pub with_close : ℕ → List ℕ → List ℕ → List ℕ
-with_close unit sector upper = overwritten sector (length sector - slot_size unit) upper
-
--- gc-done stands in the sector, and its list stays
+-- gc-done stands in the sector, and its list and its entries stay
 pub record MarksDone (unit : ℕ) (old new : List ℕ) : Type 0 where
   pub list : pairs unit new ≡ pairs unit old
   pub gc_done : has_gc_done unit new ≡ true
   pub closed : is_closed unit new ≡ is_closed unit old
   pub long : length new ≡ length old
+  pub same_entries : entries unit new ≡ entries unit old
   pub lower : low unit new + slot_size unit ≡ low unit old
   pub same_end : data_end unit new ≡ data_end unit old
 

@@ -1,5 +1,5 @@
 -- What a mount looks for from sector to sector.
-use Rattle.std.specs.Prelude.{ℕ, ◌<◌, ⊤, Bool, not, ◌&&◌, List, ◌==◌}
+use Rattle.std.specs.Prelude.{ℕ, Bool, not, ◌&&◌, List, Option, Some, None, ◌==◌}
 use Rattle.sector_ring.specs.Area.{is_closed_at, is_blank_at, follows_closed, looked_at}
 use Rattle.flash_map.specs.Area.{sector_at}
 use Rattle.nvs_store.specs.declared.places.Sought.{Sought}
@@ -7,14 +7,14 @@ use Rattle.nvs_store.specs.declared.places.Sought.TheVariants.{NotClosed, Openin
 use Rattle.nvs_store.specs.Sector.{has_fence, is_overfull}
 use Rattle.nvs_store.specs.Scans.{reading}
 
--- the sector that it names is one of the area
-abbrev pub NamesWithin : Sought → ℕ → Type 0
-NamesWithin NotClosed count = ⊤
-NamesWithin Opening count = ⊤
-NamesWithin NotBlank count = ⊤
-NamesWithin (Dirty current) count = ⊤
-NamesWithin (Unfenced current) count = current < count
-NamesWithin (Full current) count = current < count
+-- the sector that it names, if it names one
+abbrev pub named : Sought → Option ℕ
+named NotClosed = None
+named Opening = None
+named NotBlank = None
+named (Dirty current) = Some current
+named (Unfenced current) = Some current
+named (Full current) = Some current
 
 abbrev pub is_sought : Sought → ℕ → List (List ℕ) → ℕ → Bool
 is_sought NotClosed unit sectors place = not (is_closed_at (reading unit) sectors place)

@@ -8,6 +8,7 @@ ghost use Rattle.flash_map.specs.Touches.{Touches};
 ghost use Rattle.flash_map.specs.Area.{sector_at};
 ghost use Rattle.nvs_store.specs.declared.scan.Redo.TheVariants.{Nothing};
 ghost use Rattle.nvs_store.specs.Geometry.{slot_size, cost, capacity};
+ghost use Rattle.nvs_store.specs.Images.{after_append, after_gc_done, after_close};
 ghost use Rattle.nvs_store.specs.Sector.{special_entry, is_closed, is_sound, pairs, pairs_cost};
 ghost use Rattle.nvs_store.specs.Scans.{scan_of, fits, free, damage_of, list_of, found_bytes, AddsPairAt, StopsAddingAt, MarksDoneAt, StopsMarkingAt, ClosesAt};
 
@@ -18,7 +19,12 @@ use flash_map::{Area, Source, copy_padded, geometry, padded, program_padded};
 use flash_sim::{Flash, PowerLost, Steps};
 use std::sync::ledger::Ledger;
 
-/// Appends a pair to the list: the data is programmed, and then its entry. No bytes are a delete.
+/// Appends a pair to the list: the data is programmed, padded to the unit with FF, and then its entry, in the next slot.
+/// No bytes are a delete.
+///
+/// # Errors
+/// `PowerLost`: the list is as before, or with the pair. No more room is used up than the pair takes, and the scan may
+/// not be that of the area: it is to be mounted again.
 #[tactic(auto, using(flash_map::proofs::Touches::then))]
 pub fn append<F: Flash>(
     flash: &mut F,
@@ -37,6 +43,8 @@ pub fn append<F: Flash>(
     ensures touches { Touches (area.now ∷ []) (F.device flash.old) (F.device flash.new) (is_err result) }
     ensures ok { let d = F.device flash.old in
         OnOk result (AddsPairAt (unit_of d area.now) (sectors_of d area.now) (sectors_of (F.device flash.new) area.now) scan.old.current id bytes.now) }
+    ensures image { let d = F.device flash.old in let unit = unit_of d area.now in
+        OnOk result (sector_at (sectors_of (F.device flash.new) area.now) scan.old.current ≡ after_append unit (sector_at (sectors_of d area.now) scan.old.current) id bytes.now) }
     ensures list { let d = F.device flash.old in
         OnOk result (list_of (unit_of d area.now) (sectors_of (F.device flash.new) area.now) ≡ list_of (unit_of d area.now) (sectors_of d area.now) ++ (id, bytes.now) ∷ []) }
     ensures scan { let d = F.device flash.new in OnOk result (scan.new ≡ scan_of (unit_of d area.now) (sectors_of d area.now)) }
@@ -70,8 +78,12 @@ pub fn append<F: Flash>(
     Ok(())
 }
 
-/// Appends the pair of an entry of another sector to the open sector's part of the list: the data is copied, and then
-/// its entry is programmed.
+/// Appends the pair of an entry of another sector to the open sector's part of the list: the data is copied, padded to
+/// the unit with FF, and then its entry is programmed, in the next slot.
+///
+/// # Errors
+/// `PowerLost`: the open sector's part is as before, or with the pair. No other sector changed. The scan may not be that
+/// of the area: it is to be mounted again.
 #[tactic(auto, using(flash_map::proofs::Touches::then))]
 pub fn copy_entry<F: Flash, L: Ledger>(
     flash: &mut F,
@@ -92,6 +104,8 @@ pub fn copy_entry<F: Flash, L: Ledger>(
     ensures touches { Touches (area.now ∷ []) (F.device flash.old) (F.device flash.new) (is_err result) }
     ensures ok { let d = F.device flash.old in
         OnOk result (AddsPairAt (unit_of d area.now) (sectors_of d area.now) (sectors_of (F.device flash.new) area.now) scan.old.current from.now.entry.id (found_bytes (sectors_of d area.now) from.now)) }
+    ensures image { let d = F.device flash.old in let unit = unit_of d area.now in
+        OnOk result (sector_at (sectors_of (F.device flash.new) area.now) scan.old.current ≡ after_append unit (sector_at (sectors_of d area.now) scan.old.current) from.now.entry.id (found_bytes (sectors_of d area.now) from.now)) }
     ensures scan { let d = F.device flash.new in OnOk result (scan.new ≡ scan_of (unit_of d area.now) (sectors_of d area.now)) }
     ensures spent { let unit = unit_of (F.device flash.old) area.now in
         OnOk result (Spends (F.device flash.old) (F.device flash.new) (cost unit from.now.entry.len / unit)) }
@@ -135,7 +149,12 @@ fn special(place: u32) -> Entry
     }
 }
 
-/// Programs gc-done: from it on the open sector counts, and the next one, where that is closed, does not.
+/// Programs gc-done in the next slot; it names the data end. From it on the open sector counts, and the next one, where
+/// that is closed, does not.
+///
+/// # Errors
+/// `PowerLost`: the open sector's part of the list is as before, and so is whether gc-done stands. A slot may be used
+/// up. The area is to be mounted again.
 pub fn put_done<F: Flash>(flash: &mut F, area: &Area, scan: &mut Scan) -> Result<(), PowerLost>
     requires lawful { IsLawfulFor (F.device flash.old).banks area.now }
     requires role { area.now.role ≡ Nvs }
@@ -145,6 +164,8 @@ pub fn put_done<F: Flash>(flash: &mut F, area: &Area, scan: &mut Scan) -> Result
     ensures touches { Touches (area.now ∷ []) (F.device flash.old) (F.device flash.new) (is_err result) }
     ensures ok { let d = F.device flash.old in
         OnOk result (MarksDoneAt (unit_of d area.now) (sectors_of d area.now) (sectors_of (F.device flash.new) area.now) scan.old.current) }
+    ensures image { let d = F.device flash.old in let unit = unit_of d area.now in
+        OnOk result (sector_at (sectors_of (F.device flash.new) area.now) scan.old.current ≡ after_gc_done unit (sector_at (sectors_of d area.now) scan.old.current)) }
     ensures scan { let d = F.device flash.new in OnOk result (scan.new ≡ scan_of (unit_of d area.now) (sectors_of d area.now)) }
     ensures spent { let unit = unit_of (F.device flash.old) area.now in
         OnOk result (Spends (F.device flash.old) (F.device flash.new) (slot_size unit / unit)) }
@@ -167,16 +188,22 @@ pub fn put_done<F: Flash>(flash: &mut F, area: &Area, scan: &mut Scan) -> Result
     Ok(())
 }
 
-/// Programs the close entry. The sector is closed from its first unit on.
+/// Programs the close entry in slot 0; it names the start of the lowest used slot. The sector is closed from its first
+/// unit on.
+///
+/// # Errors
+/// `PowerLost`: no byte of the area changed, or the sector is closed. The area is to be mounted again.
 pub fn put_close<F: Flash>(flash: &mut F, area: &Area, scan: &Scan) -> Result<(), PowerLost>
     requires lawful { IsLawfulFor (F.device flash.old).banks area.now }
     requires role { area.now.role ≡ Nvs }
     requires scan { let d = F.device flash.old in scan.now ≡ scan_of (unit_of d area.now) (sectors_of d area.now) }
-    requires free { let d = F.device flash.old in is_closed (unit_of d area.now) (sector_at (sectors_of d area.now) scan.now.current) ≡ false }
+    requires not_closed { let d = F.device flash.old in is_closed (unit_of d area.now) (sector_at (sectors_of d area.now) scan.now.current) ≡ false }
 
     ensures touches { Touches (area.now ∷ []) (F.device flash.old) (F.device flash.new) (is_err result) }
     ensures ok { let d = F.device flash.old in
         OnOk result (ClosesAt (unit_of d area.now) (sectors_of d area.now) (sectors_of (F.device flash.new) area.now) scan.now.current) }
+    ensures image { let d = F.device flash.old in let unit = unit_of d area.now in
+        OnOk result (sector_at (sectors_of (F.device flash.new) area.now) scan.now.current ≡ after_close unit (sector_at (sectors_of d area.now) scan.now.current)) }
     ensures spent { let unit = unit_of (F.device flash.old) area.now in
         OnOk result (Spends (F.device flash.old) (F.device flash.new) (slot_size unit / unit)) }
 

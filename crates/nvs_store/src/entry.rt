@@ -3,7 +3,7 @@
 ghost use Rattle.std.specs.Prelude.{◌≡◌, ◌≤◌, length};
 ghost use Rattle.nvs_store.specs.Entries.{encoded, decoded};
 
-use crc8_entry::{START, crc8};
+use crc8_entry::{START, checks, crc8};
 
 /// What stands in a slot. Its data, of `len` bytes, starts at `offset` bytes from the sector's start. No bytes are a
 /// delete.
@@ -56,7 +56,7 @@ pub fn decode_entry(bytes: &[u8]) -> Option<Entry>
     requires { 8 ≤ length bytes.now }
     ensures { result ≡ decoded bytes.now }
 {
-    if crc8(START, &bytes[..7]) != bytes[7] {
+    if !checks(&bytes[..7], bytes[7]) {
         return None;
     }
     Some(Entry {

@@ -2,7 +2,6 @@
 #![tactic(auto)]
 
 mod calls;
-mod entries;
 mod entry;
 mod geometry;
 mod lookup;
@@ -15,11 +14,10 @@ mod slots;
 mod tests;
 
 pub use calls::{append, copy_entry, put_close, put_done};
-pub use entries::{entry_in, used_slots};
 pub use entry::{Entry, SPECIAL_ID, decode_entry, encode_entry};
 pub use geometry::{blank_scan, capacity, cost, fits};
 pub use lookup::{find, walk};
 pub use mounting::mount_scan;
 pub use places::{is_blank, is_closed};
-pub use scan::{Found, Placed, Redo, Scan};
+pub use scan::{Found, Placed, Redo, Scan, is_hidden};
 pub use slots::{counting_entry, used_count};

@@ -9,8 +9,7 @@ ghost use Rattle.slot_list.specs.Items.{last, value_of};
 ghost use Rattle.sector_ring.specs.Walks.{places_before};
 ghost use Rattle.nvs_store.specs.Scans.{scan_of, counted_in, counted_within, last_wanted, last_found, all_found, list_of, found_bytes, found_up_to, IsInArea, IsNextOlder};
 
-use crate::places::counts;
-use crate::scan::{Found, Scan};
+use crate::scan::{Found, Scan, is_hidden};
 use crate::sector::find_in;
 use flash_map::{Area, geometry, sector_view};
 use flash_sim::{Flash, Steps};
@@ -19,11 +18,11 @@ use std::sync::ledger::Ledger;
 // More than a sector has.
 const ALL_SLOTS: u32 = 32768;
 
-/// The last entry that is looked for in the first so many slots of a sector, where that counts with `current` open.
+/// The last entry that is looked for in the first so many slots of a sector, where that counts.
 fn find_at<F: Flash, L: Ledger>(
     flash: &F,
     area: &Area,
-    current: u32,
+    scan: &Scan,
     place: u32,
     wanted: Option<u16>,
     slots: u32,
@@ -31,18 +30,19 @@ fn find_at<F: Flash, L: Ledger>(
 ) -> Option<Found>
     requires lawful { IsLawfulFor (F.device flash.now).banks area.now }
     requires role { area.now.role ≡ Nvs }
-    requires current { current < area.now.sectors }
+    requires scan { let d = F.device flash.now in scan.now ≡ scan_of (unit_of d area.now) (sectors_of d area.now) }
+    requires current { scan.now.current < area.now.sectors }
     requires inside { place < area.now.sectors }
-    ensures within { let d = F.device flash.now in result ≡ last_wanted wanted (counted_within (unit_of d area.now) (sectors_of d area.now) current place slots) }
+    ensures within { let d = F.device flash.now in result ≡ last_wanted wanted (counted_within (unit_of d area.now) (sectors_of d area.now) scan.now.current place slots) }
     ensures whole { let d = F.device flash.now in
-        2 ^ 15 ≤ slots → result ≡ last_wanted wanted (counted_in (unit_of d area.now) (sectors_of d area.now) current place) }
+        2 ^ 15 ≤ slots → result ≡ last_wanted wanted (counted_in (unit_of d area.now) (sectors_of d area.now) scan.now.current place) }
 {
-    if counts(flash, area, current, place, steps) {
+    if is_hidden(area, scan, place) {
+        None
+    } else {
         let unit = geometry(flash, area).unit;
         let bytes = sector_view(flash, area, place, steps);
         find_in(bytes, unit, place, wanted, slots)
-    } else {
-        None
     }
 }
 
@@ -50,7 +50,7 @@ fn find_at<F: Flash, L: Ledger>(
 fn find_among<F: Flash, L: Ledger>(
     flash: &F,
     area: &Area,
-    current: u32,
+    scan: &Scan,
     first: u32,
     end: u32,
     wanted: Option<u16>,
@@ -58,15 +58,16 @@ fn find_among<F: Flash, L: Ledger>(
 ) -> Option<Found>
     requires lawful { IsLawfulFor (F.device flash.now).banks area.now }
     requires role { area.now.role ≡ Nvs }
-    requires current { current < area.now.sectors }
+    requires scan { let d = F.device flash.now in scan.now ≡ scan_of (unit_of d area.now) (sectors_of d area.now) }
+    requires current { scan.now.current < area.now.sectors }
     requires order { first ≤ end }
     requires inside { end ≤ area.now.sectors }
     ensures { let d = F.device flash.now in
-        result ≡ last_wanted wanted (flat_map (counted_in (unit_of d area.now) (sectors_of d area.now) current) (range_with_len first (end - first))) }
+        result ≡ last_wanted wanted (flat_map (counted_in (unit_of d area.now) (sectors_of d area.now) scan.now.current) (range_with_len first (end - first))) }
 {
     let mut place = end;
     while place > first {
-        let found = find_at(flash, area, current, place - 1, wanted, ALL_SLOTS, steps);
+        let found = find_at(flash, area, scan, place - 1, wanted, ALL_SLOTS, steps);
         if found.is_some() {
             return found;
         }
@@ -94,14 +95,14 @@ pub fn find<F: Flash, L: Ledger>(
     ensures in_area { IfSome result (IsInArea area.now.sectors (sector_size (F.device flash.now) area.now)) }
 {
     let current = scan.current;
-    let newest = find_among(flash, area, current, 0, current + 1, Some(id), steps);
+    let newest = find_among(flash, area, scan, 0, current + 1, Some(id), steps);
     if newest.is_some() {
         return newest;
     }
     find_among(
         flash,
         area,
-        current,
+        scan,
         current + 1,
         area.sectors,
         Some(id),
@@ -113,48 +114,51 @@ pub fn find<F: Flash, L: Ledger>(
 fn newest_before<F: Flash, L: Ledger>(
     flash: &F,
     area: &Area,
-    current: u32,
+    scan: &Scan,
     place: u32,
     steps: &mut Steps<L>,
 ) -> Option<Found>
     requires lawful { IsLawfulFor (F.device flash.now).banks area.now }
     requires role { area.now.role ≡ Nvs }
-    requires current { current < area.now.sectors }
+    requires scan { let d = F.device flash.now in scan.now ≡ scan_of (unit_of d area.now) (sectors_of d area.now) }
+    requires current { scan.now.current < area.now.sectors }
     requires inside { place < area.now.sectors }
     ensures { let d = F.device flash.now in
-        result ≡ last_wanted None (flat_map (counted_in (unit_of d area.now) (sectors_of d area.now) current) (places_before (length (sectors_of d area.now)) current place)) }
+        result ≡ last_wanted None (flat_map (counted_in (unit_of d area.now) (sectors_of d area.now) scan.now.current) (places_before (length (sectors_of d area.now)) scan.now.current place)) }
 {
+    let current = scan.current;
     if current < place {
-        return find_among(flash, area, current, current + 1, place, None, steps);
+        return find_among(flash, area, scan, current + 1, place, None, steps);
     }
-    let newest = find_among(flash, area, current, 0, place, None, steps);
+    let newest = find_among(flash, area, scan, 0, place, None, steps);
     if newest.is_some() {
         return newest;
     }
-    find_among(flash, area, current, current + 1, area.sectors, None, steps)
+    find_among(flash, area, scan, current + 1, area.sectors, None, steps)
 }
 
 /// The newest entry up to so many slots of this sector, in the round to the open sector.
 fn newest_up_to<F: Flash, L: Ledger>(
     flash: &F,
     area: &Area,
-    current: u32,
+    scan: &Scan,
     place: u32,
     slots: u32,
     steps: &mut Steps<L>,
 ) -> Option<Found>
     requires lawful { IsLawfulFor (F.device flash.now).banks area.now }
     requires role { area.now.role ≡ Nvs }
-    requires current { current < area.now.sectors }
+    requires scan { let d = F.device flash.now in scan.now ≡ scan_of (unit_of d area.now) (sectors_of d area.now) }
+    requires current { scan.now.current < area.now.sectors }
     requires inside { place < area.now.sectors }
     ensures { let d = F.device flash.now in
-        result ≡ last_wanted None (found_up_to (unit_of d area.now) (sectors_of d area.now) current place slots) }
+        result ≡ last_wanted None (found_up_to (unit_of d area.now) (sectors_of d area.now) scan.now.current place slots) }
 {
-    let newest = find_at(flash, area, current, place, None, slots, steps);
+    let newest = find_at(flash, area, scan, place, None, slots, steps);
     if newest.is_some() {
         return newest;
     }
-    newest_before(flash, area, current, place, steps)
+    newest_before(flash, area, scan, place, steps)
 }
 
 /// The next older entry of the list: the one before the entry in this sector and slot, or the newest one where no
@@ -174,16 +178,10 @@ pub fn walk<F: Flash, L: Ledger>(
     ensures older { let d = F.device flash.now in IsNextOlder (all_found (unit_of d area.now) (sectors_of d area.now)) after result }
     ensures in_area { IfSome result (IsInArea area.now.sectors (sector_size (F.device flash.now) area.now)) }
 {
-    let current = scan.current;
     match after {
-        Some((sector, slot)) => newest_up_to(
-            flash,
-            area,
-            current,
-            sector,
-            slot.saturating_sub(1),
-            steps,
-        ),
-        None => newest_up_to(flash, area, current, current, ALL_SLOTS, steps),
+        Some((sector, slot)) => {
+            newest_up_to(flash, area, scan, sector, slot.saturating_sub(1), steps)
+        }
+        None => newest_up_to(flash, area, scan, scan.current, ALL_SLOTS, steps),
     }
 }

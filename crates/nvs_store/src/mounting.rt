@@ -101,6 +101,9 @@ fn redo<F: Flash, L: Ledger>(flash: &F, area: &Area, current: u32, steps: &mut S
 }
 
 /// Scans the area, or says what is wrong with it. It programs nothing.
+///
+/// # Errors
+/// `Damaged`, exactly where the area's bytes are damaged: the first sector of the first kind of damage.
 pub fn mount_scan<F: Flash, L: Ledger>(
     flash: &F,
     area: &Area,

@@ -9,7 +9,7 @@ ghost use Rattle.flash_map.specs.Area.{sector_at};
 ghost use Rattle.flash_map.specs.Units.{is_erased};
 ghost use Rattle.nvs_store.specs.Scans.{reading};
 ghost use Rattle.nvs_store.specs.Sector.{has_gc_done, has_fence, is_overfull};
-ghost use Rattle.nvs_store.specs.Sought.{is_sought, NamesWithin};
+ghost use Rattle.nvs_store.specs.Sought.{named, is_sought};
 
 use crate::sector;
 use flash_map::{Area, geometry, is_erased, sector_view};
@@ -113,7 +113,7 @@ fn is_sought<F: Flash, L: Ledger>(
 ) -> bool
     requires lawful { IsLawfulFor (F.device flash.now).banks area.now }
     requires role { area.now.role ≡ Nvs }
-    requires current { NamesWithin sought area.now.sectors }
+    requires named { IfSome (named sought) (λ current. current < area.now.sectors) }
     requires inside { place < area.now.sectors }
     ensures { let d = F.device flash.now in result ≡ is_sought sought (unit_of d area.now) (sectors_of d area.now) place }
 {
@@ -151,7 +151,7 @@ pub fn first<F: Flash, L: Ledger>(
 ) -> Option<u32>
     requires lawful { IsLawfulFor (F.device flash.now).banks area.now }
     requires role { area.now.role ≡ Nvs }
-    requires current { NamesWithin sought area.now.sectors }
+    requires named { IfSome (named sought) (λ current. current < area.now.sectors) }
     ensures value { let d = F.device flash.now in
         result ≡ find (is_sought sought (unit_of d area.now) (sectors_of d area.now)) (range_with_len from (area.now.sectors - from)) }
     ensures within { IfSome result (λ place. place < area.now.sectors) }

@@ -1,9 +1,11 @@
 // What a scan of an area says, and entries at their places.
 
-ghost use Rattle.std.specs.Prelude.{◌≡◌};
-ghost use Rattle.nvs_store.specs.Scans.{found_at, marked_redo};
+ghost use Rattle.std.specs.Prelude.{◌≡◌, ℕ, ◌<◌, not, List, length};
+ghost use Rattle.sector_ring.specs.Area.{counts_at};
+ghost use Rattle.nvs_store.specs.Scans.{reading, scan_of, found_at, marked_redo};
 
 use crate::entry::Entry;
+use flash_map::Area;
 
 /// An entry that counts, and its slot. Slots of entries are numbered from 1, downward from the sector's end.
 #[derive(Clone, Copy, Debug, PartialEq, Eq)]
@@ -66,4 +68,16 @@ pub struct Scan {
     pub data_end: u32,
     pub gc_done: bool,
     pub redo: Redo,
+}
+
+/// Whether a sector counts for nothing: while a collection is not done, one sector does.
+pub fn is_hidden(area: &Area, scan: &Scan, place: u32) -> bool
+    requires { scan.now.current < area.now.sectors }
+    ensures { (unit : ℕ) (sectors : List (List ℕ)) → length sectors ≡ area.now.sectors → scan.now ≡ scan_of unit sectors → counts_at (reading unit) sectors scan.now.current place ≡ not result }
+{
+    match scan.redo {
+        Redo::Nothing => false,
+        Redo::EraseNext => place == area.next(scan.current),
+        Redo::CollectAgain => place == scan.current,
+    }
 }

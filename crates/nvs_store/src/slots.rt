@@ -35,11 +35,12 @@ pub fn slot_of(bytes: &[u8], unit: u32, index: u32) -> &[u8]
     &bytes[start..start + size]
 }
 
-/// How many slots under slot 0 are used.
+/// How many slots are used, from slot 1 down to the fence.
 pub fn used_count(bytes: &[u8], unit: u32) -> u32
     requires unit { IsUnit unit }
     requires short { length bytes.now ≤ 2 ^ 15 }
-    ensures { result ≡ length (used_slots unit bytes.now) }
+    ensures count { result ≡ length (used_slots unit bytes.now) }
+    ensures few { result < 2 ^ 15 }
 {
     let count = bytes.len() as u32 / slot_size(unit);
     let mut used = 0;

@@ -1,4 +1,3 @@
-pub mod NumberLemmas
 pub mod ScriptLemmas
 pub mod LineLemmas
 pub mod ScriptLaws

@@ -1,5 +1,5 @@
 -- Which words a line is.
-use Rattle.std.specs.Prelude.{◌≡◌, ◌≢◌, ℕ, ◌^◌, ◌<◌, ◌≤◌, ⊤, Result, Ok, List, [], ◌∷◌, length, codes, IfOk, MatchOption, Option}
+use Rattle.std.specs.Prelude.{◌≡◌, ℕ, ◌^◌, ◌<◌, ◌≤◌, ⊤, Result, Ok, List, [], ◌∷◌, length, codes, IfOk, MatchOption, Option}
 use Rattle.std.specs.Fmt.{decimal}
 use Rattle.hex.specs.Hex.{decode_of}
 use Rattle.flash_sim.specs.declared.flash.NoMemory.{NoMemory}
@@ -24,9 +24,6 @@ abbrev pub IsNoLine : List (List ℕ) → Type 0
 IsNoLine words = (line : Line) → Spells words line → ⊥
 
 -- What reading a word or a line answers; it answers an error for want of memory alone.
-
-abbrev pub IsNoNumber : ℕ → List ℕ → Type 0
-IsNoNumber limit word = (n : ℕ) → n < limit → word ≢ decimal n
 
 abbrev pub IsNoValue : List ℕ → Type 0
 IsNoValue word = (value : List ℕ) → IsValue word value → ⊥

@@ -41,6 +41,9 @@ fn written(alloc: Global, answer: &Answer) -> Result<String, AllocError>
 }
 
 /// The bytes of an answer's text: one line with its LF, numbers in decimal, bytes in lower-case hexadecimal digits.
+///
+/// # Errors
+/// Want of memory alone.
 pub fn answer_text(alloc: Global, answer: &Answer) -> Result<Vec<u8>, NoMemory>
     ensures { IfOk result (λ text. text.items ≡ text_of answer.now) }
 {

@@ -41,7 +41,10 @@ impl Bytes {
         self.items
     }
 
-    /// Appends a byte. After `NoMemory` the bytes are as before.
+    /// Appends a byte.
+    ///
+    /// # Errors
+    /// `NoMemory`, and the bytes are as before.
     pub fn push(&mut self, item: u8) -> Result<(), NoMemory>
         ensures ok { OnOk result (self.new ≡ self.old ++ item ∷ []) }
         ensures err { OnErr result (self.new ≡ self.old) }
@@ -52,6 +55,7 @@ impl Bytes {
         }
     }
 
+    /// The bytes in order.
     pub fn as_slice(&self) -> &[u8]
         ensures { result.now ≡ self.now }
     {

@@ -11,5 +11,5 @@ mod tests;
 
 pub use answer::{Answer, answer_text};
 pub use bytes::Bytes;
-pub use line::{Line, read_number};
+pub use line::Line;
 pub use script::{LineWhy, ScriptFault, one_reading, read_script};

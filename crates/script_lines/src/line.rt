@@ -1,20 +1,22 @@
 // One line of a script.
 ghost use Rattle.std.specs.Prelude.{◌≡◌, ◌^◌, ◌<◌, ◌∷◌, codes, MatchOption, IfOk};
 ghost use Rattle.std.specs.Fmt.{decimal};
-ghost use Rattle.script_lines.specs.Line.{IsPlain, name_of, IsValue, IsNoNumber, IsNoValue, ReadsLine, IsNoLine, Spells};
+ghost use Rattle.script_lines.specs.Line.{IsPlain, name_of, IsValue, IsNoValue, ReadsLine, IsNoLine, Spells};
+ghost use Rattle.text_parts.specs.Numbers.{IsNoNumber};
 ghost use Rattle.text_parts.specs.Parts.{parts, parts_of};
 
 use crate::bytes::Bytes;
 use crate::parts::two_words;
 use flash_sim::NoMemory;
 use std::alloc::Global;
-use text_parts::{cut_at, one_part};
+use text_parts::{cut_at, one_part, read_number};
 
 /// A line of a script.
 #[derive(Debug, Drop)]
 pub enum Line {
     /// Stores 1 to 256 bytes under an id of at most 65,534.
     Set { id: u16, value: Bytes },
+    /// Asks for the bytes of an id.
     Get { id: u16 },
     /// Deletes the item of an id.
     Delete { id: u16 },
@@ -22,6 +24,7 @@ pub enum Line {
     Cut { units: u64 },
     /// Drops that plan.
     Uncut,
+    /// Restores power and mounts.
     Mount,
 }
 
@@ -30,30 +33,6 @@ const ID_END: u64 = 65535;
 
 /// The units of a `cut` end here.
 const UNITS_END: u64 = 4_294_967_296;
-
-/// The number below the limit that the word is, in decimal without a sign or leading zeros; none where it is no such
-/// number.
-pub fn read_number(alloc: Global, word: &[u8], limit: u64) -> Result<Option<u64>, NoMemory>
-    ensures { IfOk result (λ found. MatchOption found (IsNoNumber limit word.now) (λ n. (word.now ≡ decimal n) × (n < limit))) }
-{
-    let Ok(text) = str::from_utf8(word) else {
-        return Ok(None);
-    };
-    let Ok(n) = text.parse::<u64>() else {
-        return Ok(None);
-    };
-    if n >= limit {
-        return Ok(None);
-    }
-    let Ok(written) = n.to_string(alloc) else {
-        return Err(NoMemory);
-    };
-    if written.as_bytes() == word {
-        Ok(Some(n))
-    } else {
-        Ok(None)
-    }
-}
 
 fn read_id(alloc: Global, word: &[u8]) -> Result<Option<u16>, NoMemory>
     ensures { IfOk result (λ found. MatchOption found (IsNoNumber 65535 word.now) (λ id. (word.now ≡ decimal id) × (id < 65535))) }
@@ -142,6 +121,9 @@ fn plain_line(line: Line, rest: Option<&[u8]>) -> Option<Line>
 }
 
 /// The line that a text is, if it is one.
+///
+/// # Errors
+/// Want of memory alone.
 pub fn read_line(alloc: Global, text: &[u8]) -> Result<Option<Line>, NoMemory>
     ensures { ReadsLine (parts 32 text.now) result }
 {

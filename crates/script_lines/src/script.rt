@@ -23,6 +23,7 @@ pub enum ScriptFault {
     /// The number of the refused line, from 1, skipped lines counted too.
     #[error("line {line} is refused")]
     BadLine { line: u64, why: LineWhy },
+    /// There was not enough memory.
     #[error("out of memory")]
     NoMemory,
 }
@@ -61,13 +62,15 @@ fn take_text(
     }
 }
 
-/// The lines of a script, or its first refused line.
+/// The lines of a script.
 ///
 /// Lines end with LF, which the last may lack. An empty line and one that begins with `#` are skipped, and counted.
 /// A line's words are separated by one space. The lines are `set ID HEX`, `get ID`, `del ID`, `cut N`, `uncut` and
-/// `mount`,
-/// where ID is at most 65,534, N is below 2^32, both decimal without a sign or leading zeros, and HEX is 1 to 256
-/// bytes in digits of either case. Every other line is refused as `Unknown`.
+/// `mount`, where ID is at most 65,534, N is below 2^32, both decimal without a sign or leading zeros, and HEX is 1 to
+/// 256 bytes in digits of either case.
+///
+/// # Errors
+/// `BadLine` where a line is another one: the first such line, which is refused as `Unknown`. `NoMemory`.
 pub fn read_script(alloc: Global, bytes: &[u8]) -> Result<Vec<Line>, ScriptFault>
     ensures { ReadsScript bytes.now result }
 {

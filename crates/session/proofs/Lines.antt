@@ -1,5 +1,5 @@
 -- What a line's call says of counts, plan, items and power.
-use Rattle.std.proofs.Common.{◌≡◌, ◌⊎◌, ℕ, ◌+◌, ◌-◌, ◌^◌, ◌<◌, ◌≤◌, Bool, true, false, cond, List, [], ◌∷◌, Option, Some, None, refl, sym, ap, subst, ◌∙◌, inl, inr, arith}
+use Rattle.std.proofs.Common.{◌≡◌, ◌⊎◌, ℕ, ◌+◌, ◌-◌, ◌^◌, ◌<◌, ◌≤◌, Bool, true, false, cond, List, [], ◌∷◌, length, Option, Some, None, refl, sym, ap, subst, ◌∙◌, inl, inr, arith}
 use Rattle.std.specs.Ordering.{nat_cmp, eq_by_cmp}
 use Rattle.std.specs.FinMap.{get, insert, remove, get-insert, get-remove}
 use Rattle.std.specs.Str.{bytes_eq}
@@ -13,6 +13,7 @@ use Rattle.flash_map.specs.declared.area.Area.{Area}
 use Rattle.flash_map.specs.declared.area.Role.{Role}
 use Rattle.flash_map.specs.Area.{unit_of, sector_size}
 use Rattle.flash_map.specs.Lawful.{HasUnit}
+use Rattle.flash_map.specs.Spending.{SpendsAtMost}
 use Rattle.flash_map.specs.Touches.{Touches}
 use Rattle.flash_map.specs.Units.{IsUnit}
 use Rattle.flash_map.proofs.Rounding.{padding}
@@ -23,6 +24,7 @@ use Rattle.slot_list.specs.Items.{Items}
 use Rattle.nvs_store.specs.Geometry.{cost, capacity}
 use Rattle.nvs_store.proofs.SlotReads.{slot_widths}
 use Rattle.nvs_gc.specs.declared.nvs.Nvs.{Nvs}
+use Rattle.nvs_gc.specs.Spending.{most_units}
 use Rattle.nvs_gc.specs.Ends.{Writes, FindsNoSpace, StopsWriting, Deletes, StopsDeleting, IsShort}
 use Rattle.nvs_gc.specs.Standing.{IsNvsArea, items_on, list_on}
 use Rattle.session.specs.Contents.{IsStored, IsAbsent}
@@ -42,6 +44,10 @@ units_are spent spent' more is below = omega arith
 
 some_counted : (spent spent' more : ℕ) → (more ≡ 0 → ⊥) → spent' ≡ counted spent more → spent' < 2 ^ 64 - 1 → 0 < spent' - spent
 some_counted spent spent' more some is below = omega (arith, some)
+
+-- a call that spends at most so many units raises the count by no more
+most_spent : (old new : Device) (most : ℕ) → SpendsAtMost old new most → new.spent - old.spent ≤ most
+most_spent old new most is = let few = is.1 in let spent = is.2 in omega arith
 
 counted_none : (count : ℕ) → count ≡ counted count 0
 counted_none count = omega arith
@@ -158,6 +164,7 @@ module _ (nvs : Nvs) (id : ℕ) (value : List ℕ) (old new : Device) (on : old.
       record {
         step = λ last within. (
           on,
+          most_spent old new (most_units old nvs.area (nvs.area.sectors - 1) (length value)) writes.at_most,
           elim (stored_or_not (items_on old nvs.area) id value) [
             | inl stored ↦ let same : new ≡ old = writes.equal stored in inl (stored, none_spent old new same, ap (state_of nvs.area) same)
             | inr other ↦
@@ -175,6 +182,7 @@ module _ (nvs : Nvs) (id : ℕ) (value : List ℕ) (old new : Device) (on : old.
       record {
         step = λ last within. (
           on,
+          most_spent old new (most_units old nvs.area (nvs.area.sectors - 1) (length value)) finds.at_most,
           record {
             not_stored = finds.other;
             needs = finds.needs;
@@ -191,7 +199,7 @@ module _ (nvs : Nvs) (id : ℕ) (value : List ℕ) (old new : Device) (on : old.
   set_lost touches stops =
       let lost = lost_by (nvs.area ∷ []) old new on touches in
       record {
-        step = λ last within. (on, (stops.other, stops.items, lost.off));
+        step = λ last within. (on, most_spent old new (most_units old nvs.area (nvs.area.sectors - 1) (length value)) stops.at_most, (stops.other, stops.items, lost.off));
         accounts = record { spent = lost.spent; losses = lost.losses; allows = lost.lost; plan = λ counts. lost.plan; unplanned = λ free. lost.unplanned };
         keeps = kept_beside touches;
       }
@@ -205,6 +213,7 @@ module _ (nvs : Nvs) (id : ℕ) (old new : Device) (on : old.is_on ≡ true) whe
       record {
         step = λ last within. (
           on,
+          most_spent old new (most_units old nvs.area 1 0) deletes.at_most,
           elim (absent_or_not (items_on old nvs.area) id) [
             | inl absent ↦ let same : new ≡ old = deletes.absent absent in inl (absent, none_spent old new same, ap (state_of nvs.area) same)
             | inr present ↦
@@ -220,7 +229,7 @@ module _ (nvs : Nvs) (id : ℕ) (old new : Device) (on : old.is_on ≡ true) whe
   delete_lost touches stops =
       let lost = lost_by (nvs.area ∷ []) old new on touches in
       record {
-        step = λ last within. (on, (stops.present, stops.items, lost.off));
+        step = λ last within. (on, most_spent old new (most_units old nvs.area 1 0) stops.at_most, (stops.present, stops.items, lost.off));
         accounts = record { spent = lost.spent; losses = lost.losses; allows = lost.lost; plan = λ counts. lost.plan; unplanned = λ free. lost.unplanned };
         keeps = kept_beside touches;
       }

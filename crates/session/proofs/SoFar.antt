@@ -1,8 +1,9 @@
 -- A run of lines, one line after another.
-use Rattle.std.proofs.Common.{◌≡◌, ℕ, ◌+◌, ◌<◌, ◌≤◌, cond, List, [], ◌∷◌, ◌++◌, refl, sym, ◌∙◌, ap, subst, append_assoc, append-nil, arith, length, get_or, drop, drop-cons, suc, add-one}
+use Rattle.std.proofs.Common.{◌≡◌, ℕ, ◌+◌, ◌<◌, ◌≤◌, true, cond, Option, Some, None, List, [], ◌∷◌, ◌++◌, refl, sym, ◌∙◌, ap, subst, append_assoc, append-nil, arith, length, get_or, drop, drop-cons, suc, add-one}
+use Rattle.std.proofs.lemmas.Bool.{false≢true}
 use Rattle.std.proofs.lemmas.List.Sums.{fold_push}
 use Rattle.std.proofs.lemmas.List.{drop_all}
-use Rattle.std.proofs.lemmas.List.Elements.{All-head, All-tail}
+use Rattle.std.proofs.lemmas.List.Elements.{All-cons, All-head, All-tail}
 use Rattle.std.specs.Prelude.{All}
 use Rattle.flash_sim.specs.Device.{Device, Plan, counted}
 use Rattle.flash_sim.specs.declared.flash.Bank.{Bank}
@@ -10,6 +11,8 @@ use Rattle.flash_sim.specs.Bank.{bank_at}
 use Rattle.flash_map.specs.declared.area.Area.{Area}
 use Rattle.flash_map.specs.Touches.{IsInSome}
 use Rattle.flash_map.proofs.Plans.{counted_counted}
+use Rattle.nvs_gc.specs.declared.nvs.Nvs.{Nvs}
+use Rattle.nvs_store.specs.declared.scan.Scan.{Scan}
 use Rattle.script_lines.specs.declared.line.Line.{Line}
 use Rattle.script_lines.specs.declared.answer.Answer.{Answer}
 use Rattle.flash_map.specs.declared.area.Geometry.{Geometry}
@@ -17,7 +20,8 @@ use Rattle.flash_map.specs.Area.{geometry_of}
 use Rattle.session.specs.Counts.{units_of, is_lost, units_in, losses_in}
 use Rattle.session.specs.Planned.{Planned, PlansNoLoss, StaysUnplanned}
 use Rattle.session.specs.Session.{State, Step, Session, IsCounted}
-use Rattle.session.specs.LineDone.{state_of, LineDone, Keeps, Runs}
+use Rattle.session.specs.LineDone.{state_of, LineDone, Keeps, EndsSafely, Runs}
+use Rattle.session.specs.Standing.{IsSound, IsAtRest, IsReady}
 
 -- after these answers `rest` is left of the lines
 pub record SoFar (area : Area) (lines rest : List Line) (answers : List Answer) (first now : Device) : Type 0 where
@@ -28,12 +32,20 @@ pub record SoFar (area : Area) (lines rest : List Line) (answers : List Answer) 
   pub unplanned : All PlansNoLoss lines → All PlansNoLoss rest × StaysUnplanned first now
   pub keeps : Keeps area first now
 
+-- Lists.
+
+next_line : (lines : List Line) (i : ℕ) (line : Line) → i < length lines → line ≡ get_or lines i line → drop i lines ≡ line ∷ drop (i + 1) lines
+next_line lines i line below is = rw add-one (drop-cons lines i line below ∙ ap (λ (x : Line). x ∷ drop (suc i) lines) (sym is))
+
+pub no_line : (lines : List Line) (i : ℕ) → length lines ≤ i → drop i lines ≡ []
+no_line lines i end = drop_all i lines end
+
 -- nothing changed
-pub keeps_same : (area : Area) (d : Device) → Keeps area d d
+keeps_same : (area : Area) (d : Device) → Keeps area d d
 keeps_same area d = record { banks = refl; loads = refl; outside = λ bank offset out. refl }
 
 -- what two calls keep, both keep
-pub keeps_then : {area : Area} {a b c : Device} → Keeps area a b → Keeps area b c → Keeps area a c
+keeps_then : {area : Area} {a b c : Device} → Keeps area a b → Keeps area b c → Keeps area a c
 keeps_then {area} {a} {b} {c} one two = record {
   banks = two.banks ∙ one.banks;
   loads = two.loads ∙ one.loads;
@@ -72,6 +84,12 @@ module _ {area : Area} where
         keeps = keeps_then so_far.keeps done.keeps;
       }
 
+  -- one line more of a list, from its place on
+  pub next_done : {all : List Line} {answers : List Answer} {first mid new : Device} (lines : List Line) (i : ℕ) (line : Line) (answer : Answer) → i < length lines → line ≡ get_or lines i line
+      → SoFar area all (drop i lines) answers first mid → LineDone area line answer mid new → SoFar area all (drop (i + 1) lines) (answers ++ answer ∷ []) first new
+  next_done {all} {answers} {first} {mid} lines i line answer below is so_far done =
+      one_more line answer (subst (λ (rest : List Line). SoFar area all rest answers first mid) (next_line lines i line below is) so_far) done
+
   -- nothing is left
   pub whole : {lines : List Line} {answers : List Answer} {first now : Device} → SoFar area lines [] answers first now → Runs area lines answers first now
   whole {lines} {answers} {first} {now} so_far = record {
@@ -79,13 +97,20 @@ module _ {area : Area} where
     planned = λ counts. subst (λ (all : List Answer). Planned first.plan lines all) (append-nil answers) (so_far.planned [] counts tt);
     spent = so_far.spent;
     losses = so_far.losses;
-    unplanned = λ free. (so_far.unplanned free).1;
   }
 
--- Lists.
+  -- whether lines are left or not
+  pub safely : {lines rest : List Line} {answers : List Answer} {first now : Device} (line : Line) → PlansNoLoss line → SoFar area (line ∷ lines) rest answers first now → IsSound first area → IsSound now area → EndsSafely area lines first now
+  safely {lines} line quiet so_far before after = record {
+    keeps = so_far.keeps;
+    unplanned = λ free. (so_far.unplanned (All-cons PlansNoLoss line lines quiet free)).1;
+    undamaged = λ was. after.undamaged;
+    damaged = λ was. absurd (was before.undamaged);
+  }
 
-pub next_line : (lines : List Line) (i : ℕ) (line : Line) → i < length lines → line ≡ get_or lines i line → drop i lines ≡ line ∷ drop (i + 1) lines
-next_line lines i line below is = rw add-one (drop-cons lines i line below ∙ ap (λ (x : Line). x ∷ drop (suc i) lines) (sym is))
-
-pub no_line : (lines : List Line) (i : ℕ) → length lines ≤ i → drop i lines ≡ []
-no_line lines i end = drop_all i lines end
+-- a store that stands on the area is at rest
+pub at_rest : (d : Device) (area : Area) (store : Option Nvs) → IsReady d area store → d.is_on ≡ true → IsAtRest d area
+at_rest d area None off on = absurd (false≢true (sym off ∙ on))
+at_rest d area (Some nvs) ready on =
+    let stands = ready.1 on in
+    subst (IsAtRest d) ready.0 (ap (λ (scan : Scan). scan.redo) (sym stands.scan) ∙ stands.rested)

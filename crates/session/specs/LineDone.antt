@@ -2,8 +2,9 @@
 use Rattle.std.specs.Prelude.{◌≡◌, ℕ, ◌+◌, ◌<◌, ◌≤◌, ⊤, List, [], ◌∷◌, All, length, if◌then◌else◌}
 use Rattle.flash_sim.specs.Device.{Device, counted}
 use Rattle.flash_map.specs.declared.area.Area.{Area}
-use Rattle.flash_map.specs.Area.{unit_of, sectors_of, geometry_of}
+use Rattle.flash_map.specs.Area.{unit_of, sectors_of, geometry_of, value_limit}
 use Rattle.flash_map.specs.Touches.{SameOutside}
+use Rattle.nvs_gc.specs.Standing.{IsUndamaged}
 use Rattle.script_lines.specs.declared.line.Line.{Line}
 use Rattle.script_lines.specs.declared.line.Line.TheVariants.{Set, Get, Delete, Cut, Uncut, Mount}
 use Rattle.script_lines.specs.declared.answer.Answer.{Answer}
@@ -16,14 +17,18 @@ use Rattle.session.specs.Session.{State, Step, Session, IsCounted}
 abbrev pub state_of : Area → Device → State
 state_of area d = record { items = items_in (unit_of d area) (sectors_of d area); is_on = d.is_on }
 
--- the id and the value that a line of a script may have
-abbrev pub IsLawfulLine : Line → Type 0
-IsLawfulLine (Set id value) = (id < 65535) × (0 < length value) × (length value ≤ 256)
-IsLawfulLine (Get id) = id < 65535
-IsLawfulLine (Delete id) = id < 65535
-IsLawfulLine (Cut units) = ⊤
-IsLawfulLine Uncut = ⊤
-IsLawfulLine Mount = ⊤
+-- the id and the value that a line may have where a value has at most so many bytes
+abbrev pub IsLawfulLine : ℕ → Line → Type 0
+IsLawfulLine limit (Set id value) = (id < 65535) × (0 < length value) × (length value ≤ limit)
+IsLawfulLine limit (Get id) = id < 65535
+IsLawfulLine limit (Delete id) = id < 65535
+IsLawfulLine limit (Cut units) = ⊤
+IsLawfulLine limit Uncut = ⊤
+IsLawfulLine limit Mount = ⊤
+
+-- each line is one that an area takes
+abbrev pub AreLawfulFor : Area → List Line → Type 0
+AreLawfulFor area lines = All (IsLawfulLine (value_limit area)) lines
 
 -- what no line changes, whatever it answers: the banks, the count of loads, and each byte outside the area
 pub record Keeps (area : Area) (old new : Device) : Type 0 where
@@ -50,5 +55,12 @@ pub record Runs (area : Area) (lines : List Line) (answers : List Answer) (old n
   pub spent : old.spent + units_in answers ≡ new.spent
   pub losses : new.losses ≡ counted old.losses (losses_in answers)
   pub planned : IsCounted new.spent → Planned old.plan lines answers
-  -- power is lost only where a line is `cut`, however much is spent
+
+-- What holds after a run of lines whatever it answers, also where it came to no end.
+pub record EndsSafely (area : Area) (lines : List Line) (old new : Device) : Type 0 where
+  pub keeps : Keeps area old new
+  -- with no plan at the start power is lost only where a line is `cut`, however much is spent
   pub unplanned : All PlansNoLoss lines → StaysUnplanned old new
+  pub undamaged : IsUndamaged old area → IsUndamaged new area
+  -- an area that is damaged stays as it was
+  pub damaged : ¬ IsUndamaged old area → new ≡ old

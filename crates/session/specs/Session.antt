@@ -1,5 +1,5 @@
 -- What answers a plain map gives, line by line.
-use Rattle.std.specs.Prelude.{◌≡◌, ◌⊎◌, ℕ, ◌-◌, ◌*◌, ◌^◌, ◌<◌, Bool, true, false, Some, None, List, [], ◌∷◌, length}
+use Rattle.std.specs.Prelude.{◌≡◌, ◌⊎◌, ℕ, ◌+◌, ◌-◌, ◌*◌, ◌/◌, ◌^◌, ◌<◌, ◌≤◌, Bool, true, false, Some, None, List, [], ◌∷◌, length}
 use Rattle.std.specs.FinMap.{get, insert, remove}
 use Rattle.script_lines.specs.declared.line.Line.{Line}
 use Rattle.script_lines.specs.declared.line.Line.TheVariants.{Set, Get, Delete, Cut, Uncut, Mount}
@@ -23,6 +23,18 @@ IsOff state = state.is_on ≡ false
 -- the bench's count of units, which is `last` in the end, is not at its end
 abbrev pub IsCounted : ℕ → Type 0
 IsCounted last = last < 2 ^ 64 - 1
+
+-- Units. A round of collections costs at most a sector's units and one erase; then comes an entry with data of this length.
+abbrev pub most_units : Geometry → ℕ → ℕ → ℕ
+most_units geometry rounds len = rounds * (geometry.sector / geometry.unit + 1) + cost geometry.unit len / geometry.unit
+
+-- the most that a set spends: it makes at most one round for each sector but one
+abbrev pub most_to_set : Geometry → List ℕ → ℕ
+most_to_set geometry value = most_units geometry (geometry.sectors - 1) (length value)
+
+-- the most that a delete spends, whose entry has no data: one round is enough
+abbrev pub most_to_delete : Geometry → ℕ
+most_to_delete geometry = most_units geometry 1 0
 
 -- Sets. The choices: whether power is lost, and whether the lost set is in the map.
 
@@ -53,14 +65,14 @@ abbrev pub Deletes-lost : ℕ → State → State → Type 0
 Deletes-lost id old new = (¬ IsAbsent old.items id) × ((new.items ≡ old.items) ⊎ (new.items ≡ remove old.items id)) × IsOff new
 
 abbrev pub Step : Geometry → ℕ → Line → Answer → State → State → Type 0
-Step geometry last (Set id value) (Done units) old new = IsOn old × Sets-done last id value units old new
-Step geometry last (Set id value) (NoSpace units need live) old new = IsOn old × Sets-full geometry id value need live old new
-Step geometry last (Set id value) (Lost units) old new = IsOn old × Sets-lost id value old new
+Step geometry last (Set id value) (Done units) old new = IsOn old × (units ≤ most_to_set geometry value) × Sets-done last id value units old new
+Step geometry last (Set id value) (NoSpace units need live) old new = IsOn old × (units ≤ most_to_set geometry value) × Sets-full geometry id value need live old new
+Step geometry last (Set id value) (Lost units) old new = IsOn old × (units ≤ most_to_set geometry value) × Sets-lost id value old new
 Step geometry last (Set id value) Off old new = IsOff old × (new ≡ old)
 Step geometry last (Set id value) (Value bytes) old new = ⊥
 Step geometry last (Set id value) Absent old new = ⊥
-Step geometry last (Delete id) (Done units) old new = IsOn old × Deletes-done last id units old new
-Step geometry last (Delete id) (Lost units) old new = IsOn old × Deletes-lost id old new
+Step geometry last (Delete id) (Done units) old new = IsOn old × (units ≤ most_to_delete geometry) × Deletes-done last id units old new
+Step geometry last (Delete id) (Lost units) old new = IsOn old × (units ≤ most_to_delete geometry) × Deletes-lost id old new
 Step geometry last (Delete id) Off old new = IsOff old × (new ≡ old)
 Step geometry last (Delete id) (NoSpace units need live) old new = ⊥
 Step geometry last (Delete id) (Value bytes) old new = ⊥

@@ -22,6 +22,7 @@ impl Model for Answers {
 }
 
 impl Answers {
+    /// No answers. Takes no memory.
     pub fn new(alloc: Global) -> Answers
         ensures { result ≡ [] }
     {
@@ -30,7 +31,10 @@ impl Answers {
         }
     }
 
-    /// Puts an answer behind the others. After `NoMemory` the list is as before.
+    /// Puts an answer behind the others.
+    ///
+    /// # Errors
+    /// `NoMemory`, and the list is as before.
     pub fn push(&mut self, item: Answer) -> Result<(), NoMemory>
         ensures ok { OnOk result (self.new ≡ self.old ++ item ∷ []) }
         ensures err { OnErr result (self.new ≡ self.old) }
@@ -39,6 +43,7 @@ impl Answers {
         Ok(())
     }
 
+    /// The answers in order.
     pub fn as_slice(&self) -> &[Answer]
         ensures { result.now ≡ self.now }
     {

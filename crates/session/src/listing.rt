@@ -1,12 +1,14 @@
 // All items of an area.
-ghost use Rattle.std.specs.Prelude.{◌≡◌, ℕ, ◌<◌, ◌≤◌, ◌-◌, ◌∷◌, [], ◌++◌, length, map, option_map, IfSome, IfOk, OnOk, IfErr};
+ghost use Rattle.std.specs.Prelude.{◌≡◌, ℕ, ◌<◌, ◌≤◌, ◌+◌, ◌-◌, ◌*◌, ◌^◌, ◌∷◌, [], ◌++◌, length, map, option_map, IfSome, IfOk, OnOk, IfErr};
 ghost use Rattle.std.specs.BTreeMap as tree;
 ghost use Rattle.std.specs.List.{flat_map, range_with_len};
 ghost use Rattle.std.specs.Option.{option_and_then, option_to_list};
 ghost use Rattle.std.specs.Ordering.{nat_cmp};
-ghost use Rattle.flash_map.specs.Area.{unit_of, sector_at, sector_size, sectors_of};
+ghost use Rattle.flash_map.specs.Area.{unit_of, sector_size, sectors_of};
+ghost use Rattle.flash_map.specs.Units.{IsUnit};
 ghost use Rattle.slot_list.specs.Items.{value_of};
-ghost use Rattle.nvs_store.specs.Sector.{slot_at, used_slots, counting_entry, entries};
+ghost use Rattle.nvs_store.specs.Geometry.{slot_size};
+ghost use Rattle.nvs_store.specs.Sector.{slot_at, counting_entry, entries};
 ghost use Rattle.nvs_store.specs.Scans.{scan_of, found_at, counted_in, found_bytes, last_found, IsInArea};
 ghost use Rattle.nvs_gc.specs.Standing.{IsNvsArea};
 ghost use Rattle.session.specs.Contents.{items_in};
@@ -15,10 +17,9 @@ ghost use Rattle.session.specs.Listing.{Notes, item_of, listed};
 ghost use Rattle.session.specs.Standing.{IsSound};
 
 use crate::run::SessionFault;
-use flash_map::{Area, area_view};
+use flash_map::{Area, area_view, geometry, sector_view};
 use flash_sim::{Flash, NoMemory, Steps};
-use nvs_gc::is_hidden;
-use nvs_store::{Found, SPECIAL_ID, Scan, entry_in, mount_scan, used_slots};
+use nvs_store::{Found, SPECIAL_ID, Scan, counting_entry, is_hidden, mount_scan, used_count};
 use script_lines::Bytes;
 use std::alloc::Global;
 use std::collections::BTreeMap;
@@ -40,43 +41,40 @@ fn note(last: &mut BTreeMap<u16, Found>, found: Found) -> Result<(), NoMemory>
     Ok(())
 }
 
-// Takes the entry in a slot so, if there is one.
-fn note_slot<F: Flash, L: Ledger>(
-    flash: &F,
-    area: &Area,
+// Takes the entry in a slot of a sector with these bytes so, if there is one.
+fn note_slot(
+    bytes: &[u8],
+    unit: u32,
     place: u32,
     slot: u32,
     last: &mut BTreeMap<u16, Found>,
-    steps: &mut Steps<L>,
 ) -> Result<(), NoMemory>
-    requires area { IsNvsArea (F.device flash.now).banks area.now }
-    requires inside { place < area.now.sectors }
-    requires used { let d = F.device flash.now in slot ≤ length (used_slots (unit_of d area.now) (sector_at (sectors_of d area.now) place)) }
-    ensures { let d = F.device flash.now in
-        OnOk result (Notes last.old last.new (option_to_list (option_map (found_at place) (counting_entry (unit_of d area.now) (slot_at (unit_of d area.now) (sector_at (sectors_of d area.now) place) slot))))) }
+    requires unit { IsUnit unit }
+    requires short { length bytes.now ≤ 2 ^ 15 }
+    requires inside { (slot + 1) * slot_size unit ≤ length bytes.now }
+    ensures { OnOk result (Notes last.old last.new (option_to_list (option_map (found_at place) (counting_entry unit (slot_at unit bytes.now slot))))) }
 {
-    match entry_in(flash, area, place, slot, steps) {
-        Some(found) => note(last, found),
+    match counting_entry(bytes, unit, slot) {
+        Some(placed) => note(last, placed.at(place)),
         None => Ok(()),
     }
 }
 
-// Takes the entries of a sector so, in slot order.
-fn note_sector<F: Flash, L: Ledger>(
-    flash: &F,
-    area: &Area,
+// Takes all its entries so, in slot order.
+fn note_sector(
+    bytes: &[u8],
+    unit: u32,
     place: u32,
     last: &mut BTreeMap<u16, Found>,
-    steps: &mut Steps<L>,
 ) -> Result<(), NoMemory>
-    requires area { IsNvsArea (F.device flash.now).banks area.now }
-    requires inside { place < area.now.sectors }
-    ensures { let d = F.device flash.now in
-        OnOk result (Notes last.old last.new (map (found_at place) (entries (unit_of d area.now) (sector_at (sectors_of d area.now) place)))) }
+    requires unit { IsUnit unit }
+    requires long { 16 ≤ length bytes.now }
+    requires short { length bytes.now ≤ 2 ^ 15 }
+    ensures { OnOk result (Notes last.old last.new (map (found_at place) (entries unit bytes.now))) }
 {
-    let used = used_slots(flash, area, place, steps);
+    let used = used_count(bytes, unit);
     for slot in 1..used + 1 {
-        note_slot(flash, area, place, slot, last, steps)?;
+        note_slot(bytes, unit, place, slot, last)?;
     }
     Ok(())
 }
@@ -100,7 +98,8 @@ fn note_counting<F: Flash, L: Ledger>(
     if is_hidden(area, scan, place) {
         Ok(())
     } else {
-        note_sector(flash, area, place, last, steps)
+        let unit = geometry(flash, area).unit;
+        note_sector(sector_view(flash, area, place, steps), unit, place, last)
     }
 }
 
@@ -252,8 +251,7 @@ fn list_counted<F: Flash, L: Ledger>(
 /// All items by rising ids, also while a collection is not done. The area is read, and not mounted.
 ///
 /// # Errors
-///
-/// `Damaged` comes exactly where the area's bytes are damaged; else there are the items, or `NoMemory`.
+/// `Damaged` comes exactly where the area's bytes are damaged, but for want of memory; else there are the items.
 pub fn list_items<F: Flash>(
     alloc: Global,
     flash: &F,

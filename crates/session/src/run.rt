@@ -1,9 +1,10 @@
 // The session.
-ghost use Rattle.std.specs.Prelude.{◌≡◌, ◌<◌, ◌∷◌, [], true, All, IfOk, IfErr, OnOk};
+ghost use Rattle.std.specs.Prelude.{◌≡◌, ◌<◌, ◌∷◌, [], true, IfOk, IfErr, OnOk, OnErr};
+ghost use Rattle.flash_map.specs.Area.{value_limit};
 ghost use Rattle.nvs_gc.specs.Standing.{IsNvsArea};
-ghost use Rattle.session.specs.LineDone.{LineDone, IsLawfulLine, Keeps, Runs};
+ghost use Rattle.session.specs.LineDone.{LineDone, AreLawfulFor, IsLawfulLine, EndsSafely, Runs};
 ghost use Rattle.session.specs.Fault.{IsFault};
-ghost use Rattle.session.specs.Standing.{IsSound, IsReady};
+ghost use Rattle.session.specs.Standing.{IsSound, IsAtRest, IsReady};
 ghost use Rattle.session.specs.declared.run.SessionFault.TheVariants as session_fault;
 ghost use Rattle.script_lines.specs.declared.line.Line.TheVariants.{Mount};
 
@@ -50,9 +51,9 @@ fn run_line<B: Bench, L: Ledger>(
 ) -> Result<Answer, AllocError>
     requires sound { IsSound (B.device bench.old) area.now }
     requires ready { IsReady (B.device bench.old) area.now store.old }
-    requires line { IsLawfulLine line.now }
+    requires line { IsLawfulLine (value_limit area.now) line.now }
     ensures done { IfOk result (λ answer. LineDone area.now line.now answer (B.device bench.old) (B.device bench.new)) }
-    ensures keeps { Keeps area.now (B.device bench.old) (B.device bench.new) }
+    ensures err { OnErr result (B.device bench.new ≡ B.device bench.old) }
     ensures sound { IsSound (B.device bench.new) area.now }
     ensures ready { IsReady (B.device bench.new) area.now store.new }
 {
@@ -86,6 +87,7 @@ fn run_line<B: Bench, L: Ledger>(
 pub enum SessionFault {
     /// The opening mount found the area damaged.
     Damaged(Damaged),
+    /// There was not enough memory.
     NoMemory,
 }
 
@@ -118,11 +120,11 @@ fn run_counted<B: Bench, L: Ledger>(
     requires some { 0 < L.parts }
     requires area { IsNvsArea (B.device bench.old).banks area.now }
     requires on { (B.device bench.old).is_on ≡ true }
-    requires lines { All IsLawfulLine lines.now }
+    requires lines { AreLawfulFor area.now lines.now }
     ensures runs { IfOk result (λ answers. Runs area.now (Mount ∷ lines.now) answers (B.device bench.old) (B.device bench.new)) }
-    ensures keeps { Keeps area.now (B.device bench.old) (B.device bench.new) }
+    ensures safely { EndsSafely area.now lines.now (B.device bench.old) (B.device bench.new) }
     ensures undamaged { OnOk result (IsSound (B.device bench.old) area.now) }
-    ensures sound { OnOk result (IsSound (B.device bench.new) area.now) }
+    ensures rested { OnOk result ((B.device bench.new).is_on ≡ true → IsAtRest (B.device bench.new) area.now) }
     ensures fault { IfErr result (IsFault area.now (B.device bench.old) (B.device bench.new)) }
 {
     let mut steps = Steps::<L>::new(blank);
@@ -141,12 +143,12 @@ fn run_counted<B: Bench, L: Ledger>(
 }
 
 /// Mounts, and carries out the lines: one answer for the opening mount, and then one for each line. Where there are
-/// answers, the area is not damaged before or after. Whatever comes of it, the bench is never loaded, and no byte
-/// outside the area changes.
+/// answers, the area is not damaged before or after, and while power is on afterwards nothing that a loss left undone is
+/// left in it. Whatever comes of it, the bench is never loaded, no byte outside the area changes, an area that is not
+/// damaged stays so, and on a bench with no loss planned power is lost only where a line is `cut`.
 ///
 /// # Errors
-///
-/// `Damaged` comes exactly where the area's bytes are damaged, and then the bench is as it was. At `NoMemory` the lines
+/// `Damaged` comes exactly where the area's bytes are damaged, but for want of memory, and then the bench is as it was. At `NoMemory` the lines
 /// may have been carried out up to any one of them.
 pub fn run_lines<B: Bench>(
     alloc: Global,
@@ -156,11 +158,11 @@ pub fn run_lines<B: Bench>(
 ) -> Result<Answers, SessionFault>
     requires area { IsNvsArea (B.device bench.old).banks area.now }
     requires on { (B.device bench.old).is_on ≡ true }
-    requires lines { All IsLawfulLine lines.now }
+    requires lines { AreLawfulFor area.now lines.now }
     ensures runs { IfOk result (λ answers. Runs area.now (Mount ∷ lines.now) answers (B.device bench.old) (B.device bench.new)) }
-    ensures keeps { Keeps area.now (B.device bench.old) (B.device bench.new) }
+    ensures safely { EndsSafely area.now lines.now (B.device bench.old) (B.device bench.new) }
     ensures undamaged { OnOk result (IsSound (B.device bench.old) area.now) }
-    ensures sound { OnOk result (IsSound (B.device bench.new) area.now) }
+    ensures rested { OnOk result ((B.device bench.new).is_on ≡ true → IsAtRest (B.device bench.new) area.now) }
     ensures fault { IfErr result (IsFault area.now (B.device bench.old) (B.device bench.new)) }
 {
     run_counted::<B, Brand>(alloc, lines, bench, area, Blank::new(1))

@@ -1,5 +1,6 @@
 // The lines that a store carries out.
 ghost use Rattle.std.specs.Prelude.{◌≡◌, true, IfOk, IfErr, OnOk};
+ghost use Rattle.flash_map.specs.Area.{value_limit};
 ghost use Rattle.nvs_gc.specs.Standing.{IsNvsArea, StandsOn, IsUndamaged};
 ghost use Rattle.session.specs.Fault.{ShowsDamage};
 ghost use Rattle.session.specs.LineDone.{LineDone, IsLawfulLine};
@@ -13,7 +14,7 @@ use script_lines::{Answer, Bytes};
 use std::alloc::{AllocError, Global};
 use std::sync::ledger::Ledger;
 
-/// Sets an item.
+/// Sets an item, with power on.
 pub fn set_item<B: Bench, L: Ledger>(
     bench: &mut B,
     nvs: &mut Nvs,
@@ -23,7 +24,7 @@ pub fn set_item<B: Bench, L: Ledger>(
 ) -> Answer
     requires on { (B.device bench.old).is_on ≡ true }
     requires stands { StandsOn (B.device bench.old) nvs.old }
-    requires line { IsLawfulLine (Set id value.now) }
+    requires line { IsLawfulLine (value_limit nvs.old.area) (Set id value.now) }
     ensures done { LineDone nvs.old.area (Set id value.now) result (B.device bench.old) (B.device bench.new) }
     ensures undamaged { IsUndamaged (B.device bench.new) nvs.old.area }
     ensures area { nvs.new.area ≡ nvs.old.area }
@@ -40,7 +41,7 @@ pub fn set_item<B: Bench, L: Ledger>(
     }
 }
 
-/// Deletes an item.
+/// Deletes an item, with power on.
 pub fn delete_item<B: Bench, L: Ledger>(
     bench: &mut B,
     nvs: &mut Nvs,
@@ -49,7 +50,7 @@ pub fn delete_item<B: Bench, L: Ledger>(
 ) -> Answer
     requires on { (B.device bench.old).is_on ≡ true }
     requires stands { StandsOn (B.device bench.old) nvs.old }
-    requires line { IsLawfulLine (Delete id) }
+    requires line { IsLawfulLine (value_limit nvs.old.area) (Delete id) }
     ensures done { LineDone nvs.old.area (Delete id) result (B.device bench.old) (B.device bench.new) }
     ensures undamaged { IsUndamaged (B.device bench.new) nvs.old.area }
     ensures area { nvs.new.area ≡ nvs.old.area }
@@ -65,6 +66,9 @@ pub fn delete_item<B: Bench, L: Ledger>(
 }
 
 /// The value of an item.
+///
+/// # Errors
+/// Want of memory alone.
 pub fn get_item<B: Bench, L: Ledger>(
     alloc: Global,
     bench: &B,
@@ -103,7 +107,10 @@ pub struct Opened {
     pub store: Option<Nvs>,
 }
 
-/// Mounts, with power on. An error is the damage that the area's bytes show; then nothing changed.
+/// Mounts, with power on.
+///
+/// # Errors
+/// The damage that the area's bytes show; then nothing changed.
 pub fn open<B: Bench, L: Ledger>(
     alloc: Global,
     bench: &mut B,

@@ -15,9 +15,10 @@ use std::alloc::AllocError;
 use std::cmp::Ordering;
 use std::marker::Model;
 
-// The bytes of a name.
+// The most bytes of a name.
 const MAX_LEN: usize = 64;
 
+// The most parts of a name.
 const MAX_PARTS: usize = 8;
 
 const SLASH: u8 = b'/';

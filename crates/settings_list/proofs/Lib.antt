@@ -6,3 +6,4 @@ pub mod LastLemmas
 pub mod LiveLemmas
 pub mod NextLemmas
 pub mod NoRoom
+pub mod SeekLemmas

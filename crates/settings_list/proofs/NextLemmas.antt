@@ -13,14 +13,14 @@ use Rattle.std.proofs.lemmas.Map.Lookups.{exact_bytes}
 use Rattle.std.proofs.lemmas.Slice.Eq.{bytes_eq-Decides}
 use Rattle.backend_api.specs.Map.{Map, is_behind, next_name}
 use Rattle.settings_list.specs.Settings.{setting_of, settings_of}
-use Rattle.settings_list.specs.Least.{is_before}
+use Rattle.settings_list.specs.Least.{is_before, IsLeast}
 use Rattle.settings_list.specs.Live.{has_name, names, is_live, live_bodies}
 use Rattle.settings_list.proofs.BodyLemmas.{settings-none}
 use Rattle.settings_list.proofs.FrontLemmas.{settings-dead, settings-live, live-front}
 use Rattle.settings_list.proofs.LastLemmas.{tie}
-use Rattle.settings_list.proofs.LiveLemmas.{live-says, copies-live, copies-dead}
+use Rattle.settings_list.proofs.LiveLemmas.{live-says}
 
-abbrev cmp : List ℕ → List ℕ → Ordering
+abbrev pub cmp : List ℕ → List ℕ → Ordering
 cmp = slice_cmp nat_cmp
 
 -- the least name after one more record
@@ -31,11 +31,6 @@ least_by after least (Some (name, value)) = cond (is_behind after name && is_bef
 -- the least of the records' names that is behind this one, or the least of all
 unfoldable pub least_of : Option (List ℕ) → List (List ℕ) → Option (List ℕ)
 least_of after bodies = fold (λ least body. least_by after least (setting_of body)) None bodies
-
--- Of the names that pass, this is the least behind the one given; or none is behind it.
-abbrev pub IsLeast : Option (List ℕ) → (List ℕ → Bool) → Option (List ℕ) → Type 0
-IsLeast after has None = (name : List ℕ) → has name ≡ true → is_behind after name ≡ false
-IsLeast after has (Some least) = (has least ≡ true) × (is_behind after least ≡ true) × ((name : List ℕ) → has name ≡ true → is_behind after name ≡ true → is_lt (slice_cmp nat_cmp name least) ≡ false)
 
 pub least-same : (after : Option (List ℕ)) (has other : List ℕ → Bool) (o : Option (List ℕ)) → ((name : List ℕ) → has name ≡ other name) → IsLeast after has o → IsLeast after other o
 least-same after has other None same least = λ name is. least name (same name ∙ is)
@@ -155,7 +150,7 @@ or_assoc : (r s t : Bool) → ((r || s) || t) ≡ (r || (s || t))
 or_assoc true s t = refl
 or_assoc false s t = refl
 
-is_Less : (o : Ordering) → is_lt o ≡ true → o ≡ Less
+pub is_Less : (o : Ordering) → is_lt o ≡ true → o ≡ Less
 is_Less Less e = refl
 is_Less Equal e = absurd (false≢true e)
 is_Less Greater e = absurd (false≢true e)
@@ -259,12 +254,15 @@ pub least-is : (after : Option (List ℕ)) (bodies : List (List ℕ)) → IsLeas
 unfolding least_of
 least-is after bodies = least-from after (λ name. false) None bodies (λ name is. absurd (false≢true is))
 
--- What a loop finds that goes through all records, and keeps the least name of the live ones behind the one given.
+-- the least name of the live records is that of the settings
+pub keys-least : (bodies : List (List ℕ)) (after : Option (List ℕ)) → IsLeast after (maps.contains_key (settings_of bodies)) (least_of after (live_bodies bodies []))
+keys-least bodies after =
+    least-same after (λ name. names name (live_bodies bodies [])) (maps.contains_key (settings_of bodies)) (least_of after (live_bodies bodies [])) (λ name. sym (settings-keys bodies name))
+    (least-is after (live_bodies bodies []))
+
 pub next-found : (bodies : List (List ℕ)) (after : Option (List ℕ)) → next_name (settings_of bodies) after ≡ least_of after (live_bodies bodies [])
 next-found bodies after =
-    next-least (settings_of bodies) after (least_of after (live_bodies bodies []))
-    (least-same after (λ name. names name (live_bodies bodies [])) (maps.contains_key (settings_of bodies)) (least_of after (live_bodies bodies [])) (λ name. sym (settings-keys bodies name))
-    (least-is after (live_bodies bodies [])))
+    next-least (settings_of bodies) after (least_of after (live_bodies bodies [])) (keys-least bodies after)
 
 -- ---- record by record
 
@@ -275,11 +273,3 @@ least-none after = refl
 pub least-push : (after : Option (List ℕ)) (bodies : List (List ℕ)) (body : List ℕ) → least_of after (bodies ++ body ∷ []) ≡ least_by after (least_of after bodies) (setting_of body)
 unfolding least_of
 least-push after bodies body = fold_push (λ least b. least_by after least (setting_of b)) None bodies body
-
-pub least-live : (after : Option (List ℕ)) (done : List (List ℕ)) (body : List ℕ) (later : List (List ℕ)) → is_live body later ≡ true
-    → least_of after (live_bodies (done ++ body ∷ []) later) ≡ least_by after (least_of after (live_bodies done (body ∷ later))) (setting_of body)
-least-live after done body later live = ap (least_of after) (copies-live done body later live) ∙ least-push after (live_bodies done (body ∷ later)) body
-
-pub least-dead : (after : Option (List ℕ)) (done : List (List ℕ)) (body : List ℕ) (later : List (List ℕ)) → is_live body later ≡ false
-    → least_of after (live_bodies (done ++ body ∷ []) later) ≡ least_of after (live_bodies done (body ∷ later))
-least-dead after done body later dead = ap (least_of after) (copies-dead done body later dead)

@@ -1,11 +1,14 @@
-//! Text in parts, with a separator between two of them.
+//! Text in parts, with a separator between two of them, and numbers in decimal.
 #![tactic(auto)]
 
 ghost use Rattle.std.specs.Prelude.{◌≡◌, ◌≢◌, ◌<◌, ◌∷◌, [], length, IfSome, MatchOption, ◌==◌, position};
 ghost use Rattle.text_parts.specs.Parts.{parts, parts_of};
 
+mod numbers;
 #[cfg(test)]
 mod tests;
+
+pub use numbers::read_number;
 
 // Where the first separator stands.
 fn first_at(text: &[u8], separator: u8) -> Option<usize>

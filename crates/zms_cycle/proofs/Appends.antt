@@ -17,6 +17,7 @@ use Rattle.zms_cycle.specs.declared.entry.ZEntry.{ZEntry}
 use Rattle.zms_cycle.specs.Entries.{encoded, decoded, offset_of, value_entry, done_entry}
 use Rattle.zms_cycle.specs.declared.reading.Found.{Found}
 use Rattle.zms_cycle.specs.Sector.{slot_of, is_valid, cycle_of, valid_slots, is_closed, entry_in, entries, holds_done, data_len, low, value_end, end_of, data_end, is_under, is_sound, value_of, pair_of, pairs}
+use Rattle.flash_map.specs.Units.{padded_bytes}
 use Rattle.zms_cycle.specs.Changes.{with_slot, KeepsList, AddsPair, MarksDone}
 use Rattle.zms_cycle.proofs.Bytes.{IsEntry, length-encoded, decoded-encoded, four_bytes, value_entry-short, value_entry-long, take-short, ordinary-not_special, ordinary-not_done, done-is_done}
 use Rattle.zms_cycle.proofs.Slots16.{valid-is, done-is, entry_in-is, slot-put, with_slot-above, with_slot-below}
@@ -118,9 +119,13 @@ sound-more b new f sound lower room more end here =
     (ap (λ (n : ℕ). list_all (is_under n) (entries new)) limit ∙ ap (list_all (is_under (low b - 32))) more
     ∙ list_all_push (is_under (low b - 32)) (entries b) f (under-lower (low b - 16) (low b - 32) (entries b) 0 sound.under (omega arith)) here)
 
+-- one cycle
+pub same_number : (x y : ℕ) → Some x ≡ Some y → x ≡ y
+same_number x y h = cc
+
 -- gc-done in the guard slot
-pub marks_done : (b mid new : List ℕ) (cycle : ℕ) → IsSound b → KeepsList b mid → data_end b + 32 ≤ low b → HasSlotMore mid new (done_entry cycle (data_end b)) → MarksDone b new
-marks_done b mid new cycle sound keeps room more =
+pub marks_done : (b mid new : List ℕ) (cycle : ℕ) → IsSound b → cycle_of b ≡ Some cycle → KeepsList b mid → data_end b + 32 ≤ low b → HasSlotMore mid new (done_entry cycle (data_end b)) → MarksDone b new
+marks_done b mid new cycle sound of_cycle keeps room more =
     let slot = slot_of new (length (valid_slots mid) + 2) in
     let found : entries new ≡ entries mid =
     ap (filter_map entry_in) more.slots ∙ filter_map-append entry_in (valid_slots mid) (slot ∷ [])
@@ -136,6 +141,9 @@ marks_done b mid new cycle sound keeps room more =
       cycle = more.cycle ∙ keeps.kept.cycle;
       closed = more.closed ∙ keeps.kept.closed;
       gc_done = ap (list_any holds_done) more.slots ∙ list_any-append holds_done (valid_slots mid) (slot ∷ []) ∙ or_right (list_any holds_done (valid_slots mid)) (holds_done slot || false) (ap (λ (t : Bool). t || false) (done-is slot (Some (done_entry cycle (data_end b))) more.read ∙ done-is_done cycle (data_end b)));
+      mark = λ c is.
+          subst (λ (k : ℕ). decoded (slot_of new (length (valid_slots b) + 2)).bytes ≡ Some (done_entry k (data_end b))) (same_number cycle c (sym of_cycle ∙ is))
+          (ap (λ (ss : List Slot). decoded (slot_of new (length ss + 2)).bytes) (sym keeps.kept.slots) ∙ more.read);
       same_entries = all;
       lower = lower;
       same_end = ap end_of all;
@@ -153,9 +161,9 @@ end_of-more fs f at =
     ]
 
 -- a value and its entry in the guard slot
-pub adds_pair : (b mid new : List ℕ) (cycle id : ℕ) (bytes : List ℕ) → IsSound b → length b ≤ 2 ^ 15 → KeepsList b mid → data_end b + data_len (length bytes) + 32 ≤ low b → id < 0xFFFFFFFF
-    → (leb (length bytes) 8 ≡ false → slice_range mid (data_end b) (data_end b + length bytes) ≡ bytes) → HasSlotMore mid new (value_entry cycle id bytes (data_end b)) → AddsPair b new id bytes
-adds_pair b mid new cycle id bytes sound size keeps room ordinary stored more =
+pub adds_pair : (b mid new : List ℕ) (cycle id : ℕ) (bytes : List ℕ) → IsSound b → length b ≤ 2 ^ 15 → cycle_of b ≡ Some cycle → KeepsList b mid → data_end b + data_len (length bytes) + 32 ≤ low b → id < 0xFFFFFFFF
+    → (leb (length bytes) 8 ≡ false → slice_range mid (data_end b) (data_end b + length bytes) ≡ bytes) → (leb (length bytes) 8 ≡ false → slice_range mid (data_end b) (data_end b + data_len (length bytes)) ≡ padded_bytes 16 bytes) → HasSlotMore mid new (value_entry cycle id bytes (data_end b)) → AddsPair b new id bytes
+adds_pair b mid new cycle id bytes sound size of_cycle keeps room ordinary stored whole more =
     let e = value_entry cycle id bytes (data_end b) in
     let slot = slot_of new (length (valid_slots mid) + 2) in
     let f : Found = record { slot = slot.index; entry = value_entry cycle id bytes (data_end b) } in
@@ -202,6 +210,9 @@ adds_pair b mid new cycle id bytes sound size keeps room ordinary stored more =
       slot = index-slot_at 16 new (length (valid_slots mid) + 2) ∙ ap (λ (ss : List Slot). length ss + 2) keeps.kept.slots;
       entry_id = refl;
       entry_len = refl;
+      of_cycle = of_cycle;
+      entry = refl;
+      stored = λ long. more.below (data_end b) (data_end b + data_len (length bytes)) (omega arith) ∙ whole long;
       lower = lower;
       grown = ap end_of all ∙ end_of-more (entries b) f offset;
       sound = sound-more b new f sound lower (omega arith) all (omega arith) under;

@@ -1,13 +1,16 @@
 -- Closing a sector of an area.
-use Rattle.std.proofs.Common.{◌≡◌, ℕ, ◌+◌, ◌-◌, ◌*◌, ◌/◌, ◌^◌, ◌<◌, ◌≤◌, min, true, List, length, take, drop, Some, sym, ap, subst, ◌∙◌, arith, rules}
+use Rattle.std.proofs.Common.{◌≡◌, ℕ, ◌+◌, ◌-◌, ◌*◌, ◌/◌, ◌^◌, ◌<◌, ◌≤◌, min, true, List, length, take, drop, Some, sym, ap, subst, ◌∙◌, inl, inr, arith, rules}
 use Rattle.std.specs.Prelude.{slice_range}
+use Rattle.std.proofs.lemmas.Bool.{cases_eq}
 use Rattle.std.proofs.lemmas.List.{places, same_lists}
 use Rattle.flash_sim.specs.Device.{overwritten}
+use Rattle.slot_list.specs.Slots.{Slot}
 use Rattle.zms_cycle.specs.declared.entry.ZEntry.{ZEntry}
 use Rattle.zms_cycle.specs.Entries.{encoded, fill, close_entry}
-use Rattle.zms_cycle.specs.Sector.{cycle_of, valid_slots, low, data_end, free, is_sound}
-use Rattle.zms_cycle.specs.Changes.{with_slot, KeepsList, Closes}
-use Rattle.zms_cycle.proofs.Slots16.{covers-fill}
+use Rattle.zms_cycle.specs.Sector.{slot_of, cycle_of, valid_slots, low, data_end, free, is_sound}
+use Rattle.zms_cycle.specs.Changes.{with_slot, IsFilled, KeepsList, Closes}
+use Rattle.zms_cycle.proofs.Bytes.{length-fill}
+use Rattle.zms_cycle.proofs.Slots16.{slot-put, covers-fill, covers-lower}
 use Rattle.zms_cycle.proofs.Frames.{sound-parts, keeps_then, keeps-covered}
 use Rattle.zms_cycle.proofs.Marks.{closes}
 
@@ -31,12 +34,25 @@ fill_keeps a now new k keeps guard under fits is =
     subst (λ (c : List ℕ). KeepsList a c) (sym is)
     (keeps_then keeps (keeps-covered now (with_slot now k fill) k (omega arith) (omega arith) (omega arith) (omega arith) (covers-fill k now (omega arith))))
 
+-- and the slots above it stay
+pub fill_more : (now new : List ℕ) (k from top : ℕ) → from ≡ k + 1 → (k + 1) * 16 ≤ length now → top * 16 ≤ length now → new ≡ with_slot now k fill → IsFilled now from top → IsFilled new k top
+fill_more now new k from top next inside fits is filled = λ j low_j below.
+    elim (cases_eq j k) [
+      | inl here ↦ ap (λ (i : ℕ). (slot_of new i).bytes) here ∙ ap (λ (c : List ℕ). (slot_of c k).bytes) is ∙ slot-put now k fill length-fill inside
+      | inr apart ↦
+          let covers = covers-fill k now inside in
+          ap (λ (c : List ℕ). (slot_of c j).bytes) is ∙ ap (λ (slot : Slot). slot.bytes) (covers-lower k j now (with_slot now k fill) covers (omega (arith, apart)) (omega arith)) ∙ filled j (omega (arith, apart)) below
+    ]
+
+pub filled_as : (b : List ℕ) (from end lower upper : ℕ) → IsFilled b from end → from ≤ lower → upper ≤ end → IsFilled b lower upper
+filled_as b from end lower upper filled le most = λ k at below. filled k (omega arith) (omega arith)
+
 pub keeps_equal : (a now new : List ℕ) → KeepsList a now → new ≡ now → KeepsList a new
 keeps_equal a now new keeps is = subst (λ (c : List ℕ). KeepsList a c) (sym is) keeps
 
-pub close_ok : (a mid new : List ℕ) (cycle place : ℕ) (entry : ZEntry) (bytes : List ℕ) → is_sound a ≡ true → KeepsList a mid → cycle_of a ≡ Some cycle → entry ≡ close_entry cycle place → bytes ≡ encoded entry → new ≡ with_slot mid 1 bytes → Closes a new
-close_ok a mid new cycle place entry bytes sound keeps of_cycle entry_is bytes_is is =
-    subst (λ (c : List ℕ). Closes a c) (sym (is ∙ ap (λ (p : List ℕ). with_slot mid 1 p) (bytes_is ∙ ap encoded entry_is))) (closes a mid cycle place (sound-parts a sound) keeps of_cycle)
+pub close_ok : (a mid new : List ℕ) (cycle place : ℕ) (entry : ZEntry) (bytes : List ℕ) → is_sound a ≡ true → KeepsList a mid → cycle_of a ≡ Some cycle → place ≡ low a → IsFilled mid (length (valid_slots a) + 2) ((length a - data_end a) / 16) → entry ≡ close_entry cycle place → bytes ≡ encoded entry → new ≡ with_slot mid 1 bytes → Closes a new
+close_ok a mid new cycle place entry bytes sound keeps of_cycle at filled entry_is bytes_is is =
+    subst (λ (c : List ℕ). Closes a c) (sym (is ∙ ap (λ (p : List ℕ). with_slot mid 1 p) (bytes_is ∙ ap encoded entry_is))) (closes a mid cycle place (sound-parts a sound) keeps of_cycle at filled)
 
 -- the numbers of a closing
 pub record HasNumbers (a : List ℕ) (size n end top : ℕ) : Type 0 where
@@ -44,9 +60,11 @@ pub record HasNumbers (a : List ℕ) (size n end top : ℕ) : Type 0 where
   pub slots : (n + 2) * 16 + 16 ≤ size
   pub top_fits : 0 < top → data_end a + top * 16 ≤ size
   pub few : top - (n + 2) ≤ free a / 16
+  pub lowest : size - (n + 2) * 16 ≡ low a
+  pub all : (length a - data_end a) / 16 ≤ top
 
 pub numbers : (a : List ℕ) (size n end sub : ℕ) → is_sound a ≡ true → length a ≡ size → size ≤ 32768 → n ≡ length (valid_slots a) → end ≡ min (data_end a) (2 ^ 32 - 1) → sub ≡ size - end → HasNumbers a size n end (sub / 16)
 numbers a size n end sub sound long small count at is =
     let parts = sound-parts a sound in
     let guard = parts.guard in
-    record { guard = guard; slots = omega arith; top_fits = λ some. omega arith; few = omega arith }
+    record { guard = guard; slots = omega arith; top_fits = λ some. omega arith; few = omega arith; lowest = omega arith; all = omega arith }

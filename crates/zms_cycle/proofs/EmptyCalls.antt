@@ -7,17 +7,21 @@ use Rattle.zms_cycle.specs.declared.entry.ZEntry.{ZEntry}
 use Rattle.zms_cycle.specs.Entries.{encoded, empty_entry}
 use Rattle.zms_cycle.specs.Sector.{cycle_of}
 use Rattle.zms_cycle.specs.Changes.{with_slot, guarded, StopsEmptying, Empties, next_cycle}
-use Rattle.zms_cycle.proofs.Marks.{KeepsState, state_same, first_guard, both_guards, empties}
+use Rattle.zms_cycle.proofs.Frames.{sound_of, part-same}
+use Rattle.zms_cycle.proofs.Marks.{KeepsState, sound-apart, state_same, first_guard, both_guards, empties}
 
 pub same_bytes : (old new : Device) (area : Area) (sector : ℕ) → sectors_of new area ≡ sectors_of old area → sector_bytes new area sector ≡ sector_bytes old area sector
 same_bytes old new area sector same = ap (λ (l : List (List ℕ)). get_or l sector []) same
 
--- a cut keeps how the sector reads
+-- A cut keeps how the sector reads. Where it is not overfull, its values end at or below its guard slot, and no guard reaches them.
 stops : (b new : List ℕ) → KeepsState b new → StopsEmptying b new
-stops b new keeps = record {
-  either = λ apart. inl (record { closed = keeps.kept.closed; gc_done = keeps.kept.gc_done; list = keeps.list apart });
-  kept = keeps.kept;
-}
+stops b new keeps =
+    let list = part-same b new keeps.kept (λ roomy. keeps.list (sound-apart b (sound_of b roomy))) in
+    record {
+      either = inl (record { closed = keeps.kept.closed; gc_done = keeps.kept.gc_done; list = list });
+      kept = keeps.kept;
+      values = keeps.list;
+    }
 
 pub kept_none : (b new : List ℕ) → new ≡ b → StopsEmptying b new
 kept_none b new is = stops b new (subst (λ (c : List ℕ). KeepsState b c) (sym is) (state_same b))

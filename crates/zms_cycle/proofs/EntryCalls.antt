@@ -20,7 +20,7 @@ use Rattle.zms_cycle.specs.Sector.{cycle_of, valid_slots, data_len, low, data_en
 use Rattle.zms_cycle.specs.Changes.{with_slot, guarded, with_value, HasPart, KeepsList, AddsPair, MarksDone}
 use Rattle.zms_cycle.proofs.AreaFacts.{unit_is, never_erasing, size_is, sector_set, others_set}
 use Rattle.zms_cycle.proofs.Frames.{IsSound, sound-parts, pad, padded-aligned, data_len-short, data_len-long, data_end-aligned}
-use Rattle.zms_cycle.proofs.PairCalls.{value_kept, value_stored, part_kept, guard_keeps, done_put, pair_put}
+use Rattle.zms_cycle.proofs.PairCalls.{value_kept, value_stored, units_stored, part_kept, guard_keeps, done_put, pair_put}
 
 -- Bytes that are padded to whole units.
 module _ (old new : Device) (area : Area) (sector at : ℕ) (bytes : List ℕ) (zms : IsZmsSector old area sector) where
@@ -159,7 +159,8 @@ ready_pair d area sector cycle n end id bytes mid new entry r ordinary mid_is en
     let size : length (sector_bytes d area sector) ≤ 2 ^ 15 = let long = r.long in let small = r.small in omega arith in
     subst (λ (c : List ℕ). AddsPair (sector_bytes d area sector) c id bytes) (sym (is ∙ ap (λ (e : ZEntry). with_slot (guarded e.cycle (n + 2 + 1) mid) (n + 2) (encoded e)) whole))
     (pair_put (sector_bytes d area sector) mid cycle n id bytes r.sound size r.of_cycle r.count ordinary r.fits (ready_value d area sector cycle n end bytes mid r mid_is)
-    (λ long. ap (λ (c : List ℕ). slice_range c (data_end (sector_bytes d area sector)) (data_end (sector_bytes d area sector) + length bytes)) value ∙ value_stored (sector_bytes d area sector) bytes r.fits long))
+    (λ long. ap (λ (c : List ℕ). slice_range c (data_end (sector_bytes d area sector)) (data_end (sector_bytes d area sector) + length bytes)) value ∙ value_stored (sector_bytes d area sector) bytes r.fits long)
+    (λ long. ap (λ (c : List ℕ). slice_range c (data_end (sector_bytes d area sector)) (data_end (sector_bytes d area sector) + data_len (length bytes))) value ∙ units_stored (sector_bytes d area sector) bytes r.fits long))
 
 pub ready_short : (d : Device) (area : Area) (sector cycle n end : ℕ) (bytes : List ℕ) → IsReady d area sector cycle n end (data_len (length bytes)) → length bytes < 2 ^ 16
 ready_short d area sector cycle n end bytes r = elim (cases_Bool (leb (length bytes) 8)) [

@@ -1,8 +1,8 @@
 -- What stays of a sector where its slots and its values are not touched.
-use Rattle.std.proofs.Common.{◌≡◌, ℕ, ◌+◌, ◌-◌, ◌*◌, ◌%◌, ◌≤◌, max, true, false, ◌&&◌, eqb, leb, List, [], ◌∷◌, length, map, take, Option, refl, sym, ap, subst, ◌∙◌, inl, inr, arith}
+use Rattle.std.proofs.Common.{◌≡◌, ℕ, ◌+◌, ◌-◌, ◌*◌, ◌%◌, ◌≤◌, max, Bool, true, false, not, ◌&&◌, ◌||◌, eqb, leb, ltb, List, [], ◌∷◌, length, map, take, Option, Some, None, refl, sym, ap, subst, ◌∙◌, inl, inr, arith}
 use Rattle.std.specs.Prelude.{slice_range, fold, sum_by}
 use Rattle.std.specs.List.{filter_map, list_any, list_all}
-use Rattle.std.proofs.lemmas.Bool.{cases_Bool, cases_lt, cond-true, cond-false, and_parts, leb-true, eqb-true, le-leb}
+use Rattle.std.proofs.lemmas.Bool.{false≢true, cases_Bool, cases_lt, cond-true, cond-false, and_parts, or_parts, not-false, leb-true, eqb-true, le-leb}
 use Rattle.flash_map.specs.Units.{padded}
 use Rattle.flash_map.proofs.Rounding.{padding}
 use Rattle.flash_sim.specs.Device.{overwritten}
@@ -14,7 +14,7 @@ use Rattle.slot_list.proofs.SlotLemmas.{HasFence, HasFence-from_low}
 use Rattle.slot_list.proofs.SlotChanges.{SameFrom, slot_at-from, used_slots-kept}
 use Rattle.zms_cycle.specs.Entries.{offset_of, decoded}
 use Rattle.zms_cycle.specs.declared.reading.Found.{Found}
-use Rattle.zms_cycle.specs.Sector.{slot_of, is_valid, cycle_of, valid_slots, holds_close, is_closed, entry_in, entries, holds_done, data_len, low, value_end, end_of, data_end, is_under, has_guard, is_sound, value_of, pair_of}
+use Rattle.zms_cycle.specs.Sector.{slot_of, is_valid, cycle_of, valid_slots, holds_close, is_closed, entry_in, entries, holds_done, data_len, capacity, low, value_end, end_of, data_end, is_under, has_guard, is_sound, entry_cost, holds_too_much, is_overfull, value_of, pair_of, pairs, part_of_list}
 use Rattle.zms_cycle.specs.Changes.{KeepsSlots, KeepsList}
 use Rattle.zms_cycle.proofs.Slots16.{Covers, covers-not_valid, covers-higher, cycle_of-is}
 
@@ -87,6 +87,22 @@ pub sound-parts : (b : List ℕ) → is_sound b ≡ true → IsSound b
 sound-parts b is =
     let parts = and_parts (has_guard b) (list_all (is_under (low b - 16)) (entries b)) is in
     record { guard = leb-true 16 (low b) parts.0; under = parts.1 }
+
+none_over : (p : Found → Bool) (fs : List Found) → list_any (λ f. not (p f)) fs ≡ false → list_all p fs ≡ true
+none_over p [] h = refl
+none_over p (f ∷ fs) h =
+    elim (cases_Bool (p f)) [
+      | inl under ↦ ap (λ (t : Bool). t && list_all p fs) under ∙ none_over p fs (sym (ap (λ (t : Bool). not t || list_any (λ f. not (p f)) fs) under) ∙ h)
+      | inr over ↦ absurd (false≢true (sym h ∙ ap (λ (t : Bool). not t || list_any (λ f. not (p f)) fs) over))
+    ]
+
+-- a sector that is not overfull has its values under its guard slot
+pub sound_of : (b : List ℕ) → is_overfull b ≡ false → is_sound b ≡ true
+unfolding holds_too_much
+sound_of b roomy =
+    let rows = or_parts (not (has_guard b)) (list_any (λ f. not (is_under (low b - 16) f)) (entries b) || ltb (capacity (length b)) (sum_by entry_cost (entries b))) roomy in
+    let under = none_over (is_under (low b - 16)) (entries b) (or_parts (list_any (λ f. not (is_under (low b - 16) f)) (entries b)) (ltb (capacity (length b)) (sum_by entry_cost (entries b))) rows.1).0 in
+    ap (λ (t : Bool). t && list_all (is_under (low b - 16)) (entries b)) (not-false (has_guard b) rows.0) ∙ under
 
 pub under-parts : (limit : ℕ) (f : Found) → is_under limit f ≡ true → (value_end f ≤ limit) × (value_end f % 16 ≡ 0)
 unfolding is_under
@@ -204,6 +220,25 @@ keeps_same b = record { kept = slots-keep b b refl refl refl refl; list = refl }
 
 pub sound-same : (old new : List ℕ) → KeepsSlots old new → is_sound new ≡ is_sound old
 sound-same old new kept = ap (λ (n : ℕ). leb 16 n && list_all (is_under (n - 16)) (entries new)) kept.lower ∙ ap (λ (fs : List Found). leb 16 (low old) && list_all (is_under (low old - 16)) fs) kept.same_entries
+
+pub overfull-same : (old new : List ℕ) → KeepsSlots old new → is_overfull new ≡ is_overfull old
+unfolding holds_too_much
+overfull-same old new kept =
+    ap (λ (n : ℕ). not (leb 16 n) || (list_any (λ f. not (is_under (n - 16) f)) (entries new) || ltb (capacity (length new)) (sum_by entry_cost (entries new)))) kept.lower
+    ∙ ap (λ (fs : List Found). not (has_guard old) || (list_any (λ f. not (is_under (low old - 16) f)) fs || ltb (capacity (length new)) (sum_by entry_cost fs))) kept.same_entries
+    ∙ ap (λ (n : ℕ). not (has_guard old) || (list_any (λ f. not (is_under (low old - 16) f)) (entries old) || ltb (capacity n) (sum_by entry_cost (entries old)))) kept.long
+
+-- the sector's part of the list stays where its slots do, and its values unless it is overfull
+pub part-same : (old new : List ℕ) → KeepsSlots old new → (is_overfull old ≡ false → pairs new ≡ pairs old) → part_of_list new ≡ part_of_list old
+part-same old new kept list =
+    let same = overfull-same old new kept in
+    elim (cases_Bool (is_overfull old)) [
+      | inl over ↦ cond-true (is_overfull new) None (Some (pairs new)) (same ∙ over) ∙ sym (cond-true (is_overfull old) None (Some (pairs old)) over)
+      | inr roomy ↦
+          cond-false (is_overfull new) None (Some (pairs new)) (same ∙ roomy)
+          ∙ ap (λ (ps : List (ℕ × List ℕ)). Some ps) (list roomy)
+          ∙ sym (cond-false (is_overfull old) None (Some (pairs old)) roomy)
+    ]
 
 -- a write between the data end and the guard slot
 pub keeps-data : (b p : List ℕ) → 16 ≤ low b → data_end b + length p ≤ low b - 16 → KeepsList b (overwritten b (data_end b) p)

@@ -6,6 +6,7 @@ pub mod CopyCalls
 pub mod EmptyCalls
 pub mod EntryCalls
 pub mod Frames
+pub mod GuardUnits
 pub mod Marks
 pub mod OverwrittenValue
 pub mod PairCalls

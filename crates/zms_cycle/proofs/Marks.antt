@@ -1,5 +1,5 @@
 -- What the close entry and emptying make of a sector.
-use Rattle.std.proofs.Common.{◌≡◌, ℕ, ◌+◌, ◌-◌, ◌*◌, ◌%◌, ◌≤◌, max, Bool, true, false, not, ◌&&◌, eqb, leb, ltb, List, [], ◌∷◌, length, map, Option, Some, None, refl, sym, ap, subst, ◌∙◌, inl, inr, arith}
+use Rattle.std.proofs.Common.{◌≡◌, ℕ, ◌+◌, ◌-◌, ◌*◌, ◌/◌, ◌%◌, ◌≤◌, max, Bool, true, false, not, ◌&&◌, eqb, leb, ltb, List, [], ◌∷◌, length, map, Option, Some, None, refl, sym, ap, subst, ◌∙◌, inl, inr, arith}
 use Rattle.std.specs.Prelude.{fold}
 use Rattle.std.specs.List.{filter_map, list_any, list_all}
 use Rattle.std.specs.Option.{option_map_or}
@@ -10,15 +10,17 @@ use Rattle.slot_list.proofs.SlotLemmas.{used_slots-from}
 use Rattle.zms_cycle.specs.declared.entry.ZEntry.{ZEntry}
 use Rattle.zms_cycle.specs.Entries.{encoded, decoded, fill, offset_of, is_empty, close_entry, empty_entry}
 use Rattle.zms_cycle.specs.declared.reading.Found.{Found}
-use Rattle.zms_cycle.specs.Sector.{slot_of, is_valid_under, is_valid, cycle_of, valid_slots, holds_close, is_closed, entry_in, entries, holds_done, value_end, end_of, is_under, is_sound, low, value_of, pair_of, pairs}
-use Rattle.zms_cycle.specs.Changes.{with_slot, guarded, KeepsSlots, KeepsList, Closes, next_cycle, Empties, reaches_slot_1, guards_over_value}
+use Rattle.zms_cycle.specs.Sector.{slot_of, is_valid_under, is_valid, cycle_of, valid_slots, holds_close, is_closed, entry_in, entries, holds_done, value_end, end_of, data_end, is_under, is_sound, low, value_of, pair_of, pairs}
+use Rattle.zms_cycle.specs.Changes.{with_slot, guarded, IsFilled, KeepsSlots, KeepsList, Closes, next_cycle, Empties, reaches_slot_1, guards_over_value}
+use Rattle.zms_cycle.proofs.Appends.{same_number}
 use Rattle.zms_cycle.proofs.Bytes.{length-encoded, decoded-encoded, IsEntry-close, IsEntry-empty, close-is_close, empty-is_empty}
 use Rattle.zms_cycle.proofs.Slots16.{Covers, valid-is, close-is, cycle_of-is, not_valid, slot-put, with_slot-above, with_slot-below, decoded-put, covers-fill, covers-guarded, covers-higher, guarded-not_valid}
 use Rattle.zms_cycle.proofs.Frames.{IsSound, sound-parts, sound-ends, under-parts, pad, value_end-long, value-by, pairs-same, cycle_of-same, closed-same, slots-keep, keeps_same}
 
 -- the close entry in slot 1, after steps that kept the list
-pub closes : (a b : List ℕ) (cycle place : ℕ) → IsSound a → KeepsList a b → cycle_of a ≡ Some cycle → Closes a (with_slot b 1 (encoded (close_entry cycle place)))
-closes a b cycle place sound keeps of_cycle =
+pub closes : (a b : List ℕ) (cycle place : ℕ) → IsSound a → KeepsList a b → cycle_of a ≡ Some cycle → place ≡ low a → IsFilled b (length (valid_slots a) + 2) ((length a - data_end a) / 16)
+    → Closes a (with_slot b 1 (encoded (close_entry cycle place)))
+closes a b cycle place sound keeps of_cycle at filled =
     let entry = IsEntry-close cycle place in
     let sixteen : length (encoded (close_entry cycle place)) ≡ 16 = length-encoded (close_entry cycle place) entry in
     let guard = sound.guard in
@@ -44,6 +46,8 @@ closes a b cycle place sound keeps of_cycle =
       long = long;
       cycle = all;
       closed = and_from (is_valid (cycle_of new) (slot_of new 1)) (holds_close (slot_of new 1)) valid (close-is (slot_of new 1) (Some (close_entry cycle place)) read ∙ close-is_close cycle place);
+      mark = λ c is. read ∙ ap (λ (n : ℕ). Some (close_entry cycle n)) at ∙ ap (λ (k : ℕ). Some (close_entry k (low a))) (same_number cycle c (sym of_cycle ∙ is));
+      filled = λ k from below_end. ap (λ (slot : Slot). slot.bytes) (slot_at-same 16 b new k same.long (below (length b - (k + 1) * 16) (length b - (k + 1) * 16 + 16) (omega arith))) ∙ filled k from below_end;
       slots = slots;
       gc_done = ap (list_any holds_done) slots;
       same_entries = ap (filter_map entry_in) slots;
@@ -118,7 +122,7 @@ sound-apart b is =
     let guard = parts.guard in
     and_right (is_valid_under (next_cycle (cycle_of b)) (slot_of b 1)) (list_any (reaches_slot_1 (length b)) (entries b)) (all-apart (low b - 16) (length b) (entries b) parts.under (omega arith))
 
--- the slots and the marks stay, and the sector's part of the list where no guard was put over a value
+-- the slots and the marks stay, and the bytes of all pairs where no guard was put over a value
 pub record KeepsState (old new : List ℕ) : Type 0 where
   pub kept : KeepsSlots old new
   pub list : guards_over_value old ≡ false → pairs new ≡ pairs old

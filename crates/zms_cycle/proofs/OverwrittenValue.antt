@@ -1,13 +1,16 @@
--- Why a cut emptying is told by two cases only where no guard is put over a value. In this sector of 512 bytes the entry in
--- slot 2 has a value of sixteen bytes, which stand in slot 1 and are there an entry that is valid under the next cycle. So
--- emptying has to guard slot 1, and a cut behind that leaves a sector that neither reads as before nor holds nothing: the
--- entry has another value.
-use Rattle.std.proofs.Common.{◌≡◌, ◌⊎◌, ℕ, true, List, [], ◌∷◌, ◌++◌, length, get_or, replicate, refl, sym, ap, ◌∙◌, inl, inr, arith}
+-- Why the list of a sector is its part of an area's list, where an emptying is cut. In this sector of
+-- 512 bytes the entry in slot 2 has a value of sixteen bytes, which stand in slot 1 and are there an entry that is valid under
+-- the next cycle. So emptying has to guard slot 1, and a cut behind that leaves the same entry with another value: the bytes
+-- of its pair do not stay, and it still has the pair. But the value passes the start of the guard slot, so the sector is
+-- overfull, before the guard and behind it, and an overfull sector has no part in a list.
+use Rattle.std.proofs.Common.{◌≡◌, ◌⊎◌, ℕ, true, List, [], ◌∷◌, ◌++◌, length, get_or, replicate, Some, None, refl, sym, ap, ◌∙◌, inl, inr, arith}
+use Rattle.std.proofs.lemmas.Bool.{cond-true}
+use Rattle.flash_map.specs.Units.{padded}
 use Rattle.crc8_entry.specs.Crc.{crc, extended, bits_of}
 use Rattle.slot_list.specs.Slots.{slot_at, used_slots}
 use Rattle.zms_cycle.specs.Entries.{decoded, fill, is_empty}
-use Rattle.zms_cycle.specs.Sector.{slot_of, is_valid_under, cycle_of, entry_in, pairs}
-use Rattle.zms_cycle.specs.Changes.{guarded, next_cycle, reaches_slot_1, guards_over_value, ReadsAsBefore, HoldsNothing}
+use Rattle.zms_cycle.specs.Sector.{slot_of, is_valid_under, cycle_of, entry_in, is_under, holds_too_much, is_overfull, pairs, part_of_list}
+use Rattle.zms_cycle.specs.Changes.{guarded, next_cycle, reaches_slot_1, guards_over_value}
 
 -- what slot 1 holds: an entry of cycle 2 with the id 9 and one byte
 abbrev pub value : List ℕ
@@ -61,16 +64,27 @@ other same =
     let bytes : ◌≡◌ {A = ℕ} 111 252 = ap first_byte same in
     absurd (omega arith)
 
-pub not_as_before : ReadsAsBefore sector guarded_sector → ⊥
-not_as_before reads = other (sym list_behind ∙ reads.list ∙ list_before)
-
 some : behind ≡ [] → ⊥
 some none = cc
 
-pub not_nothing : HoldsNothing guarded_sector → ⊥
-not_nothing holds = some (sym list_behind ∙ holds.list)
+-- the pairs are not those from before, and there is one
+pub neither : (pairs guarded_sector ≡ pairs sector) ⊎ (pairs guarded_sector ≡ []) → ⊥
+neither (inl same) = other (sym list_behind ∙ same ∙ list_before)
+neither (inr none) = some (sym list_behind ∙ none)
 
--- so neither case holds
-pub neither : ReadsAsBefore sector guarded_sector ⊎ HoldsNothing guarded_sector → ⊥
-neither (inl reads) = not_as_before reads
-neither (inr holds) = not_nothing holds
+-- the sector is overfull before the guard
+pub is_full : is_overfull sector ≡ true
+unfolding slot_at used_slots is_valid_under cycle_of entry_in is_under holds_too_much padded decoded is_empty crc extended bits_of
+is_full = refl
+
+-- and behind it
+pub is_full_behind : is_overfull guarded_sector ≡ true
+unfolding slot_at used_slots is_valid_under cycle_of entry_in is_under holds_too_much padded decoded fill is_empty crc extended bits_of
+is_full_behind = refl
+
+-- so it has no list, neither before the guard nor behind it
+pub no_list : (part_of_list sector ≡ None) × (part_of_list guarded_sector ≡ None)
+no_list = (
+  cond-true (is_overfull sector) None (Some (pairs sector)) is_full,
+  cond-true (is_overfull guarded_sector) None (Some (pairs guarded_sector)) is_full_behind,
+)

@@ -2,7 +2,7 @@
 use Rattle.std.proofs.Common.{◌≡◌, ℕ, ◌+◌, ◌-◌, ◌*◌, ◌^◌, ◌<◌, ◌≤◌, Bool, true, false, cond, eqb, leb, List, length, Option, Some, refl, sym, ap, subst, ◌∙◌, inl, inr, arith}
 use Rattle.std.specs.Prelude.{slice_range, replicate}
 use Rattle.std.proofs.lemmas.Bool.{cases_Bool, cond-true, cond-false, leb-true, eqb-true}
-use Rattle.std.proofs.lemmas.List.{take_at}
+use Rattle.std.proofs.lemmas.List.{take_at, take_all}
 use Rattle.flash_sim.specs.Device.{overwritten}
 use Rattle.flash_map.specs.Units.{padded, padded_bytes}
 use Rattle.flash_map.proofs.Ranges.{range_at}
@@ -53,6 +53,14 @@ value_stored b bytes room long =
     ∙ range_at b (data_end b) (padded_bytes 16 bytes) (length bytes) (omega arith) (omega arith)
     ∙ take_at bytes (replicate (padded 16 (length bytes) - length bytes) 255) (length bytes) refl
 
+pub units_stored : (b : List ℕ) (bytes : List ℕ) → data_end b + data_len (length bytes) + 32 ≤ low b → leb (length bytes) 8 ≡ false → slice_range (with_value b (data_end b) bytes) (data_end b) (data_end b + data_len (length bytes)) ≡ padded_bytes 16 bytes
+units_stored b bytes room long =
+    let size = length-padded_bytes 16 bytes (inr (inr refl)) in
+    let some = data_len-long (length bytes) long in
+    ap (λ (mid : List ℕ). slice_range mid (data_end b) (data_end b + data_len (length bytes))) (cond-false (leb (length bytes) 8) b (overwritten b (data_end b) (padded_bytes 16 bytes)) long)
+    ∙ range_at b (data_end b) (padded_bytes 16 bytes) (data_len (length bytes)) (omega arith) (omega arith)
+    ∙ take_all (data_len (length bytes)) (padded_bytes 16 bytes) (omega arith)
+
 -- a part of a value
 pub part_kept : (b new : List ℕ) (most : ℕ) → IsSound b → data_end b + most + 32 ≤ low b → HasPart b new (data_end b) most → KeepsList b new
 part_kept b new most sound room part = let le = part.1 in subst (λ (c : List ℕ). KeepsList b c) (sym part.2) (keeps-data b part.0 sound.guard (omega arith))
@@ -97,22 +105,23 @@ module _ (b mid : List ℕ) (cycle n : ℕ) (sound : IsSound b) (keeps : KeepsLi
 -- the whole of gc-done
 pub done_put : (b : List ℕ) (cycle n : ℕ) → IsSound b → cycle_of b ≡ Some cycle → data_end b + 32 ≤ low b → n ≡ length (valid_slots b) → MarksDone b (with_slot (guarded cycle (n + 2 + 1) b) (n + 2) (encoded (done_entry cycle (data_end b))))
 done_put b cycle n sound of_cycle room count =
-    marks_done b (guarded cycle (n + 2 + 1) b) (with_slot (guarded cycle (n + 2 + 1) b) (n + 2) (encoded (done_entry cycle (data_end b)))) cycle sound
+    marks_done b (guarded cycle (n + 2 + 1) b) (with_slot (guarded cycle (n + 2 + 1) b) (n + 2) (encoded (done_entry cycle (data_end b)))) cycle sound of_cycle
     (guard_keeps b b cycle n sound (keeps_same b) of_cycle room count) room
     (more_in_guard b b cycle n sound (keeps_same b) of_cycle room count (done_entry cycle (data_end b)) refl (IsEntry-done cycle (data_end b)))
 
 -- the whole of an entry, after its value
 pub pair_put : (b mid : List ℕ) (cycle n id : ℕ) (bytes : List ℕ) → IsSound b → length b ≤ 2 ^ 15 → cycle_of b ≡ Some cycle → n ≡ length (valid_slots b) → id < 0xFFFFFFFF → data_end b + data_len (length bytes) + 32 ≤ low b
-    → KeepsList b mid → (leb (length bytes) 8 ≡ false → slice_range mid (data_end b) (data_end b + length bytes) ≡ bytes)
+    → KeepsList b mid → (leb (length bytes) 8 ≡ false → slice_range mid (data_end b) (data_end b + length bytes) ≡ bytes) → (leb (length bytes) 8 ≡ false → slice_range mid (data_end b) (data_end b + data_len (length bytes)) ≡ padded_bytes 16 bytes)
     → AddsPair b (with_slot (guarded cycle (n + 2 + 1) mid) (n + 2) (encoded (value_entry cycle id bytes (data_end b)))) id bytes
-pair_put b mid cycle n id bytes sound size of_cycle count ordinary room keeps stored =
+pair_put b mid cycle n id bytes sound size of_cycle count ordinary room keeps stored whole =
     let little : data_end b + 32 ≤ low b = omega arith in
     let rounded = pad (length bytes) in
     let short : length bytes < 2 ^ 16 = elim (cases_Bool (leb (length bytes) 8)) [
       | inl tiny ↦ let le = leb-true (length bytes) 8 tiny in omega arith
       | inr long ↦ let some = data_len-long (length bytes) long in omega arith
     ] in
-    adds_pair b (guarded cycle (n + 2 + 1) mid) (with_slot (guarded cycle (n + 2 + 1) mid) (n + 2) (encoded (value_entry cycle id bytes (data_end b)))) cycle id bytes sound size
+    adds_pair b (guarded cycle (n + 2 + 1) mid) (with_slot (guarded cycle (n + 2 + 1) mid) (n + 2) (encoded (value_entry cycle id bytes (data_end b)))) cycle id bytes sound size of_cycle
     (guard_keeps b mid cycle n sound keeps of_cycle little count) room ordinary
     (λ long. let some = data_len-long (length bytes) long in below_guard b mid cycle n sound keeps of_cycle little count (data_end b) (data_end b + length bytes) (omega arith) ∙ stored long)
+    (λ long. below_guard b mid cycle n sound keeps of_cycle little count (data_end b) (data_end b + data_len (length bytes)) (omega arith) ∙ whole long)
     (more_in_guard b mid cycle n sound keeps of_cycle little count (value_entry cycle id bytes (data_end b)) refl (IsEntry-value cycle id (data_end b) bytes (omega arith) short))

@@ -1,12 +1,12 @@
 -- What a step leaves of a sector.
-use Rattle.std.specs.Prelude.{◌≡◌, ◌⊎◌, ℕ, ◌+◌, ◌-◌, ◌*◌, ◌%◌, ◌≤◌, nat_le, nat_lt, Bool, true, false, not, ◌&&◌, List, [], ◌∷◌, ◌++◌, length, Option, Some, if◌then◌else◌}
+use Rattle.std.specs.Prelude.{◌≡◌, ◌⊎◌, ℕ, ◌+◌, ◌-◌, ◌*◌, ◌/◌, ◌%◌, ◌<◌, ◌≤◌, slice_range, nat_le, nat_lt, Bool, true, false, not, ◌&&◌, List, [], ◌∷◌, ◌++◌, length, Option, Some, if◌then◌else◌}
 use Rattle.std.specs.List.{list_any}
 use Rattle.std.specs.Option.{option_map_or}
 use Rattle.flash_sim.specs.Device.{overwritten}
 use Rattle.flash_map.specs.Units.{padded_bytes}
-use Rattle.zms_cycle.specs.Entries.{fill, offset_of}
+use Rattle.zms_cycle.specs.Entries.{decoded, fill, offset_of, close_entry, done_entry, value_entry}
 use Rattle.zms_cycle.specs.declared.reading.Found.{Found}
-use Rattle.zms_cycle.specs.Sector.{slot_of, is_valid_under, is_valid, cycle_of, valid_slots, is_closed, entries, has_gc_done, data_len, low, data_end, is_sound, pairs}
+use Rattle.zms_cycle.specs.Sector.{slot_of, is_valid_under, is_valid, cycle_of, valid_slots, is_closed, entries, has_gc_done, data_len, low, data_end, is_sound, pairs, part_of_list}
 
 -- the sector with these bytes in a slot
 abbrev pub with_slot : List ℕ → ℕ → List ℕ → List ℕ
@@ -16,9 +16,17 @@ with_slot sector slot bytes = overwritten sector (length sector - (slot + 1) * 1
 abbrev pub guarded : ℕ → ℕ → List ℕ → List ℕ
 guarded cycle slot sector = if is_valid_under cycle (slot_of sector slot) then with_slot sector slot fill else sector
 
+-- the unit that a guard takes where the slot is valid
+abbrev pub guard_units : Option ℕ → ℕ → List ℕ → ℕ
+guard_units cycle slot sector = if is_valid cycle (slot_of sector slot) then 1 else 0
+
 -- the sector with a value there, where it has more than 8 bytes
 abbrev pub with_value : List ℕ → ℕ → List ℕ → List ℕ
 with_value sector at bytes = if nat_le (length bytes) 8 then sector else overwritten sector at (padded_bytes 16 bytes)
+
+-- the slots from this one to the one before the end hold the fill unit
+abbrev pub IsFilled : List ℕ → ℕ → ℕ → Type 0
+IsFilled sector from end = (k : ℕ) → from ≤ k → k < end → (slot_of sector k).bytes ≡ fill
 
 -- at most so many bytes were put there
 abbrev pub HasPart : List ℕ → List ℕ → ℕ → ℕ → Type 0
@@ -53,6 +61,11 @@ pub record AddsPair (old new : List ℕ) (id : ℕ) (bytes : List ℕ) : Type 0 
   pub slot : found.slot ≡ length (valid_slots old) + 2
   pub entry_id : found.entry.id ≡ id
   pub entry_len : found.entry.len ≡ length bytes
+  -- it is the entry of this value at the old data end, of the sector's cycle
+  pub of_cycle : cycle_of old ≡ Some found.entry.cycle
+  pub entry : found.entry ≡ value_entry found.entry.cycle id bytes (data_end old)
+  -- where the entry does not hold the value, its units do
+  pub stored : nat_le (length bytes) 8 ≡ false → slice_range new (data_end old) (data_end old + data_len (length bytes)) ≡ padded_bytes 16 bytes
   pub lower : low new + 16 ≡ low old
   pub grown : data_end new ≡ data_end old + data_len (length bytes)
   pub sound : is_sound new ≡ true
@@ -64,17 +77,22 @@ pub record MarksDone (old new : List ℕ) : Type 0 where
   pub cycle : cycle_of new ≡ cycle_of old
   pub closed : is_closed new ≡ is_closed old
   pub gc_done : has_gc_done new ≡ true
+  -- what was the guard slot names the data end
+  pub mark : (c : ℕ) → cycle_of old ≡ Some c → decoded (slot_of new (length (valid_slots old) + 2)).bytes ≡ Some (done_entry c (data_end old))
   pub same_entries : entries new ≡ entries old
   pub lower : low new + 16 ≡ low old
   pub same_end : data_end new ≡ data_end old
   pub sound : is_sound new ≡ true
 
--- the sector is closed, and its list stays
+-- The sector is closed, and its list stays. Every unit between its values and its slots holds the fill unit.
 pub record Closes (old new : List ℕ) : Type 0 where
   pub list : pairs new ≡ pairs old
   pub long : length new ≡ length old
   pub cycle : cycle_of new ≡ cycle_of old
   pub closed : is_closed new ≡ true
+  -- slot 1 names the start of the lowest used slot
+  pub mark : (c : ℕ) → cycle_of old ≡ Some c → decoded (slot_of new 1).bytes ≡ Some (close_entry c (low old))
+  pub filled : IsFilled new (length (valid_slots old) + 2) ((length old - data_end old) / 16)
   pub slots : valid_slots new ≡ valid_slots old
   pub gc_done : has_gc_done new ≡ has_gc_done old
   pub same_entries : entries new ≡ entries old
@@ -98,29 +116,30 @@ pub record Empties (old new : List ℕ) : Type 0 where
   pub same_end : data_end new ≡ 0
   pub sound : is_sound new ≡ true
 
--- the sector's being closed, its gc-done and its list are as before
+-- The sector's being closed, its gc-done and its list are as before. A sector that was overfull is so still, and has no list.
 pub record ReadsAsBefore (old new : List ℕ) : Type 0 where
   pub closed : is_closed new ≡ is_closed old
   pub gc_done : has_gc_done new ≡ has_gc_done old
-  pub list : pairs new ≡ pairs old
+  pub list : part_of_list new ≡ part_of_list old
 
 -- the sector is not closed and its slot 2 is not valid, so that its list is empty and it has no gc-done
 pub record HoldsNothing (sector : List ℕ) : Type 0 where
   pub closed : is_closed sector ≡ false
   pub second : is_valid (cycle_of sector) (slot_of sector 2) ≡ false
   pub gc_done : has_gc_done sector ≡ false
-  pub list : pairs sector ≡ []
+  pub list : part_of_list sector ≡ Some []
 
 -- bytes of a value of more than 8 bytes stand in the sixteen bytes of slot 1
 unfoldable pub reaches_slot_1 : ℕ → Found → Bool
 reaches_slot_1 size f = not (nat_le f.entry.len 8) && nat_lt (offset_of f.entry) (size - 16) && nat_lt (size - 32) (offset_of f.entry + f.entry.len)
 
--- the sector's emptying guards slot 1, and bytes of a value of its list stand there
+-- the sector's emptying guards slot 1, and bytes of a value of its entries stand there; such a sector is overfull
 abbrev pub guards_over_value : List ℕ → Bool
 guards_over_value sector = is_valid_under (next_cycle (cycle_of sector)) (slot_of sector 1) && list_any (reaches_slot_1 (length sector)) (entries sector)
 
--- An emptying that was cut. The cycle, the slots and the marks of every sector stay, and where no guard was put over a
--- value, the sector reads as before or holds nothing.
+-- An emptying that was cut. Every sector reads as before or holds nothing. Its cycle, its slots and its marks stay, and so
+-- does each value, unless the guard of slot 1 has to be put over one.
 pub record StopsEmptying (old new : List ℕ) : Type 0 where
-  pub either : guards_over_value old ≡ false → ReadsAsBefore old new ⊎ HoldsNothing new
+  pub either : ReadsAsBefore old new ⊎ HoldsNothing new
   pub kept : KeepsSlots old new
+  pub values : guards_over_value old ≡ false → pairs new ≡ pairs old

@@ -1,6 +1,6 @@
 -- How one sector reads. Values grow upward from its start, and slots of sixteen bytes downward from its end.
 -- Slot 0 holds the empty entry, which gives the sector's cycle; slot 1 is for the close entry; entries follow from slot 2.
-use Rattle.std.specs.Prelude.{ℕ, ◌+◌, ◌-◌, ◌*◌, ◌%◌, max, Bool, true, false, ◌&&◌, List, [], take, map, fold, sum_by, slice_range, Option, Some, None, ◌==◌, nat_le, if◌then◌else◌}
+use Rattle.std.specs.Prelude.{ℕ, ◌+◌, ◌-◌, ◌*◌, ◌%◌, max, Bool, true, false, not, ◌&&◌, ◌||◌, List, [], length, take, map, fold, sum_by, slice_range, Option, Some, None, ◌==◌, nat_le, nat_lt, if◌then◌else◌}
 use Rattle.std.specs.List.{filter_map, list_all, list_any}
 use Rattle.std.specs.Option.{option_and_then, option_map_or}
 use Rattle.flash_map.specs.Units.{padded}
@@ -100,6 +100,18 @@ has_guard sector = nat_le 16 (low sector)
 abbrev pub is_sound : List ℕ → Bool
 is_sound sector = has_guard sector && list_all (is_under (low sector - 16)) (entries sector)
 
+-- what an entry and its value take up; a delete is not counted
+unfoldable pub entry_cost : Found → ℕ
+entry_cost f = if f.entry.len == 0 then 0 else cost f.entry.len
+
+-- a value stands outside whole units or passes the start of the guard slot, or the values cost more than a sector has for them
+unfoldable pub holds_too_much : List ℕ → Bool
+holds_too_much sector = list_any (λ f. not (is_under (low sector - 16) f)) (entries sector) || nat_lt (capacity (length sector)) (sum_by entry_cost (entries sector))
+
+-- the damage Overfull, as one sector shows it: it has no guard slot, or it holds too much
+abbrev pub is_overfull : List ℕ → Bool
+is_overfull sector = not (has_guard sector) || holds_too_much sector
+
 -- Pairs.
 
 abbrev pub value_of : List ℕ → ZEntry → List ℕ
@@ -108,9 +120,13 @@ value_of sector e = if nat_le e.len 8 then take e.len e.tail else slice_range se
 abbrev pub pair_of : List ℕ → Found → ℕ × List ℕ
 pair_of sector f = (f.entry.id, value_of sector f.entry)
 
--- the sector's part of the list: ids with their bytes, in the order in which they were put
+-- ids with their bytes, in the order in which they were put
 abbrev pub pairs : List ℕ → List (ℕ × List ℕ)
 pairs sector = map (pair_of sector) (entries sector)
+
+-- The sector's part of the area's list. An overfull sector has none: the area is damaged where it counts.
+abbrev pub part_of_list : List ℕ → Option (List (ℕ × List ℕ))
+part_of_list sector = if is_overfull sector then None else Some (pairs sector)
 
 -- the length of the value of the ordinary entry in a slot; 0 where there is none
 abbrev pub entry_len : List ℕ → ℕ → ℕ

@@ -7,19 +7,16 @@ ghost use Rattle.flash_map.specs.Units.{padded, padded_bytes};
 ghost use Rattle.flash_map.specs.Spending.{SpendsBetween};
 ghost use Rattle.flash_map.specs.Touches.{Touches};
 ghost use Rattle.zms_cycle.specs.Areas.{IsZmsSector, HasSlot, OthersStay};
-ghost use Rattle.zms_cycle.specs.Changes.{with_value, HasPart, KeepsList, AddsPair, MarksDone};
+ghost use Rattle.zms_cycle.specs.Changes.{guard_units, with_value, HasPart, KeepsList, AddsPair, MarksDone};
 ghost use Rattle.zms_cycle.specs.Entries.{value_entry, done_entry};
-ghost use Rattle.zms_cycle.specs.Sector.{cycle_of, data_len, cost, free, is_sound, fits};
+ghost use Rattle.zms_cycle.specs.Sector.{cycle_of, valid_slots, data_len, cost, free, is_sound, fits};
 
 use crate::ZEntry;
 use crate::guarding::put_slot;
-use crate::reading::{FIRST, SPECIAL_ID, opened_sector};
+use crate::reading::{FIRST, SPECIAL_ID, TAIL, opened_sector};
 use flash_map::{Area, program_padded};
 use flash_sim::{Flash, PowerLost, Steps};
 use std::sync::ledger::Ledger;
-
-// The longest value that its entry holds.
-pub const INLINE: usize = 8;
 
 // The tail that holds a value of at most 8 bytes.
 pub fn short_tail(bytes: &[u8]) -> [u8; 8]
@@ -44,7 +41,7 @@ pub fn long_tail(offset: u32) -> [u8; 8]
 fn tail_of(bytes: &[u8], offset: u32) -> [u8; 8]
     ensures { result ≡ (if nat_le (length bytes.now) 8 then bytes.now ++ replicate (8 - length bytes.now) 0 else to_le_bytes w32 offset ++ replicate 4 0) }
 {
-    if bytes.len() <= INLINE {
+    if bytes.len() <= TAIL as usize {
         short_tail(bytes)
     } else {
         long_tail(offset)
@@ -107,14 +104,17 @@ fn put_value<F: Flash>(
         OnOk result (SpendsBetween (F.device flash.old) (F.device flash.new) units units) }
     ensures spends_lost { OnErr result (SpendsBetween (F.device flash.old) (F.device flash.new) 0 (data_len (length bytes.now) / 16)) }
 {
-    if bytes.len() <= INLINE {
+    if bytes.len() <= TAIL as usize {
         return Ok(());
     }
     put_bytes(flash, area, sector, at, bytes)
 }
 
 /// Puts a value, in calls of at most 400 bytes, and then its entry, under which the guard is set first. No bytes are a
-/// delete. A cut leaves the sector's list as it was.
+/// delete.
+///
+/// # Errors
+/// `PowerLost`: the sector's list and marks are as before.
 pub fn put_entry<F: Flash, L: Ledger>(
     flash: &mut F,
     area: &Area,
@@ -135,19 +135,15 @@ pub fn put_entry<F: Flash, L: Ledger>(
     ensures lost { OnErr result (KeepsList (sector_bytes (F.device flash.old) area.now sector) (sector_bytes (F.device flash.new) area.now sector)) }
     ensures spends { let units = cost (length bytes.now) / 16 in
         OnOk result (SpendsBetween (F.device flash.old) (F.device flash.new) units (units + 1)) }
+    ensures guards { let b = sector_bytes (F.device flash.old) area.now sector in
+        let units = cost (length bytes.now) / 16 + guard_units (cycle_of b) (length (valid_slots b) + 2 + 1) b in
+        OnOk result (SpendsBetween (F.device flash.old) (F.device flash.new) units units) }
     ensures spends_lost { OnErr result (SpendsBetween (F.device flash.old) (F.device flash.new) 0 (cost (length bytes.now) / 16 + 1)) }
 {
     let opened = opened_sector(flash, area, sector, steps);
     let entry = value_entry(opened.cycle, id, bytes, opened.data_end);
     put_value(flash, area, sector, opened.data_end, bytes)?;
-    put_slot(
-        flash,
-        area,
-        sector,
-        opened.slots + FIRST as u32,
-        &entry,
-        steps,
-    )
+    put_slot(flash, area, sector, opened.slots + FIRST, &entry, steps)
 }
 
 // The entry of gc-done.
@@ -164,7 +160,10 @@ fn done_entry(cycle: u8, data_end: u32) -> ZEntry
 }
 
 /// Marks a sector into which a collection has copied all that it keeps: gc-done in the guard slot, under which the guard
-/// is set first. A cut leaves the sector without the mark.
+/// is set first.
+///
+/// # Errors
+/// `PowerLost`: the sector's list and marks are as before.
 pub fn put_done<F: Flash, L: Ledger>(
     flash: &mut F,
     area: &Area,
@@ -181,16 +180,12 @@ pub fn put_done<F: Flash, L: Ledger>(
     ensures ok { OnOk result (MarksDone (sector_bytes (F.device flash.old) area.now sector) (sector_bytes (F.device flash.new) area.now sector)) }
     ensures lost { OnErr result (KeepsList (sector_bytes (F.device flash.old) area.now sector) (sector_bytes (F.device flash.new) area.now sector)) }
     ensures spends { OnOk result (SpendsBetween (F.device flash.old) (F.device flash.new) 1 2) }
+    ensures guards { let b = sector_bytes (F.device flash.old) area.now sector in
+        let units = 1 + guard_units (cycle_of b) (length (valid_slots b) + 2 + 1) b in
+        OnOk result (SpendsBetween (F.device flash.old) (F.device flash.new) units units) }
     ensures spends_lost { OnErr result (SpendsBetween (F.device flash.old) (F.device flash.new) 0 2) }
 {
     let opened = opened_sector(flash, area, sector, steps);
     let entry = done_entry(opened.cycle, opened.data_end);
-    put_slot(
-        flash,
-        area,
-        sector,
-        opened.slots + FIRST as u32,
-        &entry,
-        steps,
-    )
+    put_slot(flash, area, sector, opened.slots + FIRST, &entry, steps)
 }

@@ -6,13 +6,13 @@ ghost use Rattle.flash_map.specs.Spending.{SpendsBetween};
 ghost use Rattle.flash_map.specs.Touches.{Touches};
 ghost use Rattle.flash_map.specs.Units.{padded, padded_bytes};
 ghost use Rattle.zms_cycle.specs.Areas.{IsZmsSector, HasSlot, OthersStay};
-ghost use Rattle.zms_cycle.specs.Changes.{with_value, HasPart, KeepsList, AddsPair};
+ghost use Rattle.zms_cycle.specs.Changes.{guard_units, with_value, HasPart, KeepsList, AddsPair};
 ghost use Rattle.zms_cycle.specs.Entries.{moved_entry};
 ghost use Rattle.zms_cycle.specs.Sector.{slot_of, cycle_of, valid_slots, entry_in, entry_len, pair_at, value_of, data_len, cost, free, is_sound};
 
-use crate::appending::{INLINE, long_tail, put_bytes, short_tail};
+use crate::appending::{long_tail, put_bytes, short_tail};
 use crate::guarding::{put_slot, slot_start};
-use crate::reading::{FIRST, SLOT, offset_of, opened_sector};
+use crate::reading::{FIRST, SLOT, TAIL, offset_of, opened_sector};
 use crate::{ZEntry, decode_zentry};
 use flash_map::{Area, area_view};
 use flash_sim::{Flash, PowerLost, Steps};
@@ -35,7 +35,7 @@ fn ordinary_entry<F: Flash, L: Ledger>(
     ensures { entry_in (slot_of (sector_bytes (F.device flash.now) area.now sector) slot) ≡ Some (record { slot = slot; entry = result }) }
 {
     let start = slot_start(flash, area, slot);
-    match decode_zentry(area_view(flash, area, sector, start, SLOT as u32, steps)) {
+    match decode_zentry(area_view(flash, area, sector, start, SLOT, steps)) {
         Some(entry) => entry,
         None => unreachable!(),
     }
@@ -45,9 +45,8 @@ fn ordinary_entry<F: Flash, L: Ledger>(
 fn moved_entry(cycle: u8, from: &ZEntry, offset: u32) -> ZEntry
     ensures { result ≡ moved_entry cycle from.now offset }
 {
-    let len = from.len as usize;
-    let tail = if len <= INLINE {
-        short_tail(&from.tail[..len])
+    let tail = if from.len <= TAIL {
+        short_tail(&from.tail[..from.len as usize])
     } else {
         long_tail(offset)
     };
@@ -157,7 +156,7 @@ fn copy_value<F: Flash, L: Ledger>(
     ensures spends { OnOk result (SpendsBetween (F.device flash.old) (F.device flash.new) (data_len from.now.len / 16) (data_len from.now.len / 16)) }
     ensures spends_lost { OnErr result (SpendsBetween (F.device flash.old) (F.device flash.new) 0 (data_len from.now.len / 16)) }
 {
-    if from.len as usize <= INLINE {
+    if from.len <= TAIL {
         return Ok(());
     }
     copy_bytes(
@@ -173,7 +172,10 @@ fn copy_value<F: Flash, L: Ledger>(
 }
 
 /// Copies an entry of another sector's list, its value in pieces of at most 32 bytes and then the entry, under which the
-/// guard is set first. A cut leaves the sector's list as it was.
+/// guard is set first.
+///
+/// # Errors
+/// `PowerLost`: the list and marks of the sector that is copied to are as before.
 pub fn copy_entry<F: Flash, L: Ledger>(
     flash: &mut F,
     area: &Area,
@@ -200,6 +202,9 @@ pub fn copy_entry<F: Flash, L: Ledger>(
     ensures lost { OnErr result (KeepsList (sector_bytes (F.device flash.old) area.now sector) (sector_bytes (F.device flash.new) area.now sector)) }
     ensures spends { let units = cost (entry_len (sector_bytes (F.device flash.old) area.now from_sector) from_slot) / 16 in
         OnOk result (SpendsBetween (F.device flash.old) (F.device flash.new) units (units + 1)) }
+    ensures guards { let b = sector_bytes (F.device flash.old) area.now sector in
+        let units = cost (entry_len (sector_bytes (F.device flash.old) area.now from_sector) from_slot) / 16 + guard_units (cycle_of b) (length (valid_slots b) + 2 + 1) b in
+        OnOk result (SpendsBetween (F.device flash.old) (F.device flash.new) units units) }
     ensures spends_lost { OnErr result (SpendsBetween (F.device flash.old) (F.device flash.new) 0 (cost (entry_len (sector_bytes (F.device flash.old) area.now from_sector) from_slot) / 16 + 1)) }
 {
     let opened = opened_sector(flash, area, sector, steps);
@@ -214,12 +219,5 @@ pub fn copy_entry<F: Flash, L: Ledger>(
         &from,
         steps,
     )?;
-    put_slot(
-        flash,
-        area,
-        sector,
-        opened.slots + FIRST as u32,
-        &entry,
-        steps,
-    )
+    put_slot(flash, area, sector, opened.slots + FIRST, &entry, steps)
 }

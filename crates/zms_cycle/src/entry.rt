@@ -2,7 +2,7 @@
 ghost use Rattle.std.specs.Prelude.{◌≡◌, ◌≤◌, length};
 ghost use Rattle.zms_cycle.specs.Entries.{encoded, decoded, fill};
 
-use crc8_entry::{START, crc8};
+use crc8_entry::{START, checks, crc8};
 
 /// An entry: the sector's cycle when it was put, the length of the value in bytes (0 for a delete), the id, and a tail.
 /// The tail is the value itself where it has at most 8 bytes, else the offset of the value in the sector, and four bytes 00.
@@ -49,7 +49,7 @@ pub fn decode_zentry(bytes: &[u8]) -> Option<ZEntry>
     requires { length bytes.now ≡ 16 }
     ensures { result ≡ decoded bytes.now }
 {
-    if crc8(START, &bytes[1..]) != bytes[0] {
+    if !checks(&bytes[1..], bytes[0]) {
         return None;
     }
     let mut tail = [0; 8];

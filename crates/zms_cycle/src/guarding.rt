@@ -20,7 +20,7 @@ pub fn slot_start<F: Flash>(flash: &F, area: &Area, slot: u32) -> u32
     requires slot { HasSlot (F.device flash.now) area.now slot }
     ensures { result ≡ sector_size (F.device flash.now) area.now - (slot + 1) * 16 }
 {
-    geometry(flash, area).sector - (slot + 1) * SLOT as u32
+    geometry(flash, area).sector - (slot + 1) * SLOT
 }
 
 // Programs one slot. A cut changes no byte.
@@ -46,7 +46,10 @@ pub fn put_unit<F: Flash>(
     area_program(flash, area, sector, start, bytes)
 }
 
-/// Programs the fill unit exactly where the slot is valid under the cycle. A cut changes no byte.
+/// Programs the fill unit exactly where the slot is valid under the cycle.
+///
+/// # Errors
+/// `PowerLost`: no byte changed.
 pub fn guard<F: Flash, L: Ledger>(
     flash: &mut F,
     area: &Area,
@@ -69,7 +72,7 @@ pub fn guard<F: Flash, L: Ledger>(
     ensures step { steps.new ≡ steps.old + 1 }
 {
     let start = slot_start(flash, area, slot);
-    let entry = decode_zentry(area_view(flash, area, sector, start, SLOT as u32, steps));
+    let entry = decode_zentry(area_view(flash, area, sector, start, SLOT, steps));
     if is_of_cycle(&entry, cycle) {
         return put_unit(flash, area, sector, slot, &fill_unit());
     }
@@ -94,6 +97,8 @@ pub fn put_slot<F: Flash, L: Ledger>(
     ensures lost { OnErr result ((sector_bytes (F.device flash.new) area.now sector ≡ sector_bytes (F.device flash.old) area.now sector)
         ⊎ (sector_bytes (F.device flash.new) area.now sector ≡ guarded entry.now.cycle (slot + 1) (sector_bytes (F.device flash.old) area.now sector))) }
     ensures spends { OnOk result (SpendsBetween (F.device flash.old) (F.device flash.new) 1 2) }
+    ensures guards { let units = 1 + (if is_valid_under entry.now.cycle (slot_of (sector_bytes (F.device flash.old) area.now sector) (slot + 1)) then 1 else 0) in
+        OnOk result (SpendsBetween (F.device flash.old) (F.device flash.new) units units) }
     ensures spends_lost { OnErr result (SpendsBetween (F.device flash.old) (F.device flash.new) 0 1) }
 {
     guard(flash, area, sector, slot + 1, entry.cycle, steps)?;

@@ -18,7 +18,8 @@ pub use entry::{ZEntry, decode_zentry, encode_zentry, fill_unit};
 pub use guarding::guard;
 pub use marking::{close, empty_sector};
 pub use reading::{
-    FIRST, Found, SLOT, SPECIAL_ID, SectorState, data_len, entry_in, offset_of, read_sector, state,
+    FIRST, Found, SLOT, SectorState, TAIL, TAIL_AT, capacity, cost, data_len, entry_in, offset_of,
+    read_sector, state,
 };
 
 #[cfg(test)]

@@ -1,10 +1,10 @@
 // Closing and emptying a sector.
-ghost use Rattle.std.specs.Prelude.{◌≡◌, ◌+◌, ◌-◌, ◌*◌, ◌/◌, ◌<◌, ◌≤◌, ◌∷◌, [], length, is_err, IsTrue, IsSome, OnOk, OnErr};
+ghost use Rattle.std.specs.Prelude.{◌≡◌, ◌+◌, ◌-◌, ◌*◌, ◌/◌, ◌<◌, ◌≤◌, ◌∷◌, [], length, is_err, Some, IsTrue, IsSome, OnOk, OnErr};
 ghost use Rattle.flash_map.specs.Area.{sector_size, sectors_of, sector_bytes};
 ghost use Rattle.flash_map.specs.Spending.{SpendsBetween};
 ghost use Rattle.flash_map.specs.Touches.{Touches};
 ghost use Rattle.zms_cycle.specs.Areas.{IsZmsSector, HasSlot, OthersStay};
-ghost use Rattle.zms_cycle.specs.Changes.{with_slot, KeepsList, StopsEmptying, Closes, Empties, next_cycle};
+ghost use Rattle.zms_cycle.specs.Changes.{with_slot, guard_units, IsFilled, KeepsList, StopsEmptying, Closes, Empties, next_cycle};
 ghost use Rattle.zms_cycle.specs.Entries.{fill, empty_entry, close_entry};
 ghost use Rattle.zms_cycle.specs.Sector.{cycle_of, valid_slots, low, data_end, free, is_sound};
 
@@ -51,10 +51,9 @@ fn next_cycle(cycle: Option<u8>) -> u8
 /// Empties a sector by the empty entry of the next cycle, once slots 1 and 2 are not valid under that cycle.
 ///
 /// # Errors
-/// `PowerLost`: the cycle, the slots and the marks are as before. Where no value of the list has bytes in slot 1 while
-/// that slot is valid under the next cycle, the sector also reads as before or holds nothing; so it is of each sector
-/// whose values end at or below its guard slot (`sound-apart` in `proofs/Marks.antt`). Without that it is not so:
-/// `proofs/OverwrittenValue.antt` has a sector in which the guard of slot 1 changes a value.
+/// `PowerLost`: the sector's being closed, its gc-done and its list are as before, or it is not closed and its slot 2 is not
+/// valid, so its list is empty and it has no gc-done. A sector that holds more than it may has no part in a list. The
+/// cycle, the slots and the marks are as before, and so is each value, unless the guard of slot 1 has to be put over one.
 pub fn empty_sector<F: Flash, L: Ledger>(
     flash: &mut F,
     area: &Area,
@@ -68,6 +67,9 @@ pub fn empty_sector<F: Flash, L: Ledger>(
     ensures ok { OnOk result (Empties (sector_bytes (F.device flash.old) area.now sector) (sector_bytes (F.device flash.new) area.now sector)) }
     ensures lost { OnErr result (StopsEmptying (sector_bytes (F.device flash.old) area.now sector) (sector_bytes (F.device flash.new) area.now sector)) }
     ensures spends { OnOk result (SpendsBetween (F.device flash.old) (F.device flash.new) 1 3) }
+    ensures guards { let b = sector_bytes (F.device flash.old) area.now sector in
+        let units = 1 + guard_units (Some (next_cycle (cycle_of b))) 1 b + guard_units (Some (next_cycle (cycle_of b))) 2 b in
+        OnOk result (SpendsBetween (F.device flash.old) (F.device flash.new) units units) }
     ensures spends_lost { OnErr result (SpendsBetween (F.device flash.old) (F.device flash.new) 0 3) }
 {
     let cycle = next_cycle(sector_cycle(flash, area, sector, steps));
@@ -96,7 +98,7 @@ fn fill_slot<F: Flash, L: Ledger>(
 {
     let start = slot_start(flash, area, slot);
     let unit = fill_unit();
-    let is_filled = area_view(flash, area, sector, start, SLOT as u32, steps) == unit.as_slice();
+    let is_filled = area_view(flash, area, sector, start, SLOT, steps) == unit.as_slice();
     if is_filled {
         return Ok(());
     }
@@ -120,6 +122,7 @@ fn fill_slots<F: Flash, L: Ledger>(
     ensures touches { Touches (area.now ∷ []) (F.device flash.old) (F.device flash.new) (is_err result) }
     ensures others { OthersStay (F.device flash.old) (F.device flash.new) area.now sector }
     ensures keeps { KeepsList (sector_bytes (F.device flash.old) area.now sector) (sector_bytes (F.device flash.new) area.now sector) }
+    ensures filled { OnOk result (IsFilled (sector_bytes (F.device flash.new) area.now sector) bottom top) }
     ensures spends { SpendsBetween (F.device flash.old) (F.device flash.new) 0 (top - bottom) }
 {
     let mut slot = top;
@@ -130,8 +133,11 @@ fn fill_slots<F: Flash, L: Ledger>(
     Ok(())
 }
 
-/// Closes a sector: every unit between its values and its slots becomes the fill unit, and then the close entry is put.
-/// A cut leaves the sector's list and marks as they were.
+/// Closes a sector: every unit between its values and its slots becomes the fill unit, and then the close entry is put,
+/// which names the start of the lowest used slot.
+///
+/// # Errors
+/// `PowerLost`: the sector's list and marks are as before.
 pub fn close<F: Flash, L: Ledger>(
     flash: &mut F,
     area: &Area,
@@ -151,9 +157,9 @@ pub fn close<F: Flash, L: Ledger>(
 {
     let opened = opened_sector(flash, area, sector, steps);
     let size = geometry(flash, area).sector;
-    let bottom = opened.slots + FIRST as u32;
-    let low = size - bottom * SLOT as u32;
-    let top = size.saturating_sub(opened.data_end) / SLOT as u32;
+    let bottom = opened.slots + FIRST;
+    let low = size - bottom * SLOT;
+    let top = size.saturating_sub(opened.data_end) / SLOT;
     fill_slots(flash, area, sector, top, bottom, steps)?;
     put_unit(
         flash,

@@ -6,7 +6,7 @@ ghost use Rattle.flash_map.specs.Area.{sector_bytes};
 ghost use Rattle.slot_list.specs.Slots.{used_slots};
 ghost use Rattle.zms_cycle.specs.Areas.{IsZmsSector};
 ghost use Rattle.zms_cycle.specs.Entries.{decoded, offset_of, is_special, mark_of, is_empty, is_close, is_done};
-ghost use Rattle.zms_cycle.specs.Sector.{slot_of, is_valid_under, is_valid, cycle_of, valid_slots, holds_close, is_closed, entry_in, value_end, data_len, data_end};
+ghost use Rattle.zms_cycle.specs.Sector.{slot_of, is_valid_under, is_valid, cycle_of, valid_slots, holds_close, is_closed, entry_in, value_end, data_len, cost, capacity, data_end};
 ghost use Rattle.zms_cycle.specs.States.{state_of};
 
 use crate::{ZEntry, decode_zentry};
@@ -15,13 +15,22 @@ use flash_sim::{Flash, Steps};
 use std::sync::ledger::Ledger;
 
 /// The bytes of a slot, which are one unit.
-pub const SLOT: usize = 16;
+pub const SLOT: u32 = 16;
 
-/// The id of entries that hold no value.
+/// The bytes of an entry's tail. A value of at most so many bytes stands in its entry.
+pub const TAIL: u16 = 8;
+
+/// Where the tail begins in an entry, in bytes.
+pub const TAIL_AT: u32 = 8;
+
+// The id of entries that hold no value.
 pub const SPECIAL_ID: u32 = 0xFFFF_FFFF;
 
 /// The slot in which entries begin.
-pub const FIRST: usize = 2;
+pub const FIRST: u32 = 2;
+
+// The slots that values and their entries leave: for empty, close, gc-done, one delete and the guard.
+const KEPT_SLOTS: u32 = 5;
 
 /// A sector: blank, or used in a cycle, with the number of valid slots from slot 2 on and the end of the values in bytes.
 #[derive(Clone, Copy, Debug, PartialEq, Eq)]
@@ -78,17 +87,17 @@ fn is_done(entry: &ZEntry) -> bool
 }
 
 // The bytes of a slot.
-fn slot_of(sector: &[u8], slot: usize) -> &[u8]
+fn slot_of(sector: &[u8], slot: u32) -> &[u8]
     requires { (slot + 1) * 16 ≤ length sector.now }
     ensures bytes { result.now ≡ (slot_of sector.now slot).bytes }
     ensures len { length result.now ≡ 16 }
 {
-    let start = sector.len() - (slot + 1) * SLOT;
-    &sector[start..start + SLOT]
+    let start = sector.len() - (slot as usize + 1) * SLOT as usize;
+    &sector[start..start + SLOT as usize]
 }
 
 // The entry in a slot, if it checks.
-fn entry_at(sector: &[u8], slot: usize) -> Option<ZEntry>
+fn entry_at(sector: &[u8], slot: u32) -> Option<ZEntry>
     requires { (slot + 1) * 16 ≤ length sector.now }
     ensures { result ≡ decoded (slot_of sector.now slot).bytes }
 {
@@ -116,7 +125,7 @@ fn cycle_of(sector: &[u8]) -> Option<u8>
     }
 }
 
-fn is_valid(sector: &[u8], slot: usize, cycle: u8) -> bool
+fn is_valid(sector: &[u8], slot: u32, cycle: u8) -> bool
     requires { (slot + 1) * 16 ≤ length sector.now }
     ensures { result ≡ is_valid_under cycle (slot_of sector.now slot) }
 {
@@ -135,12 +144,13 @@ fn is_closed(sector: &[u8], cycle: u8) -> bool
 }
 
 // How many slots from slot 2 on are valid under the cycle.
-fn valid_count(sector: &[u8], cycle: u8) -> usize
-    requires { 48 ≤ length sector.now }
+fn valid_count(sector: &[u8], cycle: u8) -> u32
+    requires long { 48 ≤ length sector.now }
+    requires short { length sector.now ≤ 2 ^ 15 }
     ensures count { result ≡ length (used_slots (is_valid (Some cycle)) 2 16 sector.now) }
     ensures fits { (result + 2) * 16 ≤ length sector.now }
 {
-    let count = sector.len() / SLOT;
+    let count = sector.len() as u32 / SLOT;
     let mut valid = 0;
     for slot in FIRST..count {
         if !is_valid(sector, slot, cycle) {
@@ -152,15 +162,11 @@ fn valid_count(sector: &[u8], cycle: u8) -> usize
 }
 
 // The entry of a slot, where it is no special one.
-fn ordinary(entry: Option<ZEntry>, slot: usize) -> Option<Found>
-    requires { slot < 2 ^ 32 }
+fn ordinary(entry: Option<ZEntry>, slot: u32) -> Option<Found>
     ensures { result ≡ option_and_then (λ e. if is_special e then None else Some (record { slot = slot; entry = e })) entry }
 {
     match entry {
-        Some(entry) if entry.id != SPECIAL_ID => Some(Found {
-            slot: slot as u32,
-            entry,
-        }),
+        Some(entry) if entry.id != SPECIAL_ID => Some(Found { slot, entry }),
         _ => None,
     }
 }
@@ -170,7 +176,7 @@ pub fn entry_in(sector: &[u8], slot: u32) -> Option<Found>
     requires { (slot + 1) * 16 ≤ length sector.now }
     ensures { result ≡ entry_in (slot_of sector.now slot) }
 {
-    ordinary(entry_at(sector, slot as usize), slot as usize)
+    ordinary(entry_at(sector, slot), slot)
 }
 
 fn holds_done(entry: &Option<ZEntry>) -> bool
@@ -195,11 +201,26 @@ pub fn data_len(len: u16) -> u32
     ensures value { result ≡ data_len len }
     ensures small { result < 2 ^ 17 }
 {
-    if len <= 8 {
+    if len <= TAIL {
         0
     } else {
-        padded(SLOT as u32, u32::from(len))
+        padded(SLOT, u32::from(len))
     }
+}
+
+/// The bytes that a value of this length and its entry take up.
+pub fn cost(len: u16) -> u32
+    ensures value { result ≡ cost len }
+    ensures small { result < 2 ^ 18 }
+{
+    SLOT + data_len(len)
+}
+
+/// The bytes that a sector of this size, in bytes, has for values and their entries.
+pub fn capacity(size: u32) -> u32
+    ensures { result ≡ capacity size }
+{
+    size.saturating_sub(KEPT_SLOTS * SLOT)
 }
 
 // The end of the value that an entry names.
@@ -209,10 +230,10 @@ fn value_end(found: &Found) -> u64
     ensures small { result < 2 ^ 33 }
 {
     let len = found.entry.len;
-    if len <= 8 {
+    if len <= TAIL {
         0
     } else {
-        u64::from(offset_of(&found.entry)) + u64::from(padded(SLOT as u32, u32::from(len)))
+        u64::from(offset_of(&found.entry)) + u64::from(padded(SLOT, u32::from(len)))
     }
 }
 
@@ -258,7 +279,7 @@ fn used_state(sector: &[u8], cycle: u8) -> SectorState
     SectorState::Used {
         cycle,
         closed: is_closed(sector, cycle),
-        slots: slots as u32,
+        slots,
         data_end: ends.max(lens).min(u64::from(u32::MAX)) as u32,
         gc_done,
     }

@@ -2,7 +2,7 @@
 use Rattle.std.proofs.Common.{◌≡◌, ℕ, ◌+◌, ◌-◌, ◌≤◌, Bool, true, false, not, ◌&&◌, ◌||◌, ltb, List, [], ◌∷◌, ◌++◌, length, map, set, Option, None, refl, sym, ap, subst, ◌∙◌, inl, inr, arith}
 use Rattle.std.specs.Prelude.{sum_by, IsSome}
 use Rattle.std.specs.List.{filter_map, flat_map, list_all, list_any}
-use Rattle.std.proofs.lemmas.Bool.{cases_Bool, and_parts, le-ltb, le-leb, not-true}
+use Rattle.std.proofs.lemmas.Bool.{cases_Bool, and_parts, or_from, le-ltb, le-leb, not-true}
 use Rattle.std.proofs.lemmas.List.{length-set, set-set, set-get_or}
 use Rattle.std.proofs.lemmas.List.Sums.{sum_by_push}
 use Rattle.flash_sim.specs.Device.{Device}
@@ -26,15 +26,15 @@ use Rattle.sector_ring.proofs.Rounding.{marked_copies, collection}
 use Rattle.live_items.proofs.SectorCosts.{costs_are as sector_costs}
 use Rattle.zms_cycle.specs.declared.reading.Found.{Found}
 use Rattle.zms_cycle.specs.Changes.{AddsPair, MarksDone, Empties}
-use Rattle.zms_cycle.specs.Sector.{slot_of, is_valid, cycle_of, valid_slots, is_closed, entry_in, entries, has_gc_done, holds_done, cost, capacity, low, data_end, end_of, has_guard, is_under, is_sound, pair_of, pairs}
-use Rattle.zms_cycle.proofs.Frames.{sound-parts}
-use Rattle.zms_store.specs.Area.{is_begun, is_unused, is_overfull, entry_cost, reading, list_of, damage_of}
+use Rattle.zms_cycle.specs.Sector.{slot_of, is_valid, cycle_of, valid_slots, is_closed, entry_in, entries, has_gc_done, holds_done, cost, capacity, low, data_end, end_of, has_guard, is_under, is_sound, pair_of, pairs, entry_cost, holds_too_much}
+use Rattle.zms_cycle.proofs.Frames.{sound-parts, sound_of}
+use Rattle.zms_store.specs.Area.{is_begun, is_unused, reading, list_of, damage_of, zms}
 use Rattle.zms_store.specs.Collecting.{ChangesOnly, HasCopied, StopsCopying, KeepsMarks, CollectsAt}
 use Rattle.zms_store.specs.Spending.{copied}
 use Rattle.zms_store.specs.Standing.{KeepsItems}
 use Rattle.zms_store.proofs.Damages.{form_undamaged}
-use Rattle.zms_store.proofs.Sectors.{laws, unused_slots, unused_closed, unused_sound, sound_of, costs_of}
-use Rattle.zms_store.proofs.ZmsEntries.{zms, are_zms}
+use Rattle.zms_store.proofs.Sectors.{laws, unused_slots, unused_closed, unused_sound, costs_of}
+use Rattle.zms_store.proofs.ZmsEntries.{are_zms}
 
 -- Items.
 
@@ -155,7 +155,7 @@ costs_are b sound = sector_costs zms are_zms b 0 sound
 
 -- A sector whose values stand under its guard slot and cost no more than it has for them is one that counts.
 pub ring_sound_of : (b : List ℕ) → is_sound b ≡ true → stored_cost cost (pairs b) ≤ capacity (length b) → ring_sound reading b ≡ true
-unfolding is_overfull
+unfolding holds_too_much
 ring_sound_of b sound fits =
     let parts = sound-parts b sound in
     let costs = costs_are b sound in
@@ -188,9 +188,9 @@ roomy_of b long sound =
           let none : stored_cost cost (pairs b) ≡ 0 = ap (stored_cost cost) empty in
           record { sound = unused_sound b long unused; costs = omega arith }
       | inr used ↦
-          let parts = and_parts (has_guard b) (not (is_overfull b)) (sym (ap (λ (t : Bool). t || (has_guard b && not (is_overfull b))) used) ∙ sound) in
-          let roomy = not-true (is_overfull b) parts.1 in
-          let zms = sound_of b parts.0 roomy in
+          let parts = and_parts (has_guard b) (not (holds_too_much b)) (sym (ap (λ (t : Bool). t || (has_guard b && not (holds_too_much b))) used) ∙ sound) in
+          let roomy = not-true (holds_too_much b) parts.1 in
+          let zms = sound_of b (or_from (not (has_guard b)) (holds_too_much b) (ap not parts.0) roomy) in
           let le = costs_of b roomy in
           let same = costs_are b zms in
           record { sound = zms; costs = omega arith }

@@ -1,20 +1,19 @@
 -- What the copies of a collection are, entry by entry, and what they cost: the laws on live items, for ZMS.
-use Rattle.std.proofs.Common.{◌≡◌, ℕ, ◌+◌, ◌<◌, ◌≤◌, true, List, ◌∷◌, [], ◌++◌, length, Option, Some, None, refl, sym, ap, ◌∙◌, arith}
+use Rattle.std.proofs.Common.{◌≡◌, ℕ, ◌+◌, ◌<◌, ◌≤◌, true, List, ◌∷◌, [], ◌++◌, length, Some, None, sym, ap, ◌∙◌, arith}
 use Rattle.flash_map.specs.Area.{sector_at}
 use Rattle.sector_ring.specs.Area.{next}
 use Rattle.sector_ring.specs.Forms.{Collecting, to_copy}
 use Rattle.sector_ring.specs.Rounds.{copies_cost}
 use Rattle.slot_list.proofs.SlotLemmas.{index-slot_at}
-use Rattle.live_items.specs.Live as live
 use Rattle.live_items.proofs.CopyLemmas as laws
 use Rattle.zms_cycle.specs.Sector.{slot_of, entry_in, valid_slots, cost, is_sound}
 use Rattle.zms_store.specs.declared.sector.Placed.{Placed}
-use Rattle.zms_store.specs.Area.{reading, placed_bytes}
+use Rattle.zms_store.specs.Area.{reading, placed_bytes, zms}
 use Rattle.zms_store.specs.Collecting.{live_in, StopsCopying, placed_pair, live_to, cost_of}
 use Rattle.zms_store.proofs.Areas.{stopped, only_length, only_else}
 use Rattle.zms_store.proofs.EntryReads.{is_read, bytes_len}
 use Rattle.zms_store.proofs.Sectors.{read_room}
-use Rattle.zms_store.proofs.ZmsEntries.{zms, are_zms}
+use Rattle.zms_store.proofs.ZmsEntries.{are_zms}
 
 -- one slot more
 
@@ -26,10 +25,6 @@ to_some sectors place n p some = laws.to_some zms sectors place n p some
 
 pub to_less : (sectors : List (List ℕ)) (place n all : ℕ) → n ≤ all → copies_cost cost (live_to sectors place n) ≤ copies_cost cost (live_to sectors place all)
 to_less sectors place n all le = laws.to_less zms sectors place n all le
-
-same_cost : (o : Option Placed) → live.cost_of zms o ≡ cost_of o
-same_cost None = refl
-same_cost (Some p) = refl
 
 -- the live entries of the victim are what a collection copies
 pub copies-are : (sectors : List (List ℕ)) (place : ℕ) → Collecting reading sectors place → is_sound (sector_at sectors (next sectors place)) ≡ true → to_copy reading sectors place ≡ live_to sectors (next sectors place) (length (valid_slots (sector_at sectors (next sectors place))))
@@ -51,7 +46,6 @@ live-bytes sectors place slot p sound from listed is =
 pub to_cost : (sectors : List (List ℕ)) (place n : ℕ) → is_sound (sector_at sectors place) ≡ true → n < length (valid_slots (sector_at sectors place)) → copies_cost cost (live_to sectors place (n + 1)) ≡ copies_cost cost (live_to sectors place n) + cost_of (live_in sectors place (n + 2))
 to_cost sectors place n sound more =
     laws.to_cost zms are_zms sectors place n (λ p some. (live-bytes sectors place (n + 2) p sound (omega arith) (omega arith) some).0)
-    ∙ ap (λ (m : ℕ). copies_cost cost (live_to sectors place n) + m) (same_cost (live_in sectors place (n + 2)))
 
 -- the victim's entries stay live while the open sector changes
 

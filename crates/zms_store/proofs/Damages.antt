@@ -2,7 +2,7 @@
 use Rattle.std.proofs.Common.{◌≡◌, ℕ, zero, suc, ◌+◌, ◌-◌, ◌<◌, ◌≤◌, Bool, true, false, not, ◌&&◌, ◌||◌, cond, eqb, List, length, Option, Some, None, refl, sym, ap, ◌∙◌, inl, inr, arith}
 use Rattle.std.specs.List.{find, list_all, range_with_len, slice_get}
 use Rattle.std.specs.Option.{option_map, option_or}
-use Rattle.std.proofs.lemmas.Bool.{false≢true, cases_Bool, or_parts, ne_eqb, eq-eqb, not-false}
+use Rattle.std.proofs.lemmas.Bool.{false≢true, cases_Bool, or_parts, ne_eqb, eq-eqb}
 use Rattle.flash_map.specs.declared.faults.Why.{Why}
 use Rattle.flash_map.specs.declared.faults.Why.TheVariants.{AllClosed, TwoOpen, Dirty, NoFence, Overfull}
 use Rattle.flash_map.specs.declared.faults.Damaged.{Damaged}
@@ -13,9 +13,11 @@ use Rattle.sector_ring.proofs.Places.{All-range, find_none}
 use Rattle.sector_ring.proofs.RingSteps.{reads}
 use Rattle.sector_ring.proofs.Searches.{second-filter, second-none}
 use Rattle.sector_ring.proofs.Undamaged.{HasNoDamage, rows, only-opening, opening-is, option_cases, cond_none, or_none, no_kind, found, find-filter, form-of}
-use Rattle.zms_cycle.specs.Sector.{has_guard, is_sound}
-use Rattle.zms_store.specs.Area.{is_begun, is_overfull, reading, is_second_open, is_overfull_at, damage_of}
-use Rattle.zms_store.proofs.Sectors.{unused-is, unused_sound, sound_of}
+use Rattle.zms_cycle.specs.Sector.{has_guard, is_sound, holds_too_much, is_overfull, pairs}
+use Rattle.zms_cycle.proofs.Frames.{sound_of}
+use Rattle.zms_store.specs.Area.{is_begun, reading, is_second_open, is_overfull_at, damage_of}
+use Rattle.zms_store.specs.Parts.{EachHasItsPart}
+use Rattle.zms_store.proofs.Sectors.{unused-is, unused_roomy}
 
 -- What an undamaged area is, row by row.
 
@@ -52,8 +54,8 @@ ring_none sectors h =
     let place = open_sector reading sectors in
     let dirty = none_of_kind Dirty (λ k. not (is_closed_at reading sectors k) && not (eqb k (open_sector reading sectors)) && not (is_blank_at reading sectors k)) sectors h.clean in
     let fence = none_of_kind NoFence (λ k. looked_at reading sectors (open_sector reading sectors) k && not (has_guard (sector_at sectors k))) sectors h.fenced in
-    let full = none_of_kind Overfull (λ k. looked_at reading sectors (open_sector reading sectors) k && is_overfull (sector_at sectors k)) sectors h.roomy in
-    let last : Option Damaged = first_of_kind Overfull (λ k. looked_at reading sectors (open_sector reading sectors) k && is_overfull (sector_at sectors k)) sectors in
+    let full = none_of_kind Overfull (λ k. looked_at reading sectors (open_sector reading sectors) k && holds_too_much (sector_at sectors k)) sectors h.roomy in
+    let last : Option Damaged = first_of_kind Overfull (λ k. looked_at reading sectors (open_sector reading sectors) k && holds_too_much (sector_at sectors k)) sectors in
     let later : Option Damaged = option_or (first_of_kind NoFence (λ k. looked_at reading sectors (open_sector reading sectors) k && not (has_guard (sector_at sectors k))) sectors) last in
     let dirty_on : Option Damaged = option_or (first_of_kind Dirty (λ k. not (is_closed_at reading sectors k) && not (eqb k (open_sector reading sectors)) && not (is_blank_at reading sectors k)) sectors) later in
     ap (λ (t : Bool). cond t (Some (record { sector = 0; why = AllClosed })) (option_or (option_map (λ (p : ℕ). record { sector = p; why = TwoOpen }) (slice_get (openings reading sectors) 1)) dirty_on)) h.some_open
@@ -133,8 +135,8 @@ ring_undamaged sectors none =
       some_open = clean.some_open;
       one_opening = no_second sectors clean;
       clean = λ k lt. dirty_row (is_closed_at reading sectors k) (eqb k (open_sector reading sectors)) (is_begun (sector_at sectors k)) (not (is_blank_at reading sectors k)) (is_closed_at reading sectors (previous sectors k)) (unused-is (sector_at sectors k)) (clean.one_open k lt);
-      fenced = λ k lt. (one_row (looked_at reading sectors (open_sector reading sectors) k) (has_guard (sector_at sectors k)) (is_overfull (sector_at sectors k)) (clean.roomy k lt)).0;
-      roomy = λ k lt. (one_row (looked_at reading sectors (open_sector reading sectors) k) (has_guard (sector_at sectors k)) (is_overfull (sector_at sectors k)) (clean.roomy k lt)).1;
+      fenced = λ k lt. (one_row (looked_at reading sectors (open_sector reading sectors) k) (has_guard (sector_at sectors k)) (holds_too_much (sector_at sectors k)) (clean.roomy k lt)).0;
+      roomy = λ k lt. (one_row (looked_at reading sectors (open_sector reading sectors) k) (has_guard (sector_at sectors k)) (holds_too_much (sector_at sectors k)) (clean.roomy k lt)).1;
     })
 
 pub undamaged_ring : (sectors : List (List ℕ)) → first_damage reading sectors ≡ None → damage_of sectors ≡ None
@@ -144,7 +146,7 @@ undamaged_ring sectors none =
       some_open = h.some_open;
       one_open = λ k lt. second_row (is_closed_at reading sectors k) (eqb k (open_sector reading sectors)) (is_begun (sector_at sectors k)) (not (is_blank_at reading sectors k)) (is_closed_at reading sectors (previous sectors k)) (unused-is (sector_at sectors k)) (h.clean k lt)
           (λ apart follows. let is : open_sector reading sectors ≡ k = only-opening reading sectors k h lt follows in absurd (false≢true (sym apart ∙ eqb_same k (open_sector reading sectors) (sym is))));
-      roomy = λ k lt. both_rows (looked_at reading sectors (open_sector reading sectors) k) (has_guard (sector_at sectors k)) (is_overfull (sector_at sectors k)) (h.fenced k lt) (h.roomy k lt);
+      roomy = λ k lt. both_rows (looked_at reading sectors (open_sector reading sectors) k) (has_guard (sector_at sectors k)) (holds_too_much (sector_at sectors k)) (h.fenced k lt) (h.roomy k lt);
     })
   where
     eqb_same : (x y : ℕ) → x ≡ y → eqb x y ≡ true
@@ -158,14 +160,21 @@ form_of sectors several none = form-of reading sectors several (ring_undamaged s
 pub form_undamaged : (sectors : List (List ℕ)) (place : ℕ) → IsForm reading sectors place → (open_sector reading sectors ≡ place) × (damage_of sectors ≡ None)
 form_undamaged sectors place form = let r = reads reading sectors place form in (r.0, undamaged_ring sectors r.1)
 
--- the values of a sector that counts stand under its guard slot
-pub counts_sound : (sectors : List (List ℕ)) (k : ℕ) → damage_of sectors ≡ None → k < length sectors → 48 ≤ length (sector_at sectors k) → counts_at reading sectors (open_sector reading sectors) k ≡ true → is_sound (sector_at sectors k) ≡ true
-counts_sound sectors k none lt long counts =
+-- a sector that counts is not overfull
+counts_roomy : (sectors : List (List ℕ)) (k : ℕ) → damage_of sectors ≡ None → k < length sectors → 48 ≤ length (sector_at sectors k) → counts_at reading sectors (open_sector reading sectors) k ≡ true → is_overfull (sector_at sectors k) ≡ false
+counts_roomy sectors k none lt long counts =
     let clean = clean_of sectors none in
     elim (cases_Bool (is_blank_at reading sectors k)) [
-      | inl unused ↦ unused_sound (sector_at sectors k) long unused
+      | inl unused ↦ unused_roomy (sector_at sectors k) long unused
       | inr used ↦
           let looked : looked_at reading sectors (open_sector reading sectors) k ≡ true = ap (λ (t : Bool). t && not (is_blank_at reading sectors k)) counts ∙ ap not used in
-          let rows = or_parts (not (has_guard (sector_at sectors k))) (is_overfull (sector_at sectors k)) (sym (ap (λ (t : Bool). t && (not (has_guard (sector_at sectors k)) || is_overfull (sector_at sectors k))) looked) ∙ clean.roomy k lt) in
-          sound_of (sector_at sectors k) (not-false (has_guard (sector_at sectors k)) rows.0) rows.1
+          sym (ap (λ (t : Bool). t && is_overfull (sector_at sectors k)) looked) ∙ clean.roomy k lt
     ]
+
+-- so its values stand under its guard slot
+pub counts_sound : (sectors : List (List ℕ)) (k : ℕ) → damage_of sectors ≡ None → k < length sectors → 48 ≤ length (sector_at sectors k) → counts_at reading sectors (open_sector reading sectors) k ≡ true → is_sound (sector_at sectors k) ≡ true
+counts_sound sectors k none lt long counts = sound_of (sector_at sectors k) (counts_roomy sectors k none lt long counts)
+
+-- and it has its part of the area's list
+pub has_its_part : EachHasItsPart
+has_its_part sectors place long none lt counts = ap (λ (t : Bool). cond t None (Some (pairs (sector_at sectors place)))) (counts_roomy sectors place none lt long counts)

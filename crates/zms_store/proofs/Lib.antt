@@ -11,6 +11,7 @@ pub mod NextIds
 pub mod PlacedLemmas
 pub mod PlacedReads
 pub mod Putting
+pub mod ReservedId
 pub mod RoundSteps
 pub mod Sectors
 pub mod StandLemmas

@@ -7,9 +7,9 @@ use Rattle.sector_ring.specs.Forms.{AtRest}
 use Rattle.sector_ring.specs.Rounds.{copies_cost, live_cost}
 use Rattle.live_items.proofs.LiveSum as live
 use Rattle.zms_cycle.specs.Sector.{cost, is_sound, valid_slots}
-use Rattle.zms_store.specs.Area.{reading, list_of}
+use Rattle.zms_store.specs.Area.{reading, list_of, zms}
 use Rattle.zms_store.specs.Collecting.{live_to}
-use Rattle.zms_store.proofs.ZmsEntries.{zms, are_zms}
+use Rattle.zms_store.proofs.ZmsEntries.{are_zms}
 
 -- what the live pairs of one sector cost
 abbrev pub cost_at : List (List ℕ) → ℕ → ℕ

@@ -10,11 +10,11 @@ use Rattle.sector_ring.specs.Area.{next, previous, places, is_closed_at, is_blan
 pub use Rattle.sector_ring.proofs.AreaReads.{length-sectors, next_there, previous_there}
 use Rattle.sector_ring.proofs.AreaReads as reads
 use Rattle.sector_ring.proofs.Searches.{all-found, not_all-found}
-use Rattle.zms_cycle.specs.Sector.{has_gc_done, has_guard}
+use Rattle.zms_cycle.specs.Sector.{has_gc_done, has_guard, holds_too_much}
 use Rattle.zms_store.specs.declared.places.Sought.{Sought}
 use Rattle.zms_store.specs.declared.places.Sought.TheVariants as sought
 use Rattle.zms_store.specs.declared.sector.Redo.TheVariants.{Nothing, EmptyNext, CollectAgain}
-use Rattle.zms_store.specs.Area.{is_begun, is_overfull, reading, redo_of, damage_of, is_second_open, is_overfull_at}
+use Rattle.zms_store.specs.Area.{is_begun, reading, redo_of, damage_of, is_second_open, is_overfull_at}
 use Rattle.zms_store.specs.Sought.{is_sought}
 use Rattle.zms_store.proofs.Sectors.{unused-is}
 
@@ -35,7 +35,7 @@ counts_open sectors place k c = reads.counts_open reading sectors place k c
 pub full_unused : (sectors : List (List ℕ)) (current place : ℕ) (begun closed used : Bool) → used ≡ (begun || closed) → begun ≡ is_begun (sector_at sectors place) → closed ≡ is_closed_at reading sectors place → used ≡ false → false ≡ is_overfull_at sectors current place
 full_unused sectors current place begun closed used is b c none =
     let blank : not (is_blank_at reading sectors place) ≡ false = sym (unused-is (sector_at sectors place)) ∙ sym (ap (λ (t : Bool). t || is_closed_at reading sectors place) b) ∙ sym (ap (λ (t : Bool). begun || t) c) ∙ sym is ∙ none in
-    sym (ap (λ (t : Bool). (counts_at reading sectors current place && t) && (not (has_guard (sector_at sectors place)) || is_overfull (sector_at sectors place))) blank ∙ no_use (counts_at reading sectors current place) (not (has_guard (sector_at sectors place)) || is_overfull (sector_at sectors place)))
+    sym (ap (λ (t : Bool). (counts_at reading sectors current place && t) && (not (has_guard (sector_at sectors place)) || holds_too_much (sector_at sectors place))) blank ∙ no_use (counts_at reading sectors current place) (not (has_guard (sector_at sectors place)) || holds_too_much (sector_at sectors place)))
   where
     no_use : (x y : Bool) → ((x && false) && y) ≡ false
     no_use true y = refl
@@ -45,14 +45,14 @@ in_use : (sectors : List (List ℕ)) (place : ℕ) (begun closed used : Bool) �
 in_use sectors place begun closed used is b c some = sym (unused-is (sector_at sectors place)) ∙ sym (ap (λ (t : Bool). t || is_closed_at reading sectors place) b) ∙ sym (ap (λ (t : Bool). begun || t) c) ∙ sym is ∙ some
 
 pub full_passed : (sectors : List (List ℕ)) (current place : ℕ) → counts_at reading sectors current place ≡ false → false ≡ is_overfull_at sectors current place
-full_passed sectors current place none = sym (ap (λ (t : Bool). (t && not (is_blank_at reading sectors place)) && (not (has_guard (sector_at sectors place)) || is_overfull (sector_at sectors place))) none)
+full_passed sectors current place none = sym (ap (λ (t : Bool). (t && not (is_blank_at reading sectors place)) && (not (has_guard (sector_at sectors place)) || holds_too_much (sector_at sectors place))) none)
 
 pub full_counts : (sectors : List (List ℕ)) (current place : ℕ) (begun closed used : Bool) → used ≡ (begun || closed) → begun ≡ is_begun (sector_at sectors place) → closed ≡ is_closed_at reading sectors place → used ≡ true → counts_at reading sectors current place ≡ true
-    → (guard full : Bool) → has_guard (sector_at sectors place) ≡ guard → is_overfull (sector_at sectors place) ≡ full → (not guard || full) ≡ is_overfull_at sectors current place
+    → (guard full : Bool) → has_guard (sector_at sectors place) ≡ guard → holds_too_much (sector_at sectors place) ≡ full → (not guard || full) ≡ is_overfull_at sectors current place
 full_counts sectors current place begun closed used is b c some counts guard full g f =
-    sym (ap (λ (t : Bool). (t && not (is_blank_at reading sectors place)) && (not (has_guard (sector_at sectors place)) || is_overfull (sector_at sectors place))) counts
-    ∙ ap (λ (t : Bool). t && (not (has_guard (sector_at sectors place)) || is_overfull (sector_at sectors place))) (in_use sectors place begun closed used is b c some)
-    ∙ ap (λ (t : Bool). not t || is_overfull (sector_at sectors place)) g ∙ ap (λ (t : Bool). not guard || t) f)
+    sym (ap (λ (t : Bool). (t && not (is_blank_at reading sectors place)) && (not (has_guard (sector_at sectors place)) || holds_too_much (sector_at sectors place))) counts
+    ∙ ap (λ (t : Bool). t && (not (has_guard (sector_at sectors place)) || holds_too_much (sector_at sectors place))) (in_use sectors place begun closed used is b c some)
+    ∙ ap (λ (t : Bool). not t || holds_too_much (sector_at sectors place)) g ∙ ap (λ (t : Bool). not guard || t) f)
 
 pub second_is : (sectors : List (List ℕ)) (current place : ℕ) (closed same begun before_closed : Bool) → is_closed_at reading sectors place ≡ closed → eqb place current ≡ same → is_begun (sector_at sectors place) ≡ begun → is_closed_at reading sectors (previous sectors place) ≡ before_closed
     → (not closed && (not same && (begun || before_closed))) ≡ is_second_open sectors current place

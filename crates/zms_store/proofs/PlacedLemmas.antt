@@ -9,8 +9,8 @@ use Rattle.sector_ring.specs.Area.{counts_at, open_sector}
 use Rattle.live_items.proofs.LastLemmas as laws
 use Rattle.zms_cycle.specs.Sector.{entries}
 use Rattle.zms_store.specs.declared.sector.Placed.{Placed}
-use Rattle.zms_store.specs.Area.{reading, placed_at, placed_bytes, counted_in, last_of, last_in, last_placed, list_of}
-use Rattle.zms_store.proofs.ZmsEntries.{zms, are_zms}
+use Rattle.zms_store.specs.Area.{reading, placed_at, placed_bytes, counted_in, last_of, last_in, last_placed, list_of, zms}
+use Rattle.zms_store.proofs.ZmsEntries.{are_zms}
 
 -- the last one of a sector that counts, or none
 pub counted-last : (sectors : List (List ℕ)) (current place id : ℕ) → counts_at reading sectors current place ≡ true → option_map (placed_at place) (last_in id (entries (sector_at sectors place))) ≡ last_of id (counted_in sectors current place)

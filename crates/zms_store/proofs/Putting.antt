@@ -21,10 +21,10 @@ use Rattle.zms_cycle.specs.declared.entry.ZEntry.{ZEntry}
 use Rattle.zms_cycle.specs.declared.reading.Found.{Found}
 use Rattle.zms_cycle.specs.Changes.{KeepsSlots, KeepsList, AddsPair, StopsEmptying}
 use Rattle.zms_cycle.specs.Entries.{is_special, is_done, mark_of}
-use Rattle.zms_cycle.specs.Sector.{slot_of, is_valid, cycle_of, valid_slots, holds_close, is_closed, entry_in, entries, has_gc_done, holds_done, data_len, cost, capacity, data_end, free, fits, is_sound, pair_of, pairs}
+use Rattle.zms_cycle.specs.Sector.{slot_of, is_valid, cycle_of, valid_slots, holds_close, is_closed, entry_in, entries, has_gc_done, holds_done, data_len, cost, capacity, data_end, free, fits, is_sound, pair_of, pairs, entry_cost}
 use Rattle.zms_cycle.proofs.Frames.{end_of-above}
 use Rattle.zms_cycle.proofs.Slots16.{entry_in-is}
-use Rattle.zms_store.specs.Area.{is_begun, is_unused, entry_cost, reading, list_of, damage_of}
+use Rattle.zms_store.specs.Area.{is_begun, is_unused, reading, list_of, damage_of}
 use Rattle.zms_store.specs.Collecting.{ChangesOnly, Begins}
 use Rattle.zms_store.proofs.Areas.{keeps-by, only_then, empties_unused, unused_end, costs_are, ring_sound_of, roomy_of}
 use Rattle.zms_store.proofs.EntryReads.{is_read}

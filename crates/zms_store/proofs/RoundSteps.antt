@@ -14,6 +14,7 @@ use Rattle.sector_ring.specs.Reading.{is_sound as ring_sound}
 use Rattle.sector_ring.specs.Rounds.{copies_cost, stored_cost, Collects, IsRound}
 use Rattle.sector_ring.specs.Steps as ring_steps
 use Rattle.sector_ring.proofs.Collects.{close, next_blank, put_nothing}
+use Rattle.sector_ring.proofs.Rings.{next-closed}
 use Rattle.sector_ring.proofs.Places.{after, after-within, after-apart, flat_map-agree}
 use Rattle.sector_ring.proofs.Rounding.{round_blank, round_collected}
 use Rattle.zms_cycle.specs.declared.reading.Found.{Found}
@@ -125,6 +126,19 @@ module _ (old mid : List (List ℕ)) (place : ℕ) (form : AtRest reading old pl
   closed-form =
       let step = close reading laws old place (sector_at mid place) form ring_closes sound in
       subst (λ (s : List (List ℕ)). AtRest reading s (next old place) ⊎ Collecting reading s (next old place)) (sym only) step.0
+
+  -- where the victim is not in use, nothing is left to collect
+  pub victim-rests : is_unused (sector_at old place) ≡ false → is_unused (sector_at old (next old (next old place))) ≡ true → AtRest reading mid (next old place)
+  victim-rests used blank =
+      elim closed-form [
+        | inl rested ↦ rested
+        | inr collecting ↦
+            let same_victim : next mid (next old place) ≡ next old (next old place) = ap (λ (n : ℕ). after n (next old place)) (only_length old mid place only) in
+            let apart = λ (e : next old (next old place) ≡ place). false≢true (sym used ∙ ap (λ (k : ℕ). is_unused (sector_at old k)) (sym e) ∙ blank) in
+            let free_there : is_closed (sector_at mid (next mid (next old place))) ≡ false =
+            ap (λ (k : ℕ). is_closed (sector_at mid k)) same_victim ∙ ap is_closed (only_else old mid place (next old (next old place)) only apart) ∙ laws.closed (sector_at old (next old (next old place))) blank in
+            absurd (false≢true (sym free_there ∙ next-closed reading mid (next old place) 0 collecting.ring ∙ refl))
+      ]
 
   closed-list : area_pairs reading mid (next old place) ≡ area_pairs reading old place
   closed-list =

@@ -1,9 +1,9 @@
 -- One sector, as the calls on an area see it.
-use Rattle.std.proofs.Common.{◌≡◌, ℕ, ◌+◌, ◌-◌, ◌*◌, ◌/◌, ◌^◌, ◌<◌, ◌≤◌, min, Bool, true, false, not, ◌&&◌, ◌||◌, cond, eqb, leb, ltb, List, [], ◌∷◌, length, map, get_or, take, Option, Some, None, refl, sym, ap, ◌∙◌, inl, inr, arith}
+use Rattle.std.proofs.Common.{◌≡◌, ℕ, ◌+◌, ◌-◌, ◌*◌, ◌/◌, ◌^◌, ◌<◌, ◌≤◌, min, Bool, true, false, not, ◌&&◌, ◌||◌, cond, eqb, leb, ltb, List, [], length, map, get_or, take, Option, Some, None, refl, sym, ap, ◌∙◌, inl, inr, arith}
 use Rattle.std.specs.Prelude.{sum_by, is_some}
 use Rattle.std.specs.List.{filter_map, list_any, list_all, prefix_len}
 use Rattle.std.specs.Option.{option_map_or}
-use Rattle.std.proofs.lemmas.Bool.{false≢true, cases_Bool, cases_lt, and_left, and_parts, or_parts, eq-eqb, ne_eqb, lt-ltb, lt-leb, le-leb, not-true}
+use Rattle.std.proofs.lemmas.Bool.{false≢true, cases_Bool, cases_lt, and_left, and_parts, or_parts, eq-eqb, ne_eqb, lt-ltb, lt-leb, le-leb, le-ltb, not-true}
 use Rattle.std.proofs.lemmas.List.FromFn.{length-map-range_with_len, get_or-map-range_with_len}
 use Rattle.std.proofs.lemmas.List.Sums.{prefix_len_is, prefix_len_stops}
 use Rattle.std.proofs.Math.Nat.{div-le_self}
@@ -16,12 +16,13 @@ use Rattle.sector_ring.specs.Reading.{IsReading}
 use Rattle.zms_cycle.specs.declared.entry.ZEntry.{ZEntry}
 use Rattle.zms_cycle.specs.declared.reading.Found.{Found}
 use Rattle.zms_cycle.specs.declared.reading.SectorState.TheVariants.{Blank, Used}
-use Rattle.zms_cycle.specs.Sector.{slot_of, is_valid, cycle_of, valid_slots, holds_close, is_closed, entry_in, entries, holds_done, has_gc_done, capacity, low, data_end, end_of, is_under, has_guard, is_sound, pair_of}
+use Rattle.zms_cycle.specs.Sector.{slot_of, is_valid, cycle_of, valid_slots, holds_close, is_closed, entry_in, entries, holds_done, has_gc_done, capacity, low, data_end, end_of, is_under, has_guard, is_sound, pair_of, entry_cost, holds_too_much, is_overfull}
 use Rattle.zms_cycle.specs.Entries.{decoded, is_special}
 use Rattle.zms_cycle.specs.States.{state_of}
 use Rattle.zms_cycle.proofs.Slots16.{entry_in-is}
+use Rattle.zms_cycle.proofs.Frames.{sound-parts}
 use Rattle.zms_cycle.proofs.Scanning.{entries_to}
-use Rattle.zms_store.specs.Area.{is_begun, is_unused, is_overfull, entry_cost, reading, marks_of, placed_at, IsListed, last_in}
+use Rattle.zms_store.specs.Area.{is_begun, is_unused, reading, marks_of, placed_at, IsListed, last_in}
 
 -- What the state says.
 
@@ -155,23 +156,8 @@ guard_test b slots is =
       | inr ge ↦ le-leb ((slots + 3) * 16) (length b) ge ∙ sym (le-leb 16 (low b) (omega arith))
     ]
 
-none_over : (p : Found → Bool) (fs : List Found) → list_any (λ f. not (p f)) fs ≡ false → list_all p fs ≡ true
-none_over p [] h = refl
-none_over p (f ∷ fs) h =
-    elim (cases_Bool (p f)) [
-      | inl under ↦ ap (λ (t : Bool). t && list_all p fs) under ∙ none_over p fs (sym (ap (λ (t : Bool). not t || list_any (λ f. not (p f)) fs) under) ∙ h)
-      | inr over ↦ absurd (false≢true (sym h ∙ ap (λ (t : Bool). not t || list_any (λ f. not (p f)) fs) over))
-    ]
-
--- what counts has its values under its guard slot
-pub sound_of : (b : List ℕ) → has_guard b ≡ true → is_overfull b ≡ false → is_sound b ≡ true
-unfolding is_overfull
-sound_of b guard roomy =
-    let under = none_over (is_under (low b - 16)) (entries b) (or_parts (list_any (λ f. not (is_under (low b - 16) f)) (entries b)) _ roomy).0 in
-    ap (λ (t : Bool). t && list_all (is_under (low b - 16)) (entries b)) guard ∙ under
-
-pub costs_of : (b : List ℕ) → is_overfull b ≡ false → sum_by entry_cost (entries b) ≤ capacity (length b)
-unfolding is_overfull
+pub costs_of : (b : List ℕ) → holds_too_much b ≡ false → sum_by entry_cost (entries b) ≤ capacity (length b)
+unfolding holds_too_much
 costs_of b roomy =
     let fits = (or_parts (list_any (λ f. not (is_under (low b - 16) f)) (entries b)) (ltb (capacity (length b)) (sum_by entry_cost (entries b))) roomy).1 in
     elim (cases_lt (capacity (length b)) (sum_by entry_cost (entries b))) [
@@ -185,6 +171,15 @@ unused_sound b long unused =
     let none : length (valid_slots b) ≡ 0 = ap (λ (ss : List Slot). length ss) empty in
     ap (λ (t : Bool). t && list_all (is_under (low b - 16)) (entries b)) (le-leb 16 (low b) (omega arith))
     ∙ ap (λ (ss : List Slot). list_all (is_under (low b - 16)) (filter_map entry_in ss)) empty
+
+pub unused_roomy : (b : List ℕ) → 48 ≤ length b → is_unused b ≡ true → is_overfull b ≡ false
+unfolding holds_too_much
+unused_roomy b long unused =
+    let guard = (sound-parts b (unused_sound b long unused)).guard in
+    let empty : entries b ≡ [] = ap (filter_map entry_in) (unused_slots b unused) in
+    ap (λ (t : Bool). not t || holds_too_much b) (le-leb 16 (low b) guard)
+    ∙ ap (λ (found : List Found). list_any (λ f. not (is_under (low b - 16) f)) found || ltb (capacity (length b)) (sum_by entry_cost found)) empty
+    ∙ le-ltb (capacity (length b)) 0 (omega arith)
 
 -- Going over the entries.
 
@@ -209,10 +204,10 @@ pub few_slots : (b : List ℕ) → length (valid_slots b) ≤ length b
 few_slots b = let fits = used_count_fits (is_valid (cycle_of b)) 2 16 b in let less = div-le_self (length b) 16 in omega arith
 
 -- the code's test of ends and costs
-pub overfull_is : (b : List ℕ) (limit cap costs slots n : ℕ) (over : Bool) → slots ≡ length (valid_slots b) → n ≡ slots → limit ≡ length b - (slots + 3) * 16 → cap ≡ length b - 80 → over ≡ list_any (λ f. not (is_under limit f)) (entries_to b n) → costs ≡ sum_by entry_cost (entries_to b n)
-    → (over || ltb cap costs) ≡ is_overfull b
-unfolding is_overfull
-overfull_is b limit cap costs slots n over count to at room any sum =
+pub too_much_is : (b : List ℕ) (limit cap costs slots n : ℕ) (over : Bool) → slots ≡ length (valid_slots b) → n ≡ slots → limit ≡ length b - (slots + 3) * 16 → cap ≡ length b - 80 → over ≡ list_any (λ f. not (is_under limit f)) (entries_to b n) → costs ≡ sum_by entry_cost (entries_to b n)
+    → (over || ltb cap costs) ≡ holds_too_much b
+unfolding holds_too_much
+too_much_is b limit cap costs slots n over count to at room any sum =
     let all = entries_all b n (to ∙ count) in
     let fence : limit ≡ low b - 16 = omega arith in
     ap (λ (t : Bool). t || ltb cap costs) (any ∙ ap (list_any (λ f. not (is_under limit f))) all ∙ ap (λ (k : ℕ). list_any (λ f. not (is_under k f)) (entries b)) fence)

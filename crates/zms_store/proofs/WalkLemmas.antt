@@ -15,11 +15,11 @@ use Rattle.zms_cycle.specs.declared.reading.Found.{Found}
 use Rattle.zms_cycle.specs.Sector.{cycle_of, entry_in, is_valid, slot_of, valid_slots}
 use Rattle.zms_cycle.proofs.Scanning.{entries_to}
 use Rattle.zms_store.specs.declared.sector.Placed.{Placed}
-use Rattle.zms_store.specs.Area.{reading, placed_at, counted_in, all_placed}
+use Rattle.zms_store.specs.Area.{reading, placed_at, counted_in, all_placed, zms}
 use Rattle.zms_store.specs.Walk.{entries_within, counted_within, placed_up_to, IsNextOlder}
 use Rattle.zms_store.proofs.PlacedLemmas.{among}
 use Rattle.zms_store.proofs.Sectors.{few_slots}
-use Rattle.zms_store.proofs.ZmsEntries.{zms, are_zms}
+use Rattle.zms_store.proofs.ZmsEntries.{are_zms}
 
 -- the last one of a list is the last one that passes where each does
 as_last : {X : Type 0} (xs : List X) → last_that (λ x. true) xs ≡ last_or None xs

@@ -1,31 +1,12 @@
 -- The entries of ZMS, as the laws on live items ask for them.
-use Rattle.std.proofs.Common.{length, refl, ◌∙◌, arith}
+use Rattle.std.proofs.Common.{refl, ◌∙◌, arith}
 use Rattle.slot_list.proofs.SlotLemmas.{index-slot_at}
-use Rattle.live_items.specs.Entries.{Entries, AreEntries}
+use Rattle.live_items.specs.Entries.{AreEntries}
 use Rattle.live_items.proofs.SlotEntries.{read-slots}
-use Rattle.zms_cycle.specs.declared.reading.Found.{Found}
-use Rattle.zms_cycle.specs.Sector.{slot_of, is_valid, cycle_of, entry_in, entries, valid_slots, is_sound, value_of, cost}
-use Rattle.zms_store.specs.declared.sector.Placed.{Placed}
-use Rattle.zms_store.specs.Area.{reading, placed_at}
+use Rattle.zms_cycle.specs.Sector.{slot_of, is_valid, cycle_of, entry_in}
+use Rattle.zms_store.specs.Area.{zms}
 use Rattle.zms_store.proofs.EntryReads.{is_read, bytes_len}
 use Rattle.zms_store.proofs.Sectors.{read_room}
-
-abbrev pub zms : Entries Found Placed
-zms = record {
-  reading = reading;
-  entries = entries;
-  in_slot = λ b n. entry_in (slot_of b n);
-  first = 2;
-  slots = λ b. length (valid_slots b);
-  is_sound = is_sound;
-  placed_at = placed_at;
-  sector = λ p. p.sector;
-  slot = λ p. p.slot;
-  id = λ p. p.entry.id;
-  len = λ p. p.entry.len;
-  bytes = λ b p. value_of b p.entry;
-  cost = cost;
-}
 
 pub are_zms : AreEntries zms
 are_zms = record {

@@ -1,14 +1,16 @@
 -- How a ZMS area reads: its list of pairs, or its damage.
-use Rattle.std.specs.Prelude.{◌≡◌, ℕ, ◌+◌, ◌-◌, ◌*◌, ◌^◌, ◌<◌, ◌≤◌, min, is_some, Bool, true, not, ◌&&◌, ◌||◌, List, [], map, length, fold, sum_by, Option, Some, None, ◌==◌, nat_lt, nat_le, if◌then◌else◌}
-use Rattle.std.specs.List.{flat_map, list_all, list_any}
+use Rattle.std.specs.Prelude.{◌≡◌, ℕ, ◌+◌, ◌-◌, ◌*◌, ◌^◌, ◌<◌, ◌≤◌, min, is_some, Bool, true, not, ◌&&◌, ◌||◌, List, length, fold, Option, Some, None, ◌==◌, nat_le, if◌then◌else◌}
+use Rattle.std.specs.List.{list_all}
 use Rattle.std.specs.Option.{option_or}
 use Rattle.flash_map.specs.declared.faults.Damaged.{Damaged}
 use Rattle.flash_map.specs.declared.faults.Why.TheVariants.{AllClosed, TwoOpen, Overfull}
 use Rattle.flash_map.specs.Area.{sector_at}
-use Rattle.sector_ring.specs.Area.{places, next, previous, round, is_closed_at, counts_at, looked_at, open_sector, area_pairs, first_of_kind}
+use Rattle.sector_ring.specs.Area.{places, next, previous, is_closed_at, counts_at, looked_at, open_sector, area_pairs, first_of_kind}
 use Rattle.sector_ring.specs.Reading.{Reading}
+use Rattle.live_items.specs.Entries.{Entries}
+use Rattle.live_items.specs.Live as live
 use Rattle.zms_cycle.specs.declared.reading.Found.{Found}
-use Rattle.zms_cycle.specs.Sector.{slot_of, is_valid, cycle_of, valid_slots, is_closed, entry_in, entries, has_gc_done, cost, capacity, low, data_end, is_under, has_guard, value_of, pairs}
+use Rattle.zms_cycle.specs.Sector.{slot_of, is_valid, cycle_of, valid_slots, is_closed, entry_in, entries, has_gc_done, cost, data_end, has_guard, is_sound, holds_too_much, is_overfull, value_of, pairs}
 use Rattle.zms_store.specs.declared.sector.Marks.{Marks}
 use Rattle.zms_store.specs.declared.sector.Placed.{Placed}
 use Rattle.zms_store.specs.declared.sector.Redo.{Redo}
@@ -24,14 +26,6 @@ is_begun sector = is_valid (cycle_of sector) (slot_of sector 2)
 unfoldable pub is_unused : List ℕ → Bool
 is_unused sector = not (is_begun sector) && not (is_closed sector)
 
--- what an entry and its value take up; a delete is not counted
-unfoldable pub entry_cost : Found → ℕ
-entry_cost f = if f.entry.len == 0 then 0 else cost f.entry.len
-
--- a value stands outside whole units or passes the start of the guard slot, or the values cost more than a sector has for them
-unfoldable pub is_overfull : List ℕ → Bool
-is_overfull sector = list_any (λ f. not (is_under (low sector - 16) f)) (entries sector) || nat_lt (capacity (length sector)) (sum_by entry_cost (entries sector))
-
 -- how ZMS reads a sector
 abbrev pub reading : Reading
 reading = record {
@@ -40,7 +34,7 @@ reading = record {
   has_gc_done = has_gc_done;
   pairs = pairs;
   has_fence = has_guard;
-  is_overfull = is_overfull;
+  is_overfull = holds_too_much;
 }
 
 -- what the calls on an area have to know of a sector
@@ -69,7 +63,7 @@ is_second_open sectors open_place place =
 
 -- A sector that counts holds more than it may. One that is not in use has its guard slot and no entry.
 abbrev pub is_overfull_at : List (List ℕ) → ℕ → ℕ → Bool
-is_overfull_at sectors open_place place = looked_at reading sectors open_place place && (not (has_guard (sector_at sectors place)) || is_overfull (sector_at sectors place))
+is_overfull_at sectors open_place place = looked_at reading sectors open_place place && is_overfull (sector_at sectors place)
 
 -- the first sector of the first kind
 unfoldable pub damage_of : List (List ℕ) → Option Damaged
@@ -91,18 +85,34 @@ redo_of sectors place = if is_closed_at reading sectors (next sectors place) the
 abbrev pub placed_at : ℕ → Found → Placed
 placed_at place f = record { sector = place; slot = f.slot; entry = f.entry }
 
+-- how the entries of ZMS stand in their slots, and what they say
+abbrev pub zms : Entries Found Placed
+zms = record {
+  reading = reading;
+  entries = entries;
+  in_slot = λ b n. entry_in (slot_of b n);
+  first = 2;
+  slots = λ b. length (valid_slots b);
+  is_sound = is_sound;
+  placed_at = placed_at;
+  sector = λ p. p.sector;
+  slot = λ p. p.slot;
+  id = λ p. p.entry.id;
+  len = λ p. p.entry.len;
+  bytes = λ b p. value_of b p.entry;
+  cost = cost;
+}
+
 -- the entries of a sector with their places, where it counts with this one open
 abbrev pub counted_in : List (List ℕ) → ℕ → ℕ → List Placed
-counted_in sectors current place = if counts_at reading sectors current place then map (placed_at place) (entries (sector_at sectors place)) else []
+counted_in sectors current place = live.counted_in zms sectors current place
 
 -- the entries of the list, with their places
 abbrev pub all_placed : List (List ℕ) → List Placed
-all_placed sectors =
-    let current = open_sector reading sectors in
-    flat_map (counted_in sectors current) (round (length sectors) current)
+all_placed sectors = live.all_placed zms sectors
 
 abbrev pub last_of : ℕ → List Placed → Option Placed
-last_of id placed = fold (λ last p. if p.entry.id == id then Some p else last) None placed
+last_of id placed = live.last_of zms id placed
 
 -- the last entry of an id in one sector
 abbrev pub last_in : ℕ → List Found → Option Found
@@ -122,8 +132,8 @@ pub record IsPlaced (sectors : List (List ℕ)) (current : ℕ) (p : Placed) : T
 
 -- the last entry of an id, a delete too
 abbrev pub last_placed : List (List ℕ) → ℕ → Option Placed
-last_placed sectors id = last_of id (all_placed sectors)
+last_placed sectors id = live.last_placed zms sectors id
 
 -- the value of an entry
 abbrev pub placed_bytes : List (List ℕ) → Placed → List ℕ
-placed_bytes sectors p = value_of (sector_at sectors p.sector) p.entry
+placed_bytes sectors p = live.bytes_of zms sectors p

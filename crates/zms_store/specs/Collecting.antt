@@ -1,15 +1,14 @@
 -- How far a collection has come, and what its steps make of an area.
-use Rattle.std.specs.Prelude.{◌≡◌, ◌⊎◌, ℕ, ◌+◌, ◌<◌, ◌≤◌, Bool, true, false, ◌&&◌, List, length, map, slice_set, Option, Some, None, IsSome, ◌==◌, nat_lt, if◌then◌else◌}
-use Rattle.std.specs.List.{filter_map, range_with_len}
-use Rattle.std.specs.Option.{option_and_then, option_map, option_map_or}
+use Rattle.std.specs.Prelude.{◌≡◌, ◌⊎◌, ℕ, ◌+◌, ◌<◌, ◌≤◌, Bool, true, false, List, length, slice_set, Option, Some, None, IsSome}
 use Rattle.flash_map.specs.Area.{sector_at}
 use Rattle.sector_ring.specs.Area.{next}
 use Rattle.sector_ring.specs.Forms.{to_copy, pairs_at}
+use Rattle.live_items.specs.Live as live
 use Rattle.sector_ring.specs.Rounds.{copies_cost, Collects, IsRound}
 use Rattle.zms_cycle.specs.Changes.{AddsPair, Empties}
-use Rattle.zms_cycle.specs.Sector.{slot_of, cycle_of, is_closed, entry_in, has_gc_done, cost, capacity, low, data_end, fits, is_sound, pairs}
+use Rattle.zms_cycle.specs.Sector.{cycle_of, is_closed, has_gc_done, cost, capacity, low, data_end, fits, is_sound, pairs}
 use Rattle.zms_store.specs.declared.sector.Placed.{Placed}
-use Rattle.zms_store.specs.Area.{reading, placed_at, placed_bytes, last_placed}
+use Rattle.zms_store.specs.Area.{reading, zms, placed_bytes}
 
 -- one sector changed, and no other
 abbrev pub ChangesOnly : List (List ℕ) → List (List ℕ) → ℕ → Type 0
@@ -17,20 +16,18 @@ ChangesOnly old new place = new ≡ slice_set old place (sector_at new place)
 
 -- the entry is the last of its id in the list, and has a value
 abbrev pub is_live : List (List ℕ) → Placed → Bool
-is_live sectors p =
-    option_map_or (λ last. (last.sector == p.sector) && (last.slot == p.slot) && nat_lt 0 p.entry.len) (last_placed sectors p.entry.id) false
+is_live sectors p = live.is_live zms sectors p
 
 -- the live entry in this slot
 abbrev pub live_in : List (List ℕ) → ℕ → ℕ → Option Placed
-live_in sectors place slot =
-    option_and_then (λ p. if is_live sectors p then Some p else None) (option_map (placed_at place) (entry_in (slot_of (sector_at sectors place) slot)))
+live_in sectors place slot = live.live_in zms sectors place slot
 
 abbrev pub placed_pair : List (List ℕ) → Placed → ℕ × List ℕ
-placed_pair sectors p = (p.entry.id, placed_bytes sectors p)
+placed_pair sectors p = live.pair_of zms sectors p
 
 -- the pairs of the live entries in the first valid slots of a sector
 abbrev pub live_to : List (List ℕ) → ℕ → ℕ → List (ℕ × List ℕ)
-live_to sectors place slots = map (placed_pair sectors) (filter_map (live_in sectors place) (range_with_len 2 slots))
+live_to sectors place slots = live.live_to zms sectors place slots
 
 -- a sector that has a cycle stays as it is; one without is emptied
 abbrev pub Begins : List ℕ → List ℕ → Type 0
@@ -67,8 +64,7 @@ CopiesOne old new place (Some p) = ChangesOnly old new place × AddsPair (sector
 
 -- it costs so many bytes
 abbrev pub cost_of : Option Placed → ℕ
-cost_of None = 0
-cost_of (Some p) = cost p.entry.len
+cost_of o = live.cost_of zms o
 
 -- a whole collection, and the room that it leaves in the open sector
 pub record CollectsAt (old new : List (List ℕ)) (place : ℕ) : Type 0 where

@@ -15,22 +15,23 @@ use Rattle.sector_ring.specs.Area.{open_sector}
 use Rattle.sector_ring.specs.Rounds.{live_cost, IsCrammed}
 use Rattle.live_items.specs.NextIds.{IsBehind}
 use Rattle.zms_cycle.specs.Sector.{cost, capacity, fits}
-use Rattle.zms_store.specs.Area.{reading, damage_of}
+use Rattle.zms_store.specs.Area.{reading, damage_of, redo_of}
 use Rattle.zms_store.specs.declared.store.Zms.{Zms}
-use Rattle.zms_store.specs.Spending.{mount_units, entry_units, most_units}
+use Rattle.zms_store.specs.Spending.{mount_units, Redoes, StopsRedoing, entry_units, most_units}
 use Rattle.zms_store.specs.Standing.{list_on, items_on, StandsOn, KeepsItems}
 
 -- mounting
 
--- The area is damaged, and then nothing changed; or it is not, and its items stay, whether power is lost or not.
+-- The area is damaged, and then nothing changed; or it is not, and its items stay, whether power is lost or not. What is
+-- programmed is what there is to redo.
 abbrev pub MountEnds : Device → Device → Area → Result Zms MountFault → Type 0
 MountEnds old new area (Ok zms) =
     (damage_of (sectors_of old area) ≡ None) × StandsOn new zms × (zms.area ≡ area) × KeepsItems old new area
-    × SpendsBetween old new 0 (mount_units (sectors_of old area))
+    × Redoes old new (mount_units (sectors_of old area)) (redo_of (sectors_of old area) (open_sector reading (sectors_of old area)))
 MountEnds old new area (Err (HasDamage damaged)) = (damage_of (sectors_of old area) ≡ Some damaged) × (new ≡ old)
 MountEnds old new area (Err MountLost) =
     (damage_of (sectors_of old area) ≡ None) × KeepsItems old new area
-    × SpendsBetween old new 0 (mount_units (sectors_of old area))
+    × StopsRedoing old new (mount_units (sectors_of old area)) (redo_of (sectors_of old area) (open_sector reading (sectors_of old area)))
 MountEnds old new area (Err NoMemory) = ⊥
 
 -- reading

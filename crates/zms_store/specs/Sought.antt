@@ -5,12 +5,12 @@ use Rattle.zms_store.specs.declared.places.Sought.{Sought}
 use Rattle.zms_store.specs.declared.places.Sought.TheVariants.{NotClosed, Opening, InUse, SecondOpen, Full}
 use Rattle.zms_store.specs.Area.{reading, is_second_open, is_overfull_at}
 
--- the sector that it names is one of the area
+-- where it names a sector, that is one of the area
 abbrev pub NamesWithin : Sought → ℕ → Type 0
 NamesWithin NotClosed count = ⊤
 NamesWithin Opening count = ⊤
 NamesWithin InUse count = ⊤
-NamesWithin (SecondOpen current) count = ⊤
+NamesWithin (SecondOpen current) count = current < count
 NamesWithin (Full current) count = current < count
 
 abbrev pub is_sought : Sought → List (List ℕ) → ℕ → Bool

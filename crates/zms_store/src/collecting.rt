@@ -7,9 +7,9 @@ ghost use Rattle.sector_ring.specs.Area.{next, is_blank_at, is_closed_at, open_s
 ghost use Rattle.sector_ring.specs.Forms.{AtRest, Collecting, to_copy};
 ghost use Rattle.zms_cycle.specs.Changes.{StopsEmptying};
 ghost use Rattle.zms_cycle.specs.Sector.{cycle_of, valid_slots, is_sound, free};
-ghost use Rattle.zms_store.specs.Area.{reading, IsPlaced};
+ghost use Rattle.zms_store.specs.Area.{reading, redo_of, IsPlaced};
 ghost use Rattle.zms_store.specs.Collecting.{ChangesOnly, is_live, live_in, Begins, HasCopied, StopsCopying, KeepsMarks, CopiesOne, cost_of, CollectsAt, TurnsAt};
-ghost use Rattle.zms_store.specs.Spending.{begin_units, copied, redo_units, round_units};
+ghost use Rattle.zms_store.specs.Spending.{begin_units, copied, redo_units, Redoes, StopsRedoing, round_units, has_no_victim, close_units};
 ghost use Rattle.zms_store.specs.Standing.{IsZmsArea, IsUndamaged, KeepsItems};
 
 use crate::lookup::find;
@@ -137,7 +137,7 @@ fn copy_live<F: Flash, L: Ledger>(
     ensures spends { let d = F.device flash.old in SpendsBetween d (F.device flash.new) 0 (2 * copied (sectors_of d area.now) current / 16) }
 {
     let slots = marks_at(flash, area, victim, steps).slots;
-    for slot in FIRST as u32..FIRST as u32 + slots {
+    for slot in FIRST..FIRST + slots {
         copy_slot(flash, area, current, victim, slot, steps)?;
     }
     Ok(())
@@ -202,6 +202,8 @@ pub fn redo<F: Flash, L: Ledger>(
     ensures same { let d = F.device flash.old in OnOk result (AtRest reading (sectors_of d area.now) current → F.device flash.new ≡ d) }
     ensures collects { let d = F.device flash.old in OnOk result (Collecting reading (sectors_of d area.now) current → CollectsAt (sectors_of d area.now) (sectors_of (F.device flash.new) area.now) current) }
     ensures spends { let d = F.device flash.old in SpendsBetween d (F.device flash.new) 0 (redo_units (sectors_of d area.now) current) }
+    ensures redoes { let d = F.device flash.old in OnOk result (Redoes d (F.device flash.new) (redo_units (sectors_of d area.now) current) (redo_of (sectors_of d area.now) current)) }
+    ensures stops { let d = F.device flash.old in OnErr result (StopsRedoing d (F.device flash.new) (redo_units (sectors_of d area.now) current) (redo_of (sectors_of d area.now) current)) }
 {
     match what_to_redo(flash, area, current, steps) {
         Redo::Nothing => Ok(()),
@@ -228,6 +230,8 @@ pub fn round<F: Flash, L: Ledger>(
     ensures items { KeepsItems (F.device flash.old) (F.device flash.new) area.now }
     ensures turns { let d = F.device flash.old in OnOk result (TurnsAt (sector_size d area.now) (sectors_of d area.now) (sectors_of (F.device flash.new) area.now) current) }
     ensures spends { let d = F.device flash.old in SpendsBetween d (F.device flash.new) 0 (round_units (sectors_of d area.now) current) }
+    ensures close_alone { let d = F.device flash.old in OnOk result (has_no_victim (sectors_of d area.now) current ≡ true → SpendsBetween d (F.device flash.new) 1 (close_units (sectors_of d area.now) current)) }
+    ensures close_alone_lost { let d = F.device flash.old in OnErr result (has_no_victim (sectors_of d area.now) current ≡ true → SpendsBetween d (F.device flash.new) 0 (close_units (sectors_of d area.now) current)) }
 {
     close(flash, area, current, steps)?;
     let opened = area.next(current);

@@ -3,6 +3,7 @@
 
 #[tactic(auto, using(flash_map::proofs::Touches::then))]
 mod collecting;
+mod laws;
 mod lookup;
 mod mounting;
 mod places;
@@ -14,6 +15,7 @@ mod walking;
 #[tactic(auto, using(flash_map::proofs::Touches::then))]
 mod writing;
 
+pub use laws::parts_of_list;
 pub use sector::Placed;
 pub use store::Zms;
 

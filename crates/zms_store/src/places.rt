@@ -93,7 +93,7 @@ fn is_full<F: Flash, L: Ledger>(
     if !sector::has_guard(bytes, marks.slots) {
         return true;
     }
-    sector::is_overfull(bytes, marks.slots)
+    sector::holds_too_much(bytes, marks.slots)
 }
 
 /// Whether a sector is not closed and follows a closed one.

@@ -16,13 +16,13 @@ ghost use Rattle.zms_store.specs.Walk.{IsNextOlder};
 use crate::collecting::live_in;
 use crate::lookup::find;
 use crate::places::marks_at;
-use crate::sector::{Placed, cost, read_marks};
+use crate::sector::{Placed, read_marks};
 use crate::store::Zms;
 use crate::walking::walk;
 use flash_map::{Area, area_view, geometry, sector_view};
 use flash_sim::{Flash, Steps};
 use std::sync::ledger::Ledger;
-use zms_cycle::{FIRST, Found, SLOT, entry_in, offset_of};
+use zms_cycle::{FIRST, Found, SLOT, TAIL, TAIL_AT, cost, entry_in, offset_of};
 
 // The value of an entry: it stands in the entry's tail, or at the entry's offset.
 pub fn value_at<'a, F: Flash, L: Ledger>(
@@ -38,12 +38,12 @@ pub fn value_at<'a, F: Flash, L: Ledger>(
     ensures { let d = F.device flash.now in result.now ≡ placed_bytes (sectors_of d area.now) placed.now }
 {
     let len = u32::from(placed.entry.len);
-    if len > 8 {
+    if placed.entry.len > TAIL {
         let offset = offset_of(&placed.entry);
         return area_view(flash, area, placed.sector, offset, len, steps);
     }
-    let start = geometry(flash, area).sector - (placed.slot + 1) * SLOT as u32;
-    area_view(flash, area, placed.sector, start + 8, len, steps)
+    let start = geometry(flash, area).sector - (placed.slot + 1) * SLOT;
+    area_view(flash, area, placed.sector, start + TAIL_AT, len, steps)
 }
 
 // Whether an id is behind `after` and less than `least`, where there are such.
@@ -94,7 +94,7 @@ fn sector_live_cost<F: Flash, L: Ledger>(
 {
     let slots = marks_at(flash, area, place, steps).slots;
     let mut live = 0;
-    for slot in FIRST as u32..FIRST as u32 + slots {
+    for slot in FIRST..FIRST + slots {
         live += slot_live_cost(flash, area, current, place, slot, steps);
     }
     live
@@ -184,7 +184,7 @@ impl Zms {
         let mut next = least;
         let bytes = sector_view(flash, &self.area, place, steps);
         let slots = read_marks(bytes).slots;
-        for slot in FIRST as u32..FIRST as u32 + slots {
+        for slot in FIRST..FIRST + slots {
             next = self.lesser_of(flash, entry_in(bytes, slot), after, next, steps);
         }
         next

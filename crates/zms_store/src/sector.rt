@@ -1,13 +1,16 @@
 // How one sector reads, over its bytes, and entries at their places.
 ghost use Rattle.std.specs.Prelude.{◌≡◌, ◌^◌, ◌<◌, ◌≤◌, ◌||◌, not, nat_lt, length, false, IfSome};
 ghost use Rattle.std.specs.Option.{option_map, option_map_or};
-ghost use Rattle.zms_cycle.specs.Sector.{valid_slots, entries, has_guard, is_under, cost, capacity};
-ghost use Rattle.zms_store.specs.Area.{marks_of, fits_with, is_overfull, entry_cost, placed_at, last_in, IsListed};
+ghost use Rattle.zms_cycle.specs.Sector.{valid_slots, entries, has_guard, is_under, cost, capacity, entry_cost, holds_too_much};
+ghost use Rattle.zms_store.specs.Area.{marks_of, fits_with, placed_at, last_in, IsListed};
 
 use flash_map::padded;
 use zms_cycle::{
-    FIRST, Found, SLOT, SectorState, ZEntry, data_len, entry_in, offset_of, read_sector,
+    FIRST, Found, SLOT, SectorState, TAIL, ZEntry, capacity, cost, entry_in, offset_of, read_sector,
 };
+
+// The slots of a sector that no entry takes up: for empty and close, and the guard slot.
+const UNLISTED: u64 = 3;
 
 /// What a mount has to do before the area is at rest.
 #[derive(Clone, Copy, Debug, PartialEq, Eq)]
@@ -94,21 +97,6 @@ pub fn placed_in(found: Found, sector: u32) -> Placed
     }
 }
 
-/// What a value of this length and its entry take up.
-pub fn cost(len: u16) -> u32
-    ensures value { result ≡ cost len }
-    ensures small { result < 2 ^ 18 }
-{
-    SLOT as u32 + data_len(len)
-}
-
-/// What a sector of this size has for values and entries.
-pub fn capacity(size: u32) -> u32
-    ensures { result ≡ capacity size }
-{
-    size.saturating_sub(80)
-}
-
 /// Whether a value of this length and its entry cost more than a sector of this size has for them.
 pub fn is_too_long(size: u32, len: usize) -> bool
     requires { size < 2 ^ 16 }
@@ -121,19 +109,20 @@ pub fn is_too_long(size: u32, len: usize) -> bool
 pub fn fits(size: u32, marks: &Marks, len: u16) -> bool
     ensures { result ≡ fits_with size marks.now len }
 {
-    let used = (FIRST as u64 + u64::from(marks.slots)) * SLOT as u64;
+    let slot = u64::from(SLOT);
+    let used = (u64::from(FIRST) + u64::from(marks.slots)) * slot;
     let free = u64::from(size)
         .saturating_sub(used)
         .saturating_sub(u64::from(marks.data_end));
     if len == 0 {
-        return 32 <= free;
+        return 2 * slot <= free;
     }
     let spare = if marks.gc_done { 2 } else { 3 };
-    u64::from(cost(len)) + spare * SLOT as u64 <= free
+    u64::from(cost(len)) + spare * slot <= free
 }
 
 /// What an entry and its value take up, if there is one that has a value.
-#[tactic(auto, unfolding(crate::specs::Area::entry_cost))]
+#[tactic(auto, unfolding(zms_cycle::specs::Sector::entry_cost))]
 pub fn cost_of(found: &Option<Found>) -> u64
     ensures value { result ≡ option_map_or entry_cost found.now 0 }
     ensures small { result < 2 ^ 18 }
@@ -150,10 +139,10 @@ fn passes(found: &Option<Found>, limit: u64) -> bool
     ensures { result ≡ option_map_or (λ f. not (is_under limit f)) found.now false }
 {
     match found {
-        Some(found) if found.entry.len > 8 => {
+        Some(found) if found.entry.len > TAIL => {
             let offset = offset_of(&found.entry);
-            let padded = padded(SLOT as u32, u32::from(found.entry.len));
-            offset % 16 != 0 || limit < u64::from(offset) + u64::from(padded)
+            let padded = padded(SLOT, u32::from(found.entry.len));
+            offset % SLOT != 0 || limit < u64::from(offset) + u64::from(padded)
         }
         _ => false,
     }
@@ -165,25 +154,25 @@ pub fn has_guard(sector: &[u8], slots: u32) -> bool
     requires slots { slots ≡ length (valid_slots sector.now) }
     ensures { result ≡ has_guard sector.now }
 {
-    (u64::from(slots) + 3) * 16 <= sector.len() as u64
+    (u64::from(slots) + UNLISTED) * u64::from(SLOT) <= sector.len() as u64
 }
 
 /// Whether a sector with this many valid slots holds more than it may.
-pub fn is_overfull(sector: &[u8], slots: u32) -> bool
+pub fn holds_too_much(sector: &[u8], slots: u32) -> bool
     requires short { length sector.now ≤ 2 ^ 15 }
     requires slots { slots ≡ length (valid_slots sector.now) }
-    ensures { result ≡ is_overfull sector.now }
+    ensures { result ≡ holds_too_much sector.now }
 {
     let size = sector.len() as u64;
-    let limit = size.saturating_sub((u64::from(slots) + 3) * 16);
+    let limit = size.saturating_sub((u64::from(slots) + UNLISTED) * u64::from(SLOT));
     let mut over = false;
     let mut costs = 0;
-    for slot in FIRST as u32..FIRST as u32 + slots {
+    for slot in FIRST..FIRST + slots {
         let found = entry_in(sector, slot);
         over |= passes(&found, limit);
         costs += cost_of(&found);
     }
-    over || size.saturating_sub(80) < costs
+    over || u64::from(capacity(sector.len() as u32)) < costs
 }
 
 /// The last entry of the id in a sector with this many valid slots, a delete too. The sector has this number.

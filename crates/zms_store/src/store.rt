@@ -8,7 +8,7 @@ ghost use Rattle.zms_store.specs.Area.{reading, is_begun};
 ghost use Rattle.zms_store.specs.Collecting.{TurnsAt};
 ghost use Rattle.flash_map.specs.Faults.{mount_lost};
 ghost use Rattle.zms_store.specs.Ends.{MountEnds};
-ghost use Rattle.zms_store.specs.Spending.{round_units};
+ghost use Rattle.zms_store.specs.Spending.{round_units, has_no_victim, close_units};
 ghost use Rattle.zms_store.specs.Standing.{IsZmsArea, StandsOn, KeepsItems};
 
 use crate::collecting::{redo, round};
@@ -30,8 +30,9 @@ pub struct Zms {
 }
 
 impl Zms {
-    /// Reads the area and carries out what a loss of power left undone: the emptying of a collected sector, or a whole
-    /// collection. The items stay, also where power is lost. It takes no memory yet.
+    /// Reads the area and carries out what a loss of power left undone: the emptying of a collected sector, which takes
+    /// one to three units, or a whole collection. Where neither was cut, nothing is programmed. The items stay, also where
+    /// power is lost. It takes no memory yet.
     ///
     /// # Errors
     /// `Damaged`, and then nothing was programmed; `PowerLost`. Never `NoMemory`.
@@ -65,8 +66,9 @@ impl Zms {
         self.up
     }
 
-    /// Closes the open sector and collects the oldest one, where that is in use. The items stay, also where power is
-    /// lost. Where slot 2 of the open sector is not valid, nothing is programmed.
+    /// Closes the open sector and collects the oldest one, where that is in use; where it is not, it spends at most the
+    /// units of the close. The items stay, also where power is lost. Where slot 2 of the open sector is not valid, nothing is
+    /// programmed.
     ///
     /// # Errors
     /// `PowerLost`. The store is then down.
@@ -84,6 +86,9 @@ impl Zms {
         ensures stands { OnOk result (StandsOn (F.device flash.new) self.new) }
         ensures units { let d = F.device flash.old in
             SpendsBetween d (F.device flash.new) 0 (round_units (sectors_of d self.old.area) self.old.current) }
+        ensures close_alone { let d = F.device flash.old in is_begun (sector_bytes d self.old.area self.old.current) ≡ true
+            → OnOk result (has_no_victim (sectors_of d self.old.area) self.old.current ≡ true → SpendsBetween d (F.device flash.new) 1 (close_units (sectors_of d self.old.area) self.old.current)) }
+        ensures close_alone_lost { let d = F.device flash.old in OnErr result (has_no_victim (sectors_of d self.old.area) self.old.current ≡ true → SpendsBetween d (F.device flash.new) 0 (close_units (sectors_of d self.old.area) self.old.current)) }
         ensures turns { let d = F.device flash.old in is_begun (sector_bytes d self.old.area self.old.current) ≡ true
             → OnOk result (TurnsAt (sector_size d self.old.area) (sectors_of d self.old.area) (sectors_of (F.device flash.new) self.old.area) self.old.current) }
         ensures unused { let d = F.device flash.old in is_begun (sector_bytes d self.old.area self.old.current) ≡ false → F.device flash.new ≡ d }
@@ -114,6 +119,8 @@ impl Zms {
             OnOk result (TurnsAt (sector_size d self.old.area) (sectors_of d self.old.area) (sectors_of (F.device flash.new) self.old.area) self.old.current) }
         ensures units { let d = F.device flash.old in
             SpendsBetween d (F.device flash.new) 0 (round_units (sectors_of d self.old.area) self.old.current) }
+        ensures close_alone { let d = F.device flash.old in OnOk result (has_no_victim (sectors_of d self.old.area) self.old.current ≡ true → SpendsBetween d (F.device flash.new) 1 (close_units (sectors_of d self.old.area) self.old.current)) }
+        ensures close_alone_lost { let d = F.device flash.old in OnErr result (has_no_victim (sectors_of d self.old.area) self.old.current ≡ true → SpendsBetween d (F.device flash.new) 0 (close_units (sectors_of d self.old.area) self.old.current)) }
 
         ensures down { OnErr result (self.new.up ≡ false) }
     {

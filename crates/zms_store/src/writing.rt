@@ -14,12 +14,12 @@ ghost use Rattle.zms_store.specs.Standing.{StandsOn, IsUndamaged, KeepsItems, li
 
 use crate::collecting::begin_blank;
 use crate::places::marks_at;
-use crate::sector::{cost, fits, is_too_long};
+use crate::sector::{fits, is_too_long};
 use crate::store::Zms;
 use flash_map::{WriteFault, geometry};
 use flash_sim::{Flash, PowerLost, Steps};
 use std::sync::ledger::Ledger;
-use zms_cycle::put_entry;
+use zms_cycle::{cost, put_entry};
 
 impl Zms {
     // Whether these bytes are the item's already.
@@ -192,8 +192,8 @@ impl Zms {
         }
     }
 
-    /// Deletes an item. Where the id has none, nothing is programmed. It always finds room, after one collection at
-    /// most.
+    /// Deletes an item. Where the id has none, nothing is programmed; the reserved id FFFFFFFF never has one. It always
+    /// finds room, after one collection at most.
     ///
     /// # Errors
     /// `PowerLost`: the items are as before, or without this one, and the store is down.
@@ -203,8 +203,7 @@ impl Zms {
         id: u32,
         steps: &mut Steps<L>,
     ) -> Result<(), PowerLost>
-        requires stands { StandsOn (F.device flash.old) self.old }
-        requires ordinary { id < 0xFFFFFFFF }
+        requires { StandsOn (F.device flash.old) self.old }
 
         ensures touches { Touches (self.old.area ∷ []) (F.device flash.old) (F.device flash.new) (is_err result) }
         ensures area { self.new.area ≡ self.old.area }

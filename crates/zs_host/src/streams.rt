@@ -8,7 +8,10 @@ use crate::HostFault;
 use std::alloc::Global;
 use std::io::{Read, Write};
 
-/// The bytes that are left in a file, of at most `limit`. A read that fails is `Failed`, and none is tried again.
+/// The bytes that are left in a file, of at most `limit`.
+///
+/// # Errors
+/// `TooLong` where more are left. `Failed` where a read fails: none is tried again. `NoMemory`.
 pub fn read_to_end<F: Read>(alloc: Global, file: &mut F, limit: usize) -> Result<Vec<u8>, HostFault>
     ensures { ReadsToEnd (F.remaining file.old) limit result }
 {

@@ -1,5 +1,6 @@
 use Rattle.std.proofs.Common.{sym, ◌∙◌}
-use Rattle.backend_api.proofs.SettingLemmas.{blank-same, erased_is}
+use Rattle.flash_map.proofs.ErasedBytes.{erased_is}
+use Rattle.backend_api.proofs.SettingLemmas.{blank-same}
 use Rattle.backend_api.proofs.one_setting.blank.Goals as goal
 
 pub returns-then-is_erased-clause-blank : goal.returns-then-is_erased-clause-blank

@@ -1,41 +1,28 @@
-use Rattle.std.proofs.Common.{ℕ, List, Option, Some, sym, subst}
+use Rattle.std.proofs.Common.{sym, ◌∙◌}
 use Rattle.std.specs.Option.{option_map}
-use Rattle.fcb_ring.specs.declared.record.RecordAt.{RecordAt}
-use Rattle.fcb_ring.specs.Standing.{entries_on}
-use Rattle.backend_fcb.specs.Walking.{TellsName}
-use Rattle.backend_fcb.proofs.NameSteps.{Leasts, leasts-start, leasts-step, leasts-end}
-use Rattle.backend_fcb.proofs.WalkLemmas.{at-listed, for-listed, at-smaller}
+use Rattle.settings_list.proofs.SeekLemmas.{seeks-start, seeks-none, seeks-step, seeks-past, seeks-found, seeks-smaller}
+use Rattle.backend_fcb.specs.Standing.{bodies_on}
 use Rattle.backend_fcb.proofs.names.next_name.Goals as goal
 
-pub loop-at-init : goal.loop-at-init
-loop-at-init g c = leasts-start (entries_on (g.F.Flash.device c.args.flash.now) c.args.ring.now.area) (option_map (λ name. name.now) c.args.after) c.next-at.result c.next-at.ensures.next
+pub returns-in_err-name : goal.returns-in_err-name
+returns-in_err-name g c =
+    c.from_residual.ensures ∙ seeks-none (bodies_on (g.F.Flash.device c.args.flash.now) c.args.ring.now.area) (option_map (λ name. name.now) c.args.after) c.in_err-name.ensures
 
-pub name_between-name-requires-clause-listed : goal.name_between-name-requires-clause-listed
-name_between-name-requires-clause-listed g c =
-    let so_far = c.loop-at.invariant in
-    at-listed (entries_on (g.F.Flash.device c.args.flash.now) c.args.ring.now.area) c.loop-at.at so_far.done so_far.later c.in-Some.entry so_far.at c.in-Some.is
+pub loop-name-init : goal.loop-name-init
+loop-name-init g c = seeks-start (bodies_on (g.F.Flash.device c.args.flash.now) c.args.ring.now.area) (option_map (λ name. name.now) c.args.after) c.in_ok-name.name c.in_ok-name.ensures
 
-pub next-at-requires-in-Some-clause-after : goal.next-at-requires-in-Some-clause-after
-next-at-requires-in-Some-clause-after g c =
-    let so_far = c.loop-at.invariant in
-    let list = entries_on (g.F.Flash.device c.args.flash.now) c.args.ring.now.area in
-    for-listed list c.in-Some.entry (at-listed list c.loop-at.at so_far.done so_far.later c.in-Some.entry so_far.at c.in-Some.is)
+pub returns-in_err-name-2 : goal.returns-in_err-name-2
+returns-in_err-name-2 g c =
+    c.from_residual-in_err-name-2.ensures
+    ∙ seeks-past (bodies_on (g.F.Flash.device c.args.flash.now) c.args.ring.now.area) (option_map (λ name. name.now) c.args.after) c.loop-name.name c.loop-name.invariant (sym c.has_value.ensures ∙ c.loop-name-test.true) c.in_err-name-2.ensures
 
-pub loop-at-smaller : goal.loop-at-smaller
-loop-at-smaller g c =
-    let so_far = c.loop-at.invariant in
-    let list = entries_on (g.F.Flash.device c.args.flash.now) c.args.ring.now.area in
-    at-smaller list c.loop-at.at c.in-Some.entry c.next-at-in-Some.result c.in-Some.is (at-listed list c.loop-at.at so_far.done so_far.later c.in-Some.entry so_far.at c.in-Some.is) c.next-at-in-Some.ensures.next
+pub loop-name-smaller : goal.loop-name-smaller
+loop-name-smaller g c = seeks-smaller (bodies_on (g.F.Flash.device c.args.flash.now) c.args.ring.now.area) c.loop-name.name c.in_ok-name-2.name c.in_ok-name-2.ensures
 
-pub loop-at-preserved : goal.loop-at-preserved
-loop-at-preserved g c =
-    let list = entries_on (g.F.Flash.device c.args.flash.now) c.args.ring.now.area in
-    let so_far : Leasts (entries_on (g.F.Flash.device c.args.flash.now) c.args.ring.now.area) (option_map (λ name. name.now) c.args.after) (Some c.in-Some.entry) c.loop-at.least =
-    subst (λ (o : Option RecordAt). Leasts (entries_on (g.F.Flash.device c.args.flash.now) c.args.ring.now.area) (option_map (λ name. name.now) c.args.after) o c.loop-at.least) c.in-Some.is c.loop-at.invariant in
-    subst (λ (o : Option (List ℕ)). Leasts (entries_on (g.F.Flash.device c.args.flash.now) c.args.ring.now.area) (option_map (λ name. name.now) c.args.after) c.next-at-in-Some.result o) (sym c.or-least.ensures)
-    (leasts-step list (option_map (λ name. name.now) c.args.after) c.in-Some.entry c.loop-at.least so_far c.name_between-name.result (subst (λ (o : Option (List ℕ)). TellsName list c.in-Some.entry (option_map (λ name. name.now) c.args.after) o c.name_between-name.result) c.as_ref.ensures.value c.name_between-name.ensures) c.next-at-in-Some.result c.next-at-in-Some.ensures.next)
+pub loop-name-preserved : goal.loop-name-preserved
+loop-name-preserved g c =
+    seeks-step (bodies_on (g.F.Flash.device c.args.flash.now) c.args.ring.now.area) (option_map (λ name. name.now) c.args.after) c.loop-name.name c.loop-name.invariant (sym c.has_value.ensures ∙ c.loop-name-test.true) c.in_ok-name-2.name c.in_ok-name-2.ensures
 
 pub returns : goal.returns
 returns g c =
-    leasts-end (entries_on (g.F.Flash.device c.args.flash.now) c.args.ring.now.area) (option_map (λ name. name.now) c.args.after) c.loop-at.least
-    (subst (λ (o : Option RecordAt). Leasts (entries_on (g.F.Flash.device c.args.flash.now) c.args.ring.now.area) (option_map (λ name. name.now) c.args.after) o c.loop-at.least) c.in_default.is c.loop-at.invariant)
+    seeks-found (bodies_on (g.F.Flash.device c.args.flash.now) c.args.ring.now.area) (option_map (λ name. name.now) c.args.after) c.loop-name.name c.loop-name.invariant (sym c.has_value.ensures ∙ c.loop-name-test.false)

@@ -1,11 +1,10 @@
 use Rattle.std.specs.Option.{option_map}
-use Rattle.fcb_ring.specs.Standing.{entries_on, record_places}
-use Rattle.backend_fcb.proofs.NameSteps.{Leasts}
-use Rattle.backend_fcb.proofs.WalkLemmas.{left_at}
+use Rattle.settings_list.proofs.SeekLemmas.{Seeks, left_behind}
+use Rattle.backend_fcb.specs.Standing.{bodies_on}
 use Rattle.backend_fcb.proofs.names.next_name.Given as goal
 
-abbrev pub invariant-loop-at : goal.invariant-loop-at
-invariant-loop-at g l = Leasts (entries_on (g.F.Flash.device l.flash) l.ring.area) (option_map (λ name. name.now) l.after) l.at l.least
+abbrev pub invariant-loop-name : goal.invariant-loop-name
+invariant-loop-name g l = Seeks (bodies_on (g.F.Flash.device l.flash) l.ring.area) (option_map (λ name. name.now) l.after) l.name
 
-abbrev pub decreases-loop-at : goal.decreases-loop-at
-decreases-loop-at g l = left_at (record_places (entries_on (g.F.Flash.device l.flash) l.ring.area)) l.at
+abbrev pub decreases-loop-name : goal.decreases-loop-name
+decreases-loop-name g l = left_behind l.name (bodies_on (g.F.Flash.device l.flash) l.ring.area)

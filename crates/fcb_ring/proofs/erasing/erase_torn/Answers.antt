@@ -6,10 +6,17 @@ use Rattle.flash_map.specs.Area.{sectors_of, sector_size}
 use Rattle.flash_map.proofs.Touches.{then}
 use Rattle.fcb_ring.specs.SectorStates.{is_torn}
 use Rattle.flash_map.specs.Area.{sector_at}
-use Rattle.fcb_ring.proofs.AreaLemmas.{count-sectors}
+use Rattle.fcb_ring.proofs.AreaLemmas.{count-sectors, area_after}
 use Rattle.fcb_ring.proofs.StandLemmas.{mended-behind}
 use Rattle.fcb_ring.proofs.MountLemmas.{on_err, mends_next, mends_all, spends_next, spends_part}
 use Rattle.fcb_ring.proofs.erasing.erase_torn.Goals as goal
+
+pub is_torn-is_due-requires : goal.is_torn-is_due-requires
+is_torn-is_due-requires g c =
+    let a = g.F.Flash.device c.args.flash.now in
+    let b = g.F.Flash.device c.loop-sector.flash in
+    let ring = area_after a b c.args.area.now c.loop-sector.invariant.touches.banks c.requires in
+    omega (arith, ring.lawful.at_least, c.sector_view.ensures.len)
 
 pub returns-in_err-erase_if-clause-bound : goal.returns-in_err-erase_if-clause-bound
 returns-in_err-erase_if-clause-bound g c =

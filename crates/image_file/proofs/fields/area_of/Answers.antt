@@ -1,5 +1,4 @@
 use Rattle.std.proofs.Common.{◌≡◌, ℕ, List, get_or, drop, take, sym, subst, ap, arith, rules, ◌∙◌}
-use Rattle.flash_map.specs.declared.area.Role.{Role}
 use Rattle.image_file.specs.Format.{role_byte}
 use Rattle.image_file.specs.Said.{role_said, area_said}
 use Rattle.image_file.specs.Table.{IsLabelText}

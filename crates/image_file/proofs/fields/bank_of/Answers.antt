@@ -1,5 +1,4 @@
 use Rattle.std.proofs.Common.{◌≡◌, ℕ, List, get_or, sym, subst, ap, arith, rules, ◌∙◌}
-use Rattle.flash_sim.specs.declared.flash.Bank.{Bank}
 use Rattle.image_file.specs.Format.{kind_byte}
 use Rattle.image_file.specs.Lawful.{IsImageBank}
 use Rattle.image_file.specs.Said.{kind_said, bank_said}

@@ -1,5 +1,3 @@
-use Rattle.std.proofs.Common.{sym, subst}
-use Rattle.std.specs.Str.{IsUtf8}
 use Rattle.std.proofs.lemmas.Str.{IsUtf8-from_ascii}
 use Rattle.image_file.proofs.LawfulLemmas.{label_is_ascii}
 use Rattle.image_file.proofs.fields.label_from.Goals as goal

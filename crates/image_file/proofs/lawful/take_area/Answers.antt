@@ -1,4 +1,4 @@
-use Rattle.std.proofs.Common.{◌≡◌, rules}
+use Rattle.std.proofs.Common.{rules}
 use Rattle.flash_sim.specs.Bank.{bank_at}
 use Rattle.image_file.specs.Lawful.{StandsOn}
 use Rattle.image_file.proofs.LawfulLemmas.{new_plain, plain_in_bank, not_added}

@@ -1,10 +1,9 @@
-use Rattle.std.proofs.Common.{◌≡◌, ◌⊎◌, inl, inr, ℕ, ◌+◌, ◌*◌, ◌<◌, ◌≤◌, List, length, [], map, sym, subst, ap, ◌∙◌, refl, arith}
+use Rattle.std.proofs.Common.{◌≡◌, inr, ℕ, ◌+◌, ◌*◌, ◌<◌, length, [], map, ap, ◌∙◌, refl, arith}
 use Rattle.flash_map.specs.declared.area.Role.TheVariants.{Nvs}
-use Rattle.flash_map.specs.declared.area.Area.{Area}
 use Rattle.image_file.specs.declared.image.ImageWhy.{ImageWhy}
 use Rattle.image_file.specs.declared.image.ImageWhy.TheVariants.{Short}
 use Rattle.image_file.specs.Format.{plain_area}
-use Rattle.image_file.specs.Said.{areas_said, area_place, bank_count, field_at}
+use Rattle.image_file.specs.Said.{areas_said, area_place, field_at}
 use Rattle.image_file.specs.Table.{AreaAt, Holds, Departs}
 use Rattle.image_file.proofs.LawfulLemmas.{area_taken, area_not_taken}
 use Rattle.image_file.proofs.ReadingLemmas.{exit, ends, length-all_banks, area_holds, area_refused, area_unspelled}

@@ -1,4 +1,4 @@
-use Rattle.std.proofs.Common.{◌≡◌, ℕ, List, ◌∷◌, [], ◌++◌, sym, subst, ap, ◌∙◌, arith, below_more}
+use Rattle.std.proofs.Common.{◌≡◌, List, ◌∷◌, [], ◌++◌, sym, ap, ◌∙◌, arith, below_more}
 use Rattle.std.specs.Global.{Vec}
 use Rattle.flash_sim.specs.declared.flash.Bank.{Bank}
 use Rattle.image_file.specs.Said.{banks_said}

@@ -1,4 +1,4 @@
-use Rattle.std.proofs.Common.{◌≡◌, ◌⊎◌, inl, inr, ℕ, ◌+◌, ◌<◌, ◌≤◌, List, [], ◌∷◌, ◌++◌, length, map, sym, subst, ap, ◌∙◌, refl, arith, rules, below_more}
+use Rattle.std.proofs.Common.{◌≡◌, inl, inr, ℕ, ◌+◌, ◌<◌, List, [], ◌∷◌, ◌++◌, length, sym, ap, ◌∙◌, refl, arith, rules, below_more}
 use Rattle.std.specs.Global.{Vec}
 use Rattle.std.proofs.lemmas.List.{map_push}
 use Rattle.flash_sim.specs.declared.flash.Bank.{Bank}
@@ -7,7 +7,7 @@ use Rattle.flash_sim.specs.Contents.{contents}
 use Rattle.image_file.specs.declared.image.ImageWhy.{ImageWhy}
 use Rattle.image_file.specs.declared.image.ImageWhy.TheVariants.{Short}
 use Rattle.image_file.specs.Said.{contents_said, contents_place, contents_size, bank_count, field_at}
-use Rattle.image_file.specs.Table.{ContentsAt, End, Holds, AllHold, FirstFault, contents_rows, rows_of}
+use Rattle.image_file.specs.Table.{ContentsAt, End, AllHold, FirstFault, contents_rows, rows_of}
 use Rattle.image_file.proofs.ReadingLemmas.{exit, ends, length-all_banks, contents_more, contents_next}
 use Rattle.image_file.proofs.RowLemmas.{first_row, all_rows, front_fault, later_fault, AllHold-append}
 use Rattle.image_file.proofs.reading.read_contents.Goals as goal

@@ -2,12 +2,11 @@ use Rattle.std.proofs.Common.{◌≡◌, ℕ, ◌<◌, List, length, map, sym, s
 use Rattle.flash_sim.specs.declared.flash.Bank.{Bank}
 use Rattle.flash_sim.specs.Bank.{bank_at}
 use Rattle.flash_sim.specs.Contents.{contents}
-use Rattle.flash_map.specs.declared.area.Area.{Area}
 use Rattle.image_file.specs.declared.image.Image.{Image}
 use Rattle.image_file.specs.Format.{Plain, plain, plain_area}
 use Rattle.image_file.specs.Lawful.{IsImageBank, HasNeeded}
 use Rattle.image_file.specs.Said.{bank_count, area_count, all_banks, all_areas, banks_said, areas_said, image_said}
-use Rattle.image_file.specs.Table.{BankAt, AreaAt, AllHold, FirstFault, header_rows, rows_of, contents_rows, rows}
+use Rattle.image_file.specs.Table.{BankAt, AreaAt, AllHold, FirstFault, rows_of, contents_rows, rows}
 use Rattle.image_file.specs.Reading.{IsImageFile}
 use Rattle.image_file.proofs.ReadingLemmas.{exit}
 use Rattle.image_file.proofs.ImageLemmas.{bank_fault, area_fault, needed_fault, contents_fault, contents_start, lawful_banks, all_hold, same_image, plain_from, is_image_file, contrary}

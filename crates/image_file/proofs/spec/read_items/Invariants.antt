@@ -1,4 +1,4 @@
-use Rattle.std.proofs.Common.{◌≡◌, ℕ, ◌+◌, List, length}
+use Rattle.std.proofs.Common.{◌≡◌, ℕ, ◌+◌, length}
 use Rattle.text_parts.specs.Parts.{parts, parts_of}
 use Rattle.image_file.specs.Spec.{Listed, listed, nothing_listed, AddsAll, FirstBad}
 use Rattle.image_file.specs.Items.{IsListed}

@@ -1,4 +1,4 @@
-use Rattle.std.proofs.Common.{◌≡◌, arith}
+use Rattle.std.proofs.Common.{arith}
 use Rattle.image_file.proofs.SpecLemmas.{listed_answer}
 use Rattle.image_file.proofs.spec.take_listed.Goals as goal
 

@@ -1,4 +1,4 @@
-use Rattle.std.proofs.Common.{◌≡◌, ℕ, List, [], ◌∷◌, ◌++◌, ap, ◌∙◌}
+use Rattle.std.proofs.Common.{ℕ, List, [], ◌∷◌, ◌++◌, ap, ◌∙◌}
 use Rattle.std.specs.Int.{w32, to_le_bytes}
 use Rattle.image_file.specs.Format.{kind_byte}
 use Rattle.image_file.proofs.WritingLemmas.{regroup}

@@ -1,4 +1,4 @@
-use Rattle.std.proofs.Common.{◌≡◌, ℕ, List, [], ◌∷◌, ◌++◌, length, ap, ◌∙◌, arith}
+use Rattle.std.proofs.Common.{ℕ, List, [], ◌∷◌, ◌++◌, length, ap, ◌∙◌}
 use Rattle.std.specs.List.{flat_map, concat}
 use Rattle.flash_sim.specs.Contents.{contents}
 use Rattle.image_file.specs.Format.{bank_text, area_text}

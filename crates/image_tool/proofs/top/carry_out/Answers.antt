@@ -12,5 +12,5 @@ returns-in-Ok-clause-ends g c =
     let bench = g.B.Flash.device c.args.bench.now in
     let bench' = g.B.Flash.device c.prepare.new.bench in
     let outcome = c.in-Ok.outcome in
-    let delivers = subst (λ (o : Outside). Delivers o host' outcome.text.items (file_of outcome.file) c.deliver.result) c.in-Ok.ensures.1 c.deliver.ensures.delivers in
-    ends c.args.command.now host host' bench bench' outcome.text.items (file_of outcome.file) c.in-Ok.ensures.0 c.deliver.result delivers
+    let delivers = subst (λ (o : Outside). Delivers o host' outcome.text.items (file_of outcome.file) c.deliver.result) c.in-Ok.ensures.prepares.1 c.deliver.ensures.delivers in
+    ends c.args.command.now host host' bench bench' outcome.text.items (file_of outcome.file) c.in-Ok.ensures.prepares.0 c.deliver.result delivers

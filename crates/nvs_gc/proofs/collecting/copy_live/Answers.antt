@@ -1,6 +1,8 @@
-use Rattle.std.proofs.Common.{◌≡◌, ℕ, ◌+◌, ◌-◌, ◌*◌, ◌/◌, ◌≤◌, length, refl, sym, ap, subst, ◌∙◌, arith}
+use Rattle.std.proofs.Common.{◌≡◌, ℕ, ◌+◌, ◌-◌, ◌*◌, ◌/◌, ◌≤◌, List, length, refl, sym, ap, subst, ◌∙◌, arith}
 use Rattle.flash_sim.specs.Device.{Device}
 use Rattle.flash_map.specs.declared.area.Area.{Area}
+use Rattle.flash_map.specs.declared.area.Geometry.{Geometry}
+use Rattle.flash_map.specs.Units.{IsUnit}
 use Rattle.flash_map.specs.Area.{unit_of, sector_at, sectors_of}
 use Rattle.flash_map.specs.Spending.{Spends, SpendsAtMost}
 use Rattle.flash_map.proofs.PieceLemmas.{on_err}
@@ -17,8 +19,16 @@ use Rattle.nvs_gc.specs.Collecting.{live_in, CopiesOne, cost_of}
 use Rattle.nvs_gc.proofs.CopyLoop.{IsCopying, last_there, room_there, copying_more, copying_lost, copying_most, copying_start, copying_end}
 use Rattle.nvs_gc.proofs.collecting.copy_live.Goals as goal
 
-pub used_slots-used-requires-clause-inside : goal.used_slots-used-requires-clause-inside
-used_slots-used-requires-clause-inside g c =
+pub used_count-used-requires-clause-unit : goal.used_count-used-requires-clause-unit
+used_count-used-requires-clause-unit g c =
+    let a : Device = g.F.Flash.device c.args.flash.now in
+    subst (λ (x : Geometry). IsUnit x.unit) (sym c.geometry-unit.ensures) (unit_is a c.args.area.now (g.met.F.Flash.is_lawful c.args.flash.now) c.requires.area.lawful.in_bank)
+
+pub used_count-used-requires-clause-short : goal.used_count-used-requires-clause-short
+used_count-used-requires-clause-short g c = omega (arith, c.sector_view.ensures.len, c.requires.area.lawful.at_most)
+
+pub sector_view-requires-clause-has_sector : goal.sector_view-requires-clause-has_sector
+sector_view-requires-clause-has_sector g c =
     let a : Device = g.F.Flash.device c.args.flash.now in
     let ring = c.requires.collecting.ring in
     let count = length-sectors a c.args.area.now in
@@ -68,8 +78,9 @@ copy_slot-requires-clause-free g c =
     let there = after-within (length (sectors_of a area)) place ring.within in
     let long = length-sector a area bank lawful.in_bank place (omega (arith, ring.within)) in
     let other = length-sector a area bank lawful.in_bank (next (sectors_of a area) place) (omega arith) in
-    let used : c.used_slots-used.result ≡ length (used_slots (unit_of a area) (sector_at (sectors_of a area) (next (sectors_of a area) place))) =
-    c.used_slots-used.ensures.count ∙ ap (λ (k : ℕ). length (used_slots (unit_of a area) (sector_at (sectors_of a area) k))) c.requires.victim in
+    let used : c.used_count-used.result ≡ length (used_slots (unit_of a area) (sector_at (sectors_of a area) (next (sectors_of a area) place))) =
+    c.used_count-used.ensures.count ∙ ap (λ (x : Geometry). length (used_slots x.unit c.sector_view.result.now)) c.geometry-unit.ensures ∙ ap (λ (b : List ℕ). length (used_slots (unit_of a area) b)) c.sector_view.ensures.bytes
+    ∙ ap (λ (k : ℕ). length (used_slots (unit_of a area) (sector_at (sectors_of a area) k))) c.requires.victim in
     let at : c.loop-slot.slot - 1 + 1 ≡ c.loop-slot.slot = omega arith in
     let room = room_there a d area place (c.loop-slot.slot - 1) c.loop-slot.scan is-unit c.requires.collecting c.loop-slot.invariant (omega arith) (other ∙ sym long) (omega (arith, lawful.at_least, widths.no_more)) in
     subst (λ (v : ℕ). cost_of (unit_of d area) (live_in (unit_of d area) (sectors_of d area) v c.loop-slot.slot) + 3 * slot_size (unit_of d area) ≤ free c.loop-slot.scan) (sym c.requires.victim)
@@ -91,8 +102,9 @@ returns-in_err-copy_slot-clause-spent_at_most g c =
     let area : Area = c.args.area.now in
     let place : ℕ = c.args.scan.now.current in
     let is-unit = unit_is a area (g.met.F.Flash.is_lawful c.args.flash.now) c.requires.area.lawful.in_bank in
-    let used : c.used_slots-used.result ≡ length (used_slots (unit_of a area) (sector_at (sectors_of a area) (next (sectors_of a area) place))) =
-    c.used_slots-used.ensures.count ∙ ap (λ (k : ℕ). length (used_slots (unit_of a area) (sector_at (sectors_of a area) k))) c.requires.victim in
+    let used : c.used_count-used.result ≡ length (used_slots (unit_of a area) (sector_at (sectors_of a area) (next (sectors_of a area) place))) =
+    c.used_count-used.ensures.count ∙ ap (λ (x : Geometry). length (used_slots x.unit c.sector_view.result.now)) c.geometry-unit.ensures ∙ ap (λ (b : List ℕ). length (used_slots (unit_of a area) b)) c.sector_view.ensures.bytes
+    ∙ ap (λ (k : ℕ). length (used_slots (unit_of a area) (sector_at (sectors_of a area) k))) c.requires.victim in
     let at : c.loop-slot.slot ≡ c.loop-slot.slot - 1 + 1 = omega arith in
     let spent : SpendsAtMost d e (cost_of (unit_of d area) (live_in (unit_of d area) (sectors_of d area) (next (sectors_of a area) place) (c.loop-slot.slot - 1 + 1)) / unit_of d area) =
     subst (λ (k : ℕ). SpendsAtMost d e (cost_of (unit_of d area) (live_in (unit_of d area) (sectors_of d area) (next (sectors_of a area) place) k) / unit_of d area)) at
@@ -123,8 +135,9 @@ returns-clause-copies g c =
     let area : Area = c.args.area.now in
     let place : ℕ = c.args.scan.now.current in
     let is-unit = unit_is a area (g.met.F.Flash.is_lawful c.args.flash.now) c.requires.area.lawful.in_bank in
-    let used : c.used_slots-used.result ≡ length (used_slots (unit_of a area) (sector_at (sectors_of a area) (next (sectors_of a area) place))) =
-    c.used_slots-used.ensures.count ∙ ap (λ (k : ℕ). length (used_slots (unit_of a area) (sector_at (sectors_of a area) k))) c.requires.victim in
+    let used : c.used_count-used.result ≡ length (used_slots (unit_of a area) (sector_at (sectors_of a area) (next (sectors_of a area) place))) =
+    c.used_count-used.ensures.count ∙ ap (λ (x : Geometry). length (used_slots x.unit c.sector_view.result.now)) c.geometry-unit.ensures ∙ ap (λ (b : List ℕ). length (used_slots (unit_of a area) b)) c.sector_view.ensures.bytes
+    ∙ ap (λ (k : ℕ). length (used_slots (unit_of a area) (sector_at (sectors_of a area) k))) c.requires.victim in
     (copying_end a area place is-unit c.requires.collecting (g.F.Flash.device c.loop-slot.flash) (c.loop-slot.slot - 1) c.loop-slot.scan (omega arith) c.loop-slot.invariant).0
 
 pub returns-clause-spent : goal.returns-clause-spent
@@ -133,6 +146,7 @@ returns-clause-spent g c =
     let area : Area = c.args.area.now in
     let place : ℕ = c.args.scan.now.current in
     let is-unit = unit_is a area (g.met.F.Flash.is_lawful c.args.flash.now) c.requires.area.lawful.in_bank in
-    let used : c.used_slots-used.result ≡ length (used_slots (unit_of a area) (sector_at (sectors_of a area) (next (sectors_of a area) place))) =
-    c.used_slots-used.ensures.count ∙ ap (λ (k : ℕ). length (used_slots (unit_of a area) (sector_at (sectors_of a area) k))) c.requires.victim in
+    let used : c.used_count-used.result ≡ length (used_slots (unit_of a area) (sector_at (sectors_of a area) (next (sectors_of a area) place))) =
+    c.used_count-used.ensures.count ∙ ap (λ (x : Geometry). length (used_slots x.unit c.sector_view.result.now)) c.geometry-unit.ensures ∙ ap (λ (b : List ℕ). length (used_slots (unit_of a area) b)) c.sector_view.ensures.bytes
+    ∙ ap (λ (k : ℕ). length (used_slots (unit_of a area) (sector_at (sectors_of a area) k))) c.requires.victim in
     (copying_end a area place is-unit c.requires.collecting (g.F.Flash.device c.loop-slot.flash) (c.loop-slot.slot - 1) c.loop-slot.scan (omega arith) c.loop-slot.invariant).1

@@ -15,8 +15,8 @@ use Rattle.nvs_gc.proofs.Mounting.{rest-there}
 use Rattle.nvs_gc.proofs.RoundSteps.{opened-blank, opens_next, keeps_round, round_turns, round_spent, round_most, close_lost, units-close}
 use Rattle.nvs_gc.proofs.collecting.round.Goals as goal
 
-pub put_close-requires-clause-free : goal.put_close-requires-clause-free
-put_close-requires-clause-free g c =
+pub put_close-requires-clause-not_closed : goal.put_close-requires-clause-not_closed
+put_close-requires-clause-not_closed g c =
     let a : Device = g.F.Flash.device c.args.flash.now in
     let area : Area = c.args.area.now in
     let count = length-sectors a area in

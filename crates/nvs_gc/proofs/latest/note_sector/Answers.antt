@@ -10,12 +10,6 @@ use Rattle.nvs_gc.specs.Latest.{Tells}
 use Rattle.nvs_gc.proofs.LastSlots.{tells_slot}
 use Rattle.nvs_gc.proofs.latest.note_sector.Goals as goal
 
-pub overflow_add-slot-end : goal.overflow_add-slot-end
-overflow_add-slot-end c =
-    let size = slot_size_bounds c.args.unit c.requires.unit in
-    let inside = used_inside c.args.unit c.args.bytes.now c.used_count-used.result (omega arith) (omega arith) (omega arith) in
-    omega (arith, factor_le (c.used_count-used.result + 1) (slot_size c.args.unit) (length c.args.bytes.now) (omega arith) inside)
-
 pub loop-slot-init : goal.loop-slot-init
 loop-slot-init c = λ before tells. subst (Tells c.args.last.now.sectors c.args.last.now.slots) (sym (append-nil before)) tells
 

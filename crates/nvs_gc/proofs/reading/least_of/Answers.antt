@@ -1,18 +1,10 @@
-use Rattle.std.proofs.Common.{◌≡◌, ℕ, ◌+◌, ◌-◌, length, subst, arith}
+use Rattle.std.proofs.Common.{◌≡◌, ℕ, ◌+◌, ◌-◌, subst, arith}
 use Rattle.std.proofs.lemmas.List.Elements.{All-nil}
-use Rattle.slot_list.proofs.SlotLemmas.{factor_le}
-use Rattle.nvs_store.specs.Geometry.{slot_size}
 use Rattle.nvs_store.proofs.Lookups.{used_inside, entries_to, entries_to_used}
 use Rattle.nvs_store.proofs.SlotReads.{slot_size_bounds}
 use Rattle.nvs_gc.specs.Ends.{IsNotBetween, HasNoneBetween}
 use Rattle.nvs_gc.proofs.NextIds.{from_then, none_more}
 use Rattle.nvs_gc.proofs.reading.least_of.Goals as goal
-
-pub overflow_add-slot-end : goal.overflow_add-slot-end
-overflow_add-slot-end c =
-    let size = slot_size_bounds c.args.unit c.requires.unit in
-    let inside = used_inside c.args.unit c.args.bytes.now c.used_count-used.result (omega arith) (omega arith) (omega arith) in
-    omega (arith, factor_le (c.used_count-used.result + 1) (slot_size c.args.unit) (length c.args.bytes.now) (omega arith) inside)
 
 pub loop-slot-init : goal.loop-slot-init
 loop-slot-init c = record { no_more = omega arith; from = λ below. omega arith; none_before = All-nil (IsNotBetween c.args.first c.args.end) }

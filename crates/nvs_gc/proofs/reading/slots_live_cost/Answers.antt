@@ -9,12 +9,6 @@ use Rattle.nvs_gc.specs.Collecting.{live_in, live_to, cost_of}
 use Rattle.nvs_gc.proofs.CopyLemmas.{to_cost}
 use Rattle.nvs_gc.proofs.reading.slots_live_cost.Goals as goal
 
-pub overflow_add-slot-end : goal.overflow_add-slot-end
-overflow_add-slot-end c =
-    let size = slot_size_bounds c.args.unit c.requires.unit in
-    let inside = used_inside c.args.unit c.args.bytes.now c.used_count-used.result (omega arith) (omega arith) (omega arith) in
-    omega (arith, factor_le (c.used_count-used.result + 1) (slot_size c.args.unit) (length c.args.bytes.now) (omega arith) inside)
-
 pub overflow_add-live : goal.overflow_add-live
 overflow_add-live c =
     let size = slot_size_bounds c.args.unit c.requires.unit in

@@ -18,13 +18,14 @@ use Rattle.nvs_store.specs.declared.entry.Entry.{Entry}
 use Rattle.nvs_store.specs.declared.scan.Scan.{Scan}
 use Rattle.nvs_store.specs.Geometry.{slot_size}
 use Rattle.nvs_store.specs.Entries.{encoded}
-use Rattle.nvs_store.specs.Sector.{low, data_end, HasRoom, IsNext}
+use Rattle.nvs_store.specs.Sector.{low, data_end}
 use Rattle.nvs_store.specs.Scans.{reading, scan_at, scan_of, AddsPairAt, StopsAddingAt}
 use Rattle.nvs_store.proofs.Appending.{open_is, scan_there, fits_there, next_open, list_after, lost_list, undamaged_after, pair_used, stops_used, stops_closed, adds_sound, stops_sound, scan_added}
 use Rattle.nvs_store.proofs.Cuts.{HasRoom-from_fits}
 use Rattle.sector_ring.proofs.AreaReads.{length-sectors}
-use Rattle.nvs_store.proofs.Putting.{can_data, data_cut, data_most, can_entry_after, pair_put, entry_cut, pair_spent, pair_most}
+use Rattle.nvs_store.proofs.Putting.{can_data, data_cut, data_most, can_entry_after, pair_image, pair_put, entry_cut, pair_spent, pair_most}
 use Rattle.nvs_store.proofs.Views.{unit_is}
+use Rattle.nvs_store.proofs.Room.{HasRoom, IsNext}
 use Rattle.nvs_store.proofs.calls.append.Goals as goal
 
 pub overflow_cast-entry : goal.overflow_cast-entry
@@ -755,3 +756,37 @@ returns-clause-undamaged g c =
     let now : List ℕ = sector_at (sectors_of last area) place in
     let full = pair_used unit place b now c.args.id bytes room put.adds in
     undamaged_after unit old (sectors_of last area) place within is put.only put.adds.closed (λ _. full) (omega (arith, c.requires.lawful.several)) free (adds_sound unit place b now c.args.id bytes room fitting put.adds)
+
+pub returns-clause-image : goal.returns-clause-image
+returns-clause-image g c =
+    let a : Device = g.F.Flash.device c.args.flash.now in
+    let area : Area = c.args.area.now in
+    let lawful = g.met.F.Flash.is_lawful c.args.flash.now in
+    let is_area = c.requires.lawful.in_bank in
+    let unit : ℕ = unit_of a area in
+    let place : ℕ = c.args.scan.now.current in
+    let bytes : List ℕ = c.args.bytes.now in
+    let old : List (List ℕ) = sectors_of a area in
+    let b : List ℕ = sector_bytes a area place in
+    let count : length old ≡ area.sectors = length-sectors a area in
+    let is : open_sector (reading unit) old ≡ place = open_is unit old c.args.scan.now c.requires.scan in
+    let inside : open_sector (reading unit) old < length old = open_within (reading unit) old (omega (arith, c.requires.lawful.several)) in
+    let within : place < length old = omega arith in
+    let has_sector : place < area.sectors = omega arith in
+    let scanned : c.args.scan.now ≡ scan_at unit old place = scan_there unit old c.args.scan.now c.requires.scan in
+    let lowest : c.args.scan.now.low ≡ low unit b = ap (λ (s : Scan). s.low) scanned in
+    let end : c.args.scan.now.data_end ≡ data_end unit b = ap (λ (s : Scan). s.data_end) scanned in
+    let is-unit : IsUnit unit = unit_is a area lawful is_area in
+    let long : length b ≡ sector_size a area = length-sector a area lawful is_area place has_sector in
+    let fitting = fits_there unit (length bytes) old c.args.scan.now c.requires.scan c.requires.fits in
+    let room : HasRoom unit b (length bytes) = HasRoom-from_fits unit place b (length bytes) is-unit (omega (arith, long, c.requires.lawful.at_most)) fitting in
+    let e : Entry = record { id = c.args.id; offset = c.args.scan.now.data_end; len = length bytes; part = 255 } in
+    let width : c.slot_size.result ≡ slot_size unit = c.slot_size.ensures.size ∙ ap (λ (x : Geometry). slot_size x.unit) c.geometry-unit.ensures in
+    let at : c.args.scan.now.low - c.slot_size.result ≡ low unit b - slot_size unit = omega arith in
+    let m : Device = g.F.Flash.device c.program_padded.new.flash in
+    let one = c.in_ok-program_padded.ensures in
+    let first_part : Writes a m area place (data_end unit b) (padded_bytes unit bytes) = subst (λ (offset : ℕ). Writes a m area place offset (padded_bytes unit bytes)) end one.ok in
+    let last : Device = g.F.Flash.device c.program_padded-2.new.flash in
+    let written : Writes m last area place (low unit b - slot_size unit) (padded_bytes (unit_of m area) (encoded e)) =
+    subst (λ (offset : ℕ). Writes m last area place offset (padded_bytes (unit_of m area) (encoded e))) at (subst (λ (xs : List ℕ). Writes m last area place (c.args.scan.now.low - c.slot_size.result) (padded_bytes (unit_of m area) xs)) c.encode_entry.ensures c.in_ok-program_padded-2.ensures.ok) in
+    pair_image a area lawful is_area place has_sector m bytes room one.touches.banks first_part last c.args.id c.args.scan.now.data_end (length bytes) end refl written

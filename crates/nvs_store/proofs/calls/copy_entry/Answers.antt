@@ -18,13 +18,14 @@ use Rattle.nvs_store.specs.declared.entry.Entry.{Entry}
 use Rattle.nvs_store.specs.declared.scan.Scan.{Scan}
 use Rattle.nvs_store.specs.Geometry.{slot_size, cost}
 use Rattle.nvs_store.specs.Entries.{encoded}
-use Rattle.nvs_store.specs.Sector.{low, data_end, HasRoom, IsNext}
+use Rattle.nvs_store.specs.Sector.{low, data_end}
 use Rattle.nvs_store.specs.Scans.{reading, found_bytes, scan_at, scan_of, AddsPairAt}
 use Rattle.nvs_store.proofs.Appending.{open_is, scan_there, pair_used, scan_added}
 use Rattle.sector_ring.proofs.AreaReads.{length-sectors}
-use Rattle.nvs_store.proofs.Putting.{can_data, data_cut, data_most, can_entry_after, pair_put, entry_cut, pair_spent, pair_most}
+use Rattle.nvs_store.proofs.Putting.{can_data, data_cut, data_most, can_entry_after, pair_image, pair_put, entry_cut, pair_spent, pair_most}
 use Rattle.nvs_store.proofs.SlotReads.{slot_widths}
 use Rattle.nvs_store.proofs.Views.{unit_is}
+use Rattle.nvs_store.proofs.Room.{HasRoom, IsNext}
 use Rattle.nvs_store.proofs.calls.copy_entry.Goals as goal
 
 pub overflow_cast-entry : goal.overflow_cast-entry
@@ -384,3 +385,41 @@ returns-clause-spent g c =
     subst (λ (n : ℕ). Spends a last n) costs
     (pair_spent a area lawful is_area place has_sector m bytes room one.touches.banks first_part last e first_spent
     (subst (λ (xs : List ℕ). Spends m last (padded (unit_of m area) (length xs) / unit_of m area)) c.encode_entry-bytes.ensures c.in_ok-program_padded.ensures.spent))
+
+pub returns-clause-image : goal.returns-clause-image
+returns-clause-image g c =
+    let a : Device = g.F.Flash.device c.args.flash.now in
+    let area : Area = c.args.area.now in
+    let lawful = g.met.F.Flash.is_lawful c.args.flash.now in
+    let is_area = c.requires.lawful.in_bank in
+    let unit : ℕ = unit_of a area in
+    let place : ℕ = c.args.scan.now.current in
+    let old : List (List ℕ) = sectors_of a area in
+    let bytes : List ℕ = found_bytes old c.args.from.now in
+    let b : List ℕ = sector_bytes a area place in
+    let count : length old ≡ area.sectors = length-sectors a area in
+    let is : open_sector (reading unit) old ≡ place = open_is unit old c.args.scan.now c.requires.scan in
+    let inside : open_sector (reading unit) old < length old = open_within (reading unit) old (omega (arith, c.requires.lawful.several)) in
+    let within : place < length old = omega arith in
+    let has_sector : place < area.sectors = omega arith in
+    let scanned : c.args.scan.now ≡ scan_at unit old place = scan_there unit old c.args.scan.now c.requires.scan in
+    let lowest : c.args.scan.now.low ≡ low unit b = ap (λ (s : Scan). s.low) scanned in
+    let end : c.args.scan.now.data_end ≡ data_end unit b = ap (λ (s : Scan). s.data_end) scanned in
+    let is-unit : IsUnit unit = unit_is a area lawful is_area in
+    let long : length b ≡ sector_size a area = length-sector a area lawful is_area place has_sector in
+    let source_long : length (sector_bytes a area c.args.from.now.sector) ≡ sector_size a area = length-sector a area lawful is_area c.args.from.now.sector c.requires.has_source in
+    let len : length bytes ≡ c.args.from.now.entry.len = length-source a area (record { sector = c.args.from.now.sector; offset = c.args.from.now.entry.offset; len = c.args.from.now.entry.len }) (omega (arith, c.requires.inside, source_long)) in
+    let rounded : padded unit (length bytes) ≡ padded unit c.args.from.now.entry.len = ap (padded unit) len in
+    let widths = slot_widths unit is-unit in
+    let room : HasRoom unit b (length bytes) = record { is_unit = is-unit; short = omega (arith, long, c.requires.lawful.at_most); room = omega (arith, c.requires.free) } in
+    let e : Entry = record { id = c.args.from.now.entry.id; offset = c.args.scan.now.data_end; len = c.args.from.now.entry.len; part = 255 } in
+    let width : c.slot_size.result ≡ slot_size unit = c.slot_size.ensures.size ∙ ap (λ (x : Geometry). slot_size x.unit) c.geometry-unit.ensures in
+    let at : c.args.scan.now.low - c.slot_size.result ≡ low unit b - slot_size unit = omega arith in
+    let m : Device = g.F.Flash.device c.copy_padded.new.flash in
+    let one = c.in_ok-copy_padded.ensures in
+    let first_part : Writes a m area place (data_end unit b) (padded_bytes unit bytes) = subst (λ (offset : ℕ). Writes a m area place offset (padded_bytes unit bytes)) end one.ok in
+    let first_spent : Spends a m (padded unit (length bytes) / unit) = subst (λ (n : ℕ). Spends a m (n / unit)) (sym rounded) one.spent in
+    let last : Device = g.F.Flash.device c.program_padded.new.flash in
+    let written : Writes m last area place (low unit b - slot_size unit) (padded_bytes (unit_of m area) (encoded e)) =
+    subst (λ (offset : ℕ). Writes m last area place offset (padded_bytes (unit_of m area) (encoded e))) at (subst (λ (xs : List ℕ). Writes m last area place (c.args.scan.now.low - c.slot_size.result) (padded_bytes (unit_of m area) xs)) c.encode_entry-bytes.ensures c.in_ok-program_padded.ensures.ok) in
+    pair_image a area lawful is_area place has_sector m bytes room one.touches.banks first_part last c.args.from.now.entry.id c.args.scan.now.data_end c.args.from.now.entry.len end (sym len) written

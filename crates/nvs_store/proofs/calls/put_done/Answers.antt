@@ -17,17 +17,18 @@ use Rattle.nvs_store.specs.declared.entry.Entry.{Entry}
 use Rattle.nvs_store.specs.declared.scan.Scan.{Scan}
 use Rattle.nvs_store.specs.Geometry.{slot_size, capacity}
 use Rattle.nvs_store.specs.Entries.{encoded}
-use Rattle.nvs_store.specs.Sector.{low, data_end, HasRoom, special_entry}
+use Rattle.nvs_store.specs.Sector.{low, data_end, special_entry}
 use Rattle.nvs_store.specs.Scans.{reading, scan_at, scan_of, MarksDoneAt}
 use Rattle.nvs_store.proofs.Appending.{open_is, scan_there, scan_marked}
 use Rattle.nvs_store.proofs.EntryBytes.{length-encoded}
-use Rattle.nvs_store.proofs.MarkPutting.{done_room, can_done, done_put, done_cut}
+use Rattle.nvs_store.proofs.MarkPutting.{done_room, can_done, done_image, done_put, done_cut}
 use Rattle.sector_ring.proofs.AreaReads.{length-sectors}
 use Rattle.nvs_store.proofs.Putting.{slot_size-is}
 use Rattle.nvs_store.proofs.SlotReads.{slot_widths}
 use Rattle.nvs_store.proofs.Sound.{marks-sound}
 use Rattle.nvs_store.proofs.Views.{unit_is}
 use Rattle.nvs_store.specs.declared.scan.Redo.{Redo}
+use Rattle.nvs_store.proofs.Room.{HasRoom}
 use Rattle.nvs_store.proofs.calls.put_done.Goals as goal
 
 pub special-requires : goal.special-requires
@@ -260,3 +261,32 @@ returns-clause-sound g c =
     let last : Device = g.F.Flash.device c.program_padded.new.flash in
     let put : MarksDoneAt unit old (sectors_of last area) place = done_put a area lawful is_area place has_sector last room (subst (λ (offset : ℕ). Writes a last area place offset (padded_bytes unit (encoded e))) at (subst (λ (xs : List ℕ). Writes a last area place (c.args.scan.now.low - c.slot_size.result) (padded_bytes unit xs)) encoded_is c.in_ok-program_padded.ensures.ok)) in
     λ costs. marks-sound unit b (sector_at (sectors_of last area) place) room (omega (arith, costs, ap (capacity unit) long)) put.marks
+
+pub returns-clause-image : goal.returns-clause-image
+returns-clause-image g c =
+    let a : Device = g.F.Flash.device c.args.flash.now in
+    let area : Area = c.args.area.now in
+    let lawful = g.met.F.Flash.is_lawful c.args.flash.now in
+    let is_area = c.requires.lawful.in_bank in
+    let unit : ℕ = unit_of a area in
+    let place : ℕ = c.args.scan.now.current in
+    let old : List (List ℕ) = sectors_of a area in
+    let b : List ℕ = sector_bytes a area place in
+    let count : length old ≡ area.sectors = length-sectors a area in
+    let is : open_sector (reading unit) old ≡ place = open_is unit old c.args.scan.now c.requires.scan in
+    let inside : open_sector (reading unit) old < length old = open_within (reading unit) old (omega (arith, c.requires.lawful.several)) in
+    let within : place < length old = omega arith in
+    let has_sector : place < area.sectors = omega arith in
+    let scanned : c.args.scan.now ≡ scan_at unit old place = scan_there unit old c.args.scan.now c.requires.scan in
+    let lowest : c.args.scan.now.low ≡ low unit b = ap (λ (s : Scan). s.low) scanned in
+    let end : c.args.scan.now.data_end ≡ data_end unit b = ap (λ (s : Scan). s.data_end) scanned in
+    let is-unit : IsUnit unit = unit_is a area lawful is_area in
+    let widths = slot_widths unit is-unit in
+    let long : length b ≡ sector_size a area = length-sector a area lawful is_area place has_sector in
+    let room : HasRoom unit b 0 = done_room unit b is-unit (omega (arith, long, c.requires.lawful.at_most)) (omega (arith, c.requires.free)) in
+    let e : Entry = special_entry (data_end unit b) in
+    let encoded_is : c.encode_entry-bytes.result ≡ encoded e = c.encode_entry-bytes.ensures ∙ ap encoded (c.special.ensures ∙ ap special_entry end) in
+    let width : c.slot_size.result ≡ slot_size unit = c.slot_size.ensures.size ∙ ap (λ (x : Geometry). slot_size x.unit) c.geometry-unit.ensures in
+    let at : c.args.scan.now.low - c.slot_size.result ≡ low unit b - slot_size unit = omega arith in
+    let last : Device = g.F.Flash.device c.program_padded.new.flash in
+    done_image a area lawful is_area place has_sector last room (subst (λ (offset : ℕ). Writes a last area place offset (padded_bytes unit (encoded e))) at (subst (λ (xs : List ℕ). Writes a last area place (c.args.scan.now.low - c.slot_size.result) (padded_bytes unit xs)) encoded_is c.in_ok-program_padded.ensures.ok))

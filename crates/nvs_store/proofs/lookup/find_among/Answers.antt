@@ -17,16 +17,16 @@ loop-place-init g c =
     record {
       low = omega arith;
       high = omega arith;
-      none = ap (λ (n : ℕ). last_wanted c.args.wanted (among (unit_of d c.args.area.now) (sectors_of d c.args.area.now) c.args.current c.args.end n)) none;
+      none = ap (λ (n : ℕ). last_wanted c.args.wanted (among (unit_of d c.args.area.now) (sectors_of d c.args.area.now) c.args.scan.now.current c.args.end n)) none;
     }
 
 pub returns-then-is_some : goal.returns-then-is_some
 returns-then-is_some g c =
     let d : Device = g.F.Flash.device c.args.flash.now in
     let kept = c.loop-place.invariant in
-    let here : last_wanted c.args.wanted (among (unit_of d c.args.area.now) (sectors_of d c.args.area.now) c.args.current (c.loop-place.place - 1) (c.args.end - (c.loop-place.place - 1))) ≡ c.find_at-found.result =
-    last-step (λ f. is_wanted c.args.wanted f.entry) (counted_in (unit_of d c.args.area.now) (sectors_of d c.args.area.now) c.args.current) c.loop-place.place c.args.end c.find_at-found.result (omega arith) kept.high kept.none (c.find_at-found.ensures.whole (omega arith)) in
-    sym here ∙ last-suffix (λ f. is_wanted c.args.wanted f.entry) (counted_in (unit_of d c.args.area.now) (sectors_of d c.args.area.now) c.args.current) c.args.first (c.loop-place.place - 1) c.args.end (omega arith) (omega (arith, kept.high))
+    let here : last_wanted c.args.wanted (among (unit_of d c.args.area.now) (sectors_of d c.args.area.now) c.args.scan.now.current (c.loop-place.place - 1) (c.args.end - (c.loop-place.place - 1))) ≡ c.find_at-found.result =
+    last-step (λ f. is_wanted c.args.wanted f.entry) (counted_in (unit_of d c.args.area.now) (sectors_of d c.args.area.now) c.args.scan.now.current) c.loop-place.place c.args.end c.find_at-found.result (omega arith) kept.high kept.none (c.find_at-found.ensures.whole (omega arith)) in
+    sym here ∙ last-suffix (λ f. is_wanted c.args.wanted f.entry) (counted_in (unit_of d c.args.area.now) (sectors_of d c.args.area.now) c.args.scan.now.current) c.args.first (c.loop-place.place - 1) c.args.end (omega arith) (omega (arith, kept.high))
     (ap (λ (o : Option Found). is_some o) here ∙ sym c.is_some.ensures ∙ c.if-is_some.true)
 
 pub loop-place-preserved : goal.loop-place-preserved
@@ -36,7 +36,7 @@ loop-place-preserved g c =
     record {
       low = omega arith;
       high = omega (arith, kept.high);
-      none = last-step (λ f. is_wanted c.args.wanted f.entry) (counted_in (unit_of d c.args.area.now) (sectors_of d c.args.area.now) c.args.current) c.loop-place.place c.args.end c.find_at-found.result (omega arith) kept.high kept.none (c.find_at-found.ensures.whole (omega arith))
+      none = last-step (λ f. is_wanted c.args.wanted f.entry) (counted_in (unit_of d c.args.area.now) (sectors_of d c.args.area.now) c.args.scan.now.current) c.loop-place.place c.args.end c.find_at-found.result (omega arith) kept.high kept.none (c.find_at-found.ensures.whole (omega arith))
           ∙ not_some c.find_at-found.result (sym c.is_some.ensures ∙ c.if-is_some.false);
     }
 
@@ -45,4 +45,4 @@ returns g c =
     let d : Device = g.F.Flash.device c.args.flash.now in
     let kept = c.loop-place.invariant in
     let at : c.args.first ≡ c.loop-place.place = omega (arith, kept.low) in
-    sym (ap (λ (k : ℕ). last_wanted c.args.wanted (among (unit_of d c.args.area.now) (sectors_of d c.args.area.now) c.args.current k (c.args.end - k))) at ∙ kept.none)
+    sym (ap (λ (k : ℕ). last_wanted c.args.wanted (among (unit_of d c.args.area.now) (sectors_of d c.args.area.now) c.args.scan.now.current k (c.args.end - k))) at ∙ kept.none)

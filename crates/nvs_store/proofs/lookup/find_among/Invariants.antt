@@ -8,7 +8,7 @@ abbrev pub invariant-loop-place : goal.invariant-loop-place
 invariant-loop-place g l = record {
   low : l.first ≤ l.place;
   high : l.place ≤ l.end;
-  none : last_wanted l.wanted (among (unit_of (g.F.Flash.device l.flash) l.area) (sectors_of (g.F.Flash.device l.flash) l.area) l.current l.place (l.end - l.place)) ≡ None;
+  none : last_wanted l.wanted (among (unit_of (g.F.Flash.device l.flash) l.area) (sectors_of (g.F.Flash.device l.flash) l.area) l.scan.current l.place (l.end - l.place)) ≡ None;
 }
 
 abbrev pub decreases-loop-place : goal.decreases-loop-place

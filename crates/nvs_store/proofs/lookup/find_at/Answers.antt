@@ -1,9 +1,10 @@
-use Rattle.std.proofs.Common.{◌≡◌, ℕ, List, sym, ap, ◌∙◌, arith}
+use Rattle.std.proofs.Common.{◌≡◌, ℕ, List, not, ap, ◌∙◌, arith}
 use Rattle.std.specs.Option.{option_map}
 use Rattle.flash_sim.specs.Device.{Device}
 use Rattle.flash_map.specs.declared.area.Geometry.{Geometry}
 use Rattle.flash_map.specs.Area.{unit_of, sectors_of, sector_at}
 use Rattle.flash_map.proofs.Places.{length-sector}
+use Rattle.sector_ring.proofs.AreaReads.{length-sectors}
 use Rattle.nvs_store.specs.Sector.{entries_within, last_placed}
 use Rattle.nvs_store.specs.Scans.{found_at, last_wanted, counted_within}
 use Rattle.nvs_store.proofs.FoundLemmas.{counted-last, counted-none, counted-whole}
@@ -11,33 +12,38 @@ use Rattle.nvs_store.proofs.lookup.find_at.Given.{Over}
 use Rattle.nvs_store.proofs.lookup.find_at.Goals as goal
 use Rattle.nvs_store.proofs.lookup.find_at.Goals.{After-find_in}
 
-found : (g : Over) (c : After-find_in g) → c.find_in.result ≡ last_wanted c.args.wanted (counted_within (unit_of (g.F.Flash.device c.args.flash.now) c.args.area.now) (sectors_of (g.F.Flash.device c.args.flash.now) c.args.area.now) c.args.current c.args.place c.args.slots)
+found : (g : Over) (c : After-find_in g) → c.find_in.result ≡ last_wanted c.args.wanted (counted_within (unit_of (g.F.Flash.device c.args.flash.now) c.args.area.now) (sectors_of (g.F.Flash.device c.args.flash.now) c.args.area.now) c.args.scan.now.current c.args.place c.args.slots)
 found g c =
     let d : Device = g.F.Flash.device c.args.flash.now in
     let unit : ℕ = unit_of d c.args.area.now in
+    let sectors : List (List ℕ) = sectors_of d c.args.area.now in
     c.find_in.ensures
     ∙ ap (λ (x : Geometry). option_map (found_at c.args.place) (last_placed c.args.wanted (entries_within x.unit c.sector_view-bytes.result.now c.args.slots))) c.geometry-unit.ensures
     ∙ ap (λ (b : List ℕ). option_map (found_at c.args.place) (last_placed c.args.wanted (entries_within unit b c.args.slots))) c.sector_view-bytes.ensures.bytes
-    ∙ counted-last unit (sectors_of d c.args.area.now) c.args.current c.args.place c.args.slots c.args.wanted (sym c.counts.ensures ∙ c.if-counts.true)
+    ∙ counted-last unit sectors c.args.scan.now.current c.args.place c.args.slots c.args.wanted (c.is_hidden.ensures unit sectors (length-sectors d c.args.area.now) c.requires.scan ∙ ap not c.if-is_hidden.false)
 
-pub returns-then-counts-clause-within : goal.returns-then-counts-clause-within
-returns-then-counts-clause-within g c = found g c
+pub returns-else-is_hidden-clause-within : goal.returns-else-is_hidden-clause-within
+returns-else-is_hidden-clause-within g c = found g c
 
-pub returns-then-counts-clause-whole : goal.returns-then-counts-clause-whole
-returns-then-counts-clause-whole g c = λ enough.
+pub returns-else-is_hidden-clause-whole : goal.returns-else-is_hidden-clause-whole
+returns-else-is_hidden-clause-whole g c = λ enough.
     let d : Device = g.F.Flash.device c.args.flash.now in
     let long = length-sector d c.args.area.now (g.met.F.Flash.is_lawful c.args.flash.now) c.requires.lawful.in_bank c.args.place c.requires.inside in
     let sector : List ℕ = sector_at (sectors_of d c.args.area.now) c.args.place in
-    found g c ∙ ap (last_wanted c.args.wanted) (counted-whole (unit_of d c.args.area.now) (sectors_of d c.args.area.now) c.args.current c.args.place c.args.slots (omega (arith, c.requires.lawful.at_most)))
+    found g c ∙ ap (last_wanted c.args.wanted) (counted-whole (unit_of d c.args.area.now) (sectors_of d c.args.area.now) c.args.scan.now.current c.args.place c.args.slots (omega (arith, c.requires.lawful.at_most)))
 
-pub returns-else-counts-clause-within : goal.returns-else-counts-clause-within
-returns-else-counts-clause-within g c =
+pub returns-then-is_hidden-clause-within : goal.returns-then-is_hidden-clause-within
+returns-then-is_hidden-clause-within g c =
     let d : Device = g.F.Flash.device c.args.flash.now in
-    counted-none (unit_of d c.args.area.now) (sectors_of d c.args.area.now) c.args.current c.args.place c.args.slots c.args.wanted (sym c.counts.ensures ∙ c.if-counts.false)
+    let unit : ℕ = unit_of d c.args.area.now in
+    let sectors : List (List ℕ) = sectors_of d c.args.area.now in
+    counted-none unit sectors c.args.scan.now.current c.args.place c.args.slots c.args.wanted (c.is_hidden.ensures unit sectors (length-sectors d c.args.area.now) c.requires.scan ∙ ap not c.if-is_hidden.true)
 
-pub returns-else-counts-clause-whole : goal.returns-else-counts-clause-whole
-returns-else-counts-clause-whole g c = λ enough.
+pub returns-then-is_hidden-clause-whole : goal.returns-then-is_hidden-clause-whole
+returns-then-is_hidden-clause-whole g c = λ enough.
     let d : Device = g.F.Flash.device c.args.flash.now in
+    let unit : ℕ = unit_of d c.args.area.now in
+    let sectors : List (List ℕ) = sectors_of d c.args.area.now in
     let long = length-sector d c.args.area.now (g.met.F.Flash.is_lawful c.args.flash.now) c.requires.lawful.in_bank c.args.place c.requires.inside in
-    counted-none (unit_of d c.args.area.now) (sectors_of d c.args.area.now) c.args.current c.args.place c.args.slots c.args.wanted (sym c.counts.ensures ∙ c.if-counts.false)
-    ∙ ap (last_wanted c.args.wanted) (counted-whole (unit_of d c.args.area.now) (sectors_of d c.args.area.now) c.args.current c.args.place c.args.slots (omega (arith, c.requires.lawful.at_most)))
+    counted-none unit sectors c.args.scan.now.current c.args.place c.args.slots c.args.wanted (c.is_hidden.ensures unit sectors (length-sectors d c.args.area.now) c.requires.scan ∙ ap not c.if-is_hidden.true)
+    ∙ ap (last_wanted c.args.wanted) (counted-whole unit sectors c.args.scan.now.current c.args.place c.args.slots (omega (arith, c.requires.lawful.at_most)))

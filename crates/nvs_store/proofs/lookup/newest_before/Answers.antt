@@ -15,7 +15,7 @@ returns-then-is_some g c =
     let d : Device = g.F.Flash.device c.args.flash.now in
     let unit : ℕ = unit_of d c.args.area.now in
     let sectors : List (List ℕ) = sectors_of d c.args.area.now in
-    let current : ℕ = c.args.current in
+    let current : ℕ = c.args.scan.now.current in
     let older : List Found = flat_map (counted_in unit sectors current) (range_with_len (current + 1) (length sectors - (current + 1))) in
     let newer : List Found = flat_map (counted_in unit sectors current) (range_with_len 0 (c.args.place - 0)) in
     newest-behind (λ f. is_wanted None f.entry) older newer c.find_among-newest.result c.find_among-newest.ensures (sym c.is_some.ensures ∙ c.if-is_some.true)
@@ -26,7 +26,7 @@ returns g c =
     let d : Device = g.F.Flash.device c.args.flash.now in
     let unit : ℕ = unit_of d c.args.area.now in
     let sectors : List (List ℕ) = sectors_of d c.args.area.now in
-    let current : ℕ = c.args.current in
+    let current : ℕ = c.args.scan.now.current in
     let older : List Found = flat_map (counted_in unit sectors current) (range_with_len (current + 1) (length sectors - (current + 1))) in
     let newer : List Found = flat_map (counted_in unit sectors current) (range_with_len 0 (c.args.place - 0)) in
     let count : c.args.area.now.sectors ≡ length sectors = sym (length-sectors d c.args.area.now) in

@@ -14,8 +14,8 @@ returns-then-is_some g c =
     let d : Device = g.F.Flash.device c.args.flash.now in
     let unit : ℕ = unit_of d c.args.area.now in
     let sectors : List (List ℕ) = sectors_of d c.args.area.now in
-    let older : List Found = flat_map (counted_in unit sectors c.args.current) (places_before (length sectors) c.args.current c.args.place) in
-    let here : List Found = counted_within unit sectors c.args.current c.args.place c.args.slots in
+    let older : List Found = flat_map (counted_in unit sectors c.args.scan.now.current) (places_before (length sectors) c.args.scan.now.current c.args.place) in
+    let here : List Found = counted_within unit sectors c.args.scan.now.current c.args.place c.args.slots in
     newest-behind (λ f. is_wanted None f.entry) older here c.find_at-newest.result c.find_at-newest.ensures.within (sym c.is_some.ensures ∙ c.if-is_some.true)
 
 pub returns : goal.returns
@@ -23,6 +23,6 @@ returns g c =
     let d : Device = g.F.Flash.device c.args.flash.now in
     let unit : ℕ = unit_of d c.args.area.now in
     let sectors : List (List ℕ) = sectors_of d c.args.area.now in
-    let older : List Found = flat_map (counted_in unit sectors c.args.current) (places_before (length sectors) c.args.current c.args.place) in
-    let here : List Found = counted_within unit sectors c.args.current c.args.place c.args.slots in
+    let older : List Found = flat_map (counted_in unit sectors c.args.scan.now.current) (places_before (length sectors) c.args.scan.now.current c.args.place) in
+    let here : List Found = counted_within unit sectors c.args.scan.now.current c.args.place c.args.slots in
     newest-before (λ f. is_wanted None f.entry) older here c.find_at-newest.result c.newest_before.result c.find_at-newest.ensures.within (sym c.is_some.ensures ∙ c.if-is_some.false) c.newest_before.ensures

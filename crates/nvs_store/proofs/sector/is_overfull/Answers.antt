@@ -1,7 +1,6 @@
 use Rattle.std.proofs.Common.{◌≡◌, ℕ, ◌+◌, ◌-◌, ◌*◌, ◌||◌, Bool, List, length, ltb, refl, sym, ap, ◌∙◌, arith}
 use Rattle.std.specs.Prelude.{sum_by}
 use Rattle.std.specs.List.{list_any}
-use Rattle.slot_list.proofs.SlotLemmas.{factor_le}
 use Rattle.nvs_store.specs.declared.scan.Placed.{Placed}
 use Rattle.nvs_store.specs.Geometry.{slot_size, capacity}
 use Rattle.nvs_store.specs.Sector.{counting_entry, used_slots, low, placed_cost}
@@ -15,12 +14,6 @@ pub slot_start-requires-clause-inside : goal.slot_start-requires-clause-inside
 slot_start-requires-clause-inside c =
     let size = slot_size_bounds c.args.unit c.requires.unit in
     used_inside c.args.unit c.args.bytes.now c.used_count-used.result (omega arith) (omega arith) (omega arith)
-
-pub overflow_add-index-end : goal.overflow_add-index-end
-overflow_add-index-end c =
-    let size = slot_size_bounds c.args.unit c.requires.unit in
-    let inside = used_inside c.args.unit c.args.bytes.now c.used_count-used.result (omega arith) (omega arith) (omega arith) in
-    omega (arith, factor_le (c.used_count-used.result + 1) (slot_size c.args.unit) (length c.args.bytes.now) (omega arith) inside)
 
 pub counting_entry-placed-requires-clause-inside : goal.counting_entry-placed-requires-clause-inside
 counting_entry-placed-requires-clause-inside c =
@@ -40,7 +33,7 @@ returns-then-passes c =
     let b : List ℕ = c.args.bytes.now in
     let used : c.loop-index.index - 1 ≡ length (used_slots unit b) = omega arith in
     let all = entries_to_used unit b (c.loop-index.index - 1) used in
-    let lower : c.slot_start.result ≡ low unit b = c.slot_start.ensures ∙ ap (λ (n : ℕ). length b - (n + 1) * slot_size unit) c.used_count-used.ensures in
+    let lower : c.slot_start.result ≡ low unit b = c.slot_start.ensures ∙ ap (λ (n : ℕ). length b - (n + 1) * slot_size unit) c.used_count-used.ensures.count in
     let fence : c.saturating_sub-fence.result ≡ low unit b - slot_size unit = omega (arith, lower) in
     c.if-passes.true ∙ sym (ap (λ (t : Bool). t || ltb (capacity unit (length b)) c.loop-index.costs) c.if-passes.true)
     ∙ overfull_is unit b c.saturating_sub-fence.result (capacity unit (length b)) c.loop-index.costs c.loop-index.passes fence refl
@@ -52,7 +45,7 @@ returns-else-passes c =
     let b : List ℕ = c.args.bytes.now in
     let used : c.loop-index.index - 1 ≡ length (used_slots unit b) = omega arith in
     let all = entries_to_used unit b (c.loop-index.index - 1) used in
-    let lower : c.slot_start.result ≡ low unit b = c.slot_start.ensures ∙ ap (λ (n : ℕ). length b - (n + 1) * slot_size unit) c.used_count-used.ensures in
+    let lower : c.slot_start.result ≡ low unit b = c.slot_start.ensures ∙ ap (λ (n : ℕ). length b - (n + 1) * slot_size unit) c.used_count-used.ensures.count in
     let fence : c.saturating_sub-fence.result ≡ low unit b - slot_size unit = omega (arith, lower) in
     sym (ap (λ (t : Bool). t || ltb c.from.result c.loop-index.costs) c.if-passes.false)
     ∙ overfull_is unit b c.saturating_sub-fence.result c.from.result c.loop-index.costs c.loop-index.passes fence (c.from.ensures ∙ c.capacity.ensures)

@@ -19,12 +19,6 @@ slot_start-low-requires-clause-inside c =
     let size = slot_size_bounds c.args.unit c.requires.unit in
     used_inside c.args.unit c.args.bytes.now c.used_count-used.result (omega arith) (omega arith) (omega arith)
 
-pub overflow_add-index-end : goal.overflow_add-index-end
-overflow_add-index-end c =
-    let size = slot_size_bounds c.args.unit c.requires.unit in
-    let inside = used_inside c.args.unit c.args.bytes.now c.used_count-used.result (omega arith) (omega arith) (omega arith) in
-    omega (arith, factor_le (c.used_count-used.result + 1) (slot_size c.args.unit) (length c.args.bytes.now) (omega arith) inside)
-
 pub counting_entry-placed-requires-clause-inside : goal.counting_entry-placed-requires-clause-inside
 counting_entry-placed-requires-clause-inside c =
     let size = slot_size_bounds c.args.unit c.requires.unit in
@@ -56,8 +50,8 @@ data_end-is c =
     let size = slot_size_bounds c.args.unit c.requires.unit in
     let used : c.loop-index.index - 1 ≡ length (used_slots c.args.unit c.args.bytes.now) = omega arith in
     let all = entries_to_used c.args.unit c.args.bytes.now (c.loop-index.index - 1) used in
-    let count : length (used_slots c.args.unit c.args.bytes.now) ≡ c.used_count-used.result = sym c.used_count-used.ensures in
-    let lower : c.slot_start-low.result ≡ low c.args.unit c.args.bytes.now = c.slot_start-low.ensures ∙ ap (λ (n : ℕ). length c.args.bytes.now - (n + 1) * slot_size c.args.unit) c.used_count-used.ensures in
+    let count : length (used_slots c.args.unit c.args.bytes.now) ≡ c.used_count-used.result = sym c.used_count-used.ensures.count in
+    let lower : c.slot_start-low.result ≡ low c.args.unit c.args.bytes.now = c.slot_start-low.ensures ∙ ap (λ (n : ℕ). length c.args.bytes.now - (n + 1) * slot_size c.args.unit) c.used_count-used.ensures.count in
     let fence : c.saturating_sub.result ≡ low c.args.unit c.args.bytes.now - slot_size c.args.unit = omega (arith, lower) in
     c.max-2.ensures ∙ ap (max c.padded-written.result) c.max.ensures
     ∙ data_end_is c.args.unit c.args.bytes.now _ c.trimmed_len.result c.padded-written.result c.loop-index.ends c.loop-index.lens (omega arith) (ap (λ (n : ℕ). take n c.args.bytes.now) fence) c.trimmed_len.ensures c.padded-written.ensures.value
@@ -67,5 +61,5 @@ pub returns : goal.returns
 returns c =
     let used : c.loop-index.index - 1 ≡ length (used_slots c.args.unit c.args.bytes.now) = omega arith in
     scan_is c.args.unit c.args.place c.args.bytes.now c.slot_start-low.result c.max-2.result c.loop-index.gc_done
-    (c.slot_start-low.ensures ∙ ap (λ (n : ℕ). length c.args.bytes.now - (n + 1) * slot_size c.args.unit) c.used_count-used.ensures) (data_end-is c)
+    (c.slot_start-low.ensures ∙ ap (λ (n : ℕ). length c.args.bytes.now - (n + 1) * slot_size c.args.unit) c.used_count-used.ensures.count) (data_end-is c)
     (c.loop-index.invariant.gc_done ∙ ap (list_any is_gc_done) (slots_to_used is_used 1 (slot_size c.args.unit) c.args.bytes.now (c.loop-index.index - 1) used))

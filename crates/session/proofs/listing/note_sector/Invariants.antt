@@ -1,11 +1,8 @@
 use Rattle.std.proofs.Common.{◌-◌, map}
-use Rattle.flash_map.specs.Area.{unit_of, sector_at, sectors_of}
 use Rattle.nvs_store.specs.Scans.{found_at}
 use Rattle.nvs_store.proofs.Lookups.{entries_to}
 use Rattle.session.specs.Listing.{Notes}
 use Rattle.session.proofs.listing.note_sector.Given as goal
 
 abbrev pub invariant-loop-slot : goal.invariant-loop-slot
-invariant-loop-slot g l =
-    let d = g.F.Flash.device l.flash in
-    Notes l.initial.last l.last (map (found_at l.place) (entries_to (unit_of d l.area) (sector_at (sectors_of d l.area) l.place) (l.slot - 1)))
+invariant-loop-slot l = Notes l.initial.last l.last (map (found_at l.place) (entries_to l.unit l.bytes (l.slot - 1)))

@@ -5,6 +5,7 @@ use Rattle.flash_map.proofs.SpendingBounds.{between_within}
 use Rattle.zms_cycle.specs.declared.entry.ZEntry.{ZEntry}
 use Rattle.zms_cycle.proofs.Frames.{keeps_same}
 use Rattle.zms_cycle.proofs.EntryCalls.{ready, ready_slots, ready_slot, ready_cut, ready_done}
+use Rattle.zms_cycle.proofs.GuardUnits.{entry_guard}
 use Rattle.zms_cycle.proofs.appending.put_done.Goals as goal
 
 pub overflow_add-opened : goal.overflow_add-opened
@@ -29,3 +30,9 @@ returns-clause-lost g c =
 
 pub returns-clause-spends_lost : goal.returns-clause-spends_lost
 returns-clause-spends_lost g c = on_err_weaker c.put_slot.result (λ spends. between_within spends 0 2 (omega arith) (omega arith)) c.put_slot.ensures.spends_lost
+
+pub returns-clause-guards : goal.returns-clause-guards
+returns-clause-guards g c =
+    let r = ready (g.F.Flash.device c.args.flash.now) c.args.area.now c.args.sector c.opened_sector-opened.result.cycle c.opened_sector-opened.result.slots c.opened_sector-opened.result.data_end 0 c.requires.zms (g.met.F.Flash.is_lawful c.args.flash.now) c.requires.sound c.opened_sector-opened.ensures.cycle c.opened_sector-opened.ensures.slots c.opened_sector-opened.ensures.data_end (let room = c.requires.room in omega arith) in
+    let due = entry_guard (g.F.Flash.device c.args.flash.now) c.args.area.now c.args.sector c.opened_sector-opened.result.cycle c.opened_sector-opened.result.slots c.opened_sector-opened.result.data_end 0 c.done_entry-entry.result.cycle (sector_bytes (g.F.Flash.device c.args.flash.now) c.args.area.now c.args.sector) r (ap (λ (e : ZEntry). e.cycle) c.done_entry-entry.ensures) refl in
+    on_ok_weaker c.put_slot.result (λ spends. between_within spends _ _ (omega arith) (omega arith)) c.put_slot.ensures.guards

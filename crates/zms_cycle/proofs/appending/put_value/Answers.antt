@@ -6,11 +6,11 @@ use Rattle.zms_cycle.specs.Changes.{HasPart}
 use Rattle.zms_cycle.proofs.EntryCalls.{long_len, long_value, short_spends, short_value}
 use Rattle.zms_cycle.proofs.appending.put_value.Goals as goal
 
-pub returns-then-bytes-le-INLINE-clause-ok : goal.returns-then-bytes-le-INLINE-clause-ok
-returns-then-bytes-le-INLINE-clause-ok g c = short_value (sector_bytes (g.F.Flash.device c.args.flash.now) c.args.area.now c.args.sector) c.args.at c.args.bytes.now (omega arith)
+pub returns-then-bytes-clause-ok : goal.returns-then-bytes-clause-ok
+returns-then-bytes-clause-ok g c = short_value (sector_bytes (g.F.Flash.device c.args.flash.now) c.args.area.now c.args.sector) c.args.at c.args.bytes.now (omega arith)
 
-pub returns-then-bytes-le-INLINE-clause-spends : goal.returns-then-bytes-le-INLINE-clause-spends
-returns-then-bytes-le-INLINE-clause-spends g c = short_spends (g.F.Flash.device c.args.flash.now) (length c.args.bytes.now) (omega arith)
+pub returns-then-bytes-clause-spends : goal.returns-then-bytes-clause-spends
+returns-then-bytes-clause-spends g c = short_spends (g.F.Flash.device c.args.flash.now) (length c.args.bytes.now) (omega arith)
 
 pub put_bytes-requires-clause-fits : goal.put_bytes-requires-clause-fits
 put_bytes-requires-clause-fits g c = let fits = c.requires.fits in let len = long_len (length c.args.bytes.now) (omega arith) in omega arith

@@ -5,11 +5,12 @@ use Rattle.flash_map.proofs.PieceLemmas.{on_err}
 use Rattle.flash_map.proofs.SpendingBounds.{between_then, between_within}
 use Rattle.zms_cycle.specs.declared.entry.ZEntry.{ZEntry}
 use Rattle.zms_cycle.specs.Changes.{HasPart, AddsPair}
-use Rattle.zms_cycle.specs.Sector.{data_len, cost, value_of, slot_of, entry_len}
+use Rattle.zms_cycle.specs.Sector.{valid_slots, data_len, cost, value_of, slot_of, entry_len}
 use Rattle.zms_cycle.proofs.AreaFacts.{size_is, still_zms, others_then}
 use Rattle.zms_cycle.proofs.Frames.{sound-parts}
 use Rattle.zms_cycle.proofs.CopyCalls.{copied, moved_is, ordinary_id}
 use Rattle.zms_cycle.proofs.EntryCalls.{ready, ready_fits, ready_aligned, ready_slots, ready_slot, ready_part, ready_cut, ready_value, ready_pair}
+use Rattle.zms_cycle.proofs.GuardUnits.{value_under, entry_guard}
 use Rattle.zms_cycle.proofs.copying.copy_entry.Goals as goal
 
 pub ordinary_entry-from-requires-clause-slot : goal.ordinary_entry-from-requires-clause-slot
@@ -104,3 +105,14 @@ returns-clause-spends_lost g c =
     let copy = copied (sector_bytes (g.F.Flash.device c.args.flash.now) c.args.area.now c.args.from_sector) c.args.from_slot c.ordinary_entry-from.result c.requires.from_sound c.requires.from c.requires.listed (omega arith) c.ordinary_entry-from.ensures in
     let same = ap data_len copy.listed_len in
     on_err_weaker c.put_slot.result (λ spends. between_within (between_then c.in_ok-copy_value.ensures.spends spends) 0 (cost (entry_len (sector_bytes (g.F.Flash.device c.args.flash.now) c.args.area.now c.args.from_sector) c.args.from_slot) / 16 + 1) (omega arith) (omega arith)) c.put_slot.ensures.spends_lost
+
+pub returns-clause-guards : goal.returns-clause-guards
+returns-clause-guards g c =
+    let copy = copied (sector_bytes (g.F.Flash.device c.args.flash.now) c.args.area.now c.args.from_sector) c.args.from_slot c.ordinary_entry-from.result c.requires.from_sound c.requires.from c.requires.listed (omega arith) c.ordinary_entry-from.ensures in
+    let same = ap data_len (copy.len ∙ sym copy.listed_len) in
+    let room = c.requires.room in
+    let r = ready (g.F.Flash.device c.args.flash.now) c.args.area.now c.args.sector c.opened_sector-opened.result.cycle c.opened_sector-opened.result.slots c.opened_sector-opened.result.data_end (data_len (length (value_of (sector_bytes (g.F.Flash.device c.args.flash.now) c.args.area.now c.args.from_sector) c.ordinary_entry-from.result))) c.requires.zms (g.met.F.Flash.is_lawful c.args.flash.now) c.requires.sound c.opened_sector-opened.ensures.cycle c.opened_sector-opened.ensures.slots c.opened_sector-opened.ensures.data_end (omega (arith, room, same)) in
+    let under = ap (λ (b : List ℕ). slot_of b (length (valid_slots (sector_bytes (g.F.Flash.device c.args.flash.now) c.args.area.now c.args.sector)) + 2 + 1)) c.in_ok-copy_value.ensures.ok ∙ value_under (sector_bytes (g.F.Flash.device c.args.flash.now) c.args.area.now c.args.sector) (value_of (sector_bytes (g.F.Flash.device c.args.flash.now) c.args.area.now c.args.from_sector) c.ordinary_entry-from.result) c.opened_sector-opened.result.data_end r.end_is r.fits in
+    let due = entry_guard (g.F.Flash.device c.args.flash.now) c.args.area.now c.args.sector c.opened_sector-opened.result.cycle c.opened_sector-opened.result.slots c.opened_sector-opened.result.data_end (data_len (length (value_of (sector_bytes (g.F.Flash.device c.args.flash.now) c.args.area.now c.args.from_sector) c.ordinary_entry-from.result))) c.moved_entry-entry.result.cycle (sector_bytes (g.F.Flash.device c.copy_value.new.flash) c.args.area.now c.args.sector) r (ap (λ (e : ZEntry). e.cycle) c.moved_entry-entry.ensures) under in
+    let listed = ap data_len copy.listed_len in
+    on_ok_weaker c.put_slot.result (λ spends. between_within (between_then c.in_ok-copy_value.ensures.spends spends) _ _ (omega arith) (omega arith)) c.put_slot.ensures.guards

@@ -13,11 +13,11 @@ use Rattle.zms_cycle.proofs.EntryCalls.{long_len, short_spends, short_value}
 use Rattle.zms_cycle.proofs.CopyCalls.{long_value_is, range_fits, with_copy}
 use Rattle.zms_cycle.proofs.copying.copy_value.Goals as goal
 
-pub returns-then-from-le-INLINE-clause-ok : goal.returns-then-from-le-INLINE-clause-ok
-returns-then-from-le-INLINE-clause-ok g c = let len = c.requires.len in short_value (sector_bytes (g.F.Flash.device c.args.flash.now) c.args.area.now c.args.sector) c.args.to (value_of (sector_bytes (g.F.Flash.device c.args.flash.now) c.args.area.now c.args.from_sector) c.args.from.now) (omega arith)
+pub returns-then-from-le-TAIL-clause-ok : goal.returns-then-from-le-TAIL-clause-ok
+returns-then-from-le-TAIL-clause-ok g c = let len = c.requires.len in short_value (sector_bytes (g.F.Flash.device c.args.flash.now) c.args.area.now c.args.sector) c.args.to (value_of (sector_bytes (g.F.Flash.device c.args.flash.now) c.args.area.now c.args.from_sector) c.args.from.now) (omega arith)
 
-pub returns-then-from-le-INLINE-clause-spends : goal.returns-then-from-le-INLINE-clause-spends
-returns-then-from-le-INLINE-clause-spends g c = short_spends (g.F.Flash.device c.args.flash.now) c.args.from.now.len (omega arith)
+pub returns-then-from-le-TAIL-clause-spends : goal.returns-then-from-le-TAIL-clause-spends
+returns-then-from-le-TAIL-clause-spends g c = short_spends (g.F.Flash.device c.args.flash.now) c.args.from.now.len (omega arith)
 
 pub copy_bytes-requires-clause-from : goal.copy_bytes-requires-clause-from
 copy_bytes-requires-clause-from g c =

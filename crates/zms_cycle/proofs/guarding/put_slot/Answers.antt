@@ -22,3 +22,6 @@ pub returns-clause-spends_lost : goal.returns-clause-spends_lost
 returns-clause-spends_lost g c =
     let few = zero_or_one (is_valid_under c.args.entry.now.cycle (slot_of (sector_bytes (g.F.Flash.device c.args.flash.now) c.args.area.now c.args.sector) (c.args.slot + 1))) in
     on_err_weaker c.put_unit.result (λ spends. between_within (between_then c.in_ok-guard.ensures.spends spends) 0 1 (omega arith) (omega arith)) c.put_unit.ensures.spends_lost
+
+pub returns-clause-guards : goal.returns-clause-guards
+returns-clause-guards g c = on_ok_weaker c.put_unit.result (λ spends. between_within (between_then c.in_ok-guard.ensures.spends spends) _ _ (omega arith) (omega arith)) c.put_unit.ensures.spends

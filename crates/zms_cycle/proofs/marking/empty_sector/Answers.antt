@@ -9,6 +9,7 @@ use Rattle.zms_cycle.specs.Changes.{next_cycle}
 use Rattle.zms_cycle.proofs.AreaFacts.{size_is, still_zms, others_then}
 use Rattle.zms_cycle.proofs.UnitCalls.{zero_or_one}
 use Rattle.zms_cycle.proofs.EmptyCalls.{kept_none, kept_first, kept_both, emptied, same_bytes}
+use Rattle.zms_cycle.proofs.GuardUnits.{first_unit, second_unit}
 use Rattle.zms_cycle.proofs.marking.empty_sector.Goals as goal
 
 pub guard-requires-2-clause-zms : goal.guard-requires-2-clause-zms
@@ -70,3 +71,12 @@ returns-in_err-guard-2-clause-spends_lost g c =
 
 pub returns-clause-touches : goal.returns-clause-touches
 returns-clause-touches g c = then (then c.in_ok-guard.ensures.touches c.in_ok-guard-2.ensures.touches) c.put_unit.ensures.touches
+
+pub returns-clause-guards : goal.returns-clause-guards
+returns-clause-guards g c =
+    let is = c.next_cycle-cycle.ensures ∙ ap next_cycle c.sector_cycle.ensures in
+    let size = size_is (g.F.Flash.device c.args.flash.now) c.args.area.now c.args.sector c.requires (g.met.F.Flash.is_lawful c.args.flash.now) in
+    let least = c.requires.lawful.at_least in
+    let one = first_unit (sector_bytes (g.F.Flash.device c.args.flash.now) c.args.area.now c.args.sector) c.next_cycle-cycle.result is in
+    let two = second_unit (sector_bytes (g.F.Flash.device c.args.flash.now) c.args.area.now c.args.sector) (sector_bytes (g.F.Flash.device c.guard.new.flash) c.args.area.now c.args.sector) c.next_cycle-cycle.result (omega arith) is c.in_ok-guard.ensures.ok in
+    on_ok_weaker c.put_unit.result (λ spends. between_within (between_then (between_then c.in_ok-guard.ensures.spends c.in_ok-guard-2.ensures.spends) spends) _ _ (omega arith) (omega arith)) c.put_unit.ensures.spends

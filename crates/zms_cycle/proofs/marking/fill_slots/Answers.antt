@@ -7,7 +7,7 @@ use Rattle.flash_map.proofs.Touches.{then, untouched}
 use Rattle.zms_cycle.proofs.AreaFacts.{size_is, still_zms, others_same, others_then}
 use Rattle.zms_cycle.proofs.EmptyCalls.{same_bytes}
 use Rattle.zms_cycle.proofs.Frames.{keeps_same}
-use Rattle.zms_cycle.proofs.CloseCalls.{fill_keeps, keeps_equal}
+use Rattle.zms_cycle.proofs.CloseCalls.{fill_keeps, fill_more, filled_as, keeps_equal}
 use Rattle.zms_cycle.proofs.marking.fill_slots.Goals as goal
 
 pub loop-slot-init : goal.loop-slot-init
@@ -17,6 +17,7 @@ loop-slot-init g c = record {
   touches = untouched (c.args.area.now ∷ []) (g.F.Flash.device c.args.flash.now);
   others = others_same (g.F.Flash.device c.args.flash.now) (g.F.Flash.device c.args.flash.now) c.args.area.now c.args.sector refl;
   keeps = keeps_same (sector_bytes (g.F.Flash.device c.args.flash.now) c.args.area.now c.args.sector);
+  filled = λ k from below. absurd (omega arith);
   spends = between_within (between_none (g.F.Flash.device c.args.flash.now)) 0 (c.args.top - c.args.top) (omega arith) (omega arith);
 }
 
@@ -39,6 +40,11 @@ loop-slot-preserved g c =
       touches = then kept.touches c.in_ok-fill_slot.ensures.touches;
       others = others_then (g.F.Flash.device c.args.flash.now) (g.F.Flash.device c.loop-slot.flash) (g.F.Flash.device c.fill_slot.new.flash) c.args.area.now c.args.sector kept.others c.in_ok-fill_slot.ensures.others;
       keeps = fill_keeps (sector_bytes (g.F.Flash.device c.args.flash.now) c.args.area.now c.args.sector) (sector_bytes (g.F.Flash.device c.loop-slot.flash) c.args.area.now c.args.sector) (sector_bytes (g.F.Flash.device c.fill_slot.new.flash) c.args.area.now c.args.sector) (c.loop-slot.slot - 1) kept.keeps c.requires.guarded (omega arith) (let top = c.requires.top (omega arith) in let size = size_is (g.F.Flash.device c.args.flash.now) c.args.area.now c.args.sector c.requires.zms (g.met.F.Flash.is_lawful c.args.flash.now) in omega arith) c.in_ok-fill_slot.ensures.ok;
+      filled =
+          let top = c.requires.top (omega arith) in
+          let size = size_is (g.F.Flash.device c.args.flash.now) c.args.area.now c.args.sector c.requires.zms (g.met.F.Flash.is_lawful c.args.flash.now) in
+          let long = kept.keeps.kept.long in
+          fill_more (sector_bytes (g.F.Flash.device c.loop-slot.flash) c.args.area.now c.args.sector) (sector_bytes (g.F.Flash.device c.fill_slot.new.flash) c.args.area.now c.args.sector) (c.loop-slot.slot - 1) c.loop-slot.slot c.args.top (omega arith) (omega arith) (omega arith) c.in_ok-fill_slot.ensures.ok kept.filled;
       spends = between_within (between_then kept.spends c.in_ok-fill_slot.ensures.spends) 0 (c.args.top - (c.loop-slot.slot - 1)) (omega arith) (omega arith);
     }
 
@@ -55,3 +61,6 @@ returns-in_err-fill_slot-clause-spends g c =
 
 pub returns-clause-spends : goal.returns-clause-spends
 returns-clause-spends g c = between_within c.loop-slot.invariant.spends 0 (c.args.top - c.args.bottom) (omega arith) (omega arith)
+
+pub returns-clause-filled : goal.returns-clause-filled
+returns-clause-filled g c = filled_as (sector_bytes (g.F.Flash.device c.loop-slot.flash) c.args.area.now c.args.sector) c.loop-slot.slot c.args.top c.args.bottom c.args.top c.loop-slot.invariant.filled (omega arith) (omega arith)

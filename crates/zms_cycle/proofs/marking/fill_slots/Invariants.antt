@@ -3,7 +3,7 @@ use Rattle.flash_map.specs.Area.{sector_bytes}
 use Rattle.flash_map.specs.Spending.{SpendsBetween}
 use Rattle.flash_map.specs.Touches.{Touches}
 use Rattle.zms_cycle.specs.Areas.{OthersStay}
-use Rattle.zms_cycle.specs.Changes.{KeepsList}
+use Rattle.zms_cycle.specs.Changes.{IsFilled, KeepsList}
 use Rattle.zms_cycle.proofs.marking.fill_slots.Given as goal
 
 abbrev pub invariant-loop-slot : goal.invariant-loop-slot
@@ -13,6 +13,7 @@ invariant-loop-slot g l = record {
   touches : Touches (l.area ∷ []) (g.F.Flash.device l.initial.flash) (g.F.Flash.device l.flash) false;
   others : OthersStay (g.F.Flash.device l.initial.flash) (g.F.Flash.device l.flash) l.area l.sector;
   keeps : KeepsList (sector_bytes (g.F.Flash.device l.initial.flash) l.area l.sector) (sector_bytes (g.F.Flash.device l.flash) l.area l.sector);
+  filled : IsFilled (sector_bytes (g.F.Flash.device l.flash) l.area l.sector) l.slot l.top;
   spends : SpendsBetween (g.F.Flash.device l.initial.flash) (g.F.Flash.device l.flash) 0 (l.top - l.slot);
 }
 

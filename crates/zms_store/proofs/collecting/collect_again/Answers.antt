@@ -45,6 +45,9 @@ returns-in_err-empty_sector-clause-items g c =
     let b : Device = g.F.Flash.device c.empty_sector.new.flash in
     keeps-on a b area (stopped-keeps (sectors_of a area) (sectors_of b area) place form (again_cut (sectors_of a area) (sectors_of b area) place form c.in_err-empty_sector.ensures.others c.in_err-empty_sector.ensures.lost))
 
+pub returns-in_err-empty_sector-clause-spends : goal.returns-in_err-empty_sector-clause-spends
+returns-in_err-empty_sector-clause-spends g c = between_within c.in_err-empty_sector.ensures.spends_lost 0 _ (omega arith) (omega arith)
+
 pub collect-requires-2-clause-collecting : goal.collect-requires-2-clause-collecting
 collect-requires-2-clause-collecting g c =
     let a : Device = g.F.Flash.device c.args.flash.now in

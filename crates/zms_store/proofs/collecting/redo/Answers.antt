@@ -1,14 +1,17 @@
-use Rattle.std.proofs.Common.{◌≡◌, ℕ, ◌<◌, length, sym, subst, ◌∙◌, arith}
+use Rattle.std.proofs.Common.{◌≡◌, ℕ, ◌<◌, length, refl, sym, subst, ◌∙◌, arith}
 use Rattle.std.proofs.lemmas.Result.{on_ok_weaker, on_err_weaker}
 use Rattle.flash_sim.specs.Device.{Device}
 use Rattle.flash_map.specs.declared.area.Area.{Area}
 use Rattle.flash_map.specs.Area.{sector_at, sectors_of}
+use Rattle.flash_map.proofs.PieceLemmas.{on_err}
 use Rattle.flash_map.proofs.SpendingBounds.{between_within}
 use Rattle.sector_ring.specs.Area.{next, open_sector}
 use Rattle.sector_ring.proofs.Stays.{open_within}
 use Rattle.zms_cycle.specs.Changes.{Empties, StopsEmptying}
+use Rattle.zms_store.specs.declared.sector.Redo.{Redo}
 use Rattle.zms_store.specs.Area.{reading}
 use Rattle.zms_store.specs.Collecting.{ChangesOnly}
+use Rattle.zms_store.specs.Spending.{redo_units, Redoes, StopsRedoing}
 use Rattle.zms_store.proofs.Areas.{keeps-on}
 use Rattle.zms_store.proofs.CollectSteps.{form_here, rest_from, collecting_from, collected_from, redo-at_rest, redo-collecting, not_again, not_next, next_not_again, victim_emptied, victim_stays}
 use Rattle.zms_store.proofs.CopyLoop.{either}
@@ -175,3 +178,47 @@ returns-in-CollectAgain-clause-same g c =
     let within : place < area.sectors = omega (arith, c.requires.current) in
     let what = sym c.what_to_redo.ensures ∙ c.in-CollectAgain.is in
     on_ok_weaker c.collect_again.result (λ at rest. absurd (not_again (sym (redo-at_rest (sectors_of a area) place rest) ∙ what))) c.collect_again.ensures.collects
+
+pub returns-in-Nothing-clause-redoes : goal.returns-in-Nothing-clause-redoes
+returns-in-Nothing-clause-redoes g c =
+    let a : Device = g.F.Flash.device c.args.flash.now in
+    let area : Area = c.args.area.now in
+    let place : ℕ = c.args.current in
+    let what = sym c.what_to_redo.ensures ∙ c.in-Nothing.is in
+    subst (λ (w : Redo). Redoes a a (redo_units (sectors_of a area) place) w) (sym what) refl
+
+pub returns-in-EmptyNext-clause-redoes : goal.returns-in-EmptyNext-clause-redoes
+returns-in-EmptyNext-clause-redoes g c =
+    let a : Device = g.F.Flash.device c.args.flash.now in
+    let area : Area = c.args.area.now in
+    let place : ℕ = c.args.current in
+    let what = sym c.what_to_redo.ensures ∙ c.in-EmptyNext.is in
+    let d : Device = g.F.Flash.device c.empty_sector.new.flash in
+    on_ok_weaker c.empty_sector.result (λ s. subst (λ (w : Redo). Redoes a d (redo_units (sectors_of a area) place) w) (sym what) s) c.empty_sector.ensures.spends
+
+pub returns-in-EmptyNext-clause-stops : goal.returns-in-EmptyNext-clause-stops
+returns-in-EmptyNext-clause-stops g c =
+    let a : Device = g.F.Flash.device c.args.flash.now in
+    let area : Area = c.args.area.now in
+    let place : ℕ = c.args.current in
+    let what = sym c.what_to_redo.ensures ∙ c.in-EmptyNext.is in
+    let d : Device = g.F.Flash.device c.empty_sector.new.flash in
+    on_err_weaker c.empty_sector.result (λ s. subst (λ (w : Redo). StopsRedoing a d (redo_units (sectors_of a area) place) w) (sym what) s) c.empty_sector.ensures.spends_lost
+
+pub returns-in-CollectAgain-clause-redoes : goal.returns-in-CollectAgain-clause-redoes
+returns-in-CollectAgain-clause-redoes g c =
+    let a : Device = g.F.Flash.device c.args.flash.now in
+    let area : Area = c.args.area.now in
+    let place : ℕ = c.args.current in
+    let what = sym c.what_to_redo.ensures ∙ c.in-CollectAgain.is in
+    let d : Device = g.F.Flash.device c.collect_again.new.flash in
+    on_ok_weaker c.collect_again.result (λ at. subst (λ (w : Redo). Redoes a d (redo_units (sectors_of a area) place) w) (sym what) c.collect_again.ensures.spends) c.collect_again.ensures.collects
+
+pub returns-in-CollectAgain-clause-stops : goal.returns-in-CollectAgain-clause-stops
+returns-in-CollectAgain-clause-stops g c =
+    let a : Device = g.F.Flash.device c.args.flash.now in
+    let area : Area = c.args.area.now in
+    let place : ℕ = c.args.current in
+    let what = sym c.what_to_redo.ensures ∙ c.in-CollectAgain.is in
+    let d : Device = g.F.Flash.device c.collect_again.new.flash in
+    on_err c.collect_again.result (subst (λ (w : Redo). StopsRedoing a d (redo_units (sectors_of a area) place) w) (sym what) c.collect_again.ensures.spends)

@@ -5,20 +5,23 @@ use Rattle.flash_sim.specs.Device.{Device}
 use Rattle.flash_map.specs.declared.area.Area.{Area}
 use Rattle.flash_map.specs.Area.{sector_at, sector_size, sectors_of}
 use Rattle.flash_map.specs.Spending.{SpendsBetween}
+use Rattle.flash_map.proofs.PieceLemmas.{on_err}
 use Rattle.flash_map.proofs.SpendingBounds.{between_then, between_within}
 use Rattle.sector_ring.specs.Area.{next}
 use Rattle.sector_ring.specs.Forms.{AtRest, Collecting}
 use Rattle.sector_ring.proofs.RingSteps.{reads}
 use Rattle.sector_ring.proofs.Rings.{open-not_closed}
-use Rattle.zms_store.specs.Area.{reading}
+use Rattle.zms_store.specs.declared.sector.Redo.{Redo}
+use Rattle.zms_store.specs.declared.sector.Redo.TheVariants.{Nothing}
+use Rattle.zms_store.specs.Area.{reading, redo_of}
 use Rattle.zms_store.specs.Collecting.{CollectsAt, TurnsAt}
-use Rattle.zms_store.specs.Spending.{redo_units}
+use Rattle.zms_store.specs.Spending.{redo_units, StopsRedoing, close_units}
 use Rattle.zms_store.proofs.Areas.{keeps-on, roomy_of}
-use Rattle.zms_store.proofs.CollectSteps.{keeps_then}
+use Rattle.zms_store.proofs.CollectSteps.{keeps_then, redo-at_rest}
 use Rattle.zms_store.proofs.CopyLoop.{next_within, still_area}
 use Rattle.zms_store.proofs.MountLemmas.{length-sectors, next_there}
 use Rattle.zms_store.proofs.PlacedReads.{size_there, large_there}
-use Rattle.zms_store.proofs.RoundSteps.{begun_open, begun_cycle, close_cut, closed-form, closed-is, closed-keeps, turns-blank, turns-collected, copied-same}
+use Rattle.zms_store.proofs.RoundSteps.{begun_open, begun_cycle, close_cut, closed-form, victim-rests, closed-is, closed-keeps, turns-blank, turns-collected, copied-same}
 use Rattle.zms_store.proofs.StandLemmas.{rest_here}
 use Rattle.zms_store.proofs.collecting.round.Goals as goal
 
@@ -234,3 +237,43 @@ returns-clause-spends g c =
     let spends : SpendsBetween b e 0 (redo_units (sectors_of b area) (next (sectors_of a area) place)) = subst (λ (k : ℕ). SpendsBetween b e 0 (redo_units (sectors_of b area) k)) at c.in_ok-redo.ensures.spends in
     let total = copied-same (sectors_of a area) (sectors_of b area) place form wide c.in_ok-close.ensures.others c.in_ok-close.ensures.ok in
     between_within (between_then c.in_ok-close.ensures.spends spends) 0 _ (omega arith) (omega arith)
+
+pub returns-in_err-close-clause-close_alone_lost : goal.returns-in_err-close-clause-close_alone_lost
+returns-in_err-close-clause-close_alone_lost g c = on_err c.from_residual.result (λ blank. c.in_err-close.ensures.spends_lost)
+
+pub returns-in_err-redo-clause-close_alone_lost : goal.returns-in_err-redo-clause-close_alone_lost
+returns-in_err-redo-clause-close_alone_lost g c =
+    let a : Device = g.F.Flash.device c.args.flash.now in
+    let area : Area = c.args.area.now in
+    let place : ℕ = c.args.current in
+    let count = length-sectors a area in
+    let form = rest_here (sectors_of a area) place (omega (arith, c.requires.area.lawful.several)) c.requires.undamaged c.requires.current c.requires.rested in
+    let within : place < area.sectors = omega (arith, form.ring.within) in
+    let own = large_there a area (g.met.F.Flash.is_lawful c.args.flash.now) c.requires.area place within in
+    let wide : 48 ≤ length (sector_at (sectors_of a area) place) = omega arith in
+    let b : Device = g.F.Flash.device c.close.new.flash in
+    let at : c.next-opened.result ≡ next (sectors_of a area) place = c.next-opened.ensures.value ∙ next_there a area place in
+    let kept = closed-keeps (sectors_of a area) (sectors_of b area) place form wide c.in_ok-close.ensures.others c.in_ok-close.ensures.ok in
+    let e : Device = g.F.Flash.device c.redo.new.flash in
+    on_err c.from_residual-in_err-redo.result (λ blank.
+    let rests = victim-rests (sectors_of a area) (sectors_of b area) place form wide c.in_ok-close.ensures.others c.in_ok-close.ensures.ok c.requires.used blank in
+    let none : redo_of (sectors_of b area) c.next-opened.result ≡ Nothing = ap (redo_of (sectors_of b area)) at ∙ redo-at_rest (sectors_of b area) (next (sectors_of a area) place) rests in
+    absurd (subst (λ (w : Redo). StopsRedoing b e (redo_units (sectors_of b area) c.next-opened.result) w) none c.in_err-redo.ensures.stops))
+
+pub returns-clause-close_alone : goal.returns-clause-close_alone
+returns-clause-close_alone g c =
+    let a : Device = g.F.Flash.device c.args.flash.now in
+    let area : Area = c.args.area.now in
+    let place : ℕ = c.args.current in
+    let count = length-sectors a area in
+    let form = rest_here (sectors_of a area) place (omega (arith, c.requires.area.lawful.several)) c.requires.undamaged c.requires.current c.requires.rested in
+    let within : place < area.sectors = omega (arith, form.ring.within) in
+    let own = large_there a area (g.met.F.Flash.is_lawful c.args.flash.now) c.requires.area place within in
+    let wide : 48 ≤ length (sector_at (sectors_of a area) place) = omega arith in
+    let b : Device = g.F.Flash.device c.close.new.flash in
+    let at : c.next-opened.result ≡ next (sectors_of a area) place = c.next-opened.ensures.value ∙ next_there a area place in
+    let kept = closed-keeps (sectors_of a area) (sectors_of b area) place form wide c.in_ok-close.ensures.others c.in_ok-close.ensures.ok in
+    let e : Device = g.F.Flash.device c.redo.new.flash in
+    λ blank.
+    let rests = victim-rests (sectors_of a area) (sectors_of b area) place form wide c.in_ok-close.ensures.others c.in_ok-close.ensures.ok c.requires.used blank in
+    subst (λ (x : Device). SpendsBetween a x 1 (close_units (sectors_of a area) place)) (sym (c.in_ok-redo.ensures.same (subst (λ (k : ℕ). AtRest reading (sectors_of b area) k) (sym at) rests))) c.in_ok-close.ensures.spends

@@ -2,8 +2,8 @@ use Rattle.std.proofs.Common.{◌≡◌, ℕ, List, true, false, refl, sym, ap, 
 use Rattle.flash_sim.specs.Device.{Device}
 use Rattle.flash_map.specs.Area.{sectors_of, sector_at}
 use Rattle.zms_store.specs.declared.sector.Marks.{Marks}
-use Rattle.zms_cycle.specs.Sector.{has_guard}
-use Rattle.zms_store.specs.Area.{is_overfull, marks_of}
+use Rattle.zms_cycle.specs.Sector.{has_guard, holds_too_much}
+use Rattle.zms_store.specs.Area.{marks_of}
 use Rattle.zms_store.proofs.MountLemmas.{full_unused, full_passed, full_counts}
 use Rattle.zms_store.proofs.places.is_full.Goals as goal
 
@@ -30,7 +30,7 @@ returns-then-not-has_guard g c =
     let begun = ap (λ (m : Marks). m.begun) marks in
     let closed = ap (λ (m : Marks). m.closed) marks in
     let guard = sym (c.has_guard.ensures ∙ ap has_guard c.sector_view-bytes.ensures.bytes) ∙ c.if-not-has_guard.true in
-    full_counts sectors c.args.current c.args.place c.read_marks-marks.result.begun c.read_marks-marks.result.closed c.in_use.result c.in_use.ensures begun closed c.if-not-in_use.false (sym c.counts.ensures ∙ c.if-not-counts.false) false (is_overfull (sector_at sectors c.args.place)) guard refl
+    full_counts sectors c.args.current c.args.place c.read_marks-marks.result.begun c.read_marks-marks.result.closed c.in_use.result c.in_use.ensures begun closed c.if-not-in_use.false (sym c.counts.ensures ∙ c.if-not-counts.false) false (holds_too_much (sector_at sectors c.args.place)) guard refl
 
 pub returns : goal.returns
 returns g c =
@@ -40,4 +40,4 @@ returns g c =
     let begun = ap (λ (m : Marks). m.begun) marks in
     let closed = ap (λ (m : Marks). m.closed) marks in
     let guard = sym (c.has_guard.ensures ∙ ap has_guard c.sector_view-bytes.ensures.bytes) ∙ c.if-not-has_guard.false in
-    full_counts sectors c.args.current c.args.place c.read_marks-marks.result.begun c.read_marks-marks.result.closed c.in_use.result c.in_use.ensures begun closed c.if-not-in_use.false (sym c.counts.ensures ∙ c.if-not-counts.false) true c.is_overfull.result guard (sym (c.is_overfull.ensures ∙ ap is_overfull c.sector_view-bytes.ensures.bytes))
+    full_counts sectors c.args.current c.args.place c.read_marks-marks.result.begun c.read_marks-marks.result.closed c.in_use.result c.in_use.ensures begun closed c.if-not-in_use.false (sym c.counts.ensures ∙ c.if-not-counts.false) true c.holds_too_much.result guard (sym (c.holds_too_much.ensures ∙ ap holds_too_much c.sector_view-bytes.ensures.bytes))

@@ -23,8 +23,8 @@ area_view-requires-clause-in_sector g c =
     let ends = long_inside b p.slot f c.requires.sound c.requires.listed.from c.requires.listed.listed room c.requires.listed.entry (omega arith) in
     omega (arith, c.offset_of-offset.ensures)
 
-pub returns-then-len-gt8 : goal.returns-then-len-gt8
-returns-then-len-gt8 g c =
+pub returns-then-placed-gt-TAIL : goal.returns-then-placed-gt-TAIL
+returns-then-placed-gt-TAIL g c =
     let d : Device = g.F.Flash.device c.args.flash.now in
     let p : Placed = c.args.placed.now in
     let b : List ℕ = sector_at (sectors_of d c.args.area.now) p.sector in

@@ -7,7 +7,7 @@ use Rattle.flash_sim.specs.declared.flash.Bank.{Bank}
 use Rattle.flash_map.specs.Area.{sectors_of, sector_at, sector_bytes, sector_size}
 use Rattle.flash_map.proofs.Touches.{then}
 use Rattle.flash_map.specs.Spending.{Spends}
-use Rattle.backend_api.specs.Formats.{is_written}
+use Rattle.flash_map.specs.Units.{is_written}
 use Rattle.backend_api.proofs.SettingLemmas.{count, blank-more, all-blank, blank-empty, blank-part, on_err, front-behind, spends-sector, spends-part}
 use Rattle.backend_api.proofs.one_setting.OneSettingBackend.format.Goals as goal
 

@@ -3,7 +3,7 @@ use Rattle.std.specs.Prelude.{count_by}
 use Rattle.flash_map.specs.Area.{sectors_of, sector_size}
 use Rattle.flash_map.specs.Spending.{Spends}
 use Rattle.flash_map.specs.Touches.{Touches}
-use Rattle.backend_api.specs.Formats.{is_written}
+use Rattle.flash_map.specs.Units.{is_written}
 use Rattle.backend_api.proofs.one_setting.OneSettingBackend.format.Given as goal
 
 abbrev pub invariant-loop-sector : goal.invariant-loop-sector

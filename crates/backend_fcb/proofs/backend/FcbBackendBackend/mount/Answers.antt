@@ -1,17 +1,19 @@
-use Rattle.std.proofs.Common.{◌≡◌, None, sym, ap, subst, ◌∙◌}
+use Rattle.std.proofs.Common.{◌≡◌, ◌/◌, None, sym, ap, subst, ◌∙◌}
 use Rattle.flash_sim.specs.Device.{Device}
 use Rattle.flash_map.specs.declared.area.Area.{Area}
 use Rattle.flash_map.specs.declared.area.Geometry.{Geometry}
-use Rattle.flash_map.specs.Area.{unit_of, sectors_of}
+use Rattle.flash_map.specs.Area.{unit_of, sector_size, sectors_of}
 use Rattle.fcb_ring.specs.Standing.{KeepsEntries}
 use Rattle.fcb_ring.proofs.AppendLemmas.{unit-after}
 use Rattle.fcb_ring.specs.Rings.{first_damage}
-use Rattle.fcb_ring.specs.Standing.{states_on}
+use Rattle.fcb_ring.specs.Standing.{states_on, erases_due}
 use Rattle.settings_list.specs.Numbers.{reserve}
+use Rattle.flash_map.proofs.SpendingLemmas.{most_weaker}
+use Rattle.backend_api.specs.Room.{most_units}
 use Rattle.std.specs.Option.{option_map}
 use Rattle.backend_fcb.specs.Reading.{first_overfull}
 use Rattle.backend_fcb.specs.Standing.{IsReady, damage_on}
-use Rattle.backend_fcb.proofs.Ends.{ring-area, ready-stands, damage-none, overfull-not}
+use Rattle.backend_fcb.proofs.Ends.{ring-area, ready-stands, damage-none, overfull-not, due-few}
 use Rattle.backend_fcb.proofs.PutsCosts.{overfull_at, undamaged-kept}
 use Rattle.backend_fcb.proofs.backend.FcbBackendBackend.mount.Goals as goal
 
@@ -59,3 +61,15 @@ returns-in-Ok-finish-clause-stands g c =
       undamaged = subst (λ (x : Area). damage_on e x ≡ None) (sym new-area) undamaged;
     } in
     ready-stands e c.finish.new.self area new-area c.requires.serves ready
+
+pub returns-in-Ok-finish-clause-at_most : goal.returns-in-Ok-finish-clause-at_most
+returns-in-Ok-finish-clause-at_most g c =
+    let d : Device = g.F.Flash.device c.args.flash.now in
+    let area : Area = c.args.area in
+    (erases_due (states_on d c.in-Ok.ring.area), due-few d area c.in-Ok.ring.area c.requires.lawful c.in-Ok.ensures.ring.0, c.in-Ok-finish.ensures.units)
+
+pub returns-in-Err-finish-clause-at_most : goal.returns-in-Err-finish-clause-at_most
+returns-in-Err-finish-clause-at_most g c =
+    let d : Device = g.F.Flash.device c.args.flash.now in
+    let area : Area = c.args.area in
+    most_weaker d (g.F.Flash.device c.finish.new.flash) (erases_due (states_on d c.in-Ok.ring.area)) (most_units area.sectors (sector_size d area / unit_of d area)) (due-few d area c.in-Ok.ring.area c.requires.lawful c.in-Ok.ensures.ring.0) c.in-Err-finish.ensures.bound

@@ -6,7 +6,7 @@ use Rattle.flash_map.specs.Area.{unit_of, sector_size}
 use Rattle.flash_map.specs.Spending.{Spends, SpendsAtMost}
 use Rattle.flash_map.proofs.Rounding.{padding}
 use Rattle.fcb_ring.specs.declared.ring.Ring.{Ring}
-use Rattle.fcb_ring.specs.Changing.{kept_room, is_too_long, has_room, is_scratch_left, newest_place, next_place, AddsRecord, CutAppend}
+use Rattle.fcb_ring.specs.Changing.{kept_room, is_too_long, has_room, is_scratch_left, newest_place, next_place, KeepsOthers, EndsWithRecord, AddsRecord, CutAppend}
 use Rattle.fcb_ring.proofs.AreaLemmas.{has_size}
 use Rattle.fcb_ring.proofs.AppendLemmas.{adds-here, ready-used, more-free, units-here, place-here, place-next, units-next, goes-here}
 use Rattle.fcb_ring.proofs.ring.Ring.append.Goals as goal
@@ -97,3 +97,75 @@ returns-in-Err-put_in_next-clause-ends g c =
         units = subst (λ (n : ℕ). SpendsAtMost d new n) (units-next unit len (has_room unit size ring kept len) room) c.in-Err-put_in_next.ensures.down.units;
       },
     )
+
+pub returns-in-Ok-clause-others : goal.returns-in-Ok-clause-others
+returns-in-Ok-clause-others g c =
+    let d : Device = g.F.Flash.device c.args.flash.now in
+    let ring : Ring = c.args.self.now in
+    let unit : ℕ = unit_of d ring.area in
+    let size : ℕ = sector_size d ring.area in
+    let len : ℕ = length c.args.body.now in
+    let kept : ℕ = kept_room ring c.args.into_reserve in
+    let room : has_room unit size ring kept len ≡ true =
+    sym (c.has_room.ensures ∙ ap (λ (x : Geometry). has_room x.unit x.sector ring c.kept_room-kept.result len) c.geometry-geometry.ensures ∙ ap (λ (k : ℕ). has_room unit size ring k len) c.kept_room-kept.ensures) ∙ c.if-has_room.true in
+    subst (λ (p : ℕ). KeepsOthers d (g.F.Flash.device c.put_record.new.flash) ring.area p) (place-here (has_room unit size ring kept len) (newest_place ring) (next_place ring) room) c.in-Ok.ensures.others
+
+pub returns-in-Err-clause-others : goal.returns-in-Err-clause-others
+returns-in-Err-clause-others g c =
+    let d : Device = g.F.Flash.device c.args.flash.now in
+    let ring : Ring = c.args.self.now in
+    let unit : ℕ = unit_of d ring.area in
+    let size : ℕ = sector_size d ring.area in
+    let len : ℕ = length c.args.body.now in
+    let kept : ℕ = kept_room ring c.args.into_reserve in
+    let room : has_room unit size ring kept len ≡ true =
+    sym (c.has_room.ensures ∙ ap (λ (x : Geometry). has_room x.unit x.sector ring c.kept_room-kept.result len) c.geometry-geometry.ensures ∙ ap (λ (k : ℕ). has_room unit size ring k len) c.kept_room-kept.ensures) ∙ c.if-has_room.true in
+    subst (λ (p : ℕ). KeepsOthers d (g.F.Flash.device c.put_record.new.flash) ring.area p) (place-here (has_room unit size ring kept len) (newest_place ring) (next_place ring) room) c.in-Err.ensures.others
+
+pub returns-in-Ok-put_in_next-clause-others : goal.returns-in-Ok-put_in_next-clause-others
+returns-in-Ok-put_in_next-clause-others g c =
+    let d : Device = g.F.Flash.device c.args.flash.now in
+    let ring : Ring = c.args.self.now in
+    let unit : ℕ = unit_of d ring.area in
+    let size : ℕ = sector_size d ring.area in
+    let len : ℕ = length c.args.body.now in
+    let kept : ℕ = kept_room ring c.args.into_reserve in
+    let room : has_room unit size ring kept len ≡ false =
+    sym (c.has_room.ensures ∙ ap (λ (x : Geometry). has_room x.unit x.sector ring c.kept_room-kept.result len) c.geometry-geometry.ensures ∙ ap (λ (k : ℕ). has_room unit size ring k len) c.kept_room-kept.ensures) ∙ c.if-has_room.false in
+    subst (λ (p : ℕ). KeepsOthers d (g.F.Flash.device c.put_in_next.new.flash) ring.area p) (place-next (has_room unit size ring kept len) (newest_place ring) (next_place ring) room) c.in-Ok-put_in_next.ensures.others
+
+pub returns-in-Err-put_in_next-clause-others : goal.returns-in-Err-put_in_next-clause-others
+returns-in-Err-put_in_next-clause-others g c =
+    let d : Device = g.F.Flash.device c.args.flash.now in
+    let ring : Ring = c.args.self.now in
+    let unit : ℕ = unit_of d ring.area in
+    let size : ℕ = sector_size d ring.area in
+    let len : ℕ = length c.args.body.now in
+    let kept : ℕ = kept_room ring c.args.into_reserve in
+    let room : has_room unit size ring kept len ≡ false =
+    sym (c.has_room.ensures ∙ ap (λ (x : Geometry). has_room x.unit x.sector ring c.kept_room-kept.result len) c.geometry-geometry.ensures ∙ ap (λ (k : ℕ). has_room unit size ring k len) c.kept_room-kept.ensures) ∙ c.if-has_room.false in
+    subst (λ (p : ℕ). KeepsOthers d (g.F.Flash.device c.put_in_next.new.flash) ring.area p) (place-next (has_room unit size ring kept len) (newest_place ring) (next_place ring) room) c.in-Err-put_in_next.ensures.others
+
+pub returns-in-Ok-clause-written : goal.returns-in-Ok-clause-written
+returns-in-Ok-clause-written g c =
+    let d : Device = g.F.Flash.device c.args.flash.now in
+    let ring : Ring = c.args.self.now in
+    let unit : ℕ = unit_of d ring.area in
+    let size : ℕ = sector_size d ring.area in
+    let len : ℕ = length c.args.body.now in
+    let kept : ℕ = kept_room ring c.args.into_reserve in
+    let room : has_room unit size ring kept len ≡ true =
+    sym (c.has_room.ensures ∙ ap (λ (x : Geometry). has_room x.unit x.sector ring c.kept_room-kept.result len) c.geometry-geometry.ensures ∙ ap (λ (k : ℕ). has_room unit size ring k len) c.kept_room-kept.ensures) ∙ c.if-has_room.true in
+    subst (λ (p : ℕ). EndsWithRecord (g.F.Flash.device c.put_record.new.flash) c.put_record.new.self p c.args.body.now) (place-here (has_room unit size ring kept len) (newest_place ring) (next_place ring) room) c.in-Ok.ensures.ends_with
+
+pub returns-in-Ok-put_in_next-clause-written : goal.returns-in-Ok-put_in_next-clause-written
+returns-in-Ok-put_in_next-clause-written g c =
+    let d : Device = g.F.Flash.device c.args.flash.now in
+    let ring : Ring = c.args.self.now in
+    let unit : ℕ = unit_of d ring.area in
+    let size : ℕ = sector_size d ring.area in
+    let len : ℕ = length c.args.body.now in
+    let kept : ℕ = kept_room ring c.args.into_reserve in
+    let room : has_room unit size ring kept len ≡ false =
+    sym (c.has_room.ensures ∙ ap (λ (x : Geometry). has_room x.unit x.sector ring c.kept_room-kept.result len) c.geometry-geometry.ensures ∙ ap (λ (k : ℕ). has_room unit size ring k len) c.kept_room-kept.ensures) ∙ c.if-has_room.false in
+    subst (λ (p : ℕ). EndsWithRecord (g.F.Flash.device c.put_in_next.new.flash) c.put_in_next.new.self p c.args.body.now) (place-next (has_room unit size ring kept len) (newest_place ring) (next_place ring) room) c.in-Ok-put_in_next.ensures.ends_with

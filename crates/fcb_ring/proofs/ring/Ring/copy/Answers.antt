@@ -1,17 +1,17 @@
-use Rattle.std.proofs.Common.{◌≡◌, ◌≤◌, ◌+◌, ◌/◌, ◌++◌, ◌∷◌, [], ℕ, List, Bool, length, cond, eqb, ap, sym, subst, ◌∙◌, arith}
+use Rattle.std.proofs.Common.{◌≡◌, ◌≤◌, ◌+◌, ◌/◌, ◌++◌, ◌∷◌, [], ℕ, List, Bool, true, length, cond, eqb, ap, sym, subst, ◌∙◌, arith}
 use Rattle.std.proofs.lemmas.Bool.{eq-eqb}
 use Rattle.std.proofs.lemmas.List.{append-nil}
 use Rattle.flash_sim.specs.Device.{Device}
-use Rattle.flash_map.specs.Area.{unit_of, sector_size, sectors_of}
+use Rattle.flash_map.specs.Area.{unit_of, sector_size, sectors_of, Writes}
 use Rattle.flash_map.specs.Spending.{Spends, SpendsAtMost}
 use Rattle.flash_map.proofs.PieceLemmas.{on_err}
 use Rattle.flash_map.proofs.Rounding.{padding}
 use Rattle.fcb_ring.specs.declared.record.RecordAt.{RecordAt}
 use Rattle.fcb_ring.specs.declared.ring.Ring.{Ring}
-use Rattle.fcb_ring.specs.Changing.{newest_place, sector_list}
+use Rattle.fcb_ring.specs.Changing.{newest_place, IsRecordLoss, sector_list}
 use Rattle.fcb_ring.specs.Entries.{HasEntries}
 use Rattle.fcb_ring.specs.Standing.{is_finished, entries_on}
-use Rattle.fcb_ring.specs.Writing.{record_cost}
+use Rattle.fcb_ring.specs.Writing.{record_image, record_cost}
 use Rattle.fcb_ring.proofs.AreaLemmas.{has_size}
 use Rattle.fcb_ring.proofs.CollectLemmas.{collecting-used}
 use Rattle.fcb_ring.proofs.ring.Ring.copy.Goals as goal
@@ -86,3 +86,24 @@ returns-clause-units g c =
     let ring : Ring = c.args.self.now in
     let long : length c.as_slice.result.now ≡ c.args.r.now.len = ap length c.as_slice.ensures.value ∙ c.body_of-body.ensures.len in
     subst (λ (n : ℕ). Spends d (g.F.Flash.device c.put_record.new.flash) (record_cost (unit_of d c.args.self.now.area) n / unit_of d c.args.self.now.area)) long c.in_ok-put_record.ensures.units
+
+pub returns-clause-written : goal.returns-clause-written
+returns-clause-written g c =
+    let d : Device = g.F.Flash.device c.args.flash.now in
+    let ring : Ring = c.args.self.now in
+    subst (λ (b : List ℕ). Writes d (g.F.Flash.device c.put_record.new.flash) ring.area (newest_place ring) ring.end (record_image (unit_of d ring.area) b)) (c.as_slice.ensures.value ∙ c.body_of-body.ensures.bytes) c.in_ok-put_record.ensures.written
+
+pub returns-in_err-put_record-clause-full : goal.returns-in_err-put_record-clause-full
+returns-in_err-put_record-clause-full g c =
+    let d : Device = g.F.Flash.device c.args.flash.now in
+    on_err c.from_residual.result (c.in_err-put_record.ensures.full (collecting-used d c.args.self.now c.requires.stands c.requires.collecting))
+
+pub returns-in_err-put_record-clause-lost : goal.returns-in_err-put_record-clause-lost
+returns-in_err-put_record-clause-lost g c =
+    let d : Device = g.F.Flash.device c.args.flash.now in
+    let ring : Ring = c.args.self.now in
+    let new : Device = g.F.Flash.device c.put_record.new.flash in
+    on_err c.from_residual.result
+    (λ (is_on : d.is_on ≡ true).
+    let at = c.in_err-put_record.ensures.lost is_on in
+    (at.0, subst (λ (b : List ℕ). IsRecordLoss new ring.area (newest_place ring) ring.end b at.0) (c.as_slice.ensures.value ∙ c.body_of-body.ensures.bytes) at.1))

@@ -4,7 +4,7 @@ use Rattle.flash_map.specs.Area.{unit_of, sectors_of}
 use Rattle.flash_map.proofs.PieceLemmas.{on_err}
 use Rattle.fcb_ring.specs.declared.ring.Ring.{Ring}
 use Rattle.fcb_ring.proofs.AreaLemmas.{count-sectors, length-states}
-use Rattle.fcb_ring.proofs.CollectLemmas.{collecting-used, same-list, ended-stands, ended-collection, erase-most}
+use Rattle.fcb_ring.proofs.CollectLemmas.{collecting-used, same-list, ended-stands, ended-collection, erase-most, erase-lost}
 use Rattle.fcb_ring.proofs.OthersLemmas.{others_set, others_same}
 use Rattle.fcb_ring.proofs.ring.Ring.end_collect.Goals as goal
 
@@ -58,3 +58,8 @@ returns-clause-others g c =
 pub returns-in_err-area_erase-clause-others : goal.returns-in_err-area_erase-clause-others
 returns-in_err-area_erase-clause-others g c =
     others_same (g.F.Flash.device c.args.flash.now) (g.F.Flash.device c.area_erase.new.flash) c.args.self.now.area c.args.self.now.oldest c.in_err-area_erase.ensures.same
+
+pub returns-in_err-area_erase-clause-lost : goal.returns-in_err-area_erase-clause-lost
+returns-in_err-area_erase-clause-lost g c =
+    let ring : Ring = c.args.self.now in
+    on_err c.from_residual.result (erase-lost (g.F.Flash.device c.args.flash.now) (g.F.Flash.device c.area_erase.new.flash) ring.area ring.oldest c.in_err-area_erase.ensures.touches.banks c.in_err-area_erase.ensures.lost)

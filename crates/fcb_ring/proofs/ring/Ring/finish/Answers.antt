@@ -9,7 +9,7 @@ use Rattle.fcb_ring.specs.Entries.{HasEntries}
 use Rattle.fcb_ring.specs.Standing.{Stands, entries_on, states_on, erases_due}
 use Rattle.fcb_ring.proofs.AreaLemmas.{has_size, count-sectors, area_after}
 use Rattle.fcb_ring.proofs.MountLemmas.{on_err, spends_then, mends_all}
-use Rattle.fcb_ring.proofs.FinishLemmas.{with_unit, after_erases, place-within, mended-has, finished, due-is}
+use Rattle.fcb_ring.proofs.FinishLemmas.{with_unit, after_erases, place-within, mended-has, finished, mounted-is, due-is}
 use Rattle.fcb_ring.proofs.ring.Ring.finish.Goals as goal
 
 pub place-newest-requires-clause-oldest : goal.place-newest-requires-clause-oldest
@@ -92,3 +92,18 @@ returns-clause-units g c =
     let due = due-is (unit_of a ring.area) (sector_size a ring.area) (sectors_of a ring.area) (has_size a ring.area (g.met.F.Flash.is_lawful c.args.flash.now) c.requires.stands.area) ring c.requires.stands.sectors c.requires.not_finished c.is_uncounted-is_full.result c.is_uncounted-is_full.ensures in
     c.in_ok-erase_if.ensures.units ∙ ap (λ (n : ℕ). counted n (cond c.is_uncounted-is_full.result 1 0)) c.in_ok-erase_torn.ensures.units
     ∙ counted_counted a.spent (count_by is_torn (sectors_of a ring.area)) (cond c.is_uncounted-is_full.result 1 0) ∙ ap (counted a.spent) (sym due)
+
+pub returns-clause-erased : goal.returns-clause-erased
+returns-clause-erased g c =
+    let a = g.F.Flash.device c.args.flash.now in
+    let b = g.F.Flash.device c.erase_torn.new.flash in
+    let d = g.F.Flash.device c.erase_if.new.flash in
+    let ring = c.args.self.now in
+    let after = after_erases a b d ring.area c.place-newest.result ring.oldest ring.used c.place-newest.ensures.value c.is_uncounted-is_full.result c.in_ok-erase_torn.ensures.touches.banks c.in_ok-erase_torn.ensures.mended c.in_ok-erase_if.ensures.erased in
+    mounted-is (unit_of a ring.area) (sector_size a ring.area) (sectors_of a ring.area) (has_size a ring.area (g.met.F.Flash.is_lawful c.args.flash.now) c.requires.stands.area) ring c.requires.stands.sectors c.requires.not_finished (sectors_of d ring.area) c.is_uncounted-is_full.result c.is_uncounted-is_full.ensures after
+
+pub returns-in_err-erase_if-clause-part : goal.returns-in_err-erase_if-clause-part
+returns-in_err-erase_if-clause-part g c =
+    let a = g.F.Flash.device c.args.flash.now in
+    let ring = c.args.self.now in
+    on_err c.from_residual-in_err-erase_if.result (length (sectors_of a ring.area), c.in_err-erase_if.ensures.same ∙ c.in_ok-erase_torn.ensures.mended ∙ sym (mends_all (sectors_of a ring.area) (length (sectors_of a ring.area)) (omega arith)))

@@ -5,7 +5,7 @@ use Rattle.flash_sim.specs.Device.{counted}
 use Rattle.flash_map.specs.Area.{sectors_of, sector_size}
 use Rattle.flash_map.proofs.Touches.{then}
 use Rattle.flash_map.specs.Units.{is_erased}
-use Rattle.fcb_ring.specs.SectorStates.{is_written}
+use Rattle.flash_map.specs.Units.{is_written}
 use Rattle.flash_map.specs.Area.{sector_at}
 use Rattle.fcb_ring.proofs.AreaLemmas.{count-sectors}
 use Rattle.fcb_ring.proofs.FormatLemmas.{blanked-behind, blanks_next, blanks_all}

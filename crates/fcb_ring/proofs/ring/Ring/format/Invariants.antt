@@ -3,7 +3,8 @@ use Rattle.std.specs.Prelude.{count_by}
 use Rattle.flash_sim.specs.Device.{counted}
 use Rattle.flash_map.specs.Area.{sectors_of}
 use Rattle.flash_map.specs.Touches.{Touches}
-use Rattle.fcb_ring.specs.SectorStates.{is_written, blanked_up_to}
+use Rattle.flash_map.specs.Sectors.{blanked_up_to}
+use Rattle.flash_map.specs.Units.{is_written}
 use Rattle.fcb_ring.proofs.ring.Ring.format.Given as goal
 
 abbrev pub invariant-loop-sector : goal.invariant-loop-sector

@@ -1,4 +1,4 @@
-use Rattle.std.proofs.Common.{◌≡◌, ◌∙◌, ℕ, List, Option, length, find, sym, ap}
+use Rattle.std.proofs.Common.{◌≡◌, ◌∙◌, ℕ, List, Option, length, find, sym, ap, subst}
 use Rattle.std.specs.Option.{option_map}
 use Rattle.flash_map.specs.declared.area.Geometry.{Geometry}
 use Rattle.flash_map.specs.Area.{unit_of, sectors_of}
@@ -6,8 +6,16 @@ use Rattle.fcb_ring.specs.declared.record.Record.{Record}
 use Rattle.fcb_ring.specs.Records.{record_at, walk}
 use Rattle.fcb_ring.specs.Entries.{placed}
 use Rattle.flash_map.specs.Area.{sector_at}
+use Rattle.fcb_ring.specs.SectorStates.{IsSector}
+use Rattle.fcb_ring.proofs.AreaLemmas.{has_size, sector_is}
 use Rattle.fcb_ring.proofs.NextLemmas.{first-passing}
 use Rattle.fcb_ring.proofs.ring.Ring.next_in.Goals as goal
+
+pub next_checked-requires-clause-sector : goal.next_checked-requires-clause-sector
+next_checked-requires-clause-sector g c =
+    let d = g.F.Flash.device c.args.flash.now in
+    subst (λ (geometry : Geometry). IsSector geometry.unit c.sector_view-sector.result.now) (sym c.geometry-unit.ensures)
+    (sector_is (has_size d c.args.self.now.area (g.met.F.Flash.is_lawful c.args.flash.now) c.requires.stands.area) c.sector_view-sector.result.now c.sector_view-sector.ensures.len)
 
 pub returns-in-Some : goal.returns-in-Some
 returns-in-Some g c =

@@ -6,9 +6,10 @@ use Rattle.flash_map.specs.declared.area.Area.{Area}
 use Rattle.flash_map.proofs.PieceLemmas.{on_err}
 use Rattle.flash_map.proofs.Touches.{then}
 use Rattle.fcb_ring.specs.declared.ring.Ring.{Ring}
+use Rattle.fcb_ring.specs.Changing.{EndsWithRecord}
 use Rattle.fcb_ring.specs.Standing.{is_finished}
 use Rattle.fcb_ring.specs.Writing.{record_cost}
-use Rattle.fcb_ring.proofs.AppendLemmas.{is_err_by, unit-after, size-after, adds-after, cut-after, spends-both, most-first, most-both}
+use Rattle.fcb_ring.proofs.AppendLemmas.{is_err_by, unit-after, size-after, adds-after, cut-after, others-after, opened-place, spends-both, most-first, most-both}
 use Rattle.fcb_ring.proofs.ring.Ring.put_in_next.Goals as goal
 
 pub put_record-requires-clause-writes : goal.put_record-requires-clause-writes
@@ -104,3 +105,25 @@ returns-clause-ready g c =
       stage = c.in_ok-put_record.ensures.stage ∙ c.in_ok-open_next.ensures.stage;
       units = spends-both a b d c.args.self.now.area r.area (length c.args.body.now) c.in_ok-open_next.ensures.touches.banks c.in_ok-open_next.ensures.area c.in_ok-open_next.ensures.units c.in_ok-put_record.ensures.units;
     }
+
+pub returns-clause-others : goal.returns-clause-others
+returns-clause-others g c =
+    let a : Device = g.F.Flash.device c.args.flash.now in
+    let b : Device = g.F.Flash.device c.open_next.new.flash in
+    let d : Device = g.F.Flash.device c.put_record.new.flash in
+    let ok = c.in_ok-open_next.ensures in
+    others-after a b d c.args.self.now c.open_next.new.self ok.area ok.oldest ok.used ok.others c.in_ok-put_record.ensures.others
+
+pub returns-in_err-put_record-clause-others : goal.returns-in_err-put_record-clause-others
+returns-in_err-put_record-clause-others g c =
+    let a : Device = g.F.Flash.device c.args.flash.now in
+    let b : Device = g.F.Flash.device c.open_next.new.flash in
+    let d : Device = g.F.Flash.device c.put_record.new.flash in
+    let ok = c.in_ok-open_next.ensures in
+    others-after a b d c.args.self.now c.open_next.new.self ok.area ok.oldest ok.used ok.others c.in_err-put_record.ensures.others
+
+pub returns-clause-ends_with : goal.returns-clause-ends_with
+returns-clause-ends_with g c =
+    let d : Device = g.F.Flash.device c.put_record.new.flash in
+    let ok = c.in_ok-open_next.ensures in
+    subst (λ (p : ℕ). EndsWithRecord d c.put_record.new.self p c.args.body.now) (opened-place c.args.self.now c.open_next.new.self ok.area ok.oldest ok.used) c.in_ok-put_record.ensures.ends_with

@@ -1,10 +1,11 @@
-use Rattle.std.proofs.Common.{not, ap, ◌∙◌}
+use Rattle.std.proofs.Common.{not, ap, ◌∙◌, arith}
 use Rattle.std.specs.Prelude.{is_err}
 use Rattle.flash_sim.specs.Device.{Device}
 use Rattle.std.specs.FinMap as map
 use Rattle.nvs_gc.specs.declared.nvs.Nvs.{Nvs}
 use Rattle.nvs_gc.specs.Standing.{items_on}
 use Rattle.nvs_gc.proofs.EndLemmas.{then_undamaged, then_touches, delete_absent, delete_stops, delete_ends, gets_none, gets_some, err_standing, err_down}
+use Rattle.nvs_gc.proofs.Standings.{ordinary_id}
 use Rattle.nvs_gc.proofs.nvs.Nvs.delete.Goals as goal
 
 pub returns-then-is_none-clause-ends : goal.returns-then-is_none-clause-ends
@@ -21,6 +22,13 @@ returns-in-Err-clause-ends g c =
     let did = c.in-Err.ensures in
     let present = gets_some (λ bytes. bytes.now) c.get.result (map.get (items_on a nvs.area) c.args.id) c.get.ensures (c.is_none.ensures ∙ ap not c.if-is_none.false) in
     delete_stops a d nvs c.args.id present did.items did.at_most did.unfit
+
+pub put-requires-clause-ordinary : goal.put-requires-clause-ordinary
+put-requires-clause-ordinary g c =
+    let a : Device = g.F.Flash.device c.args.flash.now in
+    let nvs : Nvs = c.args.self.now in
+    ordinary_id a nvs (g.met.F.Flash.is_lawful c.args.flash.now) c.requires c.args.id (omega arith)
+    (gets_some (λ bytes. bytes.now) c.get.result (map.get (items_on a nvs.area) c.args.id) c.get.ensures (c.is_none.ensures ∙ ap not c.if-is_none.false))
 
 pub returns-in-Ok-clause-touches : goal.returns-in-Ok-clause-touches
 returns-in-Ok-clause-touches g c =

@@ -1,10 +1,11 @@
-use Rattle.std.proofs.Common.{not, ap, ◌∙◌}
+use Rattle.std.proofs.Common.{not, ap, ◌∙◌, arith}
 use Rattle.std.specs.Prelude.{is_err}
 use Rattle.flash_sim.specs.Device.{Device}
 use Rattle.std.specs.FinMap as map
 use Rattle.zms_store.specs.declared.store.Zms.{Zms}
 use Rattle.zms_store.specs.Standing.{items_on}
 use Rattle.zms_store.proofs.WriteEnds.{then_undamaged, then_touches, delete_absent, delete_stops, delete_ends, gets_none, gets_some, err_standing, err_down}
+use Rattle.zms_store.proofs.ReservedId.{present_ordinary}
 use Rattle.zms_store.proofs.store.Zms.delete.Goals as goal
 
 pub returns-then-is_none-clause-ends : goal.returns-then-is_none-clause-ends
@@ -56,3 +57,10 @@ returns-in-Ok-clause-stands g c = err_standing c.put.result c.put.ensures.stands
 
 pub returns-in-Ok-clause-down : goal.returns-in-Ok-clause-down
 returns-in-Ok-clause-down g c = err_down c.put.result c.put.ensures.down
+
+pub put-requires-clause-ordinary : goal.put-requires-clause-ordinary
+put-requires-clause-ordinary g c =
+    let a : Device = g.F.Flash.device c.args.flash.now in
+    let zms : Zms = c.args.self.now in
+    let present = gets_some (λ bytes. bytes.now) c.get.result (map.get (items_on a zms.area) c.args.id) c.get.ensures (c.is_none.ensures ∙ ap not c.if-is_none.false) in
+    present_ordinary a zms.area c.args.id (omega arith) present

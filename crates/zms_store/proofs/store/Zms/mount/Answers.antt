@@ -1,8 +1,8 @@
 use Rattle.std.proofs.Common.{ℕ, refl, subst}
 use Rattle.flash_sim.specs.Device.{Device}
 use Rattle.flash_map.specs.Area.{sectors_of}
-use Rattle.flash_map.specs.Spending.{SpendsBetween}
-use Rattle.zms_store.specs.Spending.{redo_units}
+use Rattle.zms_store.specs.Area.{redo_of}
+use Rattle.zms_store.specs.Spending.{redo_units, Redoes, StopsRedoing}
 use Rattle.zms_store.proofs.StandLemmas.{stands}
 use Rattle.zms_store.proofs.store.Zms.mount.Goals as goal
 
@@ -14,5 +14,14 @@ returns-in-Ok-redo-clause-ends g c =
       stands a d c.args.area c.in-Ok.current c.in-Ok-redo.ensures.touches.banks c.requires c.in-Ok-redo.ensures.rested,
       refl,
       c.in-Ok-redo.ensures.items,
-      subst (λ (k : ℕ). SpendsBetween a d 0 (redo_units (sectors_of a c.args.area) k)) c.in-Ok.ensures.current c.in-Ok-redo.ensures.spends,
+      subst (λ (k : ℕ). Redoes a d (redo_units (sectors_of a c.args.area) k) (redo_of (sectors_of a c.args.area) k)) c.in-Ok.ensures.current c.in-Ok-redo.ensures.redoes,
+    )
+
+pub returns-in-Err-redo-clause-ends : goal.returns-in-Err-redo-clause-ends
+returns-in-Err-redo-clause-ends g c =
+    let a : Device = g.F.Flash.device c.args.flash.now in
+    let d : Device = g.F.Flash.device c.redo.new.flash in (
+      c.in-Ok.ensures.undamaged,
+      c.in-Err-redo.ensures.items,
+      subst (λ (k : ℕ). StopsRedoing a d (redo_units (sectors_of a c.args.area) k) (redo_of (sectors_of a c.args.area) k)) c.in-Ok.ensures.current c.in-Err-redo.ensures.stops,
     )

@@ -1,4 +1,4 @@
-use Rattle.nvs_store.proofs.tests.one_sector.Given as goal
+use Rattle.nvs_store.proofs.tests.sectors.Given as goal
 
 abbrev pub ghosts-exercise : goal.ghosts-exercise
 ghosts-exercise g a = record { name = a.blank.name; parts = a.blank.parts }

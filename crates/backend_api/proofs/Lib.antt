@@ -1,3 +1,4 @@
+pub mod CommandLemmas
+pub mod KeyLemmas
+pub mod LeastLemmas
 pub mod MapLemmas
-pub mod RecordLemmas
-pub mod SettingLemmas

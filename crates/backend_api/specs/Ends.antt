@@ -3,6 +3,10 @@ use Rattle.std.specs.Prelude.{◌≡◌, ℕ, ◌<◌, Bool, true, false, List, 
 use Rattle.std.specs.FinMap.{insert, remove}
 use Rattle.flash_sim.specs.Device.{Device}
 use Rattle.flash_sim.specs.declared.flash.PowerLost.{PowerLost as Lost}
+use Rattle.flash_map.specs.Area.{geometry_of}
+use Rattle.flash_map.specs.On.{on}
+use Rattle.flash_map.specs.declared.area.Area.{Area}
+use Rattle.flash_map.specs.declared.area.Geometry.{Geometry}
 use Rattle.flash_map.specs.declared.faults.Damaged.{Damaged}
 use Rattle.flash_map.specs.declared.faults.MountFault.{MountFault}
 use Rattle.flash_map.specs.declared.faults.MountFault.TheVariants.{Damaged as HasDamage, PowerLost as MountLost, NoMemory}
@@ -56,6 +60,10 @@ SetEnds room sectors old new before after name value (Err TooManyNames) = (room.
 SetEnds room sectors old new before after name value (Err (NoSpace need live)) = FindsNoSpace room sectors before after name value need live
 SetEnds room sectors old new before after name value (Err PowerLost) = (room.too_many before name ≡ false) × ¬ IsStored before name value
 
+-- by the room and the settings of an area
+abbrev pub SetEndsOn : {T : Type 0} → (Area → Geometry → Room) → (Area → Geometry → List (List ℕ) → Map) → Device → Device → Area → List ℕ → List ℕ → Result T SetFault → Type 0
+SetEndsOn room contents old new area name value result = SetEnds (room area (geometry_of old area)) area.sectors old new (on contents old area) (on contents new area) name value result
+
 -- ---- deleting
 
 -- the name has no value, and all others stay; an absent name programs nothing
@@ -67,3 +75,6 @@ pub record Deletes (old new : Device) (before after : Map) (name : List ℕ) : T
 abbrev pub DeleteEnds : {T : Type 0} → Device → Device → Map → Map → List ℕ → Result T Lost → Type 0
 DeleteEnds old new before after name (Ok x) = Deletes old new before after name
 DeleteEnds old new before after name (Err lost) = ¬ IsAbsent before name
+
+abbrev pub DeleteEndsOn : {T : Type 0} → (Area → Geometry → List (List ℕ) → Map) → Device → Device → Area → List ℕ → Result T Lost → Type 0
+DeleteEndsOn contents old new area name result = DeleteEnds old new (on contents old area) (on contents new area) name result

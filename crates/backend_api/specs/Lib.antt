@@ -1,5 +1,6 @@
+pub mod Commands
 pub mod Ends
+pub mod Laws
+pub mod Least
 pub mod Map
-pub mod OneSetting
-pub mod OneSettingLaws
 pub mod Room

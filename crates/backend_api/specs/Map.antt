@@ -2,6 +2,7 @@
 use Rattle.std.specs.Prelude.{◌≡◌, ℕ, ◌^◌, ◌<◌, ◌≤◌, Bool, true, List, length, All, Option, Some, None, find}
 use Rattle.std.specs.FinMap.{FinMap, get, keys, values, len}
 use Rattle.std.specs.Ordering.{nat_cmp, is_lt}
+use Rattle.std.specs.declared.cmp.Ordering.{Ordering}
 use Rattle.std.specs.Cmp.Lexicographic.{slice_cmp}
 use Rattle.setting_name.specs.Name.{IsName}
 
@@ -9,22 +10,22 @@ use Rattle.setting_name.specs.Name.{IsName}
 abbrev pub Map : Type 0
 Map = FinMap (slice_cmp nat_cmp) (List ℕ)
 
--- 1 to 256 bytes
-abbrev pub IsValue : List ℕ → Type 0
-IsValue bytes = (1 ≤ length bytes) × (length bytes ≤ 256)
+-- at least one byte, and no more than the limit of the area
+abbrev pub IsValue : ℕ → List ℕ → Type 0
+IsValue limit bytes = (1 ≤ length bytes) × (length bytes ≤ limit)
 
 -- lawful names and values throughout, and fewer pairs than 2^32
-pub record IsSettings (settings : Map) : Type 0 where
+pub record IsSettings (limit : ℕ) (settings : Map) : Type 0 where
   pub names : All IsName (keys settings)
-  pub values : All IsValue (values settings)
+  pub values : All (IsValue limit) (values settings)
   pub few : len settings < 2 ^ 32
 
--- the name has just this value
-abbrev pub IsStored : Map → List ℕ → List ℕ → Type 0
-IsStored settings name value = get settings name ≡ Some value
+-- the key has just this value; in any order of keys
+abbrev pub IsStored : {K X : Type 0} {R : K → K → Ordering} → FinMap R X → K → X → Type 0
+IsStored map key value = get map key ≡ Some value
 
-abbrev pub IsAbsent : Map → List ℕ → Type 0
-IsAbsent settings name = get settings name ≡ None
+abbrev pub IsAbsent : {K X : Type 0} {R : K → K → Ordering} → FinMap R X → K → Type 0
+IsAbsent map key = get map key ≡ None
 
 -- greater than this name in byte order, where there is one
 abbrev pub is_behind : Option (List ℕ) → List ℕ → Bool

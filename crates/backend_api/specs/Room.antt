@@ -1,5 +1,6 @@
 -- The numbers of room of a backend. They depend on the lengths of names and values and on the geometry of the area alone.
-use Rattle.std.specs.Prelude.{ℕ, ◌+◌, ◌-◌, ◌*◌, ◌<◌, Bool, List}
+use Rattle.std.specs.Prelude.{ℕ, ◌+◌, ◌-◌, ◌*◌, ◌/◌, ◌<◌, Bool, List}
+use Rattle.flash_map.specs.declared.area.Geometry.{Geometry}
 use Rattle.backend_api.specs.Map.{Map}
 
 -- in bytes
@@ -19,6 +20,6 @@ pub record Room : Type 0 where
 abbrev pub HasNoRoom : Room → ℕ → Map → List ℕ → List ℕ → Type 0
 HasNoRoom room sectors settings name value = (sectors - 1) * (room.cap - room.largest settings name value) < room.cost settings + room.need settings name value
 
--- the most units and erases of one command, by the sectors of the area and the units of a sector
-abbrev pub most_units : ℕ → ℕ → ℕ
-most_units sectors units = 12 * sectors * (units + 3)
+-- the most units and erases of one command
+abbrev pub most_units : Geometry → ℕ
+most_units geometry = 12 * geometry.sectors * (geometry.sector / geometry.unit + 3)

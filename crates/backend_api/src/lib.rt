@@ -3,13 +3,12 @@
 #![tactic(auto)]
 
 mod backend;
+mod laws;
 mod names;
-mod one_setting;
-mod record;
 
 pub use backend::{Backend, SetFault};
+pub use laws::{follow_commands, rebuild_settings, walk_names};
 pub use names::is_behind;
-pub use one_setting::OneSetting;
 
 #[cfg(test)]
 mod tests;

@@ -6,7 +6,7 @@ use Rattle.std.proofs.lemmas.List.{length-replicate, get_or-replicate}
 use Rattle.std.proofs.lemmas.List.Elements.{All-nil}
 use Rattle.flash_sim.specs.Bank.{IsLawful}
 use Rattle.flash_sim.specs.Device.{Device}
-use Rattle.flash_map.specs.Area.{unit_of, sector_size, sectors_of, sector_at}
+use Rattle.flash_map.specs.Area.{value_limit, unit_of, sector_size, sectors_of, sector_at}
 use Rattle.flash_map.specs.Sectors.{blanked}
 use Rattle.flash_map.specs.declared.area.Area.{Area}
 use Rattle.fcb_ring.specs.declared.sector.SectorState.{SectorState}
@@ -17,9 +17,9 @@ use Rattle.fcb_ring.specs.Standing.{IsRingArea}
 use Rattle.fcb_ring.proofs.AreaLemmas.{has_size, count-sectors, area_after, length-states, state-at}
 use Rattle.fcb_ring.proofs.RingLemmas.{turned-within, undamaged}
 use Rattle.fcb_ring.proofs.StandLemmas.{part, entries-are, blank-free}
-use Rattle.settings_list.specs.Settings.{settings_of}
+use Rattle.settings_laws.specs.Settings.{settings_of}
 use Rattle.backend_fcb.specs.Standing.{damage_on, settings_on}
-use Rattle.settings_list.proofs.BodyLemmas.{settings-none}
+use Rattle.settings_laws.proofs.BodyLemmas.{settings-none}
 use Rattle.backend_fcb.proofs.PutsCosts.{CostsFit, costs-from, puts-none, undamaged-by}
 use Rattle.backend_fcb.proofs.WalkLemmas.{Entry}
 
@@ -73,11 +73,11 @@ module _ (d e : Device) (area : Area) (lawful-d : IsLawful d.banks d.bytes) (law
   has-none : HasEntries (unit_of e area) (sectors_of e area) []
   has-none = subst (λ (l : List (List ℕ)). HasEntries (unit_of e area) l []) (sym (blanked-on d e area lawful-d ring is)) (blank-has (unit_of e area) area.sectors (sector_size d area) ring.lawful.several ring.lawful.few)
 
-  nothing-fits : CostsFit (unit_of e area) (sector_size e area) [] (length (sectors_of e area))
-  nothing-fits = costs-from (unit_of e area) (sector_size e area) [] (length (sectors_of e area)) (λ place lt. let none = puts-none (unit_of e area) [] place (All-nil (λ (entry : Entry). entry.0.sector ≡ place → ⊥)) in omega arith)
+  nothing-fits : CostsFit (value_limit area) (unit_of e area) (sector_size e area) [] (length (sectors_of e area))
+  nothing-fits = costs-from (value_limit area) (unit_of e area) (sector_size e area) [] (length (sectors_of e area)) (λ place lt. let none = puts-none (value_limit area) (unit_of e area) [] place (All-nil (λ (entry : Entry). entry.0.sector ≡ place → ⊥)) in omega arith)
 
   pub blank-undamaged : damage_on e area ≡ None
-  blank-undamaged = undamaged-by (unit_of e area) (sector_size e area) (sectors_of e area) (has_size e area lawful-e (area_after d e area banks ring)) [] has-none nothing-fits
+  blank-undamaged = undamaged-by (value_limit area) (unit_of e area) (sector_size e area) (sectors_of e area) (has_size e area lawful-e (area_after d e area banks ring)) [] has-none nothing-fits
 
   pub blank-empty : settings_on e area ≡ empty
-  blank-empty = ap (λ (l : List Entry). settings_of (bodies l)) has-none.are ∙ settings-none
+  blank-empty = ap (λ (l : List Entry). settings_of (value_limit area) (bodies l)) has-none.are ∙ settings-none (value_limit area)

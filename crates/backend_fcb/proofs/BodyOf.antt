@@ -7,7 +7,7 @@ use Rattle.std.proofs.lemmas.List.{length-take-le}
 use Rattle.std.proofs.lemmas.Option.{none-some}
 use Rattle.setting_name.specs.Name.{is_name, IsName}
 use Rattle.setting_name.proofs.NameTest.{is_name-sound, is_name-complete}
-use Rattle.settings_list.specs.Settings.{name_in, value_in, setting_of}
+use Rattle.settings_laws.specs.Settings.{name_in, value_in, setting_of}
 
 abbrev pub equals_at : List ℕ → Option ℕ
 equals_at body = position (λ byte. eqb byte 0x3D) body
@@ -47,11 +47,11 @@ equals-none body e = elim (cases_Bool (ltb (name_len body) (length body))) [
 abbrev setting_by : Bool → Bool → Bool → List ℕ → Option (List ℕ × List ℕ)
 setting_by named ends short body = cond (named && (ends && short)) (Some (name_in body, value_in body)) None
 
-by-parts : (body : List ℕ) (named ends short : Bool) → is_name (name_in body) ≡ named → ltb (length (name_in body)) (length body) ≡ ends → leb (length (value_in body)) 256 ≡ short → setting_of body ≡ setting_by named ends short body
+by-parts : (limit : ℕ) (body : List ℕ) (named ends short : Bool) → is_name (name_in body) ≡ named → ltb (length (name_in body)) (length body) ≡ ends → leb (length (value_in body)) limit ≡ short → setting_of limit body ≡ setting_by named ends short body
 unfolding setting_of
-by-parts body named ends short a b c =
-    ap (λ (x : Bool). setting_by x (ltb (length (name_in body)) (length body)) (leb (length (value_in body)) 256) body) a
-    ∙ ap (λ (x : Bool). setting_by named x (leb (length (value_in body)) 256) body) b
+by-parts limit body named ends short a b c =
+    ap (λ (x : Bool). setting_by x (ltb (length (name_in body)) (length body)) (leb (length (value_in body)) limit) body) a
+    ∙ ap (λ (x : Bool). setting_by named x (leb (length (value_in body)) limit) body) b
     ∙ ap (λ (x : Bool). setting_by named ends x body) c
 
 none-by : (named ends short : Bool) (body : List ℕ) → (named ≡ false) ⊎ ((ends ≡ false) ⊎ (short ≡ false)) → setting_by named ends short body ≡ None
@@ -63,10 +63,10 @@ none-by true true true body (inr (inl e)) = absurd (both_ways true e refl)
 none-by true true true body (inr (inr e)) = absurd (both_ways true e refl)
 
 -- a body without `=` says nothing
-pub says-none : (body : List ℕ) → equals_at body ≡ None → setting_of body ≡ None
-says-none body e =
-    by-parts body (is_name (name_in body)) false (leb (length (value_in body)) 256) refl (ap (λ (n : ℕ). ltb n (length body)) (long body) ∙ equals-none body e) refl
-    ∙ none-by (is_name (name_in body)) false (leb (length (value_in body)) 256) body (inr (inl refl))
+pub says-none : (limit : ℕ) (body : List ℕ) → equals_at body ≡ None → setting_of limit body ≡ None
+says-none limit body e =
+    by-parts limit body (is_name (name_in body)) false (leb (length (value_in body)) limit) refl (ap (λ (n : ℕ). ltb n (length body)) (long body) ∙ equals-none body e) refl
+    ∙ none-by (is_name (name_in body)) false (leb (length (value_in body)) limit) body (inr (inl refl))
 
 pub name-is : (body : List ℕ) (place : ℕ) → equals_at body ≡ Some place → take place body ≡ name_in body
 name-is body place e = ap (λ (n : ℕ). take n body) (sym (equals-some body place e).is)
@@ -75,10 +75,10 @@ pub value-is : (body : List ℕ) (place : ℕ) → equals_at body ≡ Some place
 value-is body place e = ap (λ (n : ℕ). drop (n + 1) body) (sym (long body ∙ (equals-some body place e).is))
 
 -- a name that cannot be read says nothing
-pub says-unnamed : {T E : Type 0} (body name : List ℕ) (r : Result T E) → name ≡ name_in body → is_err r ≡ true → (IsName name → IsOk r) → setting_of body ≡ None
-says-unnamed {T} {E} body name r is err ok = elim (cases_Bool (is_name (name_in body))) [
+pub says-unnamed : {T E : Type 0} (limit : ℕ) (body name : List ℕ) (r : Result T E) → name ≡ name_in body → is_err r ≡ true → (IsName name → IsOk r) → setting_of limit body ≡ None
+says-unnamed {T} {E} limit body name r is err ok = elim (cases_Bool (is_name (name_in body))) [
   | inl named ↦ absurd (refused r err (ok (subst IsName (sym is) (is_name-sound (name_in body) named))))
-  | inr other ↦ by-parts body false (ltb (length (name_in body)) (length body)) (leb (length (value_in body)) 256) other refl refl ∙ none-by false (ltb (length (name_in body)) (length body)) (leb (length (value_in body)) 256) body (inl refl)
+  | inr other ↦ by-parts limit body false (ltb (length (name_in body)) (length body)) (leb (length (value_in body)) limit) other refl refl ∙ none-by false (ltb (length (name_in body)) (length body)) (leb (length (value_in body)) limit) body (inl refl)
 ]
   where
     refused : {T E : Type 0} (r : Result T E) → is_err r ≡ true → IsOk r → ⊥
@@ -86,15 +86,15 @@ says-unnamed {T} {E} body name r is err ok = elim (cases_Bool (is_name (name_in 
     refused (Err x) e ok = both_ways false refl ok
 
 -- nor does a value that is too long
-pub says-long : (body value : List ℕ) → value ≡ value_in body → 256 < length value → setting_of body ≡ None
-says-long body value is more =
-    let e : leb (length (value_in body)) 256 ≡ false = ap (λ (v : List ℕ). leb (length v) 256) (sym is) ∙ lt-leb (length value) 256 more in
-    by-parts body (is_name (name_in body)) (ltb (length (name_in body)) (length body)) false refl refl e ∙ none-by (is_name (name_in body)) (ltb (length (name_in body)) (length body)) false body (inr (inr refl))
+pub says-long : (limit : ℕ) (body value : List ℕ) → value ≡ value_in body → limit < length value → setting_of limit body ≡ None
+says-long limit body value is more =
+    let e : leb (length (value_in body)) limit ≡ false = ap (λ (v : List ℕ). leb (length v) limit) (sym is) ∙ lt-leb (length value) limit more in
+    by-parts limit body (is_name (name_in body)) (ltb (length (name_in body)) (length body)) false refl refl e ∙ none-by (is_name (name_in body)) (ltb (length (name_in body)) (length body)) false body (inr (inr refl))
 
-pub says-some : {T E : Type 0} (body name value : List ℕ) (place : ℕ) (r : Result T E) → equals_at body ≡ Some place → name ≡ name_in body → value ≡ value_in body → is_err r ≡ false → (IsOk r → IsName name) → length value ≤ 256 → setting_of body ≡ Some (name, value)
-says-some {T} {E} body name value place r e n v ok named short =
+pub says-some : {T E : Type 0} (limit : ℕ) (body name value : List ℕ) (place : ℕ) (r : Result T E) → equals_at body ≡ Some place → name ≡ name_in body → value ≡ value_in body → is_err r ≡ false → (IsOk r → IsName name) → length value ≤ limit → setting_of limit body ≡ Some (name, value)
+says-some {T} {E} limit body name value place r e n v ok named short =
     let has = equals-some body place e in
-    by-parts body true true true (is_name-complete (name_in body) (subst IsName n (named (read r ok)))) (ap (λ (m : ℕ). ltb m (length body)) (long body) ∙ has.within) (le-leb (length (value_in body)) 256 (subst (λ (x : List ℕ). length x ≤ 256) v short))
+    by-parts limit body true true true (is_name-complete (name_in body) (subst IsName n (named (read r ok)))) (ap (λ (m : ℕ). ltb m (length body)) (long body) ∙ has.within) (le-leb (length (value_in body)) limit (subst (λ (x : List ℕ). length x ≤ limit) v short))
     ∙ ap (λ (x : List ℕ). Some (x, value_in body)) (sym n) ∙ ap (λ (x : List ℕ). Some (name, x)) (sym v)
   where
     read : {T E : Type 0} (r : Result T E) → is_err r ≡ false → IsOk r

@@ -1,10 +1,10 @@
 -- A whole collection, from the ring before it to the one after it.
-use Rattle.std.proofs.Common.{◌≡◌, ◌≢◌, ℕ, zero, suc, ◌+◌, ◌-◌, ◌*◌, ◌/◌, ◌<◌, ◌≤◌, min, false, List, [], ◌∷◌, ◌++◌, length, map, None, refl, sym, ap, subst, ◌∙◌, arith}
+use Rattle.std.proofs.Common.{◌≡◌, ◌≢◌, ℕ, zero, suc, ◌+◌, ◌-◌, ◌*◌, ◌/◌, ◌<◌, ◌≤◌, min, List, [], ◌∷◌, ◌++◌, length, map, None, refl, sym, ap, subst, ◌∙◌, arith}
 use Rattle.std.specs.List.{range_with_len, flat_map, sum_by, All}
 use Rattle.std.proofs.lemmas.List.Elements.{All-nil, All-cons, All-head, All-tail, All-append}
 use Rattle.flash_sim.specs.Bank.{IsLawful}
 use Rattle.flash_sim.specs.Device.{Device}
-use Rattle.flash_map.specs.Area.{unit_of, sector_size, sectors_of, sector_bytes}
+use Rattle.flash_map.specs.Area.{OthersStay, value_limit, unit_of, sector_size, sectors_of, sector_bytes}
 use Rattle.flash_map.specs.declared.area.Area.{Area}
 use Rattle.flash_map.specs.Spending.{Spends, SpendsAtMost}
 use Rattle.flash_map.specs.Units.{IsUnit, padded}
@@ -12,7 +12,7 @@ use Rattle.flash_map.proofs.Rounding.{by_unit}
 use Rattle.flash_map.proofs.SpendingLemmas.{spends_then, most_weaker}
 use Rattle.fcb_ring.specs.declared.ring.Ring.{Ring}
 use Rattle.fcb_ring.specs.declared.ring.Stage.TheVariants.{Ready, Collecting}
-use Rattle.fcb_ring.specs.Changing.{newest_place, next_place, sector_list, KeepsOthers, GoesOn}
+use Rattle.fcb_ring.specs.Changing.{Begun, newest_place, next_place, sector_list}
 use Rattle.fcb_ring.specs.Entries.{bodies, sector_entries, HasEntries}
 use Rattle.fcb_ring.specs.Rings.{turned}
 use Rattle.fcb_ring.specs.Standing.{StandsOn as RingStandsOn, KeepsEntries, entries_on}
@@ -20,18 +20,19 @@ use Rattle.fcb_ring.specs.Writing.{record_cost}
 use Rattle.fcb_ring.proofs.AppendLemmas.{unit-after, size-after}
 use Rattle.fcb_ring.proofs.AreaLemmas.{has_size}
 use Rattle.fcb_ring.proofs.CollectLemmas.{collecting-used, turned-next}
+use Rattle.fcb_ring.proofs.OthersLemmas.{others_at}
 use Rattle.fcb_ring.proofs.PlaceLemmas.{All-range, range-append, flat_map-agree}
 use Rattle.fcb_ring.proofs.RingLemmas.{turned-zero}
 use Rattle.backend_fcb.specs.Changing.{Copies, CopiesLive, Collects, StopsCopying, parts_on, collect_units}
-use Rattle.settings_list.specs.Live.{live_bodies}
-use Rattle.settings_list.specs.Numbers.{cap, reserve, put_cost}
-use Rattle.sector_ring.specs.Rounds.{joined}
-use Rattle.sector_ring.proofs.NoRoom.{joined-push}
-use Rattle.settings_list.specs.Rounds.{bodies_cost}
-use Rattle.settings_list.specs.Settings.{settings_of}
+use Rattle.settings_laws.specs.Live.{live_bodies}
+use Rattle.settings_laws.specs.Numbers.{cap, reserve, put_cost}
+use Rattle.pair_laws.specs.Rounds.{joined}
+use Rattle.pair_laws.proofs.NoRoom.{joined-push}
+use Rattle.settings_laws.specs.Rounds.{bodies_cost}
+use Rattle.settings_laws.specs.Settings.{settings_of}
 use Rattle.backend_fcb.specs.Standing.{damage_on, settings_on, IsReady}
-use Rattle.settings_list.proofs.Coded.{settings-collected}
-use Rattle.settings_list.proofs.CopyCost.{copies_cost-le}
+use Rattle.settings_laws.proofs.Coded.{settings-collected}
+use Rattle.settings_laws.proofs.CopyCost.{copies_cost-le}
 use Rattle.backend_fcb.proofs.CopySteps.{kept-same}
 use Rattle.backend_fcb.proofs.PartLists.{FitsOne, joined-bodies, joined-on, parts-fit, fit-parts}
 use Rattle.backend_fcb.proofs.PutsCosts.{CostsFit, costs-on, undamaged-after, undamaged-kept, put-le}
@@ -41,30 +42,17 @@ use Rattle.backend_fcb.proofs.WalkLemmas.{Entry}
 
 -- a call that keeps the records keeps the settings
 pub settings-kept : (old new : Device) (area : Area) → KeepsEntries old new area → settings_on new area ≡ settings_on old area
-settings-kept old new area kept = ap (λ (l : List Entry). settings_of (bodies l)) kept.are
+settings-kept old new area kept = ap (λ (l : List Entry). settings_of (value_limit area) (bodies l)) kept.are
 
 pub list-same : (old new : Device) (area : Area) (place : ℕ) → new.banks ≡ old.banks → sector_bytes new area place ≡ sector_bytes old area place → sector_list new area place ≡ sector_list old area place
 list-same old new area place banks same =
     ap (λ (u : ℕ). sector_entries u place (sector_bytes new area place)) (unit-after old new area area banks refl) ∙ ap (sector_entries (unit_of old area) place) same
 
--- the scratch sector was opened
-pub record Begun (a b : Device) (before ring : Ring) : Type 0 where
-  pub banks : b.banks ≡ a.banks
-  pub list : KeepsEntries a b before.area
-  pub others : KeepsOthers a b before.area (next_place before)
-  pub area : ring.area ≡ before.area
-  pub reserve : ring.reserve ≡ before.reserve
-  pub stands : RingStandsOn b ring
-  pub stage : ring.stage ≡ Collecting
-  pub goes_on : GoesOn before ring false
-  pub end : ring.end ≡ padded (unit_of a before.area) 8
-  pub fresh : sector_list b before.area (newest_place ring) ≡ []
-
 -- the live records were copied
 pub record Copied (b c : Device) (ring now : Ring) : Type 0 where
   pub banks : c.banks ≡ b.banks
   pub list : KeepsEntries b c ring.area
-  pub others : KeepsOthers b c ring.area (newest_place ring)
+  pub others : OthersStay b c ring.area (newest_place ring)
   pub area : now.area ≡ ring.area
   pub reserve : now.reserve ≡ ring.reserve
   pub copies : CopiesLive b c ring now
@@ -72,7 +60,7 @@ pub record Copied (b c : Device) (ring now : Ring) : Type 0 where
 -- the oldest sector was erased
 pub record Ended (c e : Device) (now after : Ring) : Type 0 where
   pub banks : e.banks ≡ c.banks
-  pub others : KeepsOthers c e now.area now.oldest
+  pub others : OthersStay c e now.area now.oldest
   pub area : after.area ≡ now.area
   pub reserve : after.reserve ≡ now.reserve
   pub stands : RingStandsOn e after
@@ -114,7 +102,7 @@ module _ (a b c e : Device) (before ring now after : Ring) (ready : IsReady a be
 
   -- other sectors stay through the three calls
   same-b : (k : ℕ) → k < before.used → sector_list b before.area (turned before.area.sectors before.oldest k) ≡ sector_list a before.area (turned before.area.sectors before.oldest k)
-  same-b k lt = list-same a b before.area (turned before.area.sectors before.oldest k) begun.banks (begun.others (turned before.area.sectors before.oldest k) (place-apart a before ready.stands (ready-none before ready.ready) k before.used (omega arith) (omega arith) (λ (e : k ≡ before.used). omega arith)))
+  same-b k lt = list-same a b before.area (turned before.area.sectors before.oldest k) begun.banks (others_at a b before.area (next_place before) begun.others (turned before.area.sectors before.oldest k) (place-apart a before ready.stands (ready-none before ready.ready) k before.used (omega arith) (omega arith) (λ (e : k ≡ before.used). omega arith)))
 
   newest-is : newest_place ring ≡ turned before.area.sectors before.oldest before.used
   newest-is =
@@ -123,8 +111,8 @@ module _ (a b c e : Device) (before ring now after : Ring) (ready : IsReady a be
 
   same-c : (k : ℕ) → k < before.used → sector_list c before.area (turned before.area.sectors before.oldest k) ≡ sector_list b before.area (turned before.area.sectors before.oldest k)
   same-c k lt =
-      let others : KeepsOthers b c before.area (turned before.area.sectors before.oldest before.used) = subst (λ (p : ℕ). KeepsOthers b c before.area p) newest-is (subst (λ (x : Area). KeepsOthers b c x (newest_place ring)) begun.area copied.others) in
-      list-same b c before.area (turned before.area.sectors before.oldest k) copied.banks (others (turned before.area.sectors before.oldest k) (place-apart a before ready.stands (ready-none before ready.ready) k before.used (omega arith) (omega arith) (λ (e : k ≡ before.used). omega arith)))
+      let others : OthersStay b c before.area (turned before.area.sectors before.oldest before.used) = subst (λ (p : ℕ). OthersStay b c before.area p) newest-is (subst (λ (x : Area). OthersStay b c x (newest_place ring)) begun.area copied.others) in
+      list-same b c before.area (turned before.area.sectors before.oldest k) copied.banks (others_at b c before.area (turned before.area.sectors before.oldest before.used) others (turned before.area.sectors before.oldest k) (place-apart a before ready.stands (ready-none before ready.ready) k before.used (omega arith) (omega arith) (λ (e : k ≡ before.used). omega arith)))
 
   -- what is to be copied
   abbrev victim : List (List ℕ)
@@ -133,7 +121,7 @@ module _ (a b c e : Device) (before ring now after : Ring) (ready : IsReady a be
   abbrev others : List (List (List ℕ))
   others = map (λ k. bodies (part_at a before k)) (range_with_len 1 (before.used - 1))
 
-  copies-are : Copies b c ring now (live_bodies (bodies (part_at a before 0)) (joined (map (λ k. bodies (part_at a before k)) (range_with_len 1 (before.used - 1)))))
+  copies-are : Copies b c ring now (live_bodies (value_limit before.area) (bodies (part_at a before 0)) (joined (map (λ k. bodies (part_at a before k)) (range_with_len 1 (before.used - 1)))))
   copies-are =
       let none = collecting-none ring begun.stage in
       let all = collecting-used b ring begun.stands begun.stage in
@@ -149,12 +137,14 @@ module _ (a b c e : Device) (before ring now after : Ring) (ready : IsReady a be
       ap (λ (i : ℕ). bodies (flat_map (part_at b ring) (range_with_len 1 i))) m
       ∙ ap bodies (flat_map-agree (part_at b ring) (part_at a before) (range_with_len 1 (before.used - 1)) (All-range (λ k. part_at b ring k ≡ part_at a before k) 1 (before.used - 1) (λ k from below. one k ∙ same-b k (omega arith))))
       ∙ sym (joined-bodies (part_at a before) (range_with_len 1 (before.used - 1))) in
-      let live : live_bodies (bodies (sector_list b ring.area ring.oldest)) (bodies (flat_map (part_at b ring) (range_with_len 1 (min ring.used (ring.area.sectors - 1) - 1)))) ≡ live_bodies (bodies (part_at a before 0)) (joined (map (λ k. bodies (part_at a before k)) (range_with_len 1 (before.used - 1)))) =
-      ap (λ (x : List (List ℕ)). live_bodies x (bodies (flat_map (part_at b ring) (range_with_len 1 (min ring.used (ring.area.sectors - 1) - 1))))) v ∙ ap (live_bodies (bodies (part_at a before 0))) o in
-      subst (Copies b c ring now) live (copied.copies (flat_map (part_at b ring) (range_with_len 1 (min ring.used (ring.area.sectors - 1) - 1))) first)
+      let live : live_bodies (value_limit before.area) (bodies (sector_list b ring.area ring.oldest)) (bodies (flat_map (part_at b ring) (range_with_len 1 (min ring.used (ring.area.sectors - 1) - 1)))) ≡ live_bodies (value_limit before.area) (bodies (part_at a before 0)) (joined (map (λ k. bodies (part_at a before k)) (range_with_len 1 (before.used - 1)))) =
+      ap (λ (x : List (List ℕ)). live_bodies (value_limit before.area) x (bodies (flat_map (part_at b ring) (range_with_len 1 (min ring.used (ring.area.sectors - 1) - 1))))) v ∙ ap (live_bodies (value_limit before.area) (bodies (part_at a before 0))) o in
+      subst (Copies b c ring now) live
+      (subst (λ (x : Area). Copies b c ring now (live_bodies (value_limit x) (bodies (sector_list b ring.area ring.oldest)) (bodies (flat_map (part_at b ring) (range_with_len 1 (min ring.used (ring.area.sectors - 1) - 1)))))) begun.area
+      (copied.copies (flat_map (part_at b ring) (range_with_len 1 (min ring.used (ring.area.sectors - 1) - 1))) first))
 
   abbrev live : List (List ℕ)
-  live = live_bodies victim (joined others)
+  live = live_bodies (value_limit before.area) victim (joined others)
 
   now-oldest : now.oldest ≡ before.oldest
   now-oldest = copies-are.oldest ∙ begun.goes_on.oldest
@@ -173,10 +163,10 @@ module _ (a b c e : Device) (before ring now after : Ring) (ready : IsReady a be
 
   same-e : (k : ℕ) → k + 1 < before.area.sectors → sector_list e before.area (turned before.area.sectors before.oldest (k + 1)) ≡ sector_list c before.area (turned before.area.sectors before.oldest (k + 1))
   same-e k lt =
-      let kept : KeepsOthers c e before.area before.oldest = subst (λ (p : ℕ). KeepsOthers c e before.area p) now-oldest (subst (λ (x : Area). KeepsOthers c e x now.oldest) now-area ended.others) in
+      let kept : OthersStay c e before.area before.oldest = subst (λ (p : ℕ). OthersStay c e before.area p) now-oldest (subst (λ (x : Area). OthersStay c e x now.oldest) now-area ended.others) in
       let apart : turned before.area.sectors before.oldest (k + 1) ≢ before.oldest =
       λ (same : turned before.area.sectors before.oldest (k + 1) ≡ before.oldest). place-apart a before ready.stands (ready-none before ready.ready) (k + 1) 0 lt (omega arith) (λ (z : k + 1 ≡ 0). omega arith) (same ∙ sym (turned-zero before.area.sectors before.oldest oldest-in)) in
-      list-same c e before.area (turned before.area.sectors before.oldest (k + 1)) ended.banks (kept (turned before.area.sectors before.oldest (k + 1)) apart)
+      list-same c e before.area (turned before.area.sectors before.oldest (k + 1)) ended.banks (others_at c e before.area before.oldest kept (turned before.area.sectors before.oldest (k + 1)) apart)
 
   part-e : (k : ℕ) → k + 1 < before.area.sectors → part_at e after k ≡ sector_list c before.area (turned before.area.sectors before.oldest (k + 1))
   part-e k lt =
@@ -207,15 +197,15 @@ module _ (a b c e : Device) (before ring now after : Ring) (ready : IsReady a be
       ∙ ap (λ (k : ℕ). others ++ bodies (part_at e after k) ∷ []) (omega arith)
       ∙ ap (λ (x : List (List ℕ)). others ++ x ∷ []) last
 
-  old-fit : All (FitsOne (unit_of a before.area) (sector_size a before.area)) (victim ∷ others)
+  old-fit : All (FitsOne (value_limit before.area) (unit_of a before.area) (sector_size a before.area)) (victim ∷ others)
   old-fit =
-      subst (All (FitsOne (unit_of a before.area) (sector_size a before.area))) old-is
+      subst (All (FitsOne (value_limit before.area) (unit_of a before.area) (sector_size a before.area))) old-is
       (parts-fit a before ready.stands (ready-none before ready.ready) (omega arith) (unit_of a before.area) (sector_size a before.area) (costs-on a before.area lawful ready.stands.area ready.undamaged))
 
   live-within : bodies_cost (unit_of a before.area) live ≤ cap (unit_of a before.area) (sector_size a before.area)
   live-within =
-      let one : sum_by (put_cost (unit_of a before.area)) victim ≤ cap (unit_of a before.area) (sector_size a before.area) = All-head (FitsOne (unit_of a before.area) (sector_size a before.area)) victim others old-fit in
-      let two = copies_cost-le (unit_of a before.area) victim (joined others) in
+      let one : sum_by (put_cost (value_limit before.area) (unit_of a before.area)) victim ≤ cap (unit_of a before.area) (sector_size a before.area) = All-head (FitsOne (value_limit before.area) (unit_of a before.area) (sector_size a before.area)) victim others old-fit in
+      let two = copies_cost-le (value_limit before.area) (unit_of a before.area) victim (joined others) in
       omega arith
 
   pub collected : Collects a e before after
@@ -230,12 +220,12 @@ module _ (a b c e : Device) (before ring now after : Ring) (ready : IsReady a be
     within = live-within;
   }
 
-  new-fit : All (FitsOne (unit_of a before.area) (sector_size a before.area)) (others ++ live ∷ [])
+  new-fit : All (FitsOne (value_limit before.area) (unit_of a before.area) (sector_size a before.area)) (others ++ live ∷ [])
   new-fit =
-      let one : sum_by (put_cost (unit_of a before.area)) live ≤ cap (unit_of a before.area) (sector_size a before.area) =
-      (let le = sum-less (put_cost (unit_of a before.area)) (λ (body : List ℕ). record_cost (unit_of a before.area) (length body)) live (put-le (unit_of a before.area)) in let most = live-within in omega arith) in
-      All-append (FitsOne (unit_of a before.area) (sector_size a before.area)) others (live ∷ []) (All-tail (FitsOne (unit_of a before.area) (sector_size a before.area)) victim others old-fit)
-      (All-cons (FitsOne (unit_of a before.area) (sector_size a before.area)) live [] one (All-nil (FitsOne (unit_of a before.area) (sector_size a before.area))))
+      let one : sum_by (put_cost (value_limit before.area) (unit_of a before.area)) live ≤ cap (unit_of a before.area) (sector_size a before.area) =
+      (let le = sum-less (put_cost (value_limit before.area) (unit_of a before.area)) (λ (body : List ℕ). record_cost (unit_of a before.area) (length body)) live (put-le (value_limit before.area) (unit_of a before.area)) in let most = live-within in omega arith) in
+      All-append (FitsOne (value_limit before.area) (unit_of a before.area) (sector_size a before.area)) others (live ∷ []) (All-tail (FitsOne (value_limit before.area) (unit_of a before.area) (sector_size a before.area)) victim others old-fit)
+      (All-cons (FitsOne (value_limit before.area) (unit_of a before.area) (sector_size a before.area)) live [] one (All-nil (FitsOne (value_limit before.area) (unit_of a before.area) (sector_size a before.area))))
 
   banks-e : e.banks ≡ a.banks
   banks-e = ended.banks ∙ copied.banks ∙ begun.banks
@@ -245,11 +235,12 @@ module _ (a b c e : Device) (before ring now after : Ring) (ready : IsReady a be
 
   pub collected-undamaged : IsLawful e.banks e.bytes → damage_on e before.area ≡ None
   collected-undamaged lawful-e =
-      let fit = fit-parts e after ended.stands (ready-none after ended.ready) free-after (unit_of a before.area) (sector_size a before.area) (subst (All (FitsOne (unit_of a before.area) (sector_size a before.area))) (sym new-is) new-fit) in
+      let fit = fit-parts e after ended.stands (ready-none after ended.ready) free-after (unit_of a before.area) (sector_size a before.area)
+      (subst (λ (x : Area). All (FitsOne (value_limit x) (unit_of a before.area) (sector_size a before.area)) (parts_on e after)) (sym after-area) (subst (All (FitsOne (value_limit before.area) (unit_of a before.area) (sector_size a before.area))) (sym new-is) new-fit)) in
       let has = kept-same e after lawful-e ended.stands in
       undamaged-after a e before.area lawful-e ready.stands.area banks-e (entries_on e after.area)
       (subst (λ (x : Area). HasEntries (unit_of e x) (sectors_of e x) (entries_on e after.area)) after-area has)
-      (subst (λ (x : Area). CostsFit (unit_of a before.area) (sector_size a before.area) (entries_on e after.area) x.sectors) after-area fit)
+      (subst (λ (x : Area). CostsFit (value_limit x) (unit_of a before.area) (sector_size a before.area) (entries_on e after.area) x.sectors) after-area fit)
 
   pub collected-ready : IsLawful e.banks e.bytes → IsReady e after
   collected-ready lawful-e = record {
@@ -262,9 +253,10 @@ module _ (a b c e : Device) (before ring now after : Ring) (ready : IsReady a be
   pub collected-settings : settings_on e before.area ≡ settings_on a before.area
   collected-settings =
       ap (λ (x : Area). settings_on e x) (sym after-area)
-      ∙ ap settings_of (sym (joined-on e after ended.stands (ready-none after ended.ready) free-after) ∙ ap joined new-is ∙ joined-push others live)
-      ∙ settings-collected victim (joined others)
-      ∙ ap settings_of (ap joined (sym old-is) ∙ joined-on a before ready.stands (ready-none before ready.ready) (omega arith))
+      ∙ ap (λ (x : Area). settings_of (value_limit x) (bodies (entries_on e after.area))) after-area
+      ∙ ap (settings_of (value_limit before.area)) (sym (joined-on e after ended.stands (ready-none after ended.ready) free-after) ∙ ap joined new-is ∙ joined-push others live)
+      ∙ settings-collected (value_limit before.area) victim (joined others)
+      ∙ ap (settings_of (value_limit before.area)) (ap joined (sym old-is) ∙ joined-on a before ready.stands (ready-none before ready.ready) (omega arith))
 
 -- ---- units
 
@@ -314,4 +306,4 @@ pub copied-now : (b c : Device) (ring now : Ring) → RingStandsOn b ring → ri
 copied-now b c ring now on stage copies =
     let none = collecting-none ring stage in
     let all = collecting-used b ring on stage in
-    (live_bodies (bodies (sector_list b ring.area ring.oldest)) (bodies (flat_map (part_at b ring) (range_with_len 1 (min ring.used (ring.area.sectors - 1) - 1)))), copies (flat_map (part_at b ring) (range_with_len 1 (min ring.used (ring.area.sectors - 1) - 1))) (oldest-first b ring on none (omega (arith, on.area.lawful.several))))
+    (live_bodies (value_limit ring.area) (bodies (sector_list b ring.area ring.oldest)) (bodies (flat_map (part_at b ring) (range_with_len 1 (min ring.used (ring.area.sectors - 1) - 1)))), copies (flat_map (part_at b ring) (range_with_len 1 (min ring.used (ring.area.sectors - 1) - 1))) (oldest-first b ring on none (omega (arith, on.area.lawful.several))))

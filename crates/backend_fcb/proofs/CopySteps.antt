@@ -11,7 +11,8 @@ use Rattle.std.proofs.lemmas.Bool.{both_ways, ne_eqb, eq-eqb, eqb-true, not-true
 use Rattle.std.proofs.Math.Nat.{div-mul-le_self, mul-le-mul_right}
 use Rattle.flash_sim.specs.Bank.{IsLawful}
 use Rattle.flash_sim.specs.Device.{Device}
-use Rattle.flash_map.specs.Area.{unit_of, sector_size, sectors_of, sector_at, sector_bytes}
+use Rattle.flash_sim.specs.declared.flash.TheConstants.{PROGRAM_LIMIT}
+use Rattle.flash_map.specs.Area.{OthersStay, value_limit, unit_of, sector_size, sectors_of, sector_at, sector_bytes}
 use Rattle.flash_map.specs.declared.area.Area.{Area}
 use Rattle.flash_map.specs.Spending.{Spends, SpendsAtMost}
 use Rattle.flash_map.specs.Touches.{Touches}
@@ -22,7 +23,7 @@ use Rattle.flash_map.proofs.Touches.{then, untouched}
 use Rattle.fcb_ring.specs.declared.record.RecordAt.{RecordAt}
 use Rattle.fcb_ring.specs.declared.ring.Ring.{Ring}
 use Rattle.fcb_ring.specs.declared.ring.Stage.TheVariants.{Collecting}
-use Rattle.fcb_ring.specs.Changing.{newest_place, sector_list, KeepsOthers, CopiesRecord}
+use Rattle.fcb_ring.specs.Changing.{newest_place, sector_list, CopiesRecord}
 use Rattle.fcb_ring.specs.Entries.{bodies}
 use Rattle.fcb_ring.specs.Rings.{turned}
 use Rattle.fcb_ring.specs.Standing.{StandsOn as RingStandsOn, IsNext, KeepsEntries, entries_on, record_places, uncounted, is_up}
@@ -31,19 +32,21 @@ use Rattle.fcb_ring.proofs.AppendLemmas.{unit-after, size-after}
 use Rattle.fcb_ring.proofs.AreaLemmas.{has_size, count-sectors}
 use Rattle.fcb_ring.proofs.CollectLemmas.{collecting-used}
 use Rattle.fcb_ring.proofs.NextLemmas.{body_is}
+use Rattle.fcb_ring.proofs.OthersLemmas.{others_then, others_same}
 use Rattle.fcb_ring.proofs.ReadLemmas.{there, stands-has}
 use Rattle.backend_fcb.specs.Changing.{Copies, StopsCopying, FitsIfLive, CopiesIfLive, CopiesLive}
-use Rattle.settings_list.specs.Live.{is_live_by, is_live, live_bodies}
-use Rattle.settings_list.specs.Numbers.{cap, put_cost}
+use Rattle.settings_laws.specs.Live.{is_live_by, is_live, live_bodies}
+use Rattle.settings_laws.specs.Numbers.{cap, put_cost}
 use Rattle.backend_fcb.specs.Reading.{puts_cost}
-use Rattle.settings_list.specs.Rounds.{bodies_cost}
-use Rattle.settings_list.specs.Settings.{setting_of}
+use Rattle.settings_laws.specs.Rounds.{bodies_cost}
+use Rattle.settings_laws.specs.Settings.{setting_of, longest}
 use Rattle.backend_fcb.specs.Standing.{damage_on}
 use Rattle.backend_fcb.specs.Walking.{TellsLive}
-use Rattle.settings_list.proofs.BodyLemmas.{setting-says}
-use Rattle.settings_list.proofs.CopyCost.{put-live, copies_cost-le}
+use Rattle.settings_laws.proofs.BodyLemmas.{setting-says}
+use Rattle.settings_laws.proofs.CopyCost.{put-live, copies_cost-le}
+use Rattle.backend_fcb.proofs.Limits.{limit-most, one-program}
 use Rattle.backend_fcb.proofs.CostSteps.{live-one}
-use Rattle.settings_list.proofs.LiveLemmas.{copies-none, copies-split}
+use Rattle.settings_laws.proofs.LiveLemmas.{copies-none, copies-split}
 use Rattle.backend_fcb.proofs.PutsCosts.{costs-at, costs-on, puts-append, puts-all}
 use Rattle.backend_fcb.proofs.RingLists.{oldest-first, rest-not, within, part_at, collecting-none}
 use Rattle.backend_fcb.proofs.SectorLists.{AreOf, AreNotOf, bodies-append, append-same, entries-of}
@@ -68,40 +71,39 @@ body-len d ring lawful on done later r body are =
     (is, ap length is ∙ long ∙ omega arith)
 
 -- a live record says a setting, so it is not long
-live-short : (setting : Option (List ℕ × List ℕ)) (later : List (List ℕ)) → is_live_by setting later ≡ true → (name : List ℕ) × (value : List ℕ) × (setting ≡ Some (name, value))
-live-short None later live = absurd (both_ways false refl live)
-live-short (Some (name, value)) later live = (name, value, refl)
+live-short : (limit : ℕ) (setting : Option (List ℕ × List ℕ)) (later : List (List ℕ)) → is_live_by limit setting later ≡ true → (name : List ℕ) × (value : List ℕ) × (setting ≡ Some (name, value))
+live-short limit None later live = absurd (both_ways false refl live)
+live-short limit (Some (name, value)) later live = (name, value, refl)
 
-pub live-most : (body : List ℕ) (later : List (List ℕ)) → is_live body later ≡ true → length body ≤ 321
-live-most body later live = let s = live-short (setting_of body) later live in (setting-says body s.0 s.1 s.2).most
+pub live-most : (limit : ℕ) (body : List ℕ) (later : List (List ℕ)) → is_live limit body later ≡ true → length body ≤ longest limit
+live-most limit body later live = let s = live-short limit (setting_of limit body) later live in (setting-says limit body s.0 s.1 s.2).most
 
-pub copy-short : (d : Device) (ring : Ring) → IsLawful d.banks d.bytes → RingStandsOn d ring → (r : RecordAt) → Contains (record_places (entries_on d ring.area)) r → TellsLive (entries_on d ring.area) r true → record_cost (unit_of d ring.area) r.len ≤ 400
+pub copy-short : (d : Device) (ring : Ring) → IsLawful d.banks d.bytes → RingStandsOn d ring → (r : RecordAt) → Contains (record_places (entries_on d ring.area)) r → TellsLive (value_limit ring.area) (entries_on d ring.area) r true → record_cost (unit_of d ring.area) r.len ≤ PROGRAM_LIMIT
 copy-short d ring lawful on r contained tells =
     let s = split (entries_on d ring.area) r contained in
-    let most = live-most s.1 (bodies s.2) (sym (tells s.0 s.2 s.1 s.3)) in
+    let most = live-most (value_limit ring.area) s.1 (bodies s.2) (sym (tells s.0 s.2 s.1 s.3)) in
     let len = (body-len d ring lawful on s.0 s.2 r s.1 s.3).1 in
-    let pad = padding (unit_of d ring.area) (has_size d ring.area lawful on.area).is_unit in
-    omega (arith, pad.small, pad.no_more r.len)
+    one-program (unit_of d ring.area) (value_limit ring.area) r.len (has_size d ring.area lawful on.area).is_unit (limit-most ring.area) (omega arith)
 
-pub copy-fits : (d : Device) (ring : Ring) → IsLawful d.banks d.bytes → RingStandsOn d ring → (r : RecordAt) → Contains (record_places (entries_on d ring.area)) r → TellsLive (entries_on d ring.area) r true → FitsIfLive d ring r
+pub copy-fits : (d : Device) (ring : Ring) → IsLawful d.banks d.bytes → RingStandsOn d ring → (r : RecordAt) → Contains (record_places (entries_on d ring.area)) r → TellsLive (value_limit ring.area) (entries_on d ring.area) r true → FitsIfLive d ring r
     → ring.end + record_cost (unit_of d ring.area) r.len ≤ sector_size d ring.area
 copy-fits d ring lawful on r contained tells fits =
     let s = split (entries_on d ring.area) r contained in
     let len = (body-len d ring lawful on s.0 s.2 r s.1 s.3).1 in
     subst (λ (n : ℕ). ring.end + record_cost (unit_of d ring.area) n ≤ sector_size d ring.area) len (fits s.0 s.2 s.1 s.3 (sym (tells s.0 s.2 s.1 s.3)))
 
-live-alone : (body : List ℕ) (later : List (List ℕ)) → is_live body later ≡ true → live_bodies (body ∷ []) later ≡ body ∷ []
-live-alone body later live = live-one body later ∙ ap (λ (b : Bool). cond b (body ∷ []) []) live
+live-alone : (limit : ℕ) (body : List ℕ) (later : List (List ℕ)) → is_live limit body later ≡ true → live_bodies limit (body ∷ []) later ≡ body ∷ []
+live-alone limit body later live = live-one limit body later ∙ ap (λ (b : Bool). cond b (body ∷ []) []) live
 
-dead-alone : (body : List ℕ) (later : List (List ℕ)) → is_live body later ≡ false → live_bodies (body ∷ []) later ≡ []
-dead-alone body later dead = live-one body later ∙ ap (λ (b : Bool). cond b (body ∷ []) []) dead
+dead-alone : (limit : ℕ) (body : List ℕ) (later : List (List ℕ)) → is_live limit body later ≡ false → live_bodies limit (body ∷ []) later ≡ []
+dead-alone limit body later dead = live-one limit body later ∙ ap (λ (b : Bool). cond b (body ∷ []) []) dead
 
-pub copied : (old new : Device) (before after : Ring) → IsLawful old.banks old.bytes → RingStandsOn old before → (r : RecordAt) → TellsLive (entries_on old before.area) r true → RingStandsOn new after → after.stage ≡ Collecting → after.oldest ≡ before.oldest → after.used ≡ before.used
+pub copied : (old new : Device) (before after : Ring) → IsLawful old.banks old.bytes → RingStandsOn old before → (r : RecordAt) → TellsLive (value_limit before.area) (entries_on old before.area) r true → RingStandsOn new after → after.stage ≡ Collecting → after.oldest ≡ before.oldest → after.used ≡ before.used
     → after.end ≡ before.end + record_cost (unit_of old before.area) r.len → CopiesRecord old new before r → Spends old new (record_cost (unit_of old before.area) r.len / unit_of old before.area) → CopiesIfLive old new before after r
 copied old new before after lawful on r tells stands stage oldest used end copies spent done later body are =
     let live = sym (tells done later body are) in
     let b = body-len old before lawful on done later r body are in
-    let alone : body ∷ [] ≡ live_bodies (body ∷ []) (bodies later) = sym (live-alone body (bodies later) live) in
+    let alone : body ∷ [] ≡ live_bodies (value_limit before.area) (body ∷ []) (bodies later) = sym (live-alone (value_limit before.area) body (bodies later) live) in
     let one : Copies old new before after (body ∷ []) = record {
       stands = stands;
       stage = stage;
@@ -117,9 +119,9 @@ copied old new before after lawful on r tells stands stage oldest used end copie
     } in
     subst (Copies old new before after) alone one
 
-pub not-copied : (d : Device) (ring : Ring) → RingStandsOn d ring → ring.stage ≡ Collecting → (r : RecordAt) → TellsLive (entries_on d ring.area) r false → CopiesIfLive d d ring ring r
+pub not-copied : (d : Device) (ring : Ring) → RingStandsOn d ring → ring.stage ≡ Collecting → (r : RecordAt) → TellsLive (value_limit ring.area) (entries_on d ring.area) r false → CopiesIfLive d d ring ring r
 not-copied d ring on stage r tells done later body are =
-    let none : [] ≡ live_bodies (body ∷ []) (bodies later) = sym (dead-alone body (bodies later) (sym (tells done later body are))) in
+    let none : [] ≡ live_bodies (value_limit ring.area) (body ∷ []) (bodies later) = sym (dead-alone (value_limit ring.area) body (bodies later) (sym (tells done later body are))) in
     let nothing : Copies d d ring ring [] = record {
       stands = on;
       stage = stage;
@@ -145,9 +147,6 @@ kept-same d ring lawful on = stands-has (unit_of d ring.area) (sector_size d rin
 pub keeps-then : (a b c : Device) (area : Area) → KeepsEntries a b area → KeepsEntries b c area → KeepsEntries a c area
 keeps-then a b c area first second = record { undamaged = second.undamaged; are = second.are ∙ first.are }
 
-pub others-then : (a b c : Device) (area : Area) (place : ℕ) → KeepsOthers a b area place → KeepsOthers b c area place → KeepsOthers a c area place
-others-then a b c area place first second other apart = second other apart ∙ first other apart
-
 pub copying-stands : (d e : Device) (now after : Ring) (r : RecordAt) → Contains (record_places (entries_on d now.area)) r → CopiesIfLive d e now after r → RingStandsOn e after
 copying-stands d e now after r contained copies =
     let s = split (entries_on d now.area) r contained in
@@ -163,10 +162,10 @@ pub record IsCopying (a d : Device) (before now : Ring) (place : Option RecordAt
   pub of : AreOf before.oldest done
   pub touches : Touches (before.area ∷ []) a d false
   pub list : KeepsEntries a d before.area
-  pub others : KeepsOthers a d before.area (newest_place before)
+  pub others : OthersStay a d before.area (newest_place before)
   pub area : now.area ≡ before.area
   pub reserve : now.reserve ≡ before.reserve
-  pub copies : Copies a d before now (live_bodies (bodies done) (bodies later))
+  pub copies : Copies a d before now (live_bodies (value_limit before.area) (bodies done) (bodies later))
 
 pub copying-start : (a : Device) (ring : Ring) → IsLawful a.banks a.bytes → RingStandsOn a ring → ring.stage ≡ Collecting → (next : Option RecordAt) → IsNext (entries_on a ring.area) None next → IsCopying a a ring ring next
 copying-start a ring lawful on stage next is = record {
@@ -176,10 +175,10 @@ copying-start a ring lawful on stage next is = record {
   of = none-of-all ring.oldest;
   touches = untouched (ring.area ∷ []) a;
   list = kept-same a ring lawful on;
-  others = λ other apart. refl;
+  others = others_same a a ring.area (newest_place ring) refl;
   area = refl;
   reserve = refl;
-  copies = subst (Copies a a ring ring) (sym (copies-none (bodies (entries_on a ring.area)))) (record {
+  copies = subst (Copies a a ring ring) (sym (copies-none (value_limit ring.area) (bodies (entries_on a ring.area)))) (record {
     stands = on;
     stage = stage;
     oldest = refl;
@@ -205,10 +204,10 @@ copying-listed a d before now r so_far =
     subst (λ (l : List Entry). Contains (record_places l) r) (sym (copying-list a d before now (Some r) so_far))
     (listed (entries_on a before.area) so_far.done r f.0 f.1 (so_far.at.are ∙ ap (λ (l : List Entry). so_far.done ++ l) f.2))
 
-prefix-puts : (unit : ℕ) (list xs ys : List Entry) (place : ℕ) → list ≡ xs ++ ys → AreOf place xs → sum_by (put_cost unit) (bodies xs) ≤ puts_cost unit list place
-prefix-puts unit list xs ys place are of =
-    let e : puts_cost unit list place ≡ puts_cost unit xs place + puts_cost unit ys place = ap (λ (l : List Entry). puts_cost unit l place) are ∙ puts-append unit xs ys place in
-    let f = puts-all unit xs place of in
+prefix-puts : (limit unit : ℕ) (list xs ys : List Entry) (place : ℕ) → list ≡ xs ++ ys → AreOf place xs → sum_by (put_cost limit unit) (bodies xs) ≤ puts_cost limit unit list place
+prefix-puts limit unit list xs ys place are of =
+    let e : puts_cost limit unit list place ≡ puts_cost limit unit xs place + puts_cost limit unit ys place = ap (λ (l : List Entry). puts_cost limit unit l place) are ∙ puts-append limit unit xs ys place in
+    let f = puts-all limit unit xs place of in
     omega arith
 
 -- behind the header a sector has room for all that it has for values
@@ -228,19 +227,19 @@ copying-fits a d before now r lawful on stage undamaged start-end lawful-d so_fa
     let split-list : entries_on a before.area ≡ (so_far.done ++ (r, f.0) ∷ []) ++ f.1 = list ∙ sym (append_assoc so_far.done ((r, f.0) ∷ []) f.1) in
     let here : r.sector ≡ before.oldest = of ∙ so_far.copies.oldest in
     let all : AreOf before.oldest (so_far.done ++ (r, f.0) ∷ []) = All-push (λ (entry : Entry). entry.0.sector ≡ before.oldest) so_far.done (r, f.0) so_far.of here in
-    let most = prefix-puts (unit_of a before.area) (entries_on a before.area) (so_far.done ++ (r, f.0) ∷ []) f.1 before.oldest split-list all in
-    let fit = costs-at (unit_of a before.area) (sector_size a before.area) (entries_on a before.area) before.area.sectors (costs-on a before.area lawful on.area undamaged) before.oldest (within a before on (collecting-none before stage)) in
-    let sum : sum_by (put_cost (unit_of a before.area)) (bodies (so_far.done ++ (r, f.0) ∷ [])) ≡ sum_by (put_cost (unit_of a before.area)) (bodies so_far.done) + put_cost (unit_of a before.area) f.0 =
-    ap (sum_by (put_cost (unit_of a before.area))) (bodies-append so_far.done ((r, f.0) ∷ [])) ∙ sum_by-append (put_cost (unit_of a before.area)) (bodies so_far.done) (f.0 ∷ [])
-    ∙ ap (λ (n : ℕ). sum_by (put_cost (unit_of a before.area)) (bodies so_far.done) + n) (sum_by-cons (put_cost (unit_of a before.area)) f.0 [] ∙ omega arith) in
-    let copies = copies_cost-le (unit_of a before.area) (bodies so_far.done) (bodies so_far.later) in
+    let most = prefix-puts (value_limit before.area) (unit_of a before.area) (entries_on a before.area) (so_far.done ++ (r, f.0) ∷ []) f.1 before.oldest split-list all in
+    let fit = costs-at (value_limit before.area) (unit_of a before.area) (sector_size a before.area) (entries_on a before.area) before.area.sectors (costs-on a before.area lawful on.area undamaged) before.oldest (within a before on (collecting-none before stage)) in
+    let sum : sum_by (put_cost (value_limit before.area) (unit_of a before.area)) (bodies (so_far.done ++ (r, f.0) ∷ [])) ≡ sum_by (put_cost (value_limit before.area) (unit_of a before.area)) (bodies so_far.done) + put_cost (value_limit before.area) (unit_of a before.area) f.0 =
+    ap (sum_by (put_cost (value_limit before.area) (unit_of a before.area))) (bodies-append so_far.done ((r, f.0) ∷ [])) ∙ sum_by-append (put_cost (value_limit before.area) (unit_of a before.area)) (bodies so_far.done) (f.0 ∷ [])
+    ∙ ap (λ (n : ℕ). sum_by (put_cost (value_limit before.area) (unit_of a before.area)) (bodies so_far.done) + n) (sum_by-cons (put_cost (value_limit before.area) (unit_of a before.area)) f.0 [] ∙ omega arith) in
+    let copies = copies_cost-le (value_limit before.area) (unit_of a before.area) (bodies so_far.done) (bodies so_far.later) in
     -- both bodies are what stands at the record's place
     let on-now = so_far.copies.stands in
     let one : body ≡ slice_range (sector_bytes d now.area r.sector) r.body (r.body + r.len) = (body-len d now lawful-d on-now done later r body are).0 in
     let two : f.0 ≡ slice_range (sector_bytes d now.area r.sector) r.body (r.body + r.len) = (body-len d now lawful-d on-now so_far.done f.1 r f.0 (copying-list a d before now (Some r) so_far ∙ list)).0 in
     let unit-same : unit_of d now.area ≡ unit_of a before.area = unit-after a d before.area now.area so_far.touches.banks so_far.area in
     let size-same : sector_size d now.area ≡ sector_size a before.area = size-after a d before.area now.area so_far.touches.banks so_far.area in
-    let cost : put_cost (unit_of a before.area) f.0 ≡ record_cost (unit_of a before.area) (length body) = ap (put_cost (unit_of a before.area)) (two ∙ sym one) ∙ put-live (unit_of a before.area) body (bodies later) live in
+    let cost : put_cost (value_limit before.area) (unit_of a before.area) f.0 ≡ record_cost (unit_of a before.area) (length body) = ap (put_cost (value_limit before.area) (unit_of a before.area)) (two ∙ sym one) ∙ put-live (value_limit before.area) (unit_of a before.area) body (bodies later) (subst (λ (x : Area). is_live (value_limit x) body (bodies later) ≡ true) so_far.area live) in
     let end = so_far.copies.end in
     let room : padded (unit_of a before.area) 8 + cap (unit_of a before.area) (sector_size a before.area) ≤ sector_size a before.area = cap-room a before lawful on in
     let fits : now.end + record_cost (unit_of a before.area) (length body) ≤ sector_size d now.area = omega arith in
@@ -284,14 +283,14 @@ stops-then a d e before now after xs banks area first second =
       bound = omega (arith, first.bound);
     }
 
-module _ (a d e : Device) (before now after : Ring) (r : RecordAt) (so_far : IsCopying a d before now (Some r)) (kept : KeepsEntries d e now.area) (others : KeepsOthers d e now.area (newest_place now)) where
+module _ (a d e : Device) (before now after : Ring) (r : RecordAt) (so_far : IsCopying a d before now (Some r)) (kept : KeepsEntries d e now.area) (others : OthersStay d e now.area (newest_place now)) where
   pub copying-kept : KeepsEntries a e before.area
   copying-kept = keeps-then a d e before.area so_far.list (subst (λ (x : Area). KeepsEntries d e x) so_far.area kept)
 
-  pub copying-others : KeepsOthers a e before.area (newest_place before)
+  pub copying-others : OthersStay a e before.area (newest_place before)
   copying-others =
       let newest : newest_place now ≡ newest_place before = newest-same before now so_far.area so_far.copies.oldest so_far.copies.used in
-      others-then a d e before.area (newest_place before) so_far.others (subst (λ (p : ℕ). KeepsOthers d e before.area p) newest (subst (λ (x : Area). KeepsOthers d e x (newest_place now)) so_far.area others))
+      others_then a d e before.area (newest_place before) so_far.others (subst (λ (p : ℕ). OthersStay d e before.area p) newest (subst (λ (x : Area). OthersStay d e x (newest_place now)) so_far.area others))
 
   pub copying-touches : (lost : Bool) → Touches (now.area ∷ []) d e lost → Touches (before.area ∷ []) a e lost
   copying-touches lost touches = then so_far.touches (subst (λ (x : Area). Touches (x ∷ []) d e lost) so_far.area touches)
@@ -302,10 +301,11 @@ module _ (a d e : Device) (before now after : Ring) (r : RecordAt) (so_far : IsC
       let are : entries_on a before.area ≡ so_far.done ++ (r, f.0) ∷ f.1 = so_far.at.are ∙ ap (λ (l : List Entry). so_far.done ++ l) f.2 in
       let now-are : entries_on d now.area ≡ so_far.done ++ (r, f.0) ∷ f.1 = copying-list a d before now (Some r) so_far ∙ are in
       let list : entries_on e after.area ≡ entries_on a before.area = ap (λ (x : Area). entries_on e x) (area ∙ so_far.area) ∙ copying-kept.are in
-      let second : Copies d e now after (live_bodies (f.0 ∷ []) (bodies f.1)) = copies so_far.done f.1 f.0 now-are in
-      let first : Copies a d before now (live_bodies (bodies so_far.done) (f.0 ∷ bodies f.1)) = subst (λ (l : List Entry). Copies a d before now (live_bodies (bodies so_far.done) (bodies l))) f.2 so_far.copies in
-      let both : live_bodies (bodies so_far.done) (f.0 ∷ bodies f.1) ++ live_bodies (f.0 ∷ []) (bodies f.1) ≡ live_bodies (bodies (so_far.done ++ (r, f.0) ∷ [])) (bodies f.1) =
-      sym (ap (λ (l : List (List ℕ)). live_bodies l (bodies f.1)) (bodies-append so_far.done ((r, f.0) ∷ [])) ∙ copies-split (bodies so_far.done) (f.0 ∷ []) (bodies f.1)) in
+      let second : Copies d e now after (live_bodies (value_limit before.area) (f.0 ∷ []) (bodies f.1)) =
+      subst (λ (x : Area). Copies d e now after (live_bodies (value_limit x) (f.0 ∷ []) (bodies f.1))) so_far.area (copies so_far.done f.1 f.0 now-are) in
+      let first : Copies a d before now (live_bodies (value_limit before.area) (bodies so_far.done) (f.0 ∷ bodies f.1)) = subst (λ (l : List Entry). Copies a d before now (live_bodies (value_limit before.area) (bodies so_far.done) (bodies l))) f.2 so_far.copies in
+      let both : live_bodies (value_limit before.area) (bodies so_far.done) (f.0 ∷ bodies f.1) ++ live_bodies (value_limit before.area) (f.0 ∷ []) (bodies f.1) ≡ live_bodies (value_limit before.area) (bodies (so_far.done ++ (r, f.0) ∷ [])) (bodies f.1) =
+      sym (ap (λ (l : List (List ℕ)). live_bodies (value_limit before.area) l (bodies f.1)) (bodies-append so_far.done ((r, f.0) ∷ [])) ∙ copies-split (value_limit before.area) (bodies so_far.done) (f.0 ∷ []) (bodies f.1)) in
       record {
         done = so_far.done ++ (r, f.0) ∷ [];
         later = f.1;
@@ -316,7 +316,7 @@ module _ (a d e : Device) (before now after : Ring) (r : RecordAt) (so_far : IsC
         others = copying-others;
         area = area ∙ so_far.area;
         reserve = reserve ∙ so_far.reserve;
-        copies = subst (Copies a e before after) both (copies-then a d e before now after (live_bodies (bodies so_far.done) (f.0 ∷ bodies f.1)) (live_bodies (f.0 ∷ []) (bodies f.1)) so_far.touches.banks so_far.area first second);
+        copies = subst (Copies a e before after) both (copies-then a d e before now after (live_bodies (value_limit before.area) (bodies so_far.done) (f.0 ∷ bodies f.1)) (live_bodies (value_limit before.area) (f.0 ∷ []) (bodies f.1)) so_far.touches.banks so_far.area first second);
       }
 
 -- ---- the end of the oldest sector
@@ -347,9 +347,9 @@ copying-end a d before now place on stage so_far stops rest are =
     append-same (sector_list a before.area before.oldest) (flat_map (part_at a before) (range_with_len 1 (min before.used (before.area.sectors - 1) - 1))) rest (sym list ∙ are) in
     let same = stop-split before.oldest (sector_list a before.area before.oldest) (flat_map (part_at a before) (range_with_len 1 (min before.used (before.area.sectors - 1) - 1))) so_far.done so_far.later
     (sym list ∙ so_far.at.are) (entries-of (unit_of a before.area) before.oldest (sector_bytes a before.area before.oldest)) (rest-not a before on none some) so_far.of stops in
-    subst (λ (l : List Entry). Copies a d before now (live_bodies (bodies (sector_list a before.area before.oldest)) (bodies l))) rest-is
-    (subst (λ (l : List Entry). Copies a d before now (live_bodies (bodies l) (bodies (flat_map (part_at a before) (range_with_len 1 (min before.used (before.area.sectors - 1) - 1)))))) (sym same.0)
-    (subst (λ (l : List Entry). Copies a d before now (live_bodies (bodies so_far.done) (bodies l))) (sym same.1) so_far.copies))
+    subst (λ (l : List Entry). Copies a d before now (live_bodies (value_limit before.area) (bodies (sector_list a before.area before.oldest)) (bodies l))) rest-is
+    (subst (λ (l : List Entry). Copies a d before now (live_bodies (value_limit before.area) (bodies l) (bodies (flat_map (part_at a before) (range_with_len 1 (min before.used (before.area.sectors - 1) - 1)))))) (sym same.0)
+    (subst (λ (l : List Entry). Copies a d before now (live_bodies (value_limit before.area) (bodies so_far.done) (bodies l))) (sym same.1) so_far.copies))
 
 -- no record is left, or the next one is of another sector
 pub stops-none : (a d : Device) (before now : Ring) (so_far : IsCopying a d before now None) → (x : Entry) (l : List Entry) → so_far.later ≡ x ∷ l → x.0.sector ≢ before.oldest

@@ -6,6 +6,7 @@ use Rattle.std.proofs.lemmas.List.{length-append, length-set, length-replicate, 
 use Rattle.std.proofs.lemmas.List.Sums.{sum_by-cons, sum_by-append}
 use Rattle.flash_sim.specs.Bank.{IsLawful}
 use Rattle.flash_sim.specs.Device.{Device}
+use Rattle.flash_sim.specs.declared.flash.TheConstants.{PROGRAM_LIMIT}
 use Rattle.flash_map.specs.Area.{unit_of, sector_size, sectors_of}
 use Rattle.fcb_ring.specs.declared.record.RecordAt.{RecordAt}
 use Rattle.fcb_ring.specs.declared.ring.Ring.{Ring}
@@ -15,13 +16,13 @@ use Rattle.fcb_ring.specs.Writing.{record_cost}
 use Rattle.fcb_ring.proofs.AreaLemmas.{has_size, count-sectors}
 use Rattle.fcb_ring.proofs.FewLemmas.{few-on}
 use Rattle.fcb_ring.proofs.ReadLemmas.{there}
-use Rattle.settings_list.specs.Live.{is_live, live_bodies}
-use Rattle.settings_list.specs.Numbers.{put_cost}
+use Rattle.settings_laws.specs.Live.{is_live, live_bodies}
+use Rattle.settings_laws.specs.Numbers.{put_cost}
 use Rattle.backend_fcb.specs.Reading.{puts_cost}
-use Rattle.settings_list.specs.Rounds.{bodies_cost}
+use Rattle.settings_laws.specs.Rounds.{bodies_cost}
 use Rattle.backend_fcb.specs.Walking.{TellsCost, TellsLive}
-use Rattle.settings_list.proofs.CopyCost.{put-live}
-use Rattle.settings_list.proofs.LiveLemmas.{copies-none, copies-split}
+use Rattle.settings_laws.proofs.CopyCost.{put-live}
+use Rattle.settings_laws.proofs.LiveLemmas.{copies-none, copies-split}
 use Rattle.backend_fcb.proofs.LookupSteps.{Reads}
 use Rattle.backend_fcb.proofs.PutsCosts.{puts-append, puts-here, puts-there}
 use Rattle.backend_fcb.proofs.SectorLists.{bodies-append}
@@ -29,46 +30,46 @@ use Rattle.backend_fcb.proofs.WalkLemmas.{Entry, IsAt, start, step, first-of, bo
 
 -- ---- what a live record costs
 
-pub live-one : (body : List ℕ) (others : List (List ℕ)) → live_bodies (body ∷ []) others ≡ cond (is_live body others) (body ∷ []) []
+pub live-one : (limit : ℕ) (body : List ℕ) (others : List (List ℕ)) → live_bodies limit (body ∷ []) others ≡ cond (is_live limit body others) (body ∷ []) []
 unfolding live_bodies
-live-one body others = refl
+live-one limit body others = refl
 
-one-cost : (unit : ℕ) (body : List ℕ) (later : List (List ℕ)) → bodies_cost unit (live_bodies (body ∷ []) later) ≡ cond (is_live body later) (put_cost unit body) 0
-one-cost unit body later = ap (bodies_cost unit) (live-one body later) ∙ (elim (cases_Bool (is_live body later)) [
+one-cost : (limit unit : ℕ) (body : List ℕ) (later : List (List ℕ)) → bodies_cost unit (live_bodies limit (body ∷ []) later) ≡ cond (is_live limit body later) (put_cost limit unit body) 0
+one-cost limit unit body later = ap (bodies_cost unit) (live-one limit body later) ∙ (elim (cases_Bool (is_live limit body later)) [
   | inl live ↦
       ap (λ (b : Bool). bodies_cost unit (cond b (body ∷ []) [])) live ∙ sum_by-cons (λ (x : List ℕ). record_cost unit (length x)) body []
-      ∙ (let e = put-live unit body later live in omega arith) ∙ sym (ap (λ (b : Bool). cond b (put_cost unit body) 0) live)
-  | inr other ↦ ap (λ (b : Bool). bodies_cost unit (cond b (body ∷ []) [])) other ∙ sym (ap (λ (b : Bool). cond b (put_cost unit body) 0) other)
+      ∙ (let e = put-live limit unit body later live in omega arith) ∙ sym (ap (λ (b : Bool). cond b (put_cost limit unit body) 0) live)
+  | inr other ↦ ap (λ (b : Bool). bodies_cost unit (cond b (body ∷ []) [])) other ∙ sym (ap (λ (b : Bool). cond b (put_cost limit unit body) 0) other)
 ])
 
 -- ---- the sum over all
 
-pub record Sums (unit : ℕ) (list : List Entry) (place : Option RecordAt) (total : ℕ) : Type 0 where
+pub record Sums (limit unit : ℕ) (list : List Entry) (place : Option RecordAt) (total : ℕ) : Type 0 where
   pub done : List Entry
   pub later : List Entry
   pub at : IsAt list place done later
-  pub says : total ≡ bodies_cost unit (live_bodies (bodies done) (bodies later))
-  pub small : total ≤ 400 * length done
+  pub says : total ≡ bodies_cost unit (live_bodies limit (bodies done) (bodies later))
+  pub small : total ≤ PROGRAM_LIMIT * length done
 
-pub sums-start : (unit : ℕ) (list : List Entry) (next : Option RecordAt) → IsNext list None next → Sums unit list next 0
-sums-start unit list next is = record { done = []; later = list; at = start list next is; says = sym (ap (bodies_cost unit) (copies-none (bodies list))); small = omega arith }
+pub sums-start : (limit unit : ℕ) (list : List Entry) (next : Option RecordAt) → IsNext list None next → Sums limit unit list next 0
+sums-start limit unit list next is = record { done = []; later = list; at = start list next is; says = sym (ap (bodies_cost unit) (copies-none limit (bodies list))); small = omega arith }
 
-pub sums-few : (unit : ℕ) (list : List Entry) (r : RecordAt) (total : ℕ) → Sums unit list (Some r) total → total + 400 ≤ 400 * length list
-sums-few unit list r total so_far =
+pub sums-few : (limit unit : ℕ) (list : List Entry) (r : RecordAt) (total : ℕ) → Sums limit unit list (Some r) total → total + PROGRAM_LIMIT ≤ PROGRAM_LIMIT * length list
+sums-few limit unit list r total so_far =
     let f = first-of so_far.later r so_far.at.here in
     let n : length list ≡ length so_far.done + suc (length f.1) = ap length (so_far.at.are ∙ ap (λ (l : List Entry). so_far.done ++ l) f.2) ∙ length-append so_far.done ((r, f.0) ∷ f.1) in
     omega (arith, so_far.small)
 
-pub sums-step : (unit : ℕ) (list : List Entry) (r : RecordAt) (total : ℕ) → Sums unit list (Some r) total → (answer : ℕ) → TellsCost unit list r answer → answer ≤ 400 → (next : Option RecordAt) → IsNext list (Some r) next → Sums unit list next (total + answer)
-sums-step unit list r total so_far answer tells most next is =
+pub sums-step : (limit unit : ℕ) (list : List Entry) (r : RecordAt) (total : ℕ) → Sums limit unit list (Some r) total → (answer : ℕ) → TellsCost limit unit list r answer → answer ≤ PROGRAM_LIMIT → (next : Option RecordAt) → IsNext list (Some r) next → Sums limit unit list next (total + answer)
+sums-step limit unit list r total so_far answer tells most next is =
     let f = first-of so_far.later r so_far.at.here in
     let are : list ≡ so_far.done ++ (r, f.0) ∷ f.1 = so_far.at.are ∙ ap (λ (l : List Entry). so_far.done ++ l) f.2 in
-    let cost : answer ≡ bodies_cost unit (live_bodies (f.0 ∷ []) (bodies f.1)) = tells so_far.done f.1 f.0 are ∙ sym (one-cost unit f.0 (bodies f.1)) in
-    let before : total ≡ bodies_cost unit (live_bodies (bodies so_far.done) (f.0 ∷ bodies f.1)) = so_far.says ∙ ap (λ (l : List Entry). bodies_cost unit (live_bodies (bodies so_far.done) (bodies l))) f.2 in
-    let both : bodies_cost unit (live_bodies (bodies (so_far.done ++ (r, f.0) ∷ [])) (bodies f.1)) ≡ bodies_cost unit (live_bodies (bodies so_far.done) (f.0 ∷ bodies f.1)) + bodies_cost unit (live_bodies (f.0 ∷ []) (bodies f.1)) =
-    ap (λ (l : List (List ℕ)). bodies_cost unit (live_bodies l (bodies f.1))) (bodies-append so_far.done ((r, f.0) ∷ []))
-    ∙ ap (bodies_cost unit) (copies-split (bodies so_far.done) (f.0 ∷ []) (bodies f.1))
-    ∙ sum_by-append (λ (x : List ℕ). record_cost unit (length x)) (live_bodies (bodies so_far.done) (f.0 ∷ bodies f.1)) (live_bodies (f.0 ∷ []) (bodies f.1)) in
+    let cost : answer ≡ bodies_cost unit (live_bodies limit (f.0 ∷ []) (bodies f.1)) = tells so_far.done f.1 f.0 are ∙ sym (one-cost limit unit f.0 (bodies f.1)) in
+    let before : total ≡ bodies_cost unit (live_bodies limit (bodies so_far.done) (f.0 ∷ bodies f.1)) = so_far.says ∙ ap (λ (l : List Entry). bodies_cost unit (live_bodies limit (bodies so_far.done) (bodies l))) f.2 in
+    let both : bodies_cost unit (live_bodies limit (bodies (so_far.done ++ (r, f.0) ∷ [])) (bodies f.1)) ≡ bodies_cost unit (live_bodies limit (bodies so_far.done) (f.0 ∷ bodies f.1)) + bodies_cost unit (live_bodies limit (f.0 ∷ []) (bodies f.1)) =
+    ap (λ (l : List (List ℕ)). bodies_cost unit (live_bodies limit l (bodies f.1))) (bodies-append so_far.done ((r, f.0) ∷ []))
+    ∙ ap (bodies_cost unit) (copies-split limit (bodies so_far.done) (f.0 ∷ []) (bodies f.1))
+    ∙ sum_by-append (λ (x : List ℕ). record_cost unit (length x)) (live_bodies limit (bodies so_far.done) (f.0 ∷ bodies f.1)) (live_bodies limit (f.0 ∷ []) (bodies f.1)) in
     let n : length (so_far.done ++ (r, f.0) ∷ []) ≡ length so_far.done + 1 = length-append so_far.done ((r, f.0) ∷ []) in
     record {
       done = so_far.done ++ (r, f.0) ∷ [];
@@ -78,52 +79,52 @@ sums-step unit list r total so_far answer tells most next is =
       small = omega (arith, so_far.small);
     }
 
-pub sums-end : (unit : ℕ) (list : List Entry) (total : ℕ) → Sums unit list None total → total ≡ bodies_cost unit (live_bodies (bodies list) [])
-sums-end unit list total so_far =
+pub sums-end : (limit unit : ℕ) (list : List Entry) (total : ℕ) → Sums limit unit list None total → total ≡ bodies_cost unit (live_bodies limit (bodies list) [])
+sums-end limit unit list total so_far =
     let all : list ≡ so_far.done = all-done list so_far.done so_far.later so_far.at in
     let none : so_far.later ≡ [] = none-of so_far.later so_far.at.here in
-    so_far.says ∙ ap (λ (l : List Entry). bodies_cost unit (live_bodies (bodies so_far.done) (bodies l))) none ∙ ap (λ (l : List Entry). bodies_cost unit (live_bodies (bodies l) [])) (sym all)
+    so_far.says ∙ ap (λ (l : List Entry). bodies_cost unit (live_bodies limit (bodies so_far.done) (bodies l))) none ∙ ap (λ (l : List Entry). bodies_cost unit (live_bodies limit (bodies l) [])) (sym all)
 
 -- ---- the sums by sectors
 
-pub record SumsOf (unit : ℕ) (list : List Entry) (place : Option RecordAt) (costs : List ℕ) : Type 0 where
+pub record SumsOf (limit unit : ℕ) (list : List Entry) (place : Option RecordAt) (costs : List ℕ) : Type 0 where
   pub done : List Entry
   pub later : List Entry
   pub at : IsAt list place done later
   pub long : length costs ≡ 64
-  pub says : (sector : ℕ) → sector < 64 → get_or costs sector 0 ≡ puts_cost unit done sector
-  pub small : (sector : ℕ) → sector < 64 → get_or costs sector 0 ≤ 400 * length done
+  pub says : (sector : ℕ) → sector < 64 → get_or costs sector 0 ≡ puts_cost limit unit done sector
+  pub small : (sector : ℕ) → sector < 64 → get_or costs sector 0 ≤ PROGRAM_LIMIT * length done
 
-puts-nothing : (unit sector : ℕ) → puts_cost unit [] sector ≡ 0
+puts-nothing : (limit unit sector : ℕ) → puts_cost limit unit [] sector ≡ 0
 unfolding puts_cost
-puts-nothing unit sector = refl
+puts-nothing limit unit sector = refl
 
-pub sums_of-start : (unit : ℕ) (list : List Entry) (next : Option RecordAt) → IsNext list None next → SumsOf unit list next (replicate 64 0)
-sums_of-start unit list next is = record {
+pub sums_of-start : (limit unit : ℕ) (list : List Entry) (next : Option RecordAt) → IsNext list None next → SumsOf limit unit list next (replicate 64 0)
+sums_of-start limit unit list next is = record {
   done = [];
   later = list;
   at = start list next is;
   long = length-replicate {A = ℕ} 64 0;
-  says = λ sector lt. get_or-replicate 64 sector 0 0 lt ∙ sym (puts-nothing unit sector);
-  small = λ sector lt. subst (λ (n : ℕ). n ≤ 400 * 0) (sym (get_or-replicate 64 sector 0 0 lt)) (omega arith);
+  says = λ sector lt. get_or-replicate 64 sector 0 0 lt ∙ sym (puts-nothing limit unit sector);
+  small = λ sector lt. subst (λ (n : ℕ). n ≤ PROGRAM_LIMIT * 0) (sym (get_or-replicate 64 sector 0 0 lt)) (omega arith);
 }
 
-pub sums_of-few : (unit : ℕ) (list : List Entry) (r : RecordAt) (costs : List ℕ) → SumsOf unit list (Some r) costs → (sector : ℕ) → sector < 64 → get_or costs sector 0 + 400 ≤ 400 * length list
-sums_of-few unit list r costs so_far sector lt =
+pub sums_of-few : (limit unit : ℕ) (list : List Entry) (r : RecordAt) (costs : List ℕ) → SumsOf limit unit list (Some r) costs → (sector : ℕ) → sector < 64 → get_or costs sector 0 + PROGRAM_LIMIT ≤ PROGRAM_LIMIT * length list
+sums_of-few limit unit list r costs so_far sector lt =
     let f = first-of so_far.later r so_far.at.here in
     let n : length list ≡ length so_far.done + suc (length f.1) = ap length (so_far.at.are ∙ ap (λ (l : List Entry). so_far.done ++ l) f.2) ∙ length-append so_far.done ((r, f.0) ∷ f.1) in
     omega (arith, so_far.small sector lt)
 
-pub sums_of-step : (unit : ℕ) (list : List Entry) (r : RecordAt) (costs : List ℕ) → SumsOf unit list (Some r) costs → r.sector < 64 → (bytes : List ℕ) → Reads list r bytes → (answer : ℕ) → answer ≡ put_cost unit bytes → answer ≤ 400
-    → (next : Option RecordAt) → IsNext list (Some r) next → SumsOf unit list next (set costs r.sector (get_or costs r.sector 0 + answer))
-sums_of-step unit list r costs so_far few bytes reads answer cost most next is =
+pub sums_of-step : (limit unit : ℕ) (list : List Entry) (r : RecordAt) (costs : List ℕ) → SumsOf limit unit list (Some r) costs → r.sector < 64 → (bytes : List ℕ) → Reads list r bytes → (answer : ℕ) → answer ≡ put_cost limit unit bytes → answer ≤ PROGRAM_LIMIT
+    → (next : Option RecordAt) → IsNext list (Some r) next → SumsOf limit unit list next (set costs r.sector (get_or costs r.sector 0 + answer))
+sums_of-step limit unit list r costs so_far few bytes reads answer cost most next is =
     let inside : r.sector < length costs = omega (arith, so_far.long) in
     let f = first-of so_far.later r so_far.at.here in
     let are : list ≡ so_far.done ++ (r, f.0) ∷ f.1 = so_far.at.are ∙ ap (λ (l : List Entry). so_far.done ++ l) f.2 in
     let body : bytes ≡ f.0 = body-is list so_far.done r f.0 f.1 bytes are reads in
     let n : length (so_far.done ++ (r, f.0) ∷ []) ≡ length so_far.done + 1 = length-append so_far.done ((r, f.0) ∷ []) in
-    let price : answer ≡ put_cost unit f.0 = cost ∙ ap (put_cost unit) body in
-    let more : (sector : ℕ) → puts_cost unit (so_far.done ++ (r, f.0) ∷ []) sector ≡ puts_cost unit so_far.done sector + puts_cost unit ((r, f.0) ∷ []) sector = λ (sector : ℕ). puts-append unit so_far.done ((r, f.0) ∷ []) sector in
+    let price : answer ≡ put_cost limit unit f.0 = cost ∙ ap (put_cost limit unit) body in
+    let more : (sector : ℕ) → puts_cost limit unit (so_far.done ++ (r, f.0) ∷ []) sector ≡ puts_cost limit unit so_far.done sector + puts_cost limit unit ((r, f.0) ∷ []) sector = λ (sector : ℕ). puts-append limit unit so_far.done ((r, f.0) ∷ []) sector in
     record {
       done = so_far.done ++ (r, f.0) ∷ [];
       later = f.1;
@@ -132,12 +133,12 @@ sums_of-step unit list r costs so_far few bytes reads answer cost most next is =
       says = λ sector lt. elim (cases_eq sector r.sector) [
         | inl here ↦
             let there : get_or (set costs r.sector (get_or costs r.sector 0 + answer)) sector 0 ≡ get_or costs r.sector 0 + answer = ap (λ (k : ℕ). get_or (set costs r.sector (get_or costs r.sector 0 + answer)) k 0) here ∙ get_or-set_same costs r.sector (get_or costs r.sector 0 + answer) 0 inside in
-            let old : get_or costs r.sector 0 ≡ puts_cost unit so_far.done sector = ap (λ (k : ℕ). get_or costs k 0) (sym here) ∙ so_far.says sector lt in
-            let new : puts_cost unit ((r, f.0) ∷ []) sector ≡ put_cost unit f.0 = puts-here unit r f.0 sector (sym here) in
+            let old : get_or costs r.sector 0 ≡ puts_cost limit unit so_far.done sector = ap (λ (k : ℕ). get_or costs k 0) (sym here) ∙ so_far.says sector lt in
+            let new : puts_cost limit unit ((r, f.0) ∷ []) sector ≡ put_cost limit unit f.0 = puts-here limit unit r f.0 sector (sym here) in
             omega (arith, more sector)
         | inr apart ↦
             let there : get_or (set costs r.sector (get_or costs r.sector 0 + answer)) sector 0 ≡ get_or costs sector 0 = get_or-set_other costs r.sector sector (get_or costs r.sector 0 + answer) 0 apart in
-            let new : puts_cost unit ((r, f.0) ∷ []) sector ≡ 0 = puts-there unit r f.0 sector (λ (e : r.sector ≡ sector). apart (sym e)) in
+            let new : puts_cost limit unit ((r, f.0) ∷ []) sector ≡ 0 = puts-there limit unit r f.0 sector (λ (e : r.sector ≡ sector). apart (sym e)) in
             omega (arith, more sector, so_far.says sector lt)
       ];
       small = λ sector lt. elim (cases_eq sector r.sector) [
@@ -151,8 +152,8 @@ sums_of-step unit list r costs so_far few bytes reads answer cost most next is =
       ];
     }
 
-pub sums_of-end : (unit : ℕ) (list : List Entry) (costs : List ℕ) → SumsOf unit list None costs → (sector : ℕ) → sector < 64 → get_or costs sector 0 ≡ puts_cost unit list sector
-sums_of-end unit list costs so_far sector lt = so_far.says sector lt ∙ ap (λ (l : List Entry). puts_cost unit l sector) (sym (all-done list so_far.done so_far.later so_far.at))
+pub sums_of-end : (limit unit : ℕ) (list : List Entry) (costs : List ℕ) → SumsOf limit unit list None costs → (sector : ℕ) → sector < 64 → get_or costs sector 0 ≡ puts_cost limit unit list sector
+sums_of-end limit unit list costs so_far sector lt = so_far.says sector lt ∙ ap (λ (l : List Entry). puts_cost limit unit l sector) (sym (all-done list so_far.done so_far.later so_far.at))
 
 -- ---- a ring has few records
 
@@ -163,10 +164,10 @@ few-records d ring lawful on =
 
 -- ---- one record
 
-pub cost-live : (unit : ℕ) (list : List Entry) (r : RecordAt) (bytes : List ℕ) → Reads list r bytes → TellsLive list r true → (answer : ℕ) → answer ≡ put_cost unit bytes → TellsCost unit list r answer
-cost-live unit list r bytes reads live answer cost done later body are =
+pub cost-live : (limit unit : ℕ) (list : List Entry) (r : RecordAt) (bytes : List ℕ) → Reads list r bytes → TellsLive limit list r true → (answer : ℕ) → answer ≡ put_cost limit unit bytes → TellsCost limit unit list r answer
+cost-live limit unit list r bytes reads live answer cost done later body are =
     let same : bytes ≡ body = body-is list done r body later bytes are reads in
-    cost ∙ ap (put_cost unit) same ∙ ap (λ (b : Bool). cond b (put_cost unit body) 0) (live done later body are)
+    cost ∙ ap (put_cost limit unit) same ∙ ap (λ (b : Bool). cond b (put_cost limit unit body) 0) (live done later body are)
 
 -- a record stands in a sector of the area
 pub sector-few : (d : Device) (ring : Ring) → IsLawful d.banks d.bytes → StandsOn d ring → (r : RecordAt) → Contains (record_places (entries_on d ring.area)) r → r.sector < 64

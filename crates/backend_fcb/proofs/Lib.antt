@@ -4,6 +4,9 @@ pub mod Collected
 pub mod CopySteps
 pub mod CostSteps
 pub mod Ends
+pub mod FrontNames
+pub mod FrontWalk
+pub mod Limits
 pub mod LookupSteps
 pub mod NameSteps
 pub mod PartLists
@@ -14,3 +17,4 @@ pub mod SectorLists
 pub mod TestBanks
 pub mod TryLemmas
 pub mod WalkLemmas
+pub mod Tearing

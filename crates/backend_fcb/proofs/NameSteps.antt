@@ -9,24 +9,24 @@ use Rattle.fcb_ring.specs.declared.record.RecordAt.{RecordAt}
 use Rattle.fcb_ring.specs.Entries.{bodies}
 use Rattle.fcb_ring.specs.Standing.{IsNext}
 use Rattle.backend_api.specs.Map.{is_behind}
-use Rattle.settings_list.specs.Least.{is_before, IsLeast}
-use Rattle.settings_list.specs.Live.{names}
-use Rattle.settings_list.specs.Settings.{setting_of}
+use Rattle.backend_api.specs.Least.{is_before, IsLeast}
+use Rattle.settings_laws.specs.Live.{names}
+use Rattle.settings_laws.specs.Settings.{setting_of}
 use Rattle.backend_fcb.specs.Walking.{name_between}
 use Rattle.backend_fcb.proofs.LookupSteps.{Reads}
-use Rattle.settings_list.proofs.NextLemmas.{least_by, least_of, least-none, least-push, least-is}
+use Rattle.settings_laws.proofs.NextLemmas.{least_by, least_of, least-none, least-push, least-is}
 use Rattle.backend_fcb.proofs.SectorLists.{bodies-append}
 use Rattle.backend_fcb.proofs.WalkLemmas.{Entry, IsAt, start, step, first-of, body-is, all-done}
 
 -- the least so far of the names behind the one given
-pub record Leasts (list : List Entry) (after : Option (List ℕ)) (place : Option RecordAt) (least : Option (List ℕ)) : Type 0 where
+pub record Leasts (limit : ℕ) (list : List Entry) (after : Option (List ℕ)) (place : Option RecordAt) (least : Option (List ℕ)) : Type 0 where
   pub done : List Entry
   pub later : List Entry
   pub at : IsAt list place done later
-  pub says : least ≡ least_of after (bodies done)
+  pub says : least ≡ least_of limit after (bodies done)
 
-pub leasts-start : (list : List Entry) (after : Option (List ℕ)) (next : Option RecordAt) → IsNext list None next → Leasts list after next None
-leasts-start list after next is = record { done = []; later = list; at = start list next is; says = sym (least-none after) }
+pub leasts-start : (limit : ℕ) (list : List Entry) (after : Option (List ℕ)) (next : Option RecordAt) → IsNext list None next → Leasts limit list after next None
+leasts-start limit list after next is = record { done = []; later = list; at = start list next is; says = sym (least-none limit after) }
 
 taken : (after least : Option (List ℕ)) (setting : Option (List ℕ × List ℕ)) → option_or (name_between after least setting) least ≡ least_by after least setting
 taken after least None = refl
@@ -36,9 +36,9 @@ taken after least (Some (name, value)) = by (is_behind after name && is_before n
     by true = refl
     by false = refl
 
-pub leasts-step : (list : List Entry) (after : Option (List ℕ)) (r : RecordAt) (least : Option (List ℕ)) → Leasts list after (Some r) least → (bytes : List ℕ) → Reads list r bytes → (next : Option RecordAt) → IsNext list (Some r) next
-    → (answer : Option (List ℕ)) → answer ≡ name_between after least (setting_of bytes) → Leasts list after next (option_or answer least)
-leasts-step list after r least so_far bytes reads next is answer answer-is =
+pub leasts-step : (limit : ℕ) (list : List Entry) (after : Option (List ℕ)) (r : RecordAt) (least : Option (List ℕ)) → Leasts limit list after (Some r) least → (bytes : List ℕ) → Reads list r bytes → (next : Option RecordAt) → IsNext list (Some r) next
+    → (answer : Option (List ℕ)) → answer ≡ name_between after least (setting_of limit bytes) → Leasts limit list after next (option_or answer least)
+leasts-step limit list after r least so_far bytes reads next is answer answer-is =
     let f = first-of so_far.later r so_far.at.here in
     let are : list ≡ so_far.done ++ (r, f.0) ∷ f.1 = so_far.at.are ∙ ap (λ (l : List Entry). so_far.done ++ l) f.2 in
     let body : bytes ≡ f.0 = body-is list so_far.done r f.0 f.1 bytes are reads in
@@ -47,17 +47,17 @@ leasts-step list after r least so_far bytes reads next is answer answer-is =
       later = f.1;
       at = step list r so_far.done f.0 f.1 next are is;
       says =
-          ap (λ (o : Option (List ℕ)). option_or o least) answer-is ∙ taken after least (setting_of bytes)
-          ∙ ap (λ (o : Option (List ℕ)). least_by after o (setting_of bytes)) so_far.says
-          ∙ ap (λ (b : List ℕ). least_by after (least_of after (bodies so_far.done)) (setting_of b)) body
-          ∙ sym (least-push after (bodies so_far.done) f.0)
-          ∙ sym (ap (least_of after) (bodies-append so_far.done ((r, f.0) ∷ [])));
+          ap (λ (o : Option (List ℕ)). option_or o least) answer-is ∙ taken after least (setting_of limit bytes)
+          ∙ ap (λ (o : Option (List ℕ)). least_by after o (setting_of limit bytes)) so_far.says
+          ∙ ap (λ (b : List ℕ). least_by after (least_of limit after (bodies so_far.done)) (setting_of limit b)) body
+          ∙ sym (least-push limit after (bodies so_far.done) f.0)
+          ∙ sym (ap (least_of limit after) (bodies-append so_far.done ((r, f.0) ∷ [])));
     }
 
-pub leasts-end : (list : List Entry) (after least : Option (List ℕ)) → Leasts list after None least → IsLeast after (λ name. names name (bodies list)) least
-leasts-end list after least so_far =
-    subst (IsLeast after (λ name. names name (bodies list))) (sym (so_far.says ∙ ap (λ (l : List Entry). least_of after (bodies l)) (sym (all-done list so_far.done so_far.later so_far.at))))
-    (least-is after (bodies list))
+pub leasts-end : (limit : ℕ) (list : List Entry) (after least : Option (List ℕ)) → Leasts limit list after None least → IsLeast after (λ name. names limit name (bodies list)) least
+leasts-end limit list after least so_far =
+    subst (IsLeast after (λ name. names limit name (bodies list))) (sym (so_far.says ∙ ap (λ (l : List Entry). least_of limit after (bodies l)) (sym (all-done list so_far.done so_far.later so_far.at))))
+    (least-is limit after (bodies list))
 
 -- a lawful name is read as itself
 pub read-is : (text : List ℕ) (r : Result (List ℕ) NameFault) → ReadsName text r → IsOk r → result_ok r ≡ Some text

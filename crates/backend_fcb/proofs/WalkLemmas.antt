@@ -52,6 +52,14 @@ pub left_at : List RecordAt → Option RecordAt → ℕ
 left_at list None = 0
 left_at list (Some r) = from_last list r
 
+pub left-none : (list : List RecordAt) → left_at list None ≡ 0
+unfolding left_at
+left-none list = refl
+
+pub left-some : (list : List RecordAt) (r : RecordAt) → left_at list (Some r) ≡ from_last list r
+unfolding left_at
+left-some list r = refl
+
 last-later : (q : RecordAt) (rest : List RecordAt) (r : RecordAt) → 0 < from_last rest r → from_last (q ∷ rest) r ≡ from_last rest r
 unfolding from_last
 last-later q rest r some = elim (cases_Bool (eqb (from_last rest r) 0)) [
@@ -71,7 +79,7 @@ cases-zero : (n : ℕ) → (n ≡ 0) ⊎ (0 < n)
 cases-zero zero = inl refl
 cases-zero (suc n) = inr (omega arith)
 
-last-most : (list : List RecordAt) (r : RecordAt) → from_last list r ≤ length list
+pub last-most : (list : List RecordAt) (r : RecordAt) → from_last list r ≤ length list
 last-most [] r = omega (arith, last-none r)
 last-most (q ∷ rest) r = elim (cases-zero (from_last rest r)) [
   | inl none ↦ elim (cases_Bool (is_same r q)) [
@@ -81,11 +89,11 @@ last-most (q ∷ rest) r = elim (cases-zero (from_last rest r)) [
   | inr some ↦ let ih = last-most rest r in omega (arith, last-later q rest r some)
 ]
 
-some-same : {X : Type 0} (x y : X) → Some x ≡ Some y → x ≡ y
+pub some-same : {X : Type 0} (x y : X) → Some x ≡ Some y → x ≡ y
 some-same x y e = cc
 
 -- a record at this place is no nearer to the end than its last one
-last-behind : (list : List RecordAt) (i : ℕ) (r : RecordAt) → slice_get list i ≡ Some r → (0 < from_last list r) × (from_last list r + i ≤ length list)
+pub last-behind : (list : List RecordAt) (i : ℕ) (r : RecordAt) → slice_get list i ≡ Some r → (0 < from_last list r) × (from_last list r + i ≤ length list)
 last-behind [] i r e = absurd (none-some r e)
 last-behind (q ∷ rest) zero r e = elim (cases-zero (from_last rest r)) [
   | inl none ↦
@@ -101,7 +109,7 @@ last-behind (q ∷ rest) (suc i) r e =
     let l = last-later q rest r some in
     (omega arith, omega arith)
 
-last-there : (list : List RecordAt) (r : RecordAt) → 0 < from_last list r → slice_get list (length list - from_last list r) ≡ Some r
+pub last-there : (list : List RecordAt) (r : RecordAt) → 0 < from_last list r → slice_get list (length list - from_last list r) ≡ Some r
 last-there [] r some = absurd (omega (arith, last-none r))
 last-there (q ∷ rest) r some = elim (cases-zero (from_last rest r)) [
   | inl none ↦ elim (cases_Bool (is_same r q)) [
@@ -153,7 +161,7 @@ pub at-length : {X : Type 0} (xs : List X) (y : X) (ys : List X) → slice_get (
 at-length [] y ys = refl
 at-length (x ∷ xs) y ys = at-length xs y ys
 
-place-of : (done : List Entry) (r : RecordAt) (body : List ℕ) (rest : List Entry) → slice_get (record_places (done ++ (r, body) ∷ rest)) (length done) ≡ Some r
+pub place-of : (done : List Entry) (r : RecordAt) (body : List ℕ) (rest : List Entry) → slice_get (record_places (done ++ (r, body) ∷ rest)) (length done) ≡ Some r
 place-of [] r body rest = refl
 place-of (x ∷ done) r body rest = place-of done r body rest
 

@@ -1,11 +1,11 @@
 -- What collecting and appending make of an area.
-use Rattle.std.specs.Prelude.{◌≡◌, ℕ, ◌+◌, ◌-◌, ◌*◌, ◌/◌, ◌<◌, ◌≤◌, true, false, List, ◌∷◌, ◌++◌, [], length, map, Result, Ok, Err}
+use Rattle.std.specs.Prelude.{◌≡◌, ℕ, ◌+◌, ◌-◌, ◌*◌, ◌/◌, ◌<◌, ◌≤◌, true, false, List, ◌∷◌, ◌++◌, [], length, map, None, Result, Ok, Err}
 use Rattle.std.specs.List.{range_with_len}
 use Rattle.flash_sim.specs.Device.{Device}
-use Rattle.flash_map.specs.Area.{unit_of, sector_size}
+use Rattle.flash_map.specs.Area.{value_limit, unit_of, sector_size}
 use Rattle.flash_map.specs.Spending.{Spends, SpendsAtMost}
 use Rattle.flash_map.specs.Units.{padded}
-use Rattle.fcb_ring.specs.Changing.{newest_place, sector_list}
+use Rattle.fcb_ring.specs.Changing.{newest_place, sector_list, stays_for}
 use Rattle.fcb_ring.specs.Entries.{bodies}
 use Rattle.fcb_ring.specs.Rings.{turned}
 use Rattle.fcb_ring.specs.Standing.{StandsOn as RingStandsOn, entries_on, is_up}
@@ -16,12 +16,13 @@ use Rattle.fcb_ring.specs.declared.ring.Stage.TheVariants.{Collecting}
 use Rattle.fcb_ring.specs.declared.writing.AppendFault.{AppendFault}
 use Rattle.fcb_ring.specs.declared.writing.AppendFault.TheVariants.{Full, TooLong, PowerLost}
 use Rattle.backend_api.specs.Ends.{SpendsSome}
-use Rattle.settings_list.specs.Live.{is_live, live_bodies}
-use Rattle.settings_list.specs.Numbers.{cap}
-use Rattle.sector_ring.specs.Rounds.{joined}
-use Rattle.settings_list.specs.Rounds.{bodies_cost, FindsNoRoom}
-use Rattle.settings_list.specs.Settings.{setting_of, with_setting}
-use Rattle.backend_fcb.specs.Standing.{settings_on, IsReady}
+use Rattle.settings_laws.specs.Live.{is_live, live_bodies}
+use Rattle.settings_laws.specs.Numbers.{cap}
+use Rattle.pair_laws.specs.Rounds.{joined}
+use Rattle.settings_laws.specs.Rounds.{bodies_cost, FindsNoRoom}
+use Rattle.settings_laws.specs.Settings.{setting_of, with_setting}
+use Rattle.backend_fcb.specs.Standing.{damage_on, settings_on, IsReady}
+use Rattle.backend_fcb.specs.Tearing.{StopsPutting}
 
 -- the bodies of the records of each sector that counts, the oldest sector first
 abbrev pub parts_on : Device → Ring → List (List (List ℕ))
@@ -49,26 +50,26 @@ pub record StopsCopying (old new : Device) (before after : Ring) : Type 0 where
 -- a record that is the last of its name and has a value fits behind the copies
 abbrev pub FitsIfLive : Device → Ring → RecordAt → Type 0
 FitsIfLive d ring r =
-    (done later : List (RecordAt × List ℕ)) (body : List ℕ) → entries_on d ring.area ≡ done ++ (r, body) ∷ later → is_live body (bodies later) ≡ true → ring.end + record_cost (unit_of d ring.area) (length body) ≤ sector_size d ring.area
+    (done later : List (RecordAt × List ℕ)) (body : List ℕ) → entries_on d ring.area ≡ done ++ (r, body) ∷ later → is_live (value_limit ring.area) body (bodies later) ≡ true → ring.end + record_cost (unit_of d ring.area) (length body) ≤ sector_size d ring.area
 
 -- the record is copied, if it is the last of its name and has a value
 abbrev pub CopiesIfLive : Device → Device → Ring → Ring → RecordAt → Type 0
 CopiesIfLive old new before after r =
-    (done later : List (RecordAt × List ℕ)) (body : List ℕ) → entries_on old before.area ≡ done ++ (r, body) ∷ later → Copies old new before after (live_bodies (body ∷ []) (bodies later))
+    (done later : List (RecordAt × List ℕ)) (body : List ℕ) → entries_on old before.area ≡ done ++ (r, body) ∷ later → Copies old new before after (live_bodies (value_limit before.area) (body ∷ []) (bodies later))
 
 -- all such records of the oldest sector are copied
 abbrev pub CopiesLive : Device → Device → Ring → Ring → Type 0
 CopiesLive old new before after =
-    (rest : List (RecordAt × List ℕ)) → entries_on old before.area ≡ sector_list old before.area before.oldest ++ rest → Copies old new before after (live_bodies (bodies (sector_list old before.area before.oldest)) (bodies rest))
+    (rest : List (RecordAt × List ℕ)) → entries_on old before.area ≡ sector_list old before.area before.oldest ++ rest → Copies old new before after (live_bodies (value_limit before.area) (bodies (sector_list old before.area before.oldest)) (bodies rest))
 
 -- The oldest part is gone, and its live records are the new last one, behind the header of an else empty sector.
 pub record Collects (old new : Device) (before after : Ring) : Type 0 where
   pub victim : List (List ℕ)
   pub others : List (List (List ℕ))
   pub old_parts : parts_on old before ≡ victim ∷ others
-  pub new_parts : parts_on new after ≡ others ++ live_bodies victim (joined others) ∷ []
-  pub end : after.end ≡ padded (unit_of old before.area) 8 + bodies_cost (unit_of old before.area) (live_bodies victim (joined others))
-  pub within : bodies_cost (unit_of old before.area) (live_bodies victim (joined others)) ≤ cap (unit_of old before.area) (sector_size old before.area)
+  pub new_parts : parts_on new after ≡ others ++ live_bodies (value_limit before.area) victim (joined others) ∷ []
+  pub end : after.end ≡ padded (unit_of old before.area) 8 + bodies_cost (unit_of old before.area) (live_bodies (value_limit before.area) victim (joined others))
+  pub within : bodies_cost (unit_of old before.area) (live_bodies (value_limit before.area) victim (joined others)) ≤ cap (unit_of old before.area) (sector_size old before.area)
 
 -- the most units and erases of one collection
 abbrev pub collect_units : Device → Ring → ℕ
@@ -78,14 +79,30 @@ collect_units d ring = sector_size d ring.area / unit_of d ring.area + 3
 abbrev pub IsFull : Device → Ring → ℕ → ℕ → Type 0
 IsFull d ring len kept = sector_size d ring.area < ring.end + record_cost (unit_of d ring.area) len + kept
 
+-- Power was off, or was lost while a record with this body was put: the ring is down, and the area shows no damage.
+pub record StopsDown (old new : Device) (before after : Ring) (body : List ℕ) : Type 0 where
+  pub down : is_up after.stage ≡ false
+  pub undamaged : damage_on new before.area ≡ None
+  pub stops : old.is_on ≡ true → StopsPutting old new before.area body
+
+-- where the record fits behind those of the newest sector, just its own units were spent
+abbrev pub SpendsCost : Device → Device → Ring → List ℕ → ℕ → Type 0
+SpendsCost old new before body kept = stays_for old before body kept ≡ true → Spends old new (record_cost (unit_of old before.area) (length body) / unit_of old before.area)
+
+-- and so many at most
+abbrev pub SpendsUpToCost : Device → Device → Ring → List ℕ → ℕ → Type 0
+SpendsUpToCost old new before body kept =
+    stays_for old before body kept ≡ true → SpendsAtMost old new (record_cost (unit_of old before.area) (length body) / unit_of old before.area)
+
 -- how one append of a record ends
 abbrev pub TryEnds : {T : Type 0} → Device → Device → Ring → Ring → List ℕ → ℕ → Result T AppendFault → Type 0
 TryEnds old new before after body kept (Ok x) =
-    IsReady new after × (settings_on new before.area ≡ with_setting (settings_on old before.area) (setting_of body)) × (units : ℕ) × (0 < units) × (units ≤ collect_units old before) × Spends old new units
+    IsReady new after × (settings_on new before.area ≡ with_setting (settings_on old before.area) (setting_of (value_limit before.area) body)) × SpendsCost old new before body kept × (units : ℕ) × (0 < units) × (units ≤ collect_units old before) × Spends old new units
 TryEnds old new before after body kept (Err Full) =
     (new ≡ old) × (after ≡ before) × IsFull old before (length body) kept × (before.used + 1 ≡ before.area.sectors) × (record_cost (unit_of old before.area) (length body) ≤ sector_size old before.area - padded (unit_of old before.area) 8 - kept)
 TryEnds old new before after body kept (Err TooLong) = ⊥
-TryEnds old new before after body kept (Err PowerLost) = (is_up after.stage ≡ false) × SpendsAtMost old new (collect_units old before)
+TryEnds old new before after body kept (Err PowerLost) =
+    StopsDown old new before after body × SpendsAtMost old new (collect_units old before) × SpendsUpToCost old new before body kept
 
 -- No collection made room: the record does not fit, and after each of so many collections it did not.
 pub record HasNoPlace (old new : Device) (before after : Ring) (len kept rounds : ℕ) : Type 0 where
@@ -94,13 +111,13 @@ pub record HasNoPlace (old new : Device) (before after : Ring) (len kept rounds 
   pub short : record_cost (unit_of old before.area) len ≤ sector_size old before.area - padded (unit_of old before.area) 8 - kept
   pub full : IsFull new after len kept
   pub left : before.used + 1 ≡ before.area.sectors
-  pub none : FindsNoRoom (unit_of old before.area) (record_cost (unit_of old before.area) len) (sector_size old before.area - padded (unit_of old before.area) 8 - kept) (parts_on old before) (parts_on new after) rounds
+  pub none : FindsNoRoom (value_limit before.area) (unit_of old before.area) (record_cost (unit_of old before.area) len) (sector_size old before.area - padded (unit_of old before.area) 8 - kept) (parts_on old before) (parts_on new after) rounds
   -- behind a collection a sector has no more than the values that were in one
   pub end : 0 < rounds → after.end ≤ padded (unit_of old before.area) 8 + cap (unit_of old before.area) (sector_size old before.area)
 
 -- how it ends to put a record, with up to so many collections
 abbrev pub PutEnds : {T : Type 0} → Device → Device → Ring → Ring → List ℕ → ℕ → ℕ → Result T AppendFault → Type 0
-PutEnds old new before after body kept rounds (Ok x) = IsReady new after × (settings_on new before.area ≡ with_setting (settings_on old before.area) (setting_of body)) × SpendsSome old new
+PutEnds old new before after body kept rounds (Ok x) = IsReady new after × (settings_on new before.area ≡ with_setting (settings_on old before.area) (setting_of (value_limit before.area) body)) × SpendsCost old new before body kept × SpendsSome old new
 PutEnds old new before after body kept rounds (Err Full) = HasNoPlace old new before after (length body) kept rounds
 PutEnds old new before after body kept rounds (Err TooLong) = ⊥
-PutEnds old new before after body kept rounds (Err PowerLost) = is_up after.stage ≡ false
+PutEnds old new before after body kept rounds (Err PowerLost) = StopsDown old new before after body × SpendsUpToCost old new before body kept

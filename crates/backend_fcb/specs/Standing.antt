@@ -1,7 +1,7 @@
 -- When a backend stands on the bytes of its area.
 use Rattle.std.specs.Prelude.{◌≡◌, ℕ, List, Option, None}
 use Rattle.flash_sim.specs.Device.{Device}
-use Rattle.flash_map.specs.Area.{unit_of, sectors_of}
+use Rattle.flash_map.specs.Area.{value_limit, unit_of, sectors_of}
 use Rattle.flash_map.specs.declared.area.Area.{Area}
 use Rattle.flash_map.specs.declared.area.Role.TheVariants.{Fcb as FcbRole}
 use Rattle.flash_map.specs.declared.faults.Damaged.{Damaged}
@@ -12,7 +12,7 @@ use Rattle.fcb_ring.specs.Entries.{bodies}
 use Rattle.fcb_ring.specs.Standing.{Stands as RingStands, StandsOn as RingStandsOn, entries_on}
 use Rattle.backend_api.specs.Map.{Map}
 use Rattle.backend_fcb.specs.declared.backend.FcbBackend.{FcbBackend}
-use Rattle.settings_list.specs.Numbers.{reserve}
+use Rattle.settings_laws.specs.Numbers.{reserve}
 use Rattle.backend_fcb.specs.Reading.{damage_of, settings_in}
 
 -- The ring is ready for the next record, keeps the reserve, and the area shows no damage.
@@ -21,7 +21,7 @@ pub record Stands (backend : FcbBackend) (unit : ℕ) (sectors : List (List ℕ)
   pub ring : RingStands unit sectors backend.ring
   pub ready : backend.ring.stage ≡ Ready
   pub reserve : backend.ring.reserve ≡ reserve unit
-  pub undamaged : damage_of unit sectors ≡ None
+  pub undamaged : damage_of (value_limit backend.ring.area) unit sectors ≡ None
 
 -- the backend stands on this device
 pub record StandsOn (d : Device) (backend : FcbBackend) : Type 0 where
@@ -29,10 +29,10 @@ pub record StandsOn (d : Device) (backend : FcbBackend) : Type 0 where
   pub stands : Stands backend (unit_of d backend.ring.area) (sectors_of d backend.ring.area)
 
 abbrev pub damage_on : Device → Area → Option Damaged
-damage_on d area = damage_of (unit_of d area) (sectors_of d area)
+damage_on d area = damage_of (value_limit area) (unit_of d area) (sectors_of d area)
 
 abbrev pub settings_on : Device → Area → Map
-settings_on d area = settings_in (unit_of d area) (sectors_of d area)
+settings_on d area = settings_in (value_limit area) (unit_of d area) (sectors_of d area)
 
 abbrev pub bodies_on : Device → Area → List (List ℕ)
 bodies_on d area = bodies (entries_on d area)

@@ -1,12 +1,25 @@
 // The backend over a ring.
-ghost use Rattle.std.specs.Prelude.{◌≡◌, ◌<◌, length, true, false};
+ghost use Rattle.std.specs.Prelude.{◌≡◌, ◌-◌, ◌<◌, ◌≤◌, ◌∷◌, [], length, true, false, is_err, None, IfOk, OnOk, OnErr};
 ghost use Rattle.std.proofs.Common.{ap};
+ghost use Rattle.flash_map.specs.Area.{value_limit, geometry_of};
+ghost use Rattle.flash_map.specs.Faults.{mount_lost};
+ghost use Rattle.flash_map.specs.Lawful.{IsLawfulFor};
+ghost use Rattle.flash_map.specs.On.{on, StandsOn};
+ghost use Rattle.flash_map.specs.Spending.{Spends, SpendsAtMost};
+ghost use Rattle.flash_map.specs.Touches.{Touches};
 ghost use Rattle.flash_map.specs.declared.area.Role.TheVariants.{Fcb as FcbRole};
-ghost use Rattle.fcb_ring.specs.Standing.{StandsOn as RingStandsOn, is_up as is_up_stage};
+ghost use Rattle.fcb_ring.specs.Chance.{chance as chance_of};
+ghost use Rattle.fcb_ring.specs.Entries.{states};
+ghost use Rattle.fcb_ring.specs.Standing.{StandsOn as RingStandsOn, is_up as is_up_stage, erases_due, erases_on};
+ghost use Rattle.fcb_ring.proofs.RestLemmas.{ready-rests};
+ghost use Rattle.backend_api.specs.Commands.{StopsOn};
+ghost use Rattle.backend_api.specs.Commands.Command.{Put, Del};
+ghost use Rattle.backend_api.specs.Ends.{set_lost, MountEnds, SetEndsOn, DeleteEndsOn};
 ghost use Rattle.backend_api.specs.Map.{IsStored};
-ghost use Rattle.settings_list.specs.Numbers.{room};
-ghost use Rattle.backend_fcb.specs.Reading.{damage_of, settings_in};
-ghost use Rattle.backend_fcb.specs.Standing.{Stands, settings_on};
+ghost use Rattle.backend_api.specs.Room.{most_units};
+ghost use Rattle.backend_fcb.specs.Exact.{SpendsCostOf, SpendsUpToCostOf, SpendsRounds};
+ghost use Rattle.backend_fcb.specs.Members.{damage_by, settings_by, room_by, TearsBy, area_of, StandsBy, is_running};
+ghost use Rattle.backend_fcb.specs.Standing.{settings_on};
 ghost use Rattle.backend_fcb.specs.Laws.{reads_settings};
 
 use crate::lookup::{last_value, live_cost};
@@ -17,7 +30,7 @@ use crate::writing::put;
 use backend_api::{Backend, SetFault};
 use fcb_ring::{AppendFault, Ring, record_cost};
 use flash_map::{Area, MountFault, geometry};
-use flash_sim::{Flash, PowerLost, Steps};
+use flash_sim::{Flash, Loss, PowerLost, Steps};
 use setting_name::Name;
 use std::alloc::Global;
 use std::sync::ledger::Ledger;
@@ -42,7 +55,7 @@ impl FcbBackend {
         ensures yes_it { result ≡ true → IsStored (settings_on (F.device flash.now) self.now.ring.area) name.now value.now }
         ensures not_it { result ≡ false → IsStored (settings_on (F.device flash.now) self.now.ring.area) name.now value.now → ⊥ }
     {
-        match last_value(&self.ring, flash, name.bytes(), steps) {
+        match last_value(&self.ring, flash, name, steps) {
             Some(stored) => stored == value,
             None => false,
         }
@@ -50,32 +63,58 @@ impl FcbBackend {
 }
 
 impl Backend for FcbBackend {
-    ghost serves = { λ role. role ≡ FcbRole };
+    ghost serves = { λ area geometry. area.role ≡ FcbRole };
 
-    ghost damage = { λ role unit sectors. damage_of unit sectors };
+    ghost damage = { damage_by };
 
-    ghost contents = { λ role unit sectors. settings_in unit sectors };
+    ghost contents = { settings_by };
 
-    ghost room = { λ role unit size. room unit size };
+    ghost room = { room_by };
 
-    ghost mounted_on = { λ backend. backend.ring.area };
+    ghost rests = { λ area geometry sectors. erases_due (states geometry.unit sectors) ≡ 0 };
 
-    ghost stands = { λ backend unit sectors. Stands backend unit sectors };
+    ghost chance = { chance_of };
 
-    ghost runs = { λ backend. is_up_stage backend.ring.stage };
+    ghost tears = { TearsBy };
 
-    ghost stands_up = { λ backend unit sectors stands. ap is_up_stage stands.ready };
+    ghost mounted_on = { area_of };
 
-    ghost stands_reads = { λ backend unit sectors stands. stands.undamaged };
+    ghost stands = { StandsBy };
+
+    ghost runs = { is_running };
+
+    ghost stands_up = { λ backend geometry sectors stands. ap is_up_stage stands.ready };
+
+    ghost stands_serves = { λ backend geometry sectors stands. stands.role };
+
+    ghost stands_reads = { λ backend geometry sectors stands. stands.undamaged };
+
+    ghost stands_rests = { λ backend geometry sectors stands. ready-rests geometry.unit sectors backend.ring stands.ring stands.ready };
 
     ghost reads_settings = { reads_settings };
 
+    // As the trait says it; and it spends the erases that are due (`exact`), never more (`few`).
     fn mount<F: Flash, L: Ledger>(
         _alloc: Global,
         flash: &mut F,
         area: Area,
         steps: &mut Steps<L>,
-    ) -> Result<FcbBackend, MountFault> {
+    ) -> Result<FcbBackend, MountFault>
+        requires lawful { IsLawfulFor (F.device flash.old).banks area }
+        requires serves { area.role ≡ FcbRole }
+
+        ensures touches { Touches (area ∷ []) (F.device flash.old) (F.device flash.new) (mount_lost result) }
+        ensures ends { let d = F.device flash.old in MountEnds (on damage_by d area) d (F.device flash.new) result }
+        ensures sound { let d = F.device flash.old in let e = F.device flash.new in
+            on damage_by d area ≡ None → on damage_by e area ≡ None }
+        ensures keeps { let d = F.device flash.old in let e = F.device flash.new in
+            on damage_by d area ≡ None → on settings_by e area ≡ on settings_by d area }
+        ensures rests { erases_on (F.device flash.old) area ≡ 0 → F.device flash.new ≡ F.device flash.old }
+        ensures on { IfOk result (λ state. area_of state ≡ area) }
+        ensures stands { IfOk result (λ state. StandsOn area_of StandsBy (F.device flash.new) state) }
+        ensures exact { let d = F.device flash.old in OnOk result (Spends d (F.device flash.new) (erases_on d area)) }
+        ensures few { let d = F.device flash.old in SpendsAtMost d (F.device flash.new) (erases_on d area) }
+    {
         let unit = geometry(flash, &area).unit;
         let mut ring = match Ring::inspect(flash, area, reserve(unit), steps) {
             Ok(ring) => ring,
@@ -96,17 +135,42 @@ impl Backend for FcbBackend {
         name: &Name,
         steps: &mut Steps<L>,
     ) -> Option<&'a [u8]> {
-        let value = last_value(&self.ring, flash, name.bytes(), steps)?;
+        let value = last_value(&self.ring, flash, name, steps)?;
         if value.is_empty() { None } else { Some(value) }
     }
 
+    // As the trait says it. Where the record fits, just its units are spent (`exact`), and up to a loss no more (`no_more`);
+    // else it collects fewer times than the area has sectors (`few`).
     fn set<F: Flash, L: Ledger>(
         &mut self,
         flash: &mut F,
         name: &Name,
         value: &[u8],
         steps: &mut Steps<L>,
-    ) -> Result<(), SetFault> {
+    ) -> Result<(), SetFault>
+        requires lawful { IsLawfulFor (F.device flash.old).banks (area_of self.old) }
+        requires stands { StandsOn area_of StandsBy (F.device flash.old) self.old }
+        requires some { 0 < length value.now }
+        requires short { length value.now ≤ value_limit (area_of self.old) }
+
+        ensures touches { Touches (area_of self.old ∷ []) (F.device flash.old) (F.device flash.new) (set_lost result) }
+        ensures area { area_of self.new ≡ area_of self.old }
+        ensures ends { let d = F.device flash.old in let e = F.device flash.new in
+            SetEndsOn room_by settings_by d e (area_of self.old) name.now value.now result }
+        ensures at_most { let d = F.device flash.old in
+            SpendsAtMost d (F.device flash.new) (most_units (geometry_of d (area_of self.old))) }
+        ensures sound { on damage_by (F.device flash.new) (area_of self.old) ≡ None }
+        ensures cut { let d = F.device flash.old in let e = F.device flash.new in
+            d.is_on ≡ true → set_lost result ≡ true
+            → StopsOn chance_of TearsBy settings_by (Put name.now value.now) d e (area_of self.old) }
+        ensures stands { set_lost result ≡ false → StandsOn area_of StandsBy (F.device flash.new) self.new }
+        ensures down { set_lost result ≡ true → is_running self.new ≡ false }
+        ensures exact { OnOk result (SpendsCostOf (F.device flash.old) (F.device flash.new) self.old (Put name.now value.now)) }
+        ensures no_more { set_lost result ≡ true
+            → SpendsUpToCostOf (F.device flash.old) (F.device flash.new) self.old (Put name.now value.now) }
+        ensures few { let rounds = (area_of self.old).sectors - 1 in
+            SpendsRounds (F.device flash.old) (F.device flash.new) self.old rounds }
+    {
         if self.holds(flash, name, value, steps) {
             return Ok(());
         }
@@ -130,12 +194,33 @@ impl Backend for FcbBackend {
         }
     }
 
+    // As the trait says it. Where the record fits, just its units are spent (`exact`), and up to a loss no more (`no_more`);
+    // else it collects once (`few`).
     fn delete<F: Flash, L: Ledger>(
         &mut self,
         flash: &mut F,
         name: &Name,
         steps: &mut Steps<L>,
-    ) -> Result<(), PowerLost> {
+    ) -> Result<(), PowerLost>
+        requires lawful { IsLawfulFor (F.device flash.old).banks (area_of self.old) }
+        requires stands { StandsOn area_of StandsBy (F.device flash.old) self.old }
+
+        ensures touches { Touches (area_of self.old ∷ []) (F.device flash.old) (F.device flash.new) (is_err result) }
+        ensures area { area_of self.new ≡ area_of self.old }
+        ensures ends { let d = F.device flash.old in let e = F.device flash.new in
+            DeleteEndsOn settings_by d e (area_of self.old) name.now result }
+        ensures at_most { let d = F.device flash.old in
+            SpendsAtMost d (F.device flash.new) (most_units (geometry_of d (area_of self.old))) }
+        ensures sound { on damage_by (F.device flash.new) (area_of self.old) ≡ None }
+        ensures cut { let d = F.device flash.old in let e = F.device flash.new in
+            d.is_on ≡ true → is_err result ≡ true
+            → StopsOn chance_of TearsBy settings_by (Del name.now) d e (area_of self.old) }
+        ensures stands { is_err result ≡ false → StandsOn area_of StandsBy (F.device flash.new) self.new }
+        ensures down { is_err result ≡ true → is_running self.new ≡ false }
+        ensures exact { OnOk result (SpendsCostOf (F.device flash.old) (F.device flash.new) self.old (Del name.now)) }
+        ensures no_more { OnErr result (SpendsUpToCostOf (F.device flash.old) (F.device flash.new) self.old (Del name.now)) }
+        ensures few { SpendsRounds (F.device flash.old) (F.device flash.new) self.old 1 }
+    {
         if self.get(flash, name, steps).is_none() {
             return Ok(());
         }
@@ -163,6 +248,15 @@ impl Backend for FcbBackend {
         steps: &mut Steps<L>,
     ) -> Result<(), PowerLost> {
         Ring::format(flash, area, steps)
+    }
+
+    fn chance<F: Flash, L: Ledger>(
+        flash: &F,
+        area: &Area,
+        loss: &Loss,
+        steps: &mut Steps<L>,
+    ) -> bool {
+        fcb_ring::chance(flash, area, loss, steps)
     }
 
     fn is_up(&self) -> bool {

@@ -1,10 +1,11 @@
 // Collecting the oldest sector.
 ghost use Rattle.std.specs.Prelude.{◌≡◌, ◌∷◌, [], true, false, is_err, None, Contains, OnOk, OnErr};
-ghost use Rattle.flash_map.specs.Area.{unit_of};
+ghost use Rattle.flash_map.specs.Area.{unit_of, OthersStay};
 ghost use Rattle.flash_map.specs.Spending.{SpendsAtMost};
 ghost use Rattle.flash_map.specs.Touches.{Touches};
 ghost use Rattle.flash_map.specs.Units.{padded};
-ghost use Rattle.fcb_ring.specs.Changing.{is_scratch_left, newest_place, sector_list, KeepsOthers};
+ghost use Rattle.fcb_ring.specs.Chance.{HasNoChance};
+ghost use Rattle.fcb_ring.specs.Changing.{is_scratch_left, newest_place, sector_list};
 ghost use Rattle.fcb_ring.specs.Standing.{StandsOn as RingStandsOn, entries_on, record_places, KeepsEntries, is_up};
 ghost use Rattle.backend_fcb.specs.Changing.{CopiesIfLive, CopiesLive, Collects, FitsIfLive, StopsCopying, collect_units};
 ghost use Rattle.backend_fcb.specs.Standing.{damage_on, settings_on, IsReady};
@@ -29,11 +30,12 @@ fn copy_if_live<F: Flash, L: Ledger>(
 
     ensures touches { Touches (ring.old.area ∷ []) (F.device flash.old) (F.device flash.new) (is_err result) }
     ensures list { KeepsEntries (F.device flash.old) (F.device flash.new) ring.old.area }
-    ensures others { KeepsOthers (F.device flash.old) (F.device flash.new) ring.old.area (newest_place ring.old) }
+    ensures others { OthersStay (F.device flash.old) (F.device flash.new) ring.old.area (newest_place ring.old) }
     ensures area { ring.new.area ≡ ring.old.area }
     ensures reserve { ring.new.reserve ≡ ring.old.reserve }
     ensures copies { OnOk result (CopiesIfLive (F.device flash.old) (F.device flash.new) ring.old ring.new entry) }
     ensures stops { OnErr result (StopsCopying (F.device flash.old) (F.device flash.new) ring.old ring.new) }
+    ensures lost { OnErr result ((F.device flash.old).is_on ≡ true → HasNoChance (F.device flash.new) ring.old.area) }
 {
     if !is_live(ring, flash, entry, steps) {
         return Ok(());
@@ -57,11 +59,12 @@ fn copy_live<F: Flash, L: Ledger>(
 
     ensures touches { Touches (ring.old.area ∷ []) (F.device flash.old) (F.device flash.new) (is_err result) }
     ensures list { KeepsEntries (F.device flash.old) (F.device flash.new) ring.old.area }
-    ensures others { KeepsOthers (F.device flash.old) (F.device flash.new) ring.old.area (newest_place ring.old) }
+    ensures others { OthersStay (F.device flash.old) (F.device flash.new) ring.old.area (newest_place ring.old) }
     ensures area { ring.new.area ≡ ring.old.area }
     ensures reserve { ring.new.reserve ≡ ring.old.reserve }
     ensures copies { OnOk result (CopiesLive (F.device flash.old) (F.device flash.new) ring.old ring.new) }
     ensures stops { OnErr result (StopsCopying (F.device flash.old) (F.device flash.new) ring.old ring.new) }
+    ensures lost { OnErr result ((F.device flash.old).is_on ≡ true → HasNoChance (F.device flash.new) ring.old.area) }
 {
     let oldest = ring.oldest();
     let mut at = ring.next(flash, None, steps);
@@ -96,6 +99,7 @@ pub(crate) fn collect<F: Flash, L: Ledger>(
     ensures used { OnOk result (ring.new.used ≡ ring.old.used) }
     ensures reserve { OnOk result (ring.new.reserve ≡ ring.old.reserve) }
     ensures down { OnErr result (is_up ring.new.stage ≡ false) }
+    ensures lost { OnErr result ((F.device flash.old).is_on ≡ true → HasNoChance (F.device flash.new) ring.old.area) }
 {
     ring.begin_collect(flash)?;
     copy_live(ring, flash, steps)?;

@@ -13,6 +13,6 @@ mod writing;
 pub use backend::FcbBackend;
 
 #[cfg(test)]
-mod random_lines;
+mod loss_tests;
 #[cfg(test)]
 mod tests;

@@ -1,16 +1,17 @@
 // Looking records up.
-ghost use Rattle.std.specs.Prelude.{◌≡◌, ◌≤◌, Contains, option_map};
+ghost use Rattle.std.specs.Prelude.{◌≡◌, ◌≤◌, ℕ, List, [], Contains, option_map};
 ghost use Rattle.std.specs.FinMap.{contains_key};
-ghost use Rattle.flash_map.specs.Area.{unit_of, sector_size};
+ghost use Rattle.flash_sim.specs.declared.flash.TheConstants.{PROGRAM_LIMIT};
+ghost use Rattle.flash_map.specs.Area.{value_limit, unit_of, sector_size};
 ghost use Rattle.fcb_ring.specs.Standing.{StandsOn as RingStandsOn, entries_on, record_places};
-ghost use Rattle.settings_list.specs.Last.{last_value as last_value_of};
-ghost use Rattle.settings_list.specs.Live.{has_name, value_for};
-ghost use Rattle.settings_list.specs.Numbers.{room};
-ghost use Rattle.settings_list.specs.Settings.{setting_of};
+ghost use Rattle.settings_laws.specs.Last.{last_value as last_value_of};
+ghost use Rattle.settings_laws.specs.Live.{has_name, value_for};
+ghost use Rattle.settings_laws.specs.Numbers.{room};
+ghost use Rattle.settings_laws.specs.Settings.{setting_of, body_of};
 ghost use Rattle.backend_fcb.specs.Standing.{bodies_on, settings_on};
 ghost use Rattle.backend_fcb.specs.Walking.{TellsNamedBehind, TellsLive, TellsCost};
 
-use crate::record::{put_cost, setting_in};
+use crate::record::{body_of, put_cost, setting_in};
 use fcb_ring::{RecordAt, Ring};
 use flash_map::geometry;
 use flash_sim::{Flash, Steps};
@@ -18,31 +19,34 @@ use setting_name::Name;
 use std::sync::ledger::Ledger;
 
 // The value that a body gives to this name, where it is of the name; no bytes where it takes the value away.
-fn value_for<'a>(body: &'a [u8], name: &[u8]) -> Option<&'a [u8]>
-    ensures { option_map (λ value. value.now) result ≡ value_for name.now (setting_of body.now) }
+fn value_for<'a>(ring: &Ring, body: &'a [u8], name: &[u8]) -> Option<&'a [u8]>
+    ensures { option_map (λ value. value.now) result ≡ value_for name.now (setting_of (value_limit ring.now.area) body.now) }
 {
-    match setting_in(body) {
+    match setting_in(ring, body) {
         Some(setting) if setting.name == name => Some(setting.value),
         _ => None,
     }
 }
 
-// The value that the last record of a name gives it; no bytes where it takes it away.
+// The value that the last record of a name gives it; no bytes where it takes it away. It passes over the records that
+// do not begin with the name and `=`.
 pub(crate) fn last_value<'a, F: Flash, L: Ledger>(
     ring: &Ring,
     flash: &'a F,
-    name: &[u8],
+    name: &Name,
     steps: &mut Steps<L>,
 ) -> Option<&'a [u8]>
     requires { RingStandsOn (F.device flash.now) ring.now }
-    ensures { option_map (λ value. value.now) result ≡ last_value_of name.now (bodies_on (F.device flash.now) ring.now.area) }
+    ensures { option_map (λ value. value.now) result ≡ last_value_of (value_limit ring.now.area) name.now (bodies_on (F.device flash.now) ring.now.area) }
 {
+    let start = body_of(name, &[]);
+    let front = start.as_slice();
     let mut found = None;
-    let mut at = ring.next(flash, None, steps);
+    let mut at = ring.next_with(flash, None, front, steps);
     while let Some(entry) = at {
-        let value = value_for(ring.body(flash, &entry, steps), name);
+        let value = value_for(ring, ring.body(flash, &entry, steps), name.bytes());
         found = value.or(found);
-        at = ring.next(flash, Some(entry), steps);
+        at = ring.next_with(flash, Some(entry), front, steps);
     }
     found
 }
@@ -57,20 +61,28 @@ pub(crate) fn has_value<F: Flash, L: Ledger>(
     requires { RingStandsOn (F.device flash.now) ring.now }
     ensures { result ≡ contains_key (settings_on (F.device flash.now) ring.now.area) name.now }
 {
-    match last_value(ring, flash, name.bytes(), steps) {
+    match last_value(ring, flash, name, steps) {
         Some(value) => !value.is_empty(),
         None => false,
     }
 }
 
 // Whether a body is a setting of this name.
-fn is_of(body: &[u8], name: &[u8]) -> bool
-    ensures { result ≡ has_name name.now (setting_of body.now) }
+fn is_of(ring: &Ring, body: &[u8], name: &[u8]) -> bool
+    ensures { result ≡ has_name name.now (setting_of (value_limit ring.now.area) body.now) }
 {
-    match setting_in(body) {
+    match setting_in(ring, body) {
         Some(setting) => setting.name == name,
         None => false,
     }
+}
+
+// The name and `=`, with which each record of the name of this one begins.
+fn front_of<'a>(body: &'a [u8], name: &[u8]) -> &'a [u8]
+    requires { (value : List ℕ) × (body.now ≡ body_of name.now value) }
+    ensures { result.now ≡ body_of name.now [] }
+{
+    &body[..name.len() + 1]
 }
 
 // Whether a record behind this one is of the name.
@@ -79,18 +91,20 @@ fn is_named_behind<F: Flash, L: Ledger>(
     flash: &F,
     entry: RecordAt,
     name: &[u8],
+    front: &[u8],
     steps: &mut Steps<L>,
 ) -> bool
     requires stands { RingStandsOn (F.device flash.now) ring.now }
     requires listed { Contains (record_places (entries_on (F.device flash.now) ring.now.area)) entry }
-    ensures { TellsNamedBehind (entries_on (F.device flash.now) ring.now.area) entry name.now result }
+    requires front { front.now ≡ body_of name.now [] }
+    ensures { TellsNamedBehind (value_limit ring.now.area) (entries_on (F.device flash.now) ring.now.area) entry name.now result }
 {
-    let mut at = ring.next(flash, Some(entry), steps);
+    let mut at = ring.next_with(flash, Some(entry), front, steps);
     while let Some(later) = at {
-        if is_of(ring.body(flash, &later, steps), name) {
+        if is_of(ring, ring.body(flash, &later, steps), name) {
             return true;
         }
-        at = ring.next(flash, Some(later), steps);
+        at = ring.next_with(flash, Some(later), front, steps);
     }
     false
 }
@@ -104,11 +118,14 @@ pub(crate) fn is_live<F: Flash, L: Ledger>(
 ) -> bool
     requires stands { RingStandsOn (F.device flash.now) ring.now }
     requires listed { Contains (record_places (entries_on (F.device flash.now) ring.now.area)) entry }
-    ensures { TellsLive (entries_on (F.device flash.now) ring.now.area) entry result }
+    ensures { TellsLive (value_limit ring.now.area) (entries_on (F.device flash.now) ring.now.area) entry result }
 {
-    match setting_in(ring.body(flash, &entry, steps)) {
+    let body = ring.body(flash, &entry, steps);
+    match setting_in(ring, body) {
         Some(setting) => {
-            !setting.value.is_empty() && !is_named_behind(ring, flash, entry, setting.name, steps)
+            let front = front_of(body, setting.name);
+            !setting.value.is_empty()
+                && !is_named_behind(ring, flash, entry, setting.name, front, steps)
         }
         None => false,
     }
@@ -123,12 +140,13 @@ fn live_cost_of<F: Flash, L: Ledger>(
 ) -> u32
     requires stands { RingStandsOn (F.device flash.now) ring.now }
     requires listed { Contains (record_places (entries_on (F.device flash.now) ring.now.area)) entry }
-    ensures cost { TellsCost (unit_of (F.device flash.now) ring.now.area) (entries_on (F.device flash.now) ring.now.area) entry result }
-    ensures small { result ≤ 400 }
+    ensures cost { let d = F.device flash.now in
+        TellsCost (value_limit ring.now.area) (unit_of d ring.now.area) (entries_on d ring.now.area) entry result }
+    ensures small { result ≤ PROGRAM_LIMIT }
 {
     if is_live(ring, flash, entry, steps) {
         let unit = geometry(flash, ring.area()).unit;
-        put_cost(unit, ring.body(flash, &entry, steps))
+        put_cost(ring, unit, ring.body(flash, &entry, steps))
     } else {
         0
     }

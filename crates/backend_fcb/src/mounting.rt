@@ -1,6 +1,6 @@
 // Looking at costs before a mount goes on.
 ghost use Rattle.std.specs.Prelude.{◌≡◌, ℕ, ◌<◌, slice_index, option_map};
-ghost use Rattle.flash_map.specs.Area.{unit_of, sectors_of};
+ghost use Rattle.flash_map.specs.Area.{value_limit, unit_of, sectors_of};
 ghost use Rattle.flash_map.specs.declared.faults.Why.TheVariants.{Overfull};
 ghost use Rattle.fcb_ring.specs.Standing.{StandsOn as RingStandsOn, entries_on};
 ghost use Rattle.backend_fcb.specs.Reading.{puts_cost, first_overfull};
@@ -17,13 +17,14 @@ const SECTORS: usize = 64;
 // What the records of each sector cost that put a value.
 fn costs<F: Flash, L: Ledger>(ring: &Ring, flash: &F, steps: &mut Steps<L>) -> [u64; SECTORS]
     requires { RingStandsOn (F.device flash.now) ring.now }
-    ensures { let d = F.device flash.now in (place : ℕ) → place < 64 → slice_index result place ≡ puts_cost (unit_of d ring.now.area) (entries_on d ring.now.area) place }
+    ensures { let d = F.device flash.now in (place : ℕ) → place < SECTORS
+        → slice_index result place ≡ puts_cost (value_limit ring.now.area) (unit_of d ring.now.area) (entries_on d ring.now.area) place }
 {
     let unit = geometry(flash, ring.area()).unit;
     let mut costs = [0; SECTORS];
     let mut at = ring.next(flash, None, steps);
     while let Some(entry) = at {
-        let cost = put_cost(unit, ring.body(flash, &entry, steps));
+        let cost = put_cost(ring, unit, ring.body(flash, &entry, steps));
         costs[entry.sector as usize] += u64::from(cost);
         at = ring.next(flash, Some(entry), steps);
     }
@@ -37,7 +38,7 @@ pub(crate) fn first_overfull<F: Flash, L: Ledger>(
     steps: &mut Steps<L>,
 ) -> Option<Damaged>
     requires { RingStandsOn (F.device flash.now) ring.now }
-    ensures { let d = F.device flash.now in result ≡ option_map (λ place. record { sector = place; why = Overfull }) (first_overfull (unit_of d ring.now.area) (sectors_of d ring.now.area)) }
+    ensures { let d = F.device flash.now in result ≡ option_map (λ place. record { sector = place; why = Overfull }) (first_overfull (value_limit ring.now.area) (unit_of d ring.now.area) (sectors_of d ring.now.area)) }
 {
     let geometry = geometry(flash, ring.area());
     let most = u64::from(cap(geometry));

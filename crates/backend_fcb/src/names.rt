@@ -1,10 +1,11 @@
 // Names in order.
 ghost use Rattle.std.specs.Prelude.{◌≡◌, ◌&&◌, option_map};
+ghost use Rattle.flash_map.specs.Area.{value_limit};
 ghost use Rattle.fcb_ring.specs.Standing.{StandsOn as RingStandsOn};
 ghost use Rattle.backend_api.specs.Map.{is_behind, next_name as next_name_of};
-ghost use Rattle.settings_list.specs.Least.{is_before, IsLeast};
-ghost use Rattle.settings_list.specs.Live.{names};
-ghost use Rattle.settings_list.specs.Settings.{setting_of};
+ghost use Rattle.backend_api.specs.Least.{is_before, IsLeast};
+ghost use Rattle.settings_laws.specs.Live.{names};
+ghost use Rattle.settings_laws.specs.Settings.{setting_of};
 ghost use Rattle.backend_fcb.specs.Standing.{bodies_on, settings_on};
 ghost use Rattle.backend_fcb.specs.Walking.{name_between};
 
@@ -34,10 +35,15 @@ fn is_between(name: &[u8], after: Option<&Name>, before: Option<&Name>) -> bool
 }
 
 // The name of a record, where it is between these two.
-fn name_between(body: &[u8], after: Option<&Name>, before: Option<&Name>) -> Option<Name>
-    ensures { result ≡ name_between (option_map (λ other. other.now) after.entry) (option_map (λ other. other.now) before.entry) (setting_of body.now) }
+fn name_between(
+    ring: &Ring,
+    body: &[u8],
+    after: Option<&Name>,
+    before: Option<&Name>,
+) -> Option<Name>
+    ensures { result ≡ name_between (option_map (λ other. other.now) after.entry) (option_map (λ other. other.now) before.entry) (setting_of (value_limit ring.now.area) body.now) }
 {
-    let setting = setting_in(body)?;
+    let setting = setting_in(ring, body)?;
     if !is_between(setting.name, after, before) {
         return None;
     }
@@ -52,12 +58,12 @@ fn least_name<F: Flash, L: Ledger>(
     steps: &mut Steps<L>,
 ) -> Option<Name>
     requires { RingStandsOn (F.device flash.now) ring.now }
-    ensures { IsLeast (option_map (λ other. other.now) after.entry) (λ name. names name (bodies_on (F.device flash.now) ring.now.area)) result }
+    ensures { IsLeast (option_map (λ other. other.now) after.entry) (λ name. names (value_limit ring.now.area) name (bodies_on (F.device flash.now) ring.now.area)) result }
 {
     let mut least = None;
     let mut at = ring.next(flash, None, steps);
     while let Some(entry) = at {
-        let name = name_between(ring.body(flash, &entry, steps), after, least.as_ref());
+        let name = name_between(ring, ring.body(flash, &entry, steps), after, least.as_ref());
         least = name.or(least);
         at = ring.next(flash, Some(entry), steps);
     }

@@ -1,19 +1,21 @@
 // The bodies of records.
 ghost use Rattle.std.specs.Prelude.{◌≡◌, ◌==◌, ◌<◌, ◌≤◌, length, position, option_map, IfSome};
+ghost use Rattle.flash_sim.specs.declared.flash.TheConstants.{PROGRAM_LIMIT};
+ghost use Rattle.flash_map.specs.Area.{value_limit};
 ghost use Rattle.flash_map.specs.Units.{IsUnit};
+ghost use Rattle.flash_map.specs.declared.area.TheConstants.{LONG_VALUE_LIMIT};
 ghost use Rattle.setting_name.specs.Name.{IsName};
-ghost use Rattle.settings_list.specs.Numbers.{reserve, cap, put_cost};
-ghost use Rattle.settings_list.specs.Settings.{setting_of, body_of};
+ghost use Rattle.settings_laws.specs.Numbers.{reserve, cap, put_cost};
+ghost use Rattle.settings_laws.specs.Settings.{setting_of, body_of};
 
 use arrayvec::ArrayVec;
-use fcb_ring::record_cost;
-use flash_map::{Geometry, padded};
+use fcb_ring::{Ring, record_cost};
+use flash_map::{Geometry, LONG_VALUE_LIMIT, padded};
 use setting_name::Name;
+use settings_laws::NAME_LIMIT;
 
-// The most bytes of a body: a name of 64 bytes, `=` and a value of 256.
-pub(crate) const BODY: usize = 321;
-
-const MAX_VALUE: usize = 256;
+// The most bytes of a body: the longest name, `=` and the longest value.
+pub(crate) const BODY: usize = 2113;
 
 // What a record says: the name has the value, or none where there are no bytes.
 #[derive(Clone, Copy, Debug)]
@@ -30,14 +32,22 @@ fn first_equals(body: &[u8]) -> Option<usize>
     body.iter().position(|byte| *byte == b'=')
 }
 
-// What a body says, where it is a lawful name, `=` and a value.
-pub(crate) fn setting_in(body: &[u8]) -> Option<Setting<'_>>
-    ensures { option_map (λ setting. (setting.name.now, setting.value.now)) result ≡ setting_of body.now }
+// The most bytes of a value in the ring's area.
+fn value_limit(ring: &Ring) -> usize
+    ensures { result ≡ value_limit ring.now.area }
 {
+    ring.area().value_limit() as usize
+}
+
+// What a body says in the ring's area, where it is a lawful name, `=` and a value.
+pub(crate) fn setting_in<'a>(ring: &Ring, body: &'a [u8]) -> Option<Setting<'a>>
+    ensures { option_map (λ setting. (setting.name.now, setting.value.now)) result ≡ setting_of (value_limit ring.now.area) body.now }
+{
+    let limit = value_limit(ring);
     let end = first_equals(body)?;
     let name = &body[..end];
     let value = &body[end + 1..];
-    if Name::read(name).is_err() || value.len() > MAX_VALUE {
+    if Name::read(name).is_err() || value.len() > limit {
         return None;
     }
     Some(Setting { name, value })
@@ -45,7 +55,7 @@ pub(crate) fn setting_in(body: &[u8]) -> Option<Setting<'_>>
 
 // The name, `=` and the value.
 pub(crate) fn body_of(name: &Name, value: &[u8]) -> ArrayVec<u8, BODY>
-    requires { length value.now ≤ 256 }
+    requires { length value.now ≤ LONG_VALUE_LIMIT }
     ensures items { result.items ≡ body_of name.now value.now }
     ensures name { IsName name.now }
 {
@@ -57,23 +67,23 @@ pub(crate) fn body_of(name: &Name, value: &[u8]) -> ArrayVec<u8, BODY>
 }
 
 // What a record with this body costs, where it puts a value.
-pub(crate) fn put_cost(unit: u32, body: &[u8]) -> u32
+pub(crate) fn put_cost(ring: &Ring, unit: u32, body: &[u8]) -> u32
     requires { IsUnit unit }
-    ensures cost { result ≡ put_cost unit body.now }
-    ensures small { result ≤ 400 }
+    ensures cost { result ≡ put_cost (value_limit ring.now.area) unit body.now }
+    ensures small { result ≤ PROGRAM_LIMIT }
 {
-    match setting_in(body) {
+    match setting_in(ring, body) {
         Some(setting) if !setting.value.is_empty() => record_cost(unit, body.len() as u32),
         _ => 0,
     }
 }
 
-// The room that each sector keeps for a delete of a name of 64 bytes.
+// The room that each sector keeps for a delete of the longest name.
 pub(crate) fn reserve(unit: u32) -> u32
     requires { IsUnit unit }
     ensures { result ≡ reserve unit }
 {
-    record_cost(unit, 65)
+    record_cost(unit, NAME_LIMIT + 1)
 }
 
 // What the header and the reserve leave of a sector.

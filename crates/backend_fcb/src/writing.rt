@@ -1,11 +1,12 @@
 // Appending settings.
 ghost use Rattle.std.specs.Prelude.{◌≡◌, ◌+◌, ◌*◌, ◌<◌, ◌≤◌, ◌∷◌, [], true, length};
-ghost use Rattle.flash_map.specs.Area.{unit_of};
+ghost use Rattle.flash_map.specs.Area.{value_limit, unit_of};
 ghost use Rattle.flash_map.specs.Spending.{SpendsAtMost};
 ghost use Rattle.flash_map.specs.Touches.{Touches};
 ghost use Rattle.fcb_ring.specs.Changing.{append_lost, kept_room};
 ghost use Rattle.backend_fcb.specs.Changing.{PutEnds, TryEnds, collect_units};
-ghost use Rattle.settings_list.specs.Numbers.{put_cost};
+ghost use Rattle.settings_laws.specs.Numbers.{put_cost};
+ghost use Rattle.settings_laws.specs.Settings.{longest};
 ghost use Rattle.backend_fcb.specs.Standing.{IsReady};
 
 use crate::collecting::collect;
@@ -22,8 +23,8 @@ fn try_append<F: Flash>(
 ) -> Result<(), AppendFault>
     requires ready { IsReady (F.device flash.old) ring.old }
     requires some { 0 < length body.now }
-    requires short { length body.now ≤ 321 }
-    requires no_put { into_reserve ≡ true → put_cost (unit_of (F.device flash.old) ring.old.area) body.now ≡ 0 }
+    requires short { length body.now ≤ longest (value_limit ring.old.area) }
+    requires no_put { into_reserve ≡ true → put_cost (value_limit ring.old.area) (unit_of (F.device flash.old) ring.old.area) body.now ≡ 0 }
 
     ensures touches { Touches (ring.old.area ∷ []) (F.device flash.old) (F.device flash.new) (append_lost result) }
     ensures area { ring.new.area ≡ ring.old.area }
@@ -43,8 +44,8 @@ pub(crate) fn put<F: Flash, L: Ledger>(
 ) -> Result<(), AppendFault>
     requires ready { IsReady (F.device flash.old) ring.old }
     requires some { 0 < length body.now }
-    requires short { length body.now ≤ 321 }
-    requires no_put { into_reserve ≡ true → put_cost (unit_of (F.device flash.old) ring.old.area) body.now ≡ 0 }
+    requires short { length body.now ≤ longest (value_limit ring.old.area) }
+    requires no_put { into_reserve ≡ true → put_cost (value_limit ring.old.area) (unit_of (F.device flash.old) ring.old.area) body.now ≡ 0 }
     requires few { rounds < ring.old.area.sectors }
 
     ensures touches { Touches (ring.old.area ∷ []) (F.device flash.old) (F.device flash.new) (append_lost result) }

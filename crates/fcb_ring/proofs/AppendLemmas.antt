@@ -6,7 +6,7 @@ use Rattle.flash_sim.specs.Bank.{bank_at}
 use Rattle.flash_sim.specs.Device.{Device}
 use Rattle.flash_sim.specs.declared.flash.Bank.{Bank}
 use Rattle.flash_map.specs.declared.area.Area.{Area}
-use Rattle.flash_map.specs.Area.{unit_of, sector_size, sectors_of}
+use Rattle.flash_map.specs.Area.{unit_of, sector_size, sectors_of, OthersStay}
 use Rattle.flash_map.specs.Spending.{Spends, SpendsAtMost}
 use Rattle.flash_map.specs.Units.{padded}
 use Rattle.flash_map.proofs.SpendingLemmas.{spends_then, spends_then_most, most_weaker}
@@ -14,12 +14,13 @@ use Rattle.fcb_ring.specs.declared.record.RecordAt.{RecordAt}
 use Rattle.fcb_ring.specs.declared.ring.Ring.{Ring}
 use Rattle.fcb_ring.specs.declared.ring.Stage.{Stage}
 use Rattle.fcb_ring.specs.declared.ring.Stage.TheVariants.{Ready}
-use Rattle.fcb_ring.specs.Changing.{newest_place, next_place, KeepsOthers, PutsRecord, AddsRecord, CutList, CutAppend, append_units, GoesOn, has_room, is_scratch_left}
+use Rattle.fcb_ring.specs.Changing.{newest_place, next_place, PutsRecord, AddsRecord, CutList, CutAppend, append_units, GoesOn, has_room, is_scratch_left}
 use Rattle.fcb_ring.specs.Entries.{states, HasEntries}
 use Rattle.fcb_ring.specs.Rings.{turned}
 use Rattle.fcb_ring.specs.Standing.{StandsOn, FitsStage, entries_on, KeepsEntries}
 use Rattle.fcb_ring.specs.Writing.{record_cost}
 use Rattle.fcb_ring.proofs.AreaLemmas.{count-sectors, length-states}
+use Rattle.fcb_ring.proofs.OthersLemmas.{others_then}
 
 pub is_err_by : {T E : Type 0} (r : Result T E) (P : Bool → Type 0) → IsErr r → P true → P (is_err r)
 is_err_by (Ok x) P e p = absurd (clash e)
@@ -59,16 +60,22 @@ pub cut-after : (a b c : Device) (before ring : Ring) (body : List ℕ) → ring
 cut-after a b c before ring body same oldest more kept power cut = by (subst (λ (p : ℕ). CutAppend b c before.area p body) (opened-place before ring same oldest more) (subst (λ (x : Area). CutAppend b c x (newest_place ring) body) same cut))
   where
     by : CutAppend b c before.area (next_place before) body → CutAppend a c before.area (next_place before) body
-    by (inl (list, loss)) = inl (subst (λ (l : List (RecordAt × List ℕ)). HasEntries (unit_of c before.area) (sectors_of c before.area) l) kept.are list, λ (on : a.is_on ≡ true). loss (power ∙ on))
-    by (inr (offset, done, loss, list)) = inr (offset, done, loss, subst (λ (l : List (RecordAt × List ℕ)). CutList (unit_of c before.area) (sectors_of c before.area) l (next_place before) body done) kept.are list)
+    by (inl cut) = inl (record { list = subst (λ (l : List (RecordAt × List ℕ)). HasEntries (unit_of c before.area) (sectors_of c before.area) l) kept.are cut.list; loss = λ (on : a.is_on ≡ true). cut.loss (power ∙ on) })
+    by (inr cut) = inr (record {
+      offset = cut.offset;
+      done = cut.done;
+      loss = cut.loss;
+      free = cut.free;
+      list = subst (λ (l : List (RecordAt × List ℕ)). CutList (unit_of c before.area) (sectors_of c before.area) l (next_place before) body cut.done) kept.are cut.list;
+    })
 
 -- the sectors that neither call changed
-pub others-after : (a b c : Device) (before ring : Ring) → ring.area ≡ before.area → ring.oldest ≡ before.oldest → ring.used ≡ before.used + 1 → KeepsOthers a b before.area (next_place before) → KeepsOthers b c ring.area (newest_place ring)
-    → KeepsOthers a c before.area (next_place before)
+pub others-after : (a b c : Device) (before ring : Ring) → ring.area ≡ before.area → ring.oldest ≡ before.oldest → ring.used ≡ before.used + 1 → OthersStay a b before.area (next_place before) → OthersStay b c ring.area (newest_place ring)
+    → OthersStay a c before.area (next_place before)
 others-after a b c before ring same oldest more first second =
-    let there : KeepsOthers b c before.area (next_place before) =
-    subst (λ (p : ℕ). KeepsOthers b c before.area p) (opened-place before ring same oldest more) (subst (λ (x : Area). KeepsOthers b c x (newest_place ring)) same second) in
-    λ other apart. there other apart ∙ first other apart
+    let there : OthersStay b c before.area (next_place before) =
+    subst (λ (p : ℕ). OthersStay b c before.area p) (opened-place before ring same oldest more) (subst (λ (x : Area). OthersStay b c x (newest_place ring)) same second) in
+    others_then a b c before.area (next_place before) first there
 
 -- what both calls spend
 pub spends-both : (a b c : Device) (area other : Area) (len : ℕ) → b.banks ≡ a.banks → other ≡ area → Spends a b (padded (unit_of a area) 8 / unit_of a area) → Spends b c (record_cost (unit_of b other) len / unit_of b other)

@@ -3,6 +3,7 @@ use Rattle.std.proofs.Common.{◌≡◌, ℕ, ◌+◌, ◌-◌, ◌/◌, ◌%◌
 use Rattle.std.proofs.lemmas.Bool.{cases_lt, cases_eq, lt-ltb, le-ltb}
 use Rattle.std.proofs.lemmas.List.{length-append, get_or_past}
 use Rattle.crc8_entry.specs.Crc.{crc}
+use Rattle.flash_sim.specs.declared.flash.TheConstants.{PROGRAM_LIMIT}
 use Rattle.flash_map.specs.Units.{IsUnit, padded}
 use Rattle.flash_map.proofs.Rounding.{padding}
 use Rattle.fcb_ring.specs.Writing.{filled, length_field, record_image, record_cost}
@@ -37,7 +38,7 @@ field-bytes len le k = elim (cases_lt len 128) [
   | inr ge ↦ rw (le-ltb len 128 ge) (pair-bytes (len % 128 + 128) (len / 128) k (omega arith) (omega arith))
 ]
 
-module _ (unit : ℕ) (is_unit : IsUnit unit) (body : List ℕ) (short : record_cost unit (length body) ≤ 400) where
+module _ (unit : ℕ) (is_unit : IsUnit unit) (body : List ℕ) (short : record_cost unit (length body) ≤ PROGRAM_LIMIT) where
   few : length body ≤ 16383
   few = let pad = padding unit is_unit in omega (arith, pad.no_less (length body))
 
@@ -48,21 +49,21 @@ module _ (unit : ℕ) (is_unit : IsUnit unit) (body : List ℕ) (short : record_
     field-unit : padded unit (length field) ≡ unit
     field-unit = let n : length field ≡ length (length_field (length body)) = ap length is in small_padded unit is_unit (length field) (omega (arith, f.short.0)) (omega (arith, f.short.1))
 
-    pub room-first : length empty + padded unit (length field) ≤ 400
+    pub room-first : length empty + padded unit (length field) ≤ PROGRAM_LIMIT
     room-first = let n : length empty ≡ 0 = ap length none in omega (arith, field-unit)
 
     module _ (first : List ℕ) (one : first ≡ empty ++ filled unit field) where
       first-long : length first ≡ unit
       first-long = let n : length empty ≡ 0 = ap length none in ap length one ∙ length-append empty (filled unit field) ∙ omega (arith, length-filled unit field is_unit, field-unit)
 
-      pub room-second : length first + padded unit (length body) ≤ 400
+      pub room-second : length first + padded unit (length body) ≤ PROGRAM_LIMIT
       room-second = omega (arith, first-long)
 
       module _ (second : List ℕ) (two : second ≡ first ++ filled unit body) where
         second-long : length second ≡ unit + padded unit (length body)
         second-long = ap length two ∙ length-append first (filled unit body) ∙ omega (arith, length-filled unit body is_unit, first-long)
 
-        pub room-third : length second + padded unit 1 ≤ 400
+        pub room-third : length second + padded unit 1 ≤ PROGRAM_LIMIT
         room-third = omega (arith, second-long, small_padded unit is_unit 1 (omega arith) (omega arith))
 
         pub built : (third : List ℕ) (a b : ℕ) → a ≡ crc 255 field → b ≡ crc a body → ((k : ℕ) → get_or body k 0 < 256) → third ≡ second ++ filled unit (b ∷ []) → third ≡ record_image unit body

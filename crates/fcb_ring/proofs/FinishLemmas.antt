@@ -204,7 +204,7 @@ module _ (unit size : ℕ) (old : List (List ℕ)) (has : HasSize unit size old)
 
   -- ---- and which sectors they leave
 
-  newest-place : is_uncounted ring.stage ≡ true → newest_of_all unit old ≡ turned (length old) ring.oldest ring.used
+  pub newest-place : is_uncounted ring.stage ≡ true → newest_of_all unit old ≡ turned (length old) ring.oldest ring.used
   newest-place full =
       let one : uncounted ring.stage ≡ 1 = ap (λ (t : Bool). cond t 1 0) full in
       let last : length (states unit old) - 1 ≡ ring.used = omega (arith, counts.2 full) in

@@ -3,13 +3,13 @@ use Rattle.std.proofs.Common.{◌≡◌, ℕ, ◌+◌, ◌-◌, ◌*◌, ◌/◌
 use Rattle.std.specs.Prelude.{slice_range}
 use Rattle.std.proofs.Math.Nat.{mul-le-mul_right}
 use Rattle.std.proofs.lemmas.Bool.{cases_lt, and_left, and_right, lt-ltb, le-ltb, eq-eqb, ne_eqb}
-use Rattle.std.proofs.lemmas.List.{length-append, length-replicate, length-take-le, take_at, drop_at, get_or_append_left, take-append-le, drop-drop, get_or-take, get_or-drop, drop-replicate, replicate-append-replicate}
+use Rattle.std.proofs.lemmas.List.{length-append, length-replicate, length-take-le, take_at, drop_at, take_all, take-take, drop-take, drop-append-le, append-nil, get_or_append_left, take-append-le, drop-drop, get_or-take, get_or-drop, drop-replicate, replicate-append-replicate}
 use Rattle.crc8_entry.specs.Crc.{crc}
 use Rattle.flash_sim.specs.Device.{overwritten}
 use Rattle.flash_map.specs.Units.{IsUnit, padded}
 use Rattle.flash_map.proofs.Rounding.{by_unit, padding}
 use Rattle.fcb_ring.specs.Records.{body_len, field_width, checks_at}
-use Rattle.fcb_ring.specs.Writing.{filled, length_field, record_image, record_cost, cut_record}
+use Rattle.fcb_ring.specs.Writing.{filled, length_field, record_image, record_cost, cut_record, spelled}
 
 -- a length is written in one or two bytes, which read as that length and are no erased field
 pub record IsField (len : ℕ) (field : List ℕ) : Type 0 where
@@ -174,3 +174,66 @@ module _ (unit : ℕ) (is_unit : IsUnit unit) (body : List ℕ) (short : length 
         ∙ sym (replicate-append-replicate (record_cost unit (length body) - done * unit) (length s - e - length cut) 255)
         ∙ ap (λ (l : List ℕ). rest ++ l) (sym (erased (length cut) (omega (arith, cut-long)))) in
         ap (λ (l : List ℕ). take e s ++ (p ++ l)) behind ∙ ap (λ (l : List ℕ). take e s ++ l) (sym (append_assoc p rest (drop (e + length cut) s)))
+
+    -- ---- the body that the cut record spells
+
+    abbrev pub body_put : ℕ
+    body_put = done * unit - unit
+
+    rest-is : drop unit (cut_record unit body done) ≡ take (done * unit - unit) (filled unit body ++ tail) ++ replicate (record_cost unit (length body) - done * unit) 255
+    rest-is =
+        let r : List ℕ = replicate (record_cost unit (length body) - done * unit) 255 in
+        let all : done * unit ≡ unit + (done * unit - unit) = omega (arith, unit-part) in
+        drop-append-le unit (take (done * unit) (record_image unit body)) r (omega (arith, front-long, unit-part))
+        ∙ ap (λ (n : ℕ). drop unit (take n (record_image unit body)) ++ r) all
+        ∙ ap (λ (l : List ℕ). l ++ r) (drop-take unit (done * unit - unit) (record_image unit body))
+        ∙ ap (λ (l : List ℕ). take (done * unit - unit) l ++ r) image-rest
+
+    spelled-rest : spelled unit body done ≡ take (length body) (take (done * unit - unit) (filled unit body ++ tail) ++ replicate (record_cost unit (length body) - done * unit) 255)
+    spelled-rest =
+        let n : unit + length body - unit ≡ length body = omega arith in
+        ap (λ (k : ℕ). take k (drop unit (cut_record unit body done))) n ∙ ap (take (length body)) rest-is
+
+    whole-long : length (filled unit body ++ tail) ≡ padded unit (length body) + unit
+    whole-long = length-append (filled unit body) tail ∙ ap (λ (n : ℕ). n + length tail) body-long ∙ ap (λ (n : ℕ). padded unit (length body) + n) tail-long
+
+    spelled-all : length body < done * unit - unit → spelled unit body done ≡ body
+    spelled-all more =
+        let pad = (padding unit is_unit).no_less (length body) in
+        let m : ℕ = done * unit - unit in
+        let r : List ℕ = replicate (record_cost unit (length body) - done * unit) 255 in
+        let put : length (take m (filled unit body ++ tail)) ≡ m = length-take-le m (filled unit body ++ tail) (omega (arith, whole-long)) in
+        spelled-rest
+        ∙ take-append-le (length body) (take m (filled unit body ++ tail)) r (omega (arith, put))
+        ∙ take-take (length body) m (filled unit body ++ tail) (omega arith)
+        ∙ take-append-le (length body) (filled unit body) tail (omega (arith, body-long))
+        ∙ take-filled unit body
+
+    spelled-front : done * unit - unit ≤ length body → spelled unit body done ≡ take (done * unit - unit) body ++ replicate (length body - (done * unit - unit)) 255
+    spelled-front le =
+        let pad = (padding unit is_unit).no_less (length body) in
+        let m : ℕ = done * unit - unit in
+        let a : List ℕ = replicate (length body - m) 255 in
+        let b : ℕ = record_cost unit (length body) - done * unit - (length body - m) in
+        let r : List ℕ = replicate (record_cost unit (length body) - done * unit) 255 in
+        let split : replicate {A = ℕ} (record_cost unit (length body) - done * unit) 255 ≡ replicate (length body - m) 255 ++ replicate b 255 =
+        ap (λ (n : ℕ). replicate {A = ℕ} n 255) (omega (arith, unit-part)) ∙ sym (replicate-append-replicate (length body - m) b 255) in
+        let front : take m (filled unit body ++ tail) ≡ take m body =
+        take-append-le m (filled unit body) tail (omega (arith, body-long)) ∙ sym (take-take m (length body) (filled unit body) le) ∙ ap (take m) (take-filled unit body) in
+        let long : length (take m body ++ a) ≡ length body = length-append (take m body) a ∙ ap (λ (n : ℕ). n + length a) (length-take-le m body le) ∙ ap (λ (n : ℕ). m + n) (length-replicate {A = ℕ} (length body - m) 255) ∙ omega arith in
+        spelled-rest
+        ∙ ap (λ (l : List ℕ). take (length body) (l ++ r)) front
+        ∙ ap (λ (l : List ℕ). take (length body) (take m body ++ l)) split
+        ∙ ap (take (length body)) (sym (append_assoc (take m body) a (replicate b 255)))
+        ∙ take_at (take m body ++ a) (replicate b 255) (length body) long
+
+    -- its first bytes, with FF behind them
+    pub spelled-is : spelled unit body done ≡ take (done * unit - unit) body ++ replicate (length body - (done * unit - unit)) 255
+    spelled-is = elim (cases_lt (length body) (done * unit - unit)) [
+      | inl more ↦
+          let none : length body - (done * unit - unit) ≡ 0 = omega arith in
+          spelled-all more
+          ∙ sym (append-nil body) ∙ ap (λ (l : List ℕ). l ++ []) (sym (take_all (done * unit - unit) body (omega arith)))
+          ∙ ap (λ (n : ℕ). take (done * unit - unit) body ++ replicate n 255) (sym none)
+      | inr le ↦ spelled-front le
+    ]

@@ -1,4 +1,5 @@
 pub mod RecordLemmas
+pub mod WalkLemmas
 pub mod Walks
 pub mod PlaceLemmas
 pub mod RingLemmas
@@ -14,7 +15,6 @@ pub mod TestBank
 pub mod ImageLemmas
 pub mod GrowLemmas
 pub mod HeaderLemmas
-pub mod FormatLemmas
 pub mod OpenLemmas
 pub mod NewestLemmas
 pub mod BuildLemmas
@@ -25,3 +25,5 @@ pub mod AppendLemmas
 pub mod OthersLemmas
 pub mod CostLemmas
 pub mod FewLemmas
+pub mod ChanceLemmas
+pub mod RestLemmas

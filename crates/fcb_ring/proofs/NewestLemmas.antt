@@ -18,7 +18,7 @@ use Rattle.fcb_ring.specs.Rings.{state_at, turned, is_full, first_damage, IsRing
 use Rattle.fcb_ring.specs.Entries.{states, sector_entries, entries}
 use Rattle.fcb_ring.specs.Standing.{Stands, FitsStage, is_finished, uncounted}
 use Rattle.fcb_ring.proofs.PlaceLemmas.{range-append}
-use Rattle.fcb_ring.proofs.RingLemmas.{turned-within, full-yes}
+use Rattle.fcb_ring.proofs.RingLemmas.{turned-within, full-yes, full-no}
 use Rattle.fcb_ring.proofs.AreaLemmas.{HasSize, state-at, length-states, sector_is}
 use Rattle.flash_map.proofs.ErasedBytes.{erased_is}
 use Rattle.fcb_ring.proofs.LayLemmas.{CanLay, laid-header, laid-id, laid-used, laid-end_state, laid-not_overfull, laid-not_dirty, laid_entry, laid-entries}
@@ -159,6 +159,10 @@ module _ (unit size : ℕ) (old : List (List ℕ)) (has : HasSize unit size old)
       -- where all sectors are used no sector is free
       pub put-full : ring.used ≡ length old → is_full (states unit laid_area) ≡ true
       put-full full = full-yes (states unit laid_area) ring.oldest ring.used put-form (omega (arith, full, states-long, long))
+
+      -- else one is free
+      pub put-free : ring.used < length old → is_full (states unit laid_area) ≡ false
+      put-free free = full-no (states unit laid_area) ring.oldest ring.used put-form (omega (arith, states-long, long))
 
       -- the records of the sector
       pub put-here : sector_entries unit (turned (length old) ring.oldest (ring.used - 1)) (sector_at laid_area (turned (length old) ring.oldest (ring.used - 1)))

@@ -1,19 +1,19 @@
 -- The record after a record, in the order of the area's list.
-use Rattle.std.proofs.Common.{◌≡◌, ℕ, zero, suc, ◌+◌, ◌-◌, ◌%◌, ◌<◌, ◌≤◌, min, Bool, true, false, cond, ltb, List, [], ◌∷◌, ◌++◌, length, map, drop, Option, Some, None, inl, inr, refl, sym, ap, subst, ◌∙◌, arith}
+use Rattle.std.proofs.Common.{◌≡◌, ℕ, zero, suc, ◌+◌, ◌-◌, ◌%◌, ◌<◌, ◌≤◌, min, Bool, true, false, cond, eqb, ltb, List, [], ◌∷◌, ◌++◌, length, map, drop, Option, Some, None, inl, inr, refl, sym, ap, subst, ◌∙◌, arith}
 use Rattle.std.specs.Prelude.{slice_range, find, Contains}
-use Rattle.std.specs.List.{range_with_len, filter, flat_map, slice_get}
+use Rattle.std.specs.List.{range_with_len, filter, flat_map, slice_get, starts_with}
 use Rattle.std.specs.Option.{option_map}
-use Rattle.std.proofs.lemmas.Bool.{cases_lt, cases_Bool, cond-true, cond-false, lt-ltb, le-ltb}
+use Rattle.std.proofs.lemmas.Bool.{cases_lt, cases_Bool, and_left, and_right, and_from, cond-true, cond-false, lt-ltb, le-ltb}
 use Rattle.std.proofs.lemmas.List.{map-append, drop-append-le}
 use Rattle.std.proofs.lemmas.Option.{none-some, slice_get-map, slice_get-get_or, slice_get_within, get_or_from_slice_get}
 use Rattle.flash_map.specs.Units.{IsUnit, padded}
 use Rattle.fcb_ring.specs.declared.record.Record.{Record}
 use Rattle.fcb_ring.specs.declared.record.RecordAt.{RecordAt}
-use Rattle.fcb_ring.specs.Records.{record_at, records, walk}
+use Rattle.fcb_ring.specs.Records.{record_at, records, walk, passes, with_front}
 use Rattle.fcb_ring.specs.Rings.{turned, IsRing}
 use Rattle.fcb_ring.specs.Entries.{states, placed, entry_of, sector_entries, entries, records_from, following}
 use Rattle.flash_map.specs.Area.{sector_at}
-use Rattle.fcb_ring.specs.Standing.{record_places}
+use Rattle.fcb_ring.specs.Standing.{record_places, first_with, IsNext, IsNextWith}
 use Rattle.fcb_ring.proofs.Walks.{option_cases, walk-none, walk-some, walk-bound}
 use Rattle.fcb_ring.proofs.RecordLemmas.{read, advances, aligned_after, end-fields, header_fits}
 use Rattle.fcb_ring.proofs.AreaLemmas.{HasSize, length-states}
@@ -51,20 +51,84 @@ drop-behind [] ys i le = let e : i ≡ i - 0 = omega arith in ap (λ (n : ℕ). 
 drop-behind (x ∷ xs) ys zero le = absurd (omega arith)
 drop-behind (x ∷ xs) ys (suc i) le = let e : i - length xs ≡ suc i - suc (length xs) = omega arith in drop-behind xs ys i (omega arith) ∙ ap (λ (n : ℕ). drop n ys) e
 
--- the element at a place is the first of those from there on
-pub get-drop : {X : Type 0} (xs : List X) (i : ℕ) → slice_get xs i ≡ slice_get (drop i xs) 0
-get-drop [] zero = refl
-get-drop [] (suc i) = refl
-get-drop (x ∷ xs) zero = refl
-get-drop (x ∷ xs) (suc i) = get-drop xs i
+-- the first that passes and begins so
+pub first-with : (sector front : List ℕ) (place : ℕ) (test : RecordAt → Bool) → ((r : Record) → test (placed place r) ≡ starts_with eqb (slice_range sector r.body (r.body + r.len)) front) → (rs : List Record)
+    → find test (map (placed place) (filter (λ r. r.checks) rs)) ≡ option_map (placed place) (option_map (with_front sector front) (find (passes sector front) rs))
+first-with sector front place test is [] = refl
+first-with sector front place test is (r ∷ rs) = by (first-with sector front place test is rs) r.checks (starts_with eqb (slice_range sector r.body (r.body + r.len)) front) refl refl
+  where
+    left : Bool → Option RecordAt
+    left b = find test (map (placed place) (cond b (r ∷ filter (λ q. q.checks) rs) (filter (λ q. q.checks) rs)))
 
--- the first that passes, in another form
-pub first-passing : {X Y : Type 0} (f : X → Y) (p : X → Bool) (xs : List X) → slice_get (map f (filter p xs)) 0 ≡ option_map f (find p xs)
-first-passing f p [] = refl
-first-passing f p (x ∷ xs) = elim (cases_Bool (p x)) [
-  | inl here ↦ ap (λ (t : Bool). slice_get (map f (cond t (x ∷ filter p xs) (filter p xs))) 0) here ∙ sym (ap (λ (t : Bool). option_map f (cond t (Some x) (find p xs))) here)
-  | inr other ↦ ap (λ (t : Bool). slice_get (map f (cond t (x ∷ filter p xs) (filter p xs))) 0) other ∙ first-passing f p xs ∙ sym (ap (λ (t : Bool). option_map f (cond t (Some x) (find p xs))) other)
-]
+    head : Bool → Option RecordAt
+    head b = cond b (Some (placed place r)) (find test (map (placed place) (filter (λ q. q.checks) rs)))
+
+    right : Bool → Option RecordAt
+    right b = option_map (placed place) (option_map (with_front sector front) (cond b (Some r) (find (passes sector front) rs)))
+
+    by : find test (map (placed place) (filter (λ q. q.checks) rs)) ≡ option_map (placed place) (option_map (with_front sector front) (find (passes sector front) rs)) → (checks begins : Bool) → r.checks ≡ checks → starts_with eqb (slice_range sector r.body (r.body + r.len)) front ≡ begins
+        → find test (map (placed place) (filter (λ q. q.checks) (r ∷ rs))) ≡ option_map (placed place) (option_map (with_front sector front) (find (passes sector front) (r ∷ rs)))
+    by rest false begins c b = ap left c ∙ rest ∙ sym (ap right (and_right (starts_with eqb (slice_range sector r.body (r.body + r.len)) front) r.checks c))
+    by rest true false c b = ap left c ∙ ap head (is r ∙ b) ∙ rest ∙ sym (ap right (and_left (starts_with eqb (slice_range sector r.body (r.body + r.len)) front) r.checks b))
+    by rest true true c b = ap left c ∙ ap head (is r ∙ b) ∙ sym (ap right (and_from (starts_with eqb (slice_range sector r.body (r.body + r.len)) front) r.checks b c))
+
+-- what a search over two parts finds
+pub find-front : {X : Type 0} (test : X → Bool) (xs ys : List X) (x : X) → find test xs ≡ Some x → find test (xs ++ ys) ≡ Some x
+find-front test [] ys x e = absurd (none-some x e)
+find-front test (y ∷ xs) ys x e = by (λ later. find-front test xs ys x later) (test y) refl
+  where
+    by : (find test xs ≡ Some x → find test (xs ++ ys) ≡ Some x) → (b : Bool) → test y ≡ b → find test (y ∷ (xs ++ ys)) ≡ Some x
+    by rest true is = ap (λ (t : Bool). cond t (Some y) (find test (xs ++ ys))) is ∙ sym (ap (λ (t : Bool). cond t (Some y) (find test xs)) is) ∙ e
+    by rest false is = ap (λ (t : Bool). cond t (Some y) (find test (xs ++ ys))) is ∙ rest (sym (ap (λ (t : Bool). cond t (Some y) (find test xs)) is) ∙ e)
+
+pub find-behind : {X : Type 0} (test : X → Bool) (xs ys : List X) → find test xs ≡ None → find test (xs ++ ys) ≡ find test ys
+find-behind test [] ys e = refl
+find-behind test (y ∷ xs) ys e = by (λ later. find-behind test xs ys later) (test y) refl
+  where
+    by : (find test xs ≡ None → find test (xs ++ ys) ≡ find test ys) → (b : Bool) → test y ≡ b → find test (y ∷ (xs ++ ys)) ≡ find test ys
+    by rest true is = absurd (none-some y (sym e ∙ ap (λ (t : Bool). cond t (Some y) (find test xs)) is))
+    by rest false is = ap (λ (t : Bool). cond t (Some y) (find test (xs ++ ys))) is ∙ rest (sym (ap (λ (t : Bool). cond t (Some y) (find test xs)) is) ∙ e)
+
+-- what is found stands in the list
+pub found-at : {X : Type 0} (test : X → Bool) (xs : List X) (n : ℕ) (x : X) → find test (drop n xs) ≡ Some x → (j : ℕ) × (slice_get xs j ≡ Some x)
+found-at test [] zero x e = absurd (none-some x e)
+found-at test [] (suc n) x e = absurd (none-some x e)
+found-at test (y ∷ xs) (suc n) x e = let h = found-at test xs n x e in (suc h.0, h.1)
+found-at test (y ∷ xs) zero x e = by (λ later. found-at test xs zero x later) (test y) refl
+  where
+    by : (find test xs ≡ Some x → (j : ℕ) × (slice_get xs j ≡ Some x)) → (b : Bool) → test y ≡ b → (j : ℕ) × (slice_get (y ∷ xs) j ≡ Some x)
+    by rest true is = (0, sym (ap (λ (t : Bool). cond t (Some y) (find test xs)) is) ∙ e)
+    by rest false is = let h = rest (sym (ap (λ (t : Bool). cond t (Some y) (find test xs)) is) ∙ e) in (suc h.0, h.1)
+
+-- a test on the bodies of records that are listed, from a place on
+pub with-bodies : (test : List ℕ → Bool) (body : RecordAt → List ℕ) (list : List (RecordAt × List ℕ)) → ((i : ℕ) (entry : RecordAt × List ℕ) → slice_get list i ≡ Some entry → entry.1 ≡ body entry.0) → (n : ℕ)
+    → find (λ r. test (body r)) (drop n (record_places list)) ≡ option_map (λ entry. entry.0) (find (λ entry. test entry.1) (drop n list))
+with-bodies test body [] are zero = refl
+with-bodies test body [] are (suc n) = refl
+with-bodies test body (x ∷ list) are (suc n) = with-bodies test body list (λ i entry e. are (suc i) entry e) n
+with-bodies test body (x ∷ list) are zero = by (with-bodies test body list (λ i entry e. are (suc i) entry e) zero) (test x.1) refl
+  where
+    same : test (body x.0) ≡ test x.1
+    same = sym (ap test (are 0 x refl))
+
+    by : find (λ r. test (body r)) (record_places list) ≡ option_map (λ entry. entry.0) (find (λ entry. test entry.1) list) → (b : Bool) → test x.1 ≡ b → find (λ r. test (body r)) (record_places (x ∷ list)) ≡ option_map (λ entry. entry.0) (find (λ entry. test entry.1) (x ∷ list))
+    by rest true is =
+        ap (λ (t : Bool). cond t (Some x.0) (find (λ r. test (body r)) (record_places list))) (same ∙ is)
+        ∙ sym (ap (λ (t : Bool). option_map (λ entry. entry.0) (cond t (Some x) (find (λ entry. test entry.1) list))) is)
+    by rest false is =
+        ap (λ (t : Bool). cond t (Some x.0) (find (λ r. test (body r)) (record_places list))) (same ∙ is)
+        ∙ rest ∙ sym (ap (λ (t : Bool). option_map (λ entry. entry.0) (cond t (Some x) (find (λ entry. test entry.1) list))) is)
+
+-- every body begins with no bytes, so the first of all is found
+pub first-any : (list : List (RecordAt × List ℕ)) (n : ℕ) → first_with [] (drop n list) ≡ slice_get (record_places list) n
+first-any [] zero = refl
+first-any [] (suc n) = refl
+first-any (x ∷ list) zero = refl
+first-any (x ∷ list) (suc n) = first-any list n
+
+pub next-any : (list : List (RecordAt × List ℕ)) (after next : Option RecordAt) → IsNextWith list [] after next → IsNext list after next
+next-any list None next is = is ∙ first-any list 0
+next-any list (Some r) next is = λ i listed. is i listed ∙ first-any list (i + 1)
 
 some-same : {X : Type 0} (x y : X) → Some x ≡ Some y → x ≡ y
 some-same x y e = cc
@@ -226,27 +290,26 @@ module _ (unit size : ℕ) (sectors : List (List ℕ)) (has : HasSize unit size 
         following-end 0 (padded unit 8) none ∙ sym (places-are ∙ ap (λ (n : ℕ). flat_map all_of (range_with_len 0 n)) e)
   ]
 
-  -- where a sector has no more, the next one's header follows
-  pub following-next : (k from : ℕ) → k < min used (length sectors - 1) → records_from unit (turned (length sectors) oldest k) (at k) from ≡ []
-      → following unit sectors oldest (min used (length sectors - 1)) k from ≡ following unit sectors oldest (min used (length sectors - 1)) (k + 1) (padded unit 8)
-  following-next k from lt none = following-is k from lt ∙ ap (λ (l : List RecordAt). l ++ flat_map all_of (range_with_len (k + 1) (count - (k + 1)))) none ∙ (elim (cases_lt (k + 1) count) [
+  -- behind one sector stands what follows the next one's header
+  pub following-rest : (k : ℕ) → k < min used (length sectors - 1) → flat_map all_of (range_with_len (k + 1) (min used (length sectors - 1) - (k + 1))) ≡ following unit sectors oldest (min used (length sectors - 1)) (k + 1) (padded unit 8)
+  following-rest k lt = elim (cases_lt (k + 1) count) [
     | inl more ↦
         let e : count - (k + 1) ≡ suc (count - (k + 1 + 1)) = omega arith in
         ap (λ (n : ℕ). flat_map all_of (range_with_len (k + 1) n)) e ∙ sym (following-is (k + 1) (padded unit 8) more)
     | inr last ↦
         let e : count - (k + 1) ≡ 0 = omega arith in
         ap (λ (n : ℕ). flat_map all_of (range_with_len (k + 1) n)) e ∙ sym (following-end (k + 1) (padded unit 8) last)
-  ])
+  ]
 
   -- what follows a record of the list
   pub behind : (i : ℕ) (r : RecordAt) → slice_get (record_places (entries unit sectors)) i ≡ Some r → IsAcross 0 (min used (length sectors - 1)) i r
   behind i r is = across count 0 i r (omega arith) (sym (ap (λ (l : List RecordAt). slice_get l i) places-are) ∙ is)
 
-  pub next-is : (i : ℕ) (r : RecordAt) (h : IsAcross 0 (min used (length sectors - 1)) i r) → slice_get (record_places (entries unit sectors)) (i + 1) ≡ slice_get (following unit sectors oldest (min used (length sectors - 1)) h.j (after_of unit r)) 0
-  next-is i r h =
+  pub behind-is : (i : ℕ) (r : RecordAt) (h : IsAcross 0 (min used (length sectors - 1)) i r) → drop (i + 1) (record_places (entries unit sectors)) ≡ following unit sectors oldest (min used (length sectors - 1)) h.j (after_of unit r)
+  behind-is i r h =
       let n : 0 + count - (h.j + 1) ≡ count - (h.j + 1) = omega arith in
-      ap (λ (l : List RecordAt). slice_get l (i + 1)) places-are ∙ get-drop (flat_map all_of (range_with_len 0 count)) (i + 1)
-      ∙ ap (λ (l : List RecordAt). slice_get l 0) (h.rest ∙ ap (λ (x : ℕ). records_from unit (turned (length sectors) oldest h.j) (at h.j) (after_of unit r) ++ flat_map all_of (range_with_len (h.j + 1) x)) n ∙ sym (following-is h.j (after_of unit r) (omega (arith, h.below))))
+      ap (λ (l : List RecordAt). drop (i + 1) l) places-are
+      ∙ (h.rest ∙ ap (λ (x : ℕ). records_from unit (turned (length sectors) oldest h.j) (at h.j) (after_of unit r) ++ flat_map all_of (range_with_len (h.j + 1) x)) n ∙ sym (following-is h.j (after_of unit r) (omega (arith, h.below))))
 
 -- ---- the body of a record
 

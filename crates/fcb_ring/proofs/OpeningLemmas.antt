@@ -15,7 +15,7 @@ use Rattle.flash_map.proofs.SpendingLemmas.{spends-programs, most-fails}
 use Rattle.fcb_ring.specs.declared.ring.Ring.{Ring}
 use Rattle.fcb_ring.specs.declared.ring.Stage.{Stage}
 use Rattle.fcb_ring.specs.declared.ring.Stage.TheVariants.{Ready}
-use Rattle.fcb_ring.specs.Changing.{sector_list, FitsOpened, IsHeaderLoss}
+use Rattle.fcb_ring.specs.Changing.{next_place, sector_list, FitsOpened, IsHeaderLoss}
 use Rattle.fcb_ring.specs.Entries.{sector_entries, HasEntries}
 use Rattle.fcb_ring.specs.Rings.{turned}
 use Rattle.fcb_ring.specs.Standing.{Stands, StandsOn, entries_on, KeepsEntries}
@@ -133,15 +133,14 @@ module _ (d : Device) (ring : Ring) (lawful : IsLawful d.banks d.bytes) (on : St
         with_unit (λ (u : ℕ). HasEntries u (sectors_of new ring.area) (entries_on d ring.area)) d new ring.area banks
         (subst (λ (l : List (List ℕ)). HasEntries (unit_of d ring.area) l (entries_on d ring.area)) (sym after) (open-cut unit size old has ring on.sectors ready id part.0 fewer))
 
-    pub header-loss : FailsToProgram d new (place_of d ring.area place 0) header → d.is_on ≡ true → IsHeaderLoss new ring.area
+    pub header-loss : FailsToProgram d new (place_of d ring.area place 0) header → d.is_on ≡ true → IsHeaderLoss new ring.area (next_place ring)
     header-loss (inl off) is_on = absurd (both_ways d.is_on off.off is_on)
-    header-loss (inr cuts) is_on = (
-      place,
-      record { at = place_of d ring.area place 0; want = record { items = header }; done = cuts.0 },
-      place-within,
-      ap (λ (x : Device). x.last_loss) cuts.2.is,
-      ap (λ (all : List Bank). at_place all) (sym banks),
-    )
+    header-loss (inr cuts) is_on = subst (λ (p : ℕ). IsHeaderLoss new ring.area p) place-is (record {
+      loss = record { at = place_of d ring.area place 0; want = record { items = header }; done = cuts.0 };
+      has_sector = place-within;
+      last = ap (λ (x : Device). x.last_loss) cuts.2.is;
+      at = ap (λ (all : List Bank). at_place all) (sym banks);
+    })
       where
         at_place : List Bank → At
         at_place all = record { bank = ring.area.bank; offset = (ring.area.first + place) * (bank_at all ring.area.bank).sector + 0 }

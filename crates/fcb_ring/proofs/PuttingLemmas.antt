@@ -8,6 +8,7 @@ use Rattle.std.proofs.lemmas.Slice.Eq.{bytes_eq-Decides}
 use Rattle.flash_sim.specs.Bank.{IsLawful, bank_at}
 use Rattle.flash_sim.specs.Device.{Device, overwritten, Programs, FailsToProgram, CutsShort, units_in}
 use Rattle.flash_sim.specs.declared.flash.Bank.{Bank}
+use Rattle.flash_sim.specs.declared.flash.TheConstants.{PROGRAM_LIMIT}
 use Rattle.flash_sim.specs.declared.flash.Loss.{Loss}
 use Rattle.flash_map.specs.Area.{unit_of, sector_size, sectors_of, sector_at, sector_bytes, place_of, CanProgramIn, Writes}
 use Rattle.flash_map.specs.Spending.{Spends, SpendsAtMost}
@@ -32,8 +33,8 @@ use Rattle.fcb_ring.proofs.FinishLemmas.{with_unit}
 use Rattle.fcb_ring.proofs.ImageLemmas.{image-long, image-says, image-there, image-body, image-checks, cut-long, cut-says, cut-there, cut-laid}
 use Rattle.fcb_ring.proofs.LayLemmas.{CanLay, end-after-header, laid_entry, laid-body}
 use Rattle.fcb_ring.proofs.RecordLemmas.{header_fits, unit_aligned}
-use Rattle.fcb_ring.proofs.RingLemmas.{undamaged, full-yes}
-use Rattle.fcb_ring.proofs.NewestLemmas.{run-form, run-within, newest-in, newest-long, newest-sector, newest-end, newest-blank, laid_area, put-stands, put-undamaged, put-full, put-here, put-list, put-uncounted}
+use Rattle.fcb_ring.proofs.RingLemmas.{undamaged, full-yes, full-no}
+use Rattle.fcb_ring.proofs.NewestLemmas.{run-form, run-within, newest-in, newest-long, newest-sector, newest-end, newest-blank, laid_area, put-stands, put-undamaged, put-full, put-free, put-here, put-list, put-uncounted}
 
 pub record-checks : (unit : ℕ) (y : List ℕ) (len : ℕ) → body_len (get_or y 0 0) (get_or y 1 0) ≡ len → (record_of unit y 0).checks ≡ checks_at y 0 unit len (unit + padded unit len)
 unfolding record_of
@@ -42,7 +43,7 @@ record-checks unit y len says =
     ap (λ (b : ℕ). checks_at y 0 b (body_len (get_or y 0 0) (get_or y 1 0)) (b + padded unit (body_len (get_or y 0 0) (get_or y 1 0)))) none
     ∙ ap (λ (n : ℕ). checks_at y 0 unit n (unit + padded unit n)) says
 
-module _ (d : Device) (ring : Ring) (lawful : IsLawful d.banks d.bytes) (on : StandsOn d ring) (writes : is_finished ring.stage ≡ true) (some : 0 < ring.used) (body : List ℕ) (short : record_cost (unit_of d ring.area) (length body) ≤ 400)
+module _ (d : Device) (ring : Ring) (lawful : IsLawful d.banks d.bytes) (on : StandsOn d ring) (writes : is_finished ring.stage ≡ true) (some : 0 < ring.used) (body : List ℕ) (short : record_cost (unit_of d ring.area) (length body) ≤ PROGRAM_LIMIT)
     (fits : ring.end + record_cost (unit_of d ring.area) (length body) ≤ sector_size d ring.area) where
   abbrev unit : ℕ
   unit = unit_of d ring.area
@@ -225,6 +226,9 @@ module _ (d : Device) (ring : Ring) (lawful : IsLawful d.banks d.bytes) (on : St
     old-full : ring.used ≡ ring.area.sectors → is_full (states (unit_of d ring.area) (sectors_of d ring.area)) ≡ true
     old-full full = full-yes (states unit old) ring.oldest ring.used (run-form unit size old has ring on.sectors writes) (omega (arith, full, count, length-states unit old))
 
+    old-free : ring.used < ring.area.sectors → is_full (states (unit_of d ring.area) (sectors_of d ring.area)) ≡ false
+    old-free free = full-no (states unit old) ring.oldest ring.used (run-form unit size old has ring on.sectors writes) (omega (arith, free, count, length-states unit old))
+
     -- the first units of the record stand behind the others
     module _ (at done : ℕ) (at-is : at ≡ newest_place ring) (below : done < record_cost (unit_of d ring.area) (length body) / unit_of d ring.area) (written : Writes d new ring.area at ring.end (take (done * unit_of d ring.area) (record_image (unit_of d ring.area) body))) where
       part : done * unit_of d ring.area ≤ record_cost (unit_of d ring.area) (length body)
@@ -303,6 +307,11 @@ module _ (d : Device) (ring : Ring) (lawful : IsLawful d.banks d.bytes) (on : St
             ap (λ (l : List (List ℕ)). is_full (states (unit_of d ring.area) l)) after-cut
             ∙ put-full unit size old has ring on.sectors writes some torn (length body) lay-cut (full ∙ sym count)
 
+        torn-free : ring.used < ring.area.sectors → is_full (states (unit_of d ring.area) (sectors_of new ring.area)) ≡ false
+        torn-free free =
+            ap (λ (l : List (List ℕ)). is_full (states (unit_of d ring.area) l)) after-cut
+            ∙ put-free unit size old has ring on.sectors writes some torn (length body) lay-cut (omega (arith, free, count))
+
         torn-kept : ring.used ≡ ring.area.sectors → HasEntries (unit_of d ring.area) (sectors_of new ring.area) (entries_on d ring.area)
         torn-kept full = subst (λ (l : List (List ℕ)). HasEntries (unit_of d ring.area) l (entries_on d ring.area)) (sym after-cut)
             (record {
@@ -314,6 +323,12 @@ module _ (d : Device) (ring : Ring) (lawful : IsLawful d.banks d.bytes) (on : St
       cut-full full = elim (cases_eq done 0) [
         | inl none ↦ ap (λ (l : List (List ℕ)). is_full (states (unit_of d ring.area) l)) (nothing-put none) ∙ old-full full
         | inr more ↦ torn-full (omega (arith, more)) full
+      ]
+
+      cut-free : ring.used < ring.area.sectors → is_full (states (unit_of d ring.area) (sectors_of new ring.area)) ≡ false
+      cut-free free = elim (cases_eq done 0) [
+        | inl none ↦ ap (λ (l : List (List ℕ)). is_full (states (unit_of d ring.area) l)) (nothing-put none) ∙ old-free free
+        | inr more ↦ torn-free (omega (arith, more)) free
       ]
 
       cut-list : ring.used < ring.area.sectors → CutList (unit_of d ring.area) (sectors_of new ring.area) (entries_on d ring.area) (newest_place ring) body done
@@ -351,6 +366,7 @@ module _ (d : Device) (ring : Ring) (lawful : IsLawful d.banks d.bytes) (on : St
           has_sector = omega (arith, inside, count, at-is, place-newest);
           behind_header = omega (arith, end-is, there.0, header.1);
           in_sector = subst (λ (all : List Bank). ring.end + record_cost (bank_at all ring.area.bank).unit (length body) ≤ (bank_at all ring.area.bank).sector) (sym banks) fits;
+          one_program = subst (λ (all : List Bank). record_cost (bank_at all ring.area.bank).unit (length body) ≤ PROGRAM_LIMIT) (sym banks) short;
           fewer = subst (λ (all : List Bank). done < record_cost (bank_at all ring.area.bank).unit (length body) / (bank_at all ring.area.bank).unit) (sym banks) fewer;
           loss =
               ap (λ (x : Device). x.last_loss) cuts.is
@@ -363,15 +379,16 @@ module _ (d : Device) (ring : Ring) (lawful : IsLawful d.banks d.bytes) (on : St
 
     pub record-cut : (at : ℕ) (bytes : List ℕ) → at ≡ newest_place ring → bytes ≡ record_image (unit_of d ring.area) body → FailsToProgram d new (place_of d ring.area at ring.end) bytes → ring.used < ring.area.sectors → CutAppend d new ring.area (newest_place ring) body
     record-cut at bytes at-is is (inl off) free =
-        inl (subst (λ (x : Device). KeepsEntries d x ring.area) (sym off.is) old-has, λ (is_on : d.is_on ≡ true). absurd (both_ways d.is_on off.off is_on))
+        inl (record { list = subst (λ (x : Device). KeepsEntries d x ring.area) (sym off.is) old-has; loss = λ (is_on : d.is_on ≡ true). absurd (both_ways d.is_on off.off is_on) })
     record-cut at bytes at-is is (inr (done, below, cuts)) free =
         let w = cut-written at bytes at-is is done below cuts in
-        inr (
-          ring.end,
-          done,
-          subst (λ (p : ℕ). IsRecordLoss new ring.area p ring.end body done) at-is (record-loss at bytes at-is is done w.0 cuts),
-          with_unit (λ (u : ℕ). CutList u (sectors_of new ring.area) (entries_on d ring.area) (newest_place ring) body done) d new ring.area banks (cut-list at done at-is w.0 w.1 free),
-        )
+        inr (record {
+          offset = ring.end;
+          done = done;
+          loss = subst (λ (p : ℕ). IsRecordLoss new ring.area p ring.end body done) at-is (record-loss at bytes at-is is done w.0 cuts);
+          free = with_unit (λ (u : ℕ). is_full (states u (sectors_of new ring.area)) ≡ false) d new ring.area banks (cut-free at done at-is w.0 w.1 free);
+          list = with_unit (λ (u : ℕ). CutList u (sectors_of new ring.area) (entries_on d ring.area) (newest_place ring) body done) d new ring.area banks (cut-list at done at-is w.0 w.1 free);
+        })
 
     pub record-kept : (at : ℕ) (bytes : List ℕ) → at ≡ newest_place ring → bytes ≡ record_image (unit_of d ring.area) body → FailsToProgram d new (place_of d ring.area at ring.end) bytes → ring.used ≡ ring.area.sectors → KeepsEntries d new ring.area
     record-kept at bytes at-is is (inl off) full = subst (λ (x : Device). KeepsEntries d x ring.area) (sym off.is) old-has

@@ -1,8 +1,7 @@
 -- How the calls that read a ring meet the area's list.
-use Rattle.std.proofs.Common.{◌≡◌, ℕ, ◌+◌, ◌-◌, ◌%◌, ◌<◌, ◌≤◌, min, true, false, List, [], ◌∷◌, ◌++◌, length, Option, Some, None, refl, sym, ap, ◌∙◌, arith}
-use Rattle.std.specs.Prelude.{slice_range, Contains, is_some}
-use Rattle.std.specs.List.{slice_get}
-use Rattle.std.proofs.lemmas.Option.{none-some}
+use Rattle.std.proofs.Common.{◌≡◌, ℕ, ◌+◌, ◌-◌, ◌%◌, ◌<◌, ◌≤◌, min, Bool, true, false, eqb, drop, List, ◌++◌, length, Option, Some, None, refl, sym, ap, ◌∙◌, arith}
+use Rattle.std.specs.Prelude.{slice_range, Contains, is_some, find}
+use Rattle.std.specs.List.{slice_get, starts_with}
 use Rattle.flash_map.specs.Units.{padded}
 use Rattle.fcb_ring.specs.declared.record.RecordAt.{RecordAt}
 use Rattle.fcb_ring.specs.declared.ring.Ring.{Ring}
@@ -11,10 +10,10 @@ use Rattle.fcb_ring.specs.declared.ring.Stage.TheVariants.{Inspected, Ready, Col
 use Rattle.fcb_ring.specs.Rings.{turned, distance}
 use Rattle.fcb_ring.specs.Entries.{states, entries, following, records_from, HasEntries}
 use Rattle.flash_map.specs.Area.{sector_at}
-use Rattle.fcb_ring.specs.Standing.{Stands, FitsStage, uncounted, record_places, IsNext}
+use Rattle.fcb_ring.specs.Standing.{Stands, FitsStage, uncounted, record_places, IsNextWith, first_with}
 use Rattle.fcb_ring.proofs.RingLemmas.{turned-within, distance-turned, undamaged}
 use Rattle.fcb_ring.proofs.AreaLemmas.{HasSize, length-states}
-use Rattle.fcb_ring.proofs.NextLemmas.{IsAcross, after_of, following-all, following-is, following-end, following-next, behind, next-is, contained_at, entry_at, body_is}
+use Rattle.fcb_ring.proofs.NextLemmas.{IsAcross, after_of, following-all, following-is, following-end, following-rest, behind, behind-is, contained_at, entry_at, body_is, find-front, find-behind, found-at, with-bodies, listed_from}
 use Rattle.flash_map.proofs.Rounding.{padding}
 
 module _ (unit size : ℕ) (sectors : List (List ℕ)) (has : HasSize unit size sectors) (ring : Ring) (stands : Stands unit sectors ring) (n : ℕ) (count-is : n ≡ length sectors) where
@@ -49,8 +48,22 @@ module _ (unit size : ℕ) (sectors : List (List ℕ)) (has : HasSize unit size 
   moved : (k from : ℕ) → following unit sectors ring.oldest (min all (length sectors - 1)) k from ≡ rest_of k from
   moved k from = ap (λ (c : ℕ). following unit sectors ring.oldest c k from) counted-is
 
-  pub first-is : (result : Option RecordAt) → result ≡ slice_get (following unit sectors ring.oldest (min ring.used (n - 1)) 0 (padded unit 8)) 0 → IsNext (entries unit sectors) None result
-  first-is result is = is ∙ ap (λ (l : List RecordAt). slice_get l 0) (sym (moved 0 (padded unit 8)) ∙ following-all unit size sectors has ring.oldest all stands.form)
+  -- the test on the body of a record
+  abbrev pub test_of : List ℕ → RecordAt → Bool
+  test_of front r = starts_with eqb (slice_range (sector_at sectors r.sector) r.body (r.body + r.len)) front
+
+  as-entries : (front : List ℕ) (i : ℕ) → find (test_of front) (drop i (record_places (entries unit sectors))) ≡ first_with front (drop i (entries unit sectors))
+  as-entries front i =
+      with-bodies (λ (body : List ℕ). starts_with eqb body front) (λ (r : RecordAt). slice_range (sector_at sectors r.sector) r.body (r.body + r.len)) (entries unit sectors)
+      (λ k entry e. body_is unit sectors ring.oldest all stands.form k entry e) i
+
+  pub first-is : (front : List ℕ) (result : Option RecordAt) → result ≡ find (test_of front) (following unit sectors ring.oldest (min ring.used (n - 1)) 0 (padded unit 8)) → IsNextWith (entries unit sectors) front None result
+  first-is front result is = is ∙ ap (find (test_of front)) (sym (moved 0 (padded unit 8)) ∙ following-all unit size sectors has ring.oldest all stands.form) ∙ as-entries front 0
+
+  pub found-listed : (front : List ℕ) (i : ℕ) (result : Option RecordAt) → result ≡ first_with front (drop i (entries unit sectors)) → (r : RecordAt) → result ≡ Some r → Contains (record_places (entries unit sectors)) r
+  found-listed front i result is r some =
+      let at = found-at (test_of front) (record_places (entries unit sectors)) i r (as-entries front i ∙ sym is ∙ some) in
+      listed_from (record_places (entries unit sectors)) at.0 (Some r) (sym at.1) r refl
 
   -- a record of the list, with what follows it
   pub record IsThere (r : RecordAt) : Type 0 where
@@ -74,46 +87,41 @@ module _ (unit size : ℕ) (sectors : List (List ℕ)) (has : HasSize unit size 
       let at = contained_at (record_places (entries unit sectors)) r contained in
       across-there at.0 r (behind unit size sectors has ring.oldest all stands.form at.0 r at.1)
 
-  pub later-is : (r : RecordAt) (further : ℕ) (result : Option RecordAt) → further ≡ distance n ring.oldest r.sector
-      → result ≡ slice_get (following unit sectors ring.oldest (min ring.used (n - 1)) further (after_of unit r)) 0 → IsNext (entries unit sectors) (Some r) result
-  later-is r further result far is i listed =
+  pub later-is : (front : List ℕ) (r : RecordAt) (further : ℕ) (result : Option RecordAt) → further ≡ distance n ring.oldest r.sector
+      → result ≡ find (test_of front) (following unit sectors ring.oldest (min ring.used (n - 1)) further (after_of unit r)) → IsNextWith (entries unit sectors) front (Some r) result
+  later-is front r further result far is i listed =
       let h = behind unit size sectors has ring.oldest all stands.form i r listed in
       let j : distance n ring.oldest r.sector ≡ h.j =
       ap (λ (m : ℕ). distance m ring.oldest r.sector) count-is ∙ ap (distance (length sectors) ring.oldest) h.here
       ∙ distance-turned (length sectors) ring.oldest h.j (omega (arith, stands.form.within, length-states unit sectors)) (omega (arith, h.below)) in
-      is ∙ ap (λ (k : ℕ). slice_get (following unit sectors ring.oldest (min ring.used (n - 1)) k (after_of unit r)) 0) (far ∙ j)
-      ∙ ap (λ (l : List RecordAt). slice_get l 0) (sym (moved h.j (after_of unit r))) ∙ sym (next-is unit size sectors has ring.oldest all stands.form i r h)
+      is ∙ ap (λ (k : ℕ). find (test_of front) (following unit sectors ring.oldest (min ring.used (n - 1)) k (after_of unit r))) (far ∙ j)
+      ∙ ap (find (test_of front)) (sym (moved h.j (after_of unit r)) ∙ sym (behind-is unit size sectors has ring.oldest all stands.form i r h)) ∙ as-entries front (i + 1)
 
   -- one sector after the other
   abbrev from_there : ℕ → ℕ → List RecordAt
   from_there k from = records_from unit (turned n ring.oldest k) (sector_at sectors (turned n ring.oldest k)) from
 
-  pub found-there : (k from : ℕ) (r : RecordAt) → k < min ring.used (n - 1) → slice_get (records_from unit (turned n ring.oldest k) (sector_at sectors (turned n ring.oldest k)) from) 0 ≡ Some r
-      → slice_get (following unit sectors ring.oldest (min ring.used (n - 1)) k from) 0 ≡ Some r
-  found-there k from r lt found =
-      ap (λ (l : List RecordAt). slice_get l 0) (sym (moved k from) ∙ following-is unit size sectors has ring.oldest all stands.form k from (omega (arith, counted-is)))
-      ∙ head-stays (records_from unit (turned (length sectors) ring.oldest k) (sector_at sectors (turned (length sectors) ring.oldest k)) from) _ r
-      (sym (ap (λ (m : ℕ). slice_get (records_from unit (turned m ring.oldest k) (sector_at sectors (turned m ring.oldest k)) from) 0) count-is) ∙ found)
-    where
-      head-stays : (xs ys : List RecordAt) (r : RecordAt) → slice_get xs 0 ≡ Some r → slice_get (xs ++ ys) 0 ≡ Some r
-      head-stays [] ys r e = absurd (none-some r e)
-      head-stays (x ∷ xs) ys r e = e
+  part-of : (k from : ℕ) → k < min ring.used (n - 1) → following unit sectors ring.oldest (min ring.used (n - 1)) k from
+      ≡ records_from unit (turned n ring.oldest k) (sector_at sectors (turned n ring.oldest k)) from ++ following unit sectors ring.oldest (min ring.used (n - 1)) (k + 1) (padded unit 8)
+  part-of k from lt =
+      sym (moved k from) ∙ following-is unit size sectors has ring.oldest all stands.form k from (omega (arith, counted-is))
+      ∙ ap (λ (l : List RecordAt). records_from unit (turned (length sectors) ring.oldest k) (sector_at sectors (turned (length sectors) ring.oldest k)) from ++ l) (following-rest unit size sectors has ring.oldest all stands.form k (omega (arith, counted-is)) ∙ moved (k + 1) (padded unit 8))
+      ∙ ap (λ (m : ℕ). records_from unit (turned m ring.oldest k) (sector_at sectors (turned m ring.oldest k)) from ++ following unit sectors ring.oldest (min ring.used (n - 1)) (k + 1) (padded unit 8)) (sym count-is)
 
-  pub none-there : (k from : ℕ) → k < min ring.used (n - 1) → slice_get (records_from unit (turned n ring.oldest k) (sector_at sectors (turned n ring.oldest k)) from) 0 ≡ None
-      → following unit sectors ring.oldest (min ring.used (n - 1)) k from ≡ following unit sectors ring.oldest (min ring.used (n - 1)) (k + 1) (padded unit 8)
-  none-there k from lt none =
-      sym (moved k from)
-      ∙ following-next unit size sectors has ring.oldest all stands.form k from (omega (arith, counted-is))
-      (empty-by (records_from unit (turned (length sectors) ring.oldest k) (sector_at sectors (turned (length sectors) ring.oldest k)) from)
-      (sym (ap (λ (m : ℕ). slice_get (records_from unit (turned m ring.oldest k) (sector_at sectors (turned m ring.oldest k)) from) 0) count-is) ∙ none))
-      ∙ moved (k + 1) (padded unit 8)
-    where
-      empty-by : (xs : List RecordAt) → slice_get xs 0 ≡ None → xs ≡ []
-      empty-by [] e = refl
-      empty-by (x ∷ xs) e = absurd (none-some x (sym e))
+  pub found-there : (test : RecordAt → Bool) (k from : ℕ) (r : RecordAt) → k < min ring.used (n - 1) → find test (records_from unit (turned n ring.oldest k) (sector_at sectors (turned n ring.oldest k)) from) ≡ Some r
+      → find test (following unit sectors ring.oldest (min ring.used (n - 1)) k from) ≡ Some r
+  found-there test k from r lt found =
+      ap (find test) (part-of k from lt)
+      ∙ find-front test (records_from unit (turned n ring.oldest k) (sector_at sectors (turned n ring.oldest k)) from) (following unit sectors ring.oldest (min ring.used (n - 1)) (k + 1) (padded unit 8)) r found
 
-  pub none-behind : (k from : ℕ) → min ring.used (n - 1) ≤ k → slice_get (following unit sectors ring.oldest (min ring.used (n - 1)) k from) 0 ≡ None
-  none-behind k from ge = ap (λ (l : List RecordAt). slice_get l 0) (sym (moved k from) ∙ following-end unit size sectors has ring.oldest all stands.form k from (omega (arith, counted-is)))
+  pub none-there : (test : RecordAt → Bool) (k from : ℕ) → k < min ring.used (n - 1) → find test (records_from unit (turned n ring.oldest k) (sector_at sectors (turned n ring.oldest k)) from) ≡ None
+      → find test (following unit sectors ring.oldest (min ring.used (n - 1)) k from) ≡ find test (following unit sectors ring.oldest (min ring.used (n - 1)) (k + 1) (padded unit 8))
+  none-there test k from lt none =
+      ap (find test) (part-of k from lt)
+      ∙ find-behind test (records_from unit (turned n ring.oldest k) (sector_at sectors (turned n ring.oldest k)) from) (following unit sectors ring.oldest (min ring.used (n - 1)) (k + 1) (padded unit 8)) none
+
+  pub none-behind : (test : RecordAt → Bool) (k from : ℕ) → min ring.used (n - 1) ≤ k → find test (following unit sectors ring.oldest (min ring.used (n - 1)) k from) ≡ None
+  none-behind test k from ge = ap (find test) (sym (moved k from) ∙ following-end unit size sectors has ring.oldest all stands.form k from (omega (arith, counted-is)))
 
   pub body-there : (r : RecordAt) (i : ℕ) → slice_get (record_places (entries unit sectors)) i ≡ Some r → slice_get (entries unit sectors) i ≡ Some (r, slice_range (sector_at sectors r.sector) r.body (r.body + r.len))
   body-there r i listed =

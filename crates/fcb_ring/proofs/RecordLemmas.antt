@@ -1,5 +1,5 @@
 -- What reading one record rests on.
-use Rattle.std.proofs.Common.{◌≡◌, ℕ, ◌+◌, ◌-◌, ◌%◌, ◌<◌, ◌≤◌, Bool, true, false, cond, leb, ◌&&◌, Some, None, List, [], ◌∷◌, ◌++◌, length, get_or, drop, inl, inr, refl, sym, ap, subst, ◌∙◌, arith}
+use Rattle.std.proofs.Common.{◌≡◌, ℕ, ◌+◌, ◌-◌, ◌%◌, ◌<◌, ◌≤◌, Bool, true, false, cond, leb, ◌&&◌, Option, Some, None, List, [], ◌∷◌, ◌++◌, length, get_or, drop, inl, inr, refl, sym, ap, subst, ◌∙◌, arith}
 use Rattle.std.specs.List.{AllByRecursion}
 use Rattle.std.specs.Prelude.{bit_xor, slice_range}
 use Rattle.std.proofs.lemmas.Nat.{xor_lt}
@@ -11,7 +11,8 @@ use Rattle.crc8_entry.proofs.Bytes.{by_bytes, crc-by_bytes, zeros, zeros-small}
 use Rattle.flash_map.specs.Units.{IsUnit, padded}
 use Rattle.flash_map.proofs.Rounding.{by_unit, padding}
 use Rattle.fcb_ring.specs.declared.record.Record.{Record}
-use Rattle.fcb_ring.specs.Records.{body_len, field_width, has_record, record_of, record_at}
+use Rattle.std.specs.Option.{option_map}
+use Rattle.fcb_ring.specs.Records.{body_len, field_width, has_record, record_of, record_at, with_front}
 use Rattle.fcb_ring.proofs.Walks.{Advances}
 
 by_bytes-append : (r : ℕ) (xs ys : List ℕ) → by_bytes r (xs ++ ys) ≡ by_bytes (by_bytes r xs) ys
@@ -53,6 +54,34 @@ crc_by_parts sector at width body len first second fits w one two =
     two ∙ ap (λ (n : ℕ). crc n (slice_range sector body (body + len))) one
     ∙ crc_of_two 255 (slice_range sector at (at + width)) (slice_range sector body (body + len)) (omega arith) (range_bytes sector at (at + width) fits) (range_bytes sector body (body + len) fits)
     ∙ ap (λ (n : ℕ). crc 255 (slice_range sector at (at + n) ++ slice_range sector body (body + len))) w
+
+-- every body begins with no bytes
+pub with-any : (sector : List ℕ) (o : Option Record) → option_map (with_front sector []) o ≡ o
+with-any sector None = refl
+with-any sector (Some r) = refl
+
+-- the record of which one with a front was made
+pub record IsWith (sector front : List ℕ) (o : Option Record) (q : Record) : Type 0 where
+  pub r : Record
+  pub some : o ≡ Some r
+  pub is : with_front sector front r ≡ q
+
+pub read-with : (sector front : List ℕ) (o : Option Record) (q : Record) → option_map (with_front sector front) o ≡ Some q → IsWith sector front o q
+read-with sector front None q e = absurd (clash e)
+  where
+    clash : None ≡ Some q → ⊥
+    clash e = cc
+read-with sector front (Some r) q e = record { r = r; some = refl; is = same e }
+  where
+    same : Some (with_front sector front r) ≡ Some q → with_front sector front r ≡ q
+    same e = cc
+
+pub none-with : (sector front : List ℕ) (o : Option Record) → option_map (with_front sector front) o ≡ None → o ≡ None
+none-with sector front None e = refl
+none-with sector front (Some r) e = absurd (clash e)
+  where
+    clash : Some (with_front sector front r) ≡ None → ⊥
+    clash e = cc
 
 -- What a record that is read is.
 pub record IsRead (unit : ℕ) (sector : List ℕ) (at : ℕ) (r : Record) : Type 0 where

@@ -1,3 +1,4 @@
+pub mod Chance
 pub mod Changing
 pub mod Entries
 pub mod Records

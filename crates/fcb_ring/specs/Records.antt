@@ -1,7 +1,7 @@
 -- The records of a sector, one behind the other. A record is a length field, a body and a CRC, each padded to the unit.
-use Rattle.std.specs.Prelude.{ℕ, zero, suc, ◌+◌, ◌*◌, ◌%◌, Bool, not, ◌&&◌, List, [], ◌∷◌, ◌++◌, length, slice_index, slice_range, Option, Some, None, ◌==◌, nat_lt, nat_le, if◌then◌else◌}
-use Rattle.std.specs.List.{last_or}
-use Rattle.std.specs.Option.{option_map_or}
+use Rattle.std.specs.Prelude.{ℕ, zero, suc, ◌+◌, ◌*◌, ◌%◌, Bool, not, ◌&&◌, List, [], ◌∷◌, ◌++◌, length, slice_index, slice_range, Option, Some, None, ◌==◌, find, nat_eq, nat_lt, nat_le, if◌then◌else◌}
+use Rattle.std.specs.List.{last_or, starts_with}
+use Rattle.std.specs.Option.{option_map, option_map_or}
 use Rattle.crc8_entry.specs.Crc.{crc}
 use Rattle.flash_map.specs.Units.{padded}
 use Rattle.fcb_ring.specs.declared.record.Record.{Record}
@@ -35,10 +35,22 @@ record_of unit sector at =
 unfoldable pub record_at : ℕ → List ℕ → ℕ → Option Record
 record_at unit sector at = if has_record sector at && nat_le (record_of unit sector at).end (length sector) then Some (record_of unit sector at) else None
 
+-- its body begins with these bytes, and it checks
+abbrev pub passes : List ℕ → List ℕ → Record → Bool
+passes sector front r = starts_with nat_eq (slice_range sector r.body (r.body + r.len)) front && r.checks
+
+-- the record, taken not to check where its body begins otherwise
+abbrev pub with_front : List ℕ → List ℕ → Record → Record
+with_front sector front r = record r { checks = passes sector front r }
+
 -- The records from a place on, where step reads one of them. The first number bounds how many there are.
 abbrev pub walk : (ℕ → Option Record) → ℕ → ℕ → List Record
 walk step zero at = []
 walk step (suc n) at = option_map_or (λ r. r ∷ walk step n r.end) (step at) []
+
+-- the first of them from a place on that passes
+abbrev pub first_passing : ℕ → List ℕ → List ℕ → ℕ → Option Record
+first_passing unit sector front from = option_map (with_front sector front) (find (passes sector front) (walk (record_at unit sector) (length sector) from))
 
 -- the records of a sector, those that do not check too; they begin behind the header's eight bytes
 unfoldable pub records : ℕ → List ℕ → List Record

@@ -1,5 +1,5 @@
 -- What one sector is: free, or used by the ring.
-use Rattle.std.specs.Prelude.{◌≡◌, ◌%◌, ◌≤◌, length, ℕ, ◌+◌, ◌*◌, Bool, not, ◌&&◌, ◌||◌, List, [], ◌∷◌, ◌++◌, map, take, drop, replicate, slice_index, nat_eq, if◌then◌else◌}
+use Rattle.std.specs.Prelude.{◌≡◌, ◌%◌, ◌≤◌, length, ℕ, ◌+◌, ◌*◌, Bool, not, ◌&&◌, ◌||◌, List, [], ◌∷◌, ◌++◌, map, count_by, take, drop, replicate, slice_index, nat_eq, if◌then◌else◌}
 use Rattle.std.specs.List.{starts_with}
 use Rattle.flash_map.specs.Units.{IsUnit, is_erased}
 use Rattle.fcb_ring.specs.declared.sector.SectorState.{SectorState}
@@ -43,6 +43,10 @@ state_of unit sector = record {
 -- a sector whose torn header is erased
 unfoldable pub mended : List ℕ → List ℕ
 mended sector = if is_torn sector then replicate (length sector) 0xFF else sector
+
+-- how many sectors have one
+abbrev pub torn_count : List (List ℕ) → ℕ
+torn_count sectors = count_by is_torn sectors
 
 -- the first so many sectors are
 abbrev pub mended_up_to : ℕ → List (List ℕ) → List (List ℕ)

@@ -1,29 +1,29 @@
 -- When a ring stands on the bytes of its area.
-use Rattle.std.specs.Prelude.{◌≡◌, ◌⊎◌, ℕ, ◌+◌, ◌-◌, ◌<◌, ◌≤◌, Bool, true, false, List, length, map, count_by, slice_set, Option, Some, None, if◌then◌else◌, Result, Ok, Err}
-use Rattle.std.specs.List.{slice_get}
-use Rattle.flash_sim.specs.Device.{Device, counted}
+use Rattle.std.specs.Prelude.{◌≡◌, ◌⊎◌, ℕ, ◌+◌, ◌-◌, ◌<◌, ◌≤◌, Bool, true, false, List, length, map, count_by, slice_set, min, Contains, drop, find, option_map, nat_eq, Option, Some, None, if◌then◌else◌, Result, Ok, Err}
+use Rattle.std.specs.List.{slice_get, starts_with}
+use Rattle.flash_sim.specs.Device.{Device}
 use Rattle.flash_sim.specs.declared.flash.Bank.{Bank}
 use Rattle.flash_map.specs.declared.area.Area.{Area}
+use Rattle.flash_map.specs.declared.faults.Damaged.{Damaged}
 use Rattle.flash_map.specs.declared.faults.MountFault.{MountFault}
 use Rattle.flash_map.specs.declared.faults.MountFault.TheVariants.{Damaged as HasDamage, PowerLost, NoMemory}
 use Rattle.flash_map.specs.declared.area.Role.TheVariants.{Fcb, Sel}
-use Rattle.flash_map.specs.Area.{unit_of, sectors_of, sector_at}
-use Rattle.flash_map.specs.Lawful.{IsLawfulFor}
+use Rattle.flash_map.specs.Area.{unit_of, sectors_of, sector_at, sector_bytes}
+use Rattle.flash_map.specs.Lawful.{IsAreaFor}
 use Rattle.flash_map.specs.Sectors.{blanked}
-use Rattle.flash_map.specs.Spending.{SpendsAtMost}
+use Rattle.flash_map.specs.Spending.{Spends, SpendsAtMost}
 use Rattle.fcb_ring.specs.declared.record.RecordAt.{RecordAt}
 use Rattle.fcb_ring.specs.declared.ring.Ring.{Ring}
 use Rattle.fcb_ring.specs.declared.ring.Stage.{Stage}
 use Rattle.fcb_ring.specs.declared.ring.Stage.TheVariants.{Inspected, Ready, Collecting, Down}
 use Rattle.fcb_ring.specs.declared.sector.SectorState.{SectorState}
-use Rattle.fcb_ring.specs.Entries.{states, entries, HasEntries}
-use Rattle.fcb_ring.specs.SectorStates.{mended}
+use Rattle.fcb_ring.specs.Entries.{states, entries, HasEntries, records_from, following}
+use Rattle.fcb_ring.specs.SectorStates.{mended, state_of}
 use Rattle.fcb_ring.specs.Rings.{state_at, before, turned, oldest_place, is_full, first_damage, IsRing, AreClean}
 
 -- an area on which a ring may stand
-pub record IsRingArea (banks : List Bank) (area : Area) : Type 0 where
-  pub lawful : IsLawfulFor banks area
-  pub role : (area.role ≡ Fcb) ⊎ (area.role ≡ Sel)
+abbrev pub IsRingArea : List Bank → Area → Type 0
+IsRingArea banks area = IsAreaFor (λ role. (role ≡ Fcb) ⊎ (role ≡ Sel)) banks area
 
 -- no call of it answered that power was lost
 abbrev pub is_up : Stage → Bool
@@ -75,25 +75,71 @@ pub record StandsOn (d : Device) (ring : Ring) : Type 0 where
 abbrev pub states_on : Device → Area → List SectorState
 states_on d area = states (unit_of d area) (sectors_of d area)
 
+-- one of its sectors
+abbrev pub state_on : Device → Area → ℕ → SectorState
+state_on d area place = state_of (unit_of d area) (sector_bytes d area place)
+
 -- the records that the area holds, with their bodies
 abbrev pub entries_on : Device → Area → List (RecordAt × List ℕ)
 entries_on d area = entries (unit_of d area) (sectors_of d area)
 
+-- the area is not damaged, and holds these records
+abbrev pub HasEntriesOn : Device → Area → List (RecordAt × List ℕ) → Type 0
+HasEntriesOn d area list = HasEntries (unit_of d area) (sectors_of d area) list
+
 -- the area is not damaged, and holds the same records
 abbrev pub KeepsEntries : Device → Device → Area → Type 0
-KeepsEntries old new area = HasEntries (unit_of new area) (sectors_of new area) (entries_on old area)
+KeepsEntries old new area = HasEntriesOn new area (entries_on old area)
 
 abbrev pub record_places : List (RecordAt × List ℕ) → List RecordAt
 record_places list = map (λ entry. entry.0) list
+
+-- those of the area
+abbrev pub places_on : Device → Area → List RecordAt
+places_on d area = record_places (entries_on d area)
+
+-- the record is one of them
+abbrev pub IsListed : Device → Area → RecordAt → Type 0
+IsListed d area r = Contains (places_on d area) r
+
+-- these bytes are its body
+abbrev pub IsBodyOf : Device → Area → RecordAt → List ℕ → Type 0
+IsBodyOf d area r body = (i : ℕ) → slice_get (places_on d area) i ≡ Some r → slice_get (entries_on d area) i ≡ Some (r, body)
+
+-- the records of one sector that check, from an offset on
+abbrev pub records_on : Device → Area → ℕ → ℕ → List RecordAt
+records_on d area place from = records_from (unit_of d area) place (sector_bytes d area place) from
+
+-- the records that check from an offset on, in the sector so far behind the oldest, and in those after it
+abbrev pub following_on : Device → Ring → ℕ → ℕ → List RecordAt
+following_on d ring further from =
+    following (unit_of d ring.area) (sectors_of d ring.area) ring.oldest (min ring.used (ring.area.sectors - 1)) further from
 
 -- the record after this one, or the first of all
 abbrev pub IsNext : List (RecordAt × List ℕ) → Option RecordAt → Option RecordAt → Type 0
 IsNext list None next = next ≡ slice_get (record_places list) 0
 IsNext list (Some r) next = (i : ℕ) → slice_get (record_places list) i ≡ Some r → next ≡ slice_get (record_places list) (i + 1)
 
+-- the first whose body begins with these bytes
+abbrev pub first_with : List ℕ → List (RecordAt × List ℕ) → Option RecordAt
+first_with front list = option_map (λ entry. entry.0) (find (λ entry. starts_with nat_eq entry.1 front) list)
+
+-- the first such record after this one, or of all
+abbrev pub IsNextWith : List (RecordAt × List ℕ) → List ℕ → Option RecordAt → Option RecordAt → Type 0
+IsNextWith list front None next = next ≡ first_with front list
+IsNextWith list front (Some r) next = (i : ℕ) → slice_get (record_places list) i ≡ Some r → next ≡ first_with front (drop (i + 1) list)
+
 -- what mounting erases: each sector with a torn header, and the newest one where no sector is free
 abbrev pub erases_due : List SectorState → ℕ
 erases_due sectors = count_by (λ state. state.is_torn) sectors + (if is_full sectors then 1 else 0)
+
+-- those of an area
+abbrev pub erases_on : Device → Area → ℕ
+erases_on d area = erases_due (states_on d area)
+
+-- its damage
+abbrev pub ring_damage : Device → Area → Option Damaged
+ring_damage d area = first_damage (states_on d area)
 
 -- the newest sector, where no sector is free
 abbrev pub newest_of_all : ℕ → List (List ℕ) → ℕ
@@ -104,11 +150,15 @@ abbrev pub mounted_sectors : ℕ → List (List ℕ) → List (List ℕ)
 mounted_sectors unit sectors =
     if is_full (states unit sectors) then slice_set (map mended sectors) (newest_of_all unit sectors) (blanked (sector_at sectors (newest_of_all unit sectors))) else map mended sectors
 
+-- those of the area
+abbrev pub mounted_on : Device → Area → List (List ℕ)
+mounted_on d area = mounted_sectors (unit_of d area) (sectors_of d area)
+
 -- how mounting ends: the damage of the area, and then nothing changed; or it is not damaged
 abbrev pub MountEnds : Device → Device → Area → ℕ → Result Ring MountFault → Type 0
 MountEnds old new area reserve (Ok ring) =
-    (first_damage (states_on old area) ≡ None) × StandsOn new ring × (ring.stage ≡ Ready) × (ring.area ≡ area) × (ring.reserve ≡ reserve)
-    × (new.spent ≡ counted old.spent (erases_due (states_on old area)))
-MountEnds old new area reserve (Err (HasDamage damaged)) = (first_damage (states_on old area) ≡ Some damaged) × (new ≡ old)
-MountEnds old new area reserve (Err PowerLost) = (first_damage (states_on old area) ≡ None) × SpendsAtMost old new (erases_due (states_on old area))
+    (ring_damage old area ≡ None) × StandsOn new ring × (ring.stage ≡ Ready) × (ring.area ≡ area) × (ring.reserve ≡ reserve)
+    × Spends old new (erases_on old area)
+MountEnds old new area reserve (Err (HasDamage damaged)) = (ring_damage old area ≡ Some damaged) × (new ≡ old)
+MountEnds old new area reserve (Err PowerLost) = (ring_damage old area ≡ None) × SpendsAtMost old new (erases_on old area)
 MountEnds old new area reserve (Err NoMemory) = ⊥

@@ -1,24 +1,21 @@
 // Collecting: the records of the oldest sector that are to stay are copied into the scratch sector.
-ghost use Rattle.std.specs.Prelude.{◌≡◌, ◌+◌, ◌-◌, ◌/◌, ◌<◌, ◌≤◌, ◌∷◌, [], ℕ, true, false, is_err, Contains, length, OnOk, OnErr};
-ghost use Rattle.flash_map.specs.Area.{unit_of, sector_size, Writes};
+ghost use Rattle.std.specs.Prelude.{◌≡◌, ◌+◌, ◌-◌, ◌/◌, ◌<◌, ◌≤◌, ◌∷◌, [], true, false, is_err, length, OnOk, OnErr};
+ghost use Rattle.flash_sim.specs.declared.flash.TheConstants.{PROGRAM_LIMIT};
+ghost use Rattle.flash_map.specs.Area.{sector_size, OthersStay};
 ghost use Rattle.flash_map.specs.Spending.{Spends, SpendsAtMost};
 ghost use Rattle.flash_map.specs.Touches.{Touches};
-ghost use Rattle.flash_map.specs.Units.{padded};
-ghost use Rattle.fcb_ring.specs.Changing.{is_scratch_left, newest_place, next_place, KeepsOthers, sector_list, GoesOn, IsRecordLoss, IsHeaderLoss, IsEraseLoss, body_at, CopiesRecord, EndsCollection};
-ghost use Rattle.fcb_ring.specs.Rings.{is_full};
-ghost use Rattle.fcb_ring.specs.Standing.{StandsOn, entries_on, KeepsEntries, record_places, states_on, is_up};
-ghost use Rattle.fcb_ring.specs.Writing.{record_image, record_cost};
+ghost use Rattle.fcb_ring.specs.Changing.{Begun, StopsBeginning, CopiedRecord, StopsCopyingRecord, cost_on, is_scratch_left, IsEraseLoss, body_at, EndsCollection};
+ghost use Rattle.fcb_ring.specs.Standing.{StandsOn, IsListed, KeepsEntries, is_up};
 
-use crate::image::RECORD;
 use crate::record::RecordAt;
 use crate::ring::{Ring, Stage};
 use arrayvec::ArrayVec;
 use flash_map::area_erase;
-use flash_sim::{Flash, PowerLost, Steps};
+use flash_sim::{Flash, PROGRAM_LIMIT, PowerLost, Steps};
 use std::sync::ledger::Ledger;
 
-fn copy_of(bytes: &[u8]) -> ArrayVec<u8, RECORD>
-    requires { length bytes.now ≤ 400 }
+fn copy_of(bytes: &[u8]) -> ArrayVec<u8, PROGRAM_LIMIT>
+    requires { length bytes.now ≤ PROGRAM_LIMIT }
     ensures { result.items ≡ bytes.now }
 {
     let mut copy = ArrayVec::new();
@@ -38,23 +35,11 @@ impl Ring {
         requires left { is_scratch_left self.old ≡ true }
 
         ensures touches { Touches (self.old.area ∷ []) (F.device flash.old) (F.device flash.new) (is_err result) }
-        ensures list { KeepsEntries (F.device flash.old) (F.device flash.new) self.old.area }
-        ensures others { KeepsOthers (F.device flash.old) (F.device flash.new) self.old.area (next_place self.old) }
-        ensures area { self.new.area ≡ self.old.area }
-        ensures reserve { self.new.reserve ≡ self.old.reserve }
-
-        ensures stands { OnOk result (StandsOn (F.device flash.new) self.new) }
-        ensures collecting { OnOk result (self.new.stage ≡ Stage.Collecting) }
-        ensures goes_on { OnOk result (GoesOn self.old self.new false) }
-        ensures end { OnOk result (self.new.end ≡ padded (unit_of (F.device flash.old) self.old.area) 8) }
-        ensures no_copies { OnOk result (sector_list (F.device flash.new) self.old.area (newest_place self.new) ≡ []) }
-        ensures units { OnOk result (Spends (F.device flash.old) (F.device flash.new) (padded (unit_of (F.device flash.old) self.old.area) 8 / unit_of (F.device flash.old) self.old.area)) }
-
-        ensures down { OnErr result (is_up self.new.stage ≡ false) }
-        ensures lost { OnErr result ((F.device flash.old).is_on ≡ true → IsHeaderLoss (F.device flash.new) self.old.area) }
-        ensures bound { OnErr result (SpendsAtMost (F.device flash.old) (F.device flash.new) (padded (unit_of (F.device flash.old) self.old.area) 8 / unit_of (F.device flash.old) self.old.area)) }
+        ensures begun { OnOk result (Begun (F.device flash.old) (F.device flash.new) self.old self.new) }
+        ensures stopped { OnErr result (StopsBeginning (F.device flash.old) (F.device flash.new) self.old self.new) }
     {
-        self.open_next(flash, Stage::Collecting)
+        self.open_next(flash, Stage::Collecting)?;
+        Ok(())
     }
 
     // The body of a record.
@@ -63,10 +48,10 @@ impl Ring {
         flash: &F,
         r: &RecordAt,
         steps: &mut Steps<L>,
-    ) -> ArrayVec<u8, RECORD>
+    ) -> ArrayVec<u8, PROGRAM_LIMIT>
         requires stands { StandsOn (F.device flash.now) self.now }
-        requires listed { Contains (record_places (entries_on (F.device flash.now) self.now.area)) r.now }
-        requires short { r.now.len ≤ 400 }
+        requires listed { IsListed (F.device flash.now) self.now.area r.now }
+        requires short { r.now.len ≤ PROGRAM_LIMIT }
         ensures bytes { result.items ≡ body_at (F.device flash.now) self.now.area r.now }
         ensures len { length result.items ≡ r.now.len }
     {
@@ -86,30 +71,14 @@ impl Ring {
     ) -> Result<(), PowerLost>
         requires stands { StandsOn (F.device flash.old) self.old }
         requires collecting { self.old.stage ≡ Stage.Collecting }
-        requires listed { Contains (record_places (entries_on (F.device flash.old) self.old.area)) r.now }
+        requires listed { IsListed (F.device flash.old) self.old.area r.now }
         requires of_oldest { r.now.sector ≡ self.old.oldest }
-        requires short { record_cost (unit_of (F.device flash.old) self.old.area) r.now.len ≤ 400 }
-        requires fits { self.old.end + record_cost (unit_of (F.device flash.old) self.old.area) r.now.len ≤ sector_size (F.device flash.old) self.old.area }
+        requires short { cost_on (F.device flash.old) self.old.area r.now.len ≤ PROGRAM_LIMIT }
+        requires fits { let d = F.device flash.old in self.old.end + cost_on d self.old.area r.now.len ≤ sector_size d self.old.area }
 
         ensures touches { Touches (self.old.area ∷ []) (F.device flash.old) (F.device flash.new) (is_err result) }
-        ensures list { KeepsEntries (F.device flash.old) (F.device flash.new) self.old.area }
-        ensures others { KeepsOthers (F.device flash.old) (F.device flash.new) self.old.area (newest_place self.old) }
-        ensures area { self.new.area ≡ self.old.area }
-        ensures reserve { self.new.reserve ≡ self.old.reserve }
-
-        ensures stands { OnOk result (StandsOn (F.device flash.new) self.new) }
-        ensures collecting { OnOk result (self.new.stage ≡ Stage.Collecting) }
-        ensures oldest { OnOk result (self.new.oldest ≡ self.old.oldest) }
-        ensures used { OnOk result (self.new.used ≡ self.old.used) }
-        ensures end { OnOk result (self.new.end ≡ self.old.end + record_cost (unit_of (F.device flash.old) self.old.area) r.now.len) }
-        ensures written { OnOk result (Writes (F.device flash.old) (F.device flash.new) self.old.area (newest_place self.old) self.old.end (record_image (unit_of (F.device flash.old) self.old.area) (body_at (F.device flash.old) self.old.area r.now))) }
-        ensures copies { OnOk result (CopiesRecord (F.device flash.old) (F.device flash.new) self.old r.now) }
-        ensures units { OnOk result (Spends (F.device flash.old) (F.device flash.new) (record_cost (unit_of (F.device flash.old) self.old.area) r.now.len / unit_of (F.device flash.old) self.old.area)) }
-
-        ensures down { OnErr result (is_up self.new.stage ≡ false) }
-        ensures full { OnErr result (is_full (states_on (F.device flash.new) self.old.area) ≡ true) }
-        ensures lost { OnErr result ((F.device flash.old).is_on ≡ true → (done : ℕ) × IsRecordLoss (F.device flash.new) self.old.area (newest_place self.old) self.old.end (body_at (F.device flash.old) self.old.area r.now) done) }
-        ensures bound { OnErr result (SpendsAtMost (F.device flash.old) (F.device flash.new) (record_cost (unit_of (F.device flash.old) self.old.area) r.now.len / unit_of (F.device flash.old) self.old.area)) }
+        ensures copied { OnOk result (CopiedRecord (F.device flash.old) (F.device flash.new) self.old self.new r.now) }
+        ensures stopped { OnErr result (StopsCopyingRecord (F.device flash.old) (F.device flash.new) self.old self.new r.now) }
     {
         let body = self.body_of(flash, r, steps);
         self.put_record(flash, body.as_slice())?;
@@ -125,7 +94,7 @@ impl Ring {
         requires collecting { self.old.stage ≡ Stage.Collecting }
 
         ensures touches { Touches (self.old.area ∷ []) (F.device flash.old) (F.device flash.new) (is_err result) }
-        ensures others { KeepsOthers (F.device flash.old) (F.device flash.new) self.old.area self.old.oldest }
+        ensures others { OthersStay (F.device flash.old) (F.device flash.new) self.old.area self.old.oldest }
         ensures area { self.new.area ≡ self.old.area }
         ensures reserve { self.new.reserve ≡ self.old.reserve }
 

@@ -1,5 +1,6 @@
 // What the ring programs: headers and records.
 ghost use Rattle.std.specs.Prelude.{◌≡◌, ◌+◌, ◌/◌, ◌%◌, ◌<◌, ◌≤◌, ◌++◌, ◌^◌, length};
+ghost use Rattle.flash_sim.specs.declared.flash.TheConstants.{PROGRAM_LIMIT};
 ghost use Rattle.flash_map.specs.Units.{IsUnit, padded};
 ghost use Rattle.fcb_ring.specs.Writing.{filled, length_field, record_image, record_cost, header_image};
 
@@ -7,12 +8,10 @@ use crate::sector::LEAD;
 use arrayvec::ArrayVec;
 use crc8_entry::{START, crc8};
 use flash_map::padded;
+use flash_sim::PROGRAM_LIMIT;
 
 // The bytes of the greatest unit.
 const UNIT: usize = 16;
-
-// The most bytes of a record: those of one program.
-pub(crate) const RECORD: usize = 400;
 
 // A header with this id, as it is at the greatest unit. At a smaller one it is the front of it.
 #[tactic(auto, unfolding(crate::specs::Writing::header_image, crate::specs::Writing::filled, flash_map::specs::Units::padded))]
@@ -37,7 +36,7 @@ pub fn record_cost(unit: u32, len: u32) -> u32
 // The bytes that a length is written by.
 #[tactic(auto, unfolding(crate::specs::Writing::length_field))]
 fn length_field(len: u32) -> ArrayVec<u8, 2>
-    requires { len ≤ 16383 }
+    requires { len ≤ PROGRAM_LIMIT }
     ensures { result.items ≡ length_field len }
 {
     let mut field = ArrayVec::new();
@@ -51,17 +50,17 @@ fn length_field(len: u32) -> ArrayVec<u8, 2>
 }
 
 // Puts bytes behind the others.
-fn push_all(image: &mut ArrayVec<u8, RECORD>, bytes: &[u8])
-    requires { length image.old.items + length bytes.now ≤ 400 }
+pub(crate) fn push_all<const N: usize>(image: &mut ArrayVec<u8, N>, bytes: &[u8])
+    requires { length image.old.items + length bytes.now ≤ N }
     ensures { image.new.items ≡ image.old.items ++ bytes.now }
 {
     let _fits = image.try_extend_from_slice(bytes);
 }
 
 // Puts a part behind the others, filled up to whole units.
-fn push_filled(image: &mut ArrayVec<u8, RECORD>, unit: u32, part: &[u8])
+fn push_filled(image: &mut ArrayVec<u8, PROGRAM_LIMIT>, unit: u32, part: &[u8])
     requires unit { IsUnit unit }
-    requires room { length image.old.items + padded unit (length part.now) ≤ 400 }
+    requires room { length image.old.items + padded unit (length part.now) ≤ PROGRAM_LIMIT }
     ensures { image.new.items ≡ image.old.items ++ filled unit part.now }
 {
     let fill = padded(unit, part.len() as u32) as usize - part.len();
@@ -70,9 +69,9 @@ fn push_filled(image: &mut ArrayVec<u8, RECORD>, unit: u32, part: &[u8])
 }
 
 // A record with this body.
-pub(crate) fn record_image(unit: u32, body: &[u8]) -> ArrayVec<u8, RECORD>
+pub(crate) fn record_image(unit: u32, body: &[u8]) -> ArrayVec<u8, PROGRAM_LIMIT>
     requires unit { IsUnit unit }
-    requires short { record_cost unit (length body.now) ≤ 400 }
+    requires short { record_cost unit (length body.now) ≤ PROGRAM_LIMIT }
     ensures { result.items ≡ record_image unit body.now }
 {
     let field = length_field(body.len() as u32);

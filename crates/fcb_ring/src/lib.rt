@@ -11,17 +11,15 @@ mod record;
 mod ring;
 mod sector;
 mod sequence;
+mod tearing;
 mod writing;
 
 pub use image::record_cost;
 pub use record::{Record, RecordAt};
 pub use ring::{Ring, Stage};
 pub use sector::SectorState;
+pub use tearing::{chance, chance_of_a_record};
 pub use writing::AppendFault;
 
 #[cfg(test)]
-mod random_areas;
-#[cfg(test)]
 mod tests;
-#[cfg(test)]
-mod writing_tests;

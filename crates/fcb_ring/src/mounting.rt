@@ -1,10 +1,10 @@
 // Mounting.
-ghost use Rattle.std.specs.Prelude.{◌≡◌, ◌<◌, ◌∷◌, [], None, IfOk};
-ghost use Rattle.flash_map.specs.Area.{unit_of, sectors_of};
+ghost use Rattle.std.specs.Prelude.{◌≡◌, ◌<◌, ◌∷◌, [], None, true, IfOk};
+ghost use Rattle.flash_map.specs.Area.{sectors_of};
 ghost use Rattle.flash_map.specs.Touches.{Touches};
-ghost use Rattle.fcb_ring.specs.Rings.{first_damage};
+ghost use Rattle.fcb_ring.specs.Changing.{StopsErasing};
 ghost use Rattle.flash_map.specs.Faults.{mount_lost};
-ghost use Rattle.fcb_ring.specs.Standing.{IsRingArea, states_on, KeepsEntries, mounted_sectors, MountEnds};
+ghost use Rattle.fcb_ring.specs.Standing.{IsRingArea, KeepsEntries, mounted_on, erases_on, ring_damage, MountEnds};
 
 use crate::ring::Ring;
 use flash_map::{Area, MountFault};
@@ -26,8 +26,10 @@ impl Ring {
         requires { IsRingArea (F.device flash.old).banks area }
         ensures touches { Touches (area ∷ []) (F.device flash.old) (F.device flash.new) (mount_lost result) }
         ensures ends { MountEnds (F.device flash.old) (F.device flash.new) area reserve result }
-        ensures erased { IfOk result (λ ring. sectors_of (F.device flash.new) area ≡ mounted_sectors (unit_of (F.device flash.old) area) (sectors_of (F.device flash.old) area)) }
-        ensures list { first_damage (states_on (F.device flash.old) area) ≡ None → KeepsEntries (F.device flash.old) (F.device flash.new) area }
+        ensures idle { erases_on (F.device flash.old) area ≡ 0 → F.device flash.new ≡ F.device flash.old }
+        ensures erased { IfOk result (λ ring. sectors_of (F.device flash.new) area ≡ mounted_on (F.device flash.old) area) }
+        ensures part { mount_lost result ≡ true → StopsErasing (F.device flash.old) (F.device flash.new) area }
+        ensures list { let d = F.device flash.old in ring_damage d area ≡ None → KeepsEntries d (F.device flash.new) area }
     {
         match Ring::inspect(flash, area, reserve, steps) {
             Err(damaged) => Err(MountFault::Damaged(damaged)),

@@ -1,11 +1,9 @@
 // The records of a ring, one after the other.
-ghost use Rattle.std.specs.Prelude.{◌≡◌, ◌+◌, ◌-◌, ◌%◌, ◌<◌, ◌≤◌, ◌==◌, ℕ, Some, None, Contains, min, slice_range, if◌then◌else◌};
-ghost use Rattle.std.specs.List.{slice_get};
+ghost use Rattle.std.specs.Prelude.{◌≡◌, ◌+◌, ◌-◌, ◌%◌, ◌<◌, ◌≤◌, ◌==◌, Some, None, find, min, if◌then◌else◌};
 ghost use Rattle.std.specs.Option.{ForSome};
-ghost use Rattle.flash_map.specs.Area.{unit_of, sectors_of, sector_size};
-ghost use Rattle.fcb_ring.specs.Entries.{records_from, following};
-ghost use Rattle.flash_map.specs.Area.{sector_at};
-ghost use Rattle.fcb_ring.specs.Standing.{StandsOn, entries_on, record_places, IsNext};
+ghost use Rattle.flash_map.specs.Area.{unit_of, sector_size};
+ghost use Rattle.fcb_ring.specs.Changing.{body_at, begins_with};
+ghost use Rattle.fcb_ring.specs.Standing.{StandsOn, entries_on, IsListed, IsBodyOf, records_on, following_on, IsNext, IsNextWith};
 
 use crate::record::{RecordAt, next_checked};
 use crate::ring::Ring;
@@ -38,13 +36,30 @@ impl Ring {
         steps: &mut Steps<L>,
     ) -> Option<RecordAt>
         requires stands { StandsOn (F.device flash.now) self.now }
-        requires after { ForSome after (λ r. Contains (record_places (entries_on (F.device flash.now) self.now.area)) r) }
+        requires after { ForSome after (IsListed (F.device flash.now) self.now.area) }
         ensures next { IsNext (entries_on (F.device flash.now) self.now.area) after result }
-        ensures listed { ForSome result (λ r. Contains (record_places (entries_on (F.device flash.now) self.now.area)) r) }
+        ensures listed { ForSome result (IsListed (F.device flash.now) self.now.area) }
+    {
+        self.next_with(flash, after, &[], steps)
+    }
+
+    /// The next of these records whose body begins with the given bytes. The CRC of no other is computed, so a walk over
+    /// records that are of no account reads their lengths and first bytes alone.
+    pub fn next_with<F: Flash, L: Ledger>(
+        &self,
+        flash: &F,
+        after: Option<RecordAt>,
+        front: &[u8],
+        steps: &mut Steps<L>,
+    ) -> Option<RecordAt>
+        requires stands { StandsOn (F.device flash.now) self.now }
+        requires after { ForSome after (IsListed (F.device flash.now) self.now.area) }
+        ensures next { IsNextWith (entries_on (F.device flash.now) self.now.area) front.now after result }
+        ensures listed { ForSome result (IsListed (F.device flash.now) self.now.area) }
     {
         let unit = geometry(flash, &self.area).unit;
         match after {
-            None => self.next_from(flash, 0, padded(unit, 8), steps),
+            None => self.next_from(flash, 0, padded(unit, 8), front, steps),
             Some(record) => {
                 let further = distance(
                     self.area.sectors as usize,
@@ -52,28 +67,29 @@ impl Ring {
                     record.sector as usize,
                 );
                 let from = record.body + padded(unit, record.len) + unit;
-                self.next_from(flash, further as u32, from, steps)
+                self.next_from(flash, further as u32, from, front, steps)
             }
         }
     }
 
-    // The first record in one sector from there on.
+    // The first record in one sector from there on whose body begins so.
     fn next_in<F: Flash, L: Ledger>(
         &self,
         flash: &F,
         place: u32,
         from: u32,
+        front: &[u8],
         steps: &mut Steps<L>,
     ) -> Option<RecordAt>
         requires stands { StandsOn (F.device flash.now) self.now }
         requires place { place < self.now.area.sectors }
         requires aligned { from % unit_of (F.device flash.now) self.now.area ≡ 0 }
         requires within { from ≤ sector_size (F.device flash.now) self.now.area }
-        ensures { result ≡ slice_get (records_from (unit_of (F.device flash.now) self.now.area) place (sector_at (sectors_of (F.device flash.now) self.now.area) place) from) 0 }
+        ensures { let d = F.device flash.now in result ≡ find (begins_with d self.now.area front.now) (records_on d self.now.area place from) }
     {
         let unit = geometry(flash, &self.area).unit;
         let sector = sector_view(flash, &self.area, place, steps);
-        match next_checked(sector, unit, from) {
+        match next_checked(sector, unit, from, front) {
             Some(record) => Some(RecordAt {
                 sector: place,
                 offset: record.offset,
@@ -84,25 +100,26 @@ impl Ring {
         }
     }
 
-    // The first record from there on, in the sector so far behind the oldest, and in those after it.
+    // The first such record from there on, in the sector so far behind the oldest, and in those after it.
     fn next_from<F: Flash, L: Ledger>(
         &self,
         flash: &F,
         further: u32,
         from: u32,
+        front: &[u8],
         steps: &mut Steps<L>,
     ) -> Option<RecordAt>
         requires stands { StandsOn (F.device flash.now) self.now }
         requires further { further ≤ self.now.area.sectors }
         requires aligned { from % unit_of (F.device flash.now) self.now.area ≡ 0 }
         requires within { from ≤ sector_size (F.device flash.now) self.now.area }
-        ensures { result ≡ slice_get (following (unit_of (F.device flash.now) self.now.area) (sectors_of (F.device flash.now) self.now.area) self.now.oldest (min self.now.used (self.now.area.sectors - 1)) further from) 0 }
+        ensures { let d = F.device flash.now in result ≡ find (begins_with d self.now.area front.now) (following_on d self.now further from) }
     {
         let header = padded(geometry(flash, &self.area).unit, 8);
         let mut at = further;
         let mut offset = from;
         while at < self.counted() {
-            let found = self.next_in(flash, self.place(at), offset, steps);
+            let found = self.next_in(flash, self.place(at), offset, front, steps);
             if found.is_some() {
                 return found;
             }
@@ -120,10 +137,10 @@ impl Ring {
         steps: &mut Steps<L>,
     ) -> &'a [u8]
         requires stands { StandsOn (F.device flash.now) self.now }
-        requires record { Contains (record_places (entries_on (F.device flash.now) self.now.area)) r.now }
+        requires record { IsListed (F.device flash.now) self.now.area r.now }
         ensures step { steps.new ≡ steps.old + 1 }
-        ensures bytes { result.now ≡ slice_range (sector_at (sectors_of (F.device flash.now) self.now.area) r.now.sector) r.now.body (r.now.body + r.now.len) }
-        ensures body { (i : ℕ) → slice_get (record_places (entries_on (F.device flash.now) self.now.area)) i ≡ Some r.now → slice_get (entries_on (F.device flash.now) self.now.area) i ≡ Some (r.now, result.now) }
+        ensures bytes { result.now ≡ body_at (F.device flash.now) self.now.area r.now }
+        ensures body { IsBodyOf (F.device flash.now) self.now.area r.now result.now }
     {
         let sector = sector_view(flash, &self.area, r.sector, steps);
         let start = r.body as usize;

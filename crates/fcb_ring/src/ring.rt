@@ -1,19 +1,18 @@
 // The ring over one area.
-ghost use Rattle.std.specs.Prelude.{◌≡◌, ◌+◌, ◌-◌, ◌<◌, ◌≤◌, ◌∷◌, [], ℕ, Some, None, is_err, length, min, IfOk, OnOk, OnErr, MatchResult, false, true};
-ghost use Rattle.flash_sim.specs.Device.{counted};
-ghost use Rattle.flash_map.specs.Area.{unit_of, sectors_of};
-ghost use Rattle.flash_map.specs.Spending.{SpendsAtMost};
+ghost use Rattle.std.specs.Prelude.{◌≡◌, ◌+◌, ◌-◌, ◌<◌, ◌≤◌, ◌∷◌, [], Some, None, is_err, length, min, IfOk, OnOk, OnErr, MatchResult, false, true};
+ghost use Rattle.flash_map.specs.Area.{sectors_of};
+ghost use Rattle.flash_map.specs.Spending.{Spends, SpendsAtMost};
 ghost use Rattle.flash_map.specs.Touches.{Touches};
-ghost use Rattle.fcb_ring.specs.SectorStates.{state_of, mended_up_to};
+ghost use Rattle.fcb_ring.specs.SectorStates.{state_of};
 ghost use Rattle.fcb_ring.specs.Rings.{state_at, turned, oldest_place, first_damage};
-ghost use Rattle.flash_map.specs.Area.{sector_at};
-ghost use Rattle.fcb_ring.specs.Standing.{IsRingArea, StandsOn, states_on, KeepsEntries, is_up, is_finished, is_collecting, is_uncounted, erases_due, mounted_sectors};
+ghost use Rattle.fcb_ring.specs.Changing.{StopsErasing};
+ghost use Rattle.fcb_ring.specs.Standing.{IsRingArea, StandsOn, states_on, state_on, KeepsEntries, is_up, is_finished, is_collecting, is_uncounted, erases_on, ring_damage, mounted_on};
 
-use crate::erasing::{erase_if, erase_torn};
+use crate::erasing::erase_torn;
 use crate::sector::{SectorState, state_of};
 use crate::sequence::{first_damage, oldest_place, turned, used_from};
 use arrayvec::ArrayVec;
-use flash_map::{Area, Damaged, geometry, sector_view};
+use flash_map::{Area, Damaged, erase_if, geometry, sector_view};
 use flash_sim::{Flash, PowerLost, Steps};
 use std::sync::ledger::Ledger;
 
@@ -54,14 +53,14 @@ fn look<F: Flash, L: Ledger>(
 ) -> SectorState
     requires area { IsRingArea (F.device flash.now).banks area.now }
     requires has_sector { sector < area.now.sectors }
-    ensures { result ≡ state_of (unit_of (F.device flash.now) area.now) (sector_at (sectors_of (F.device flash.now) area.now) sector) }
+    ensures { result ≡ state_on (F.device flash.now) area.now sector }
 {
     let unit = geometry(flash, area).unit;
     state_of(sector_view(flash, area, sector, steps), unit)
 }
 
 // The state of each sector.
-fn read_states<F: Flash, L: Ledger>(
+pub(crate) fn read_states<F: Flash, L: Ledger>(
     flash: &F,
     area: &Area,
     steps: &mut Steps<L>,
@@ -106,7 +105,7 @@ impl Ring {
 
         ensures ok { IfOk result (λ ring. StandsOn (F.device flash.now) ring) }
         ensures ring { IfOk result (λ ring. (ring.area ≡ area) × (ring.reserve ≡ reserve) × (is_up ring.stage ≡ true) × (is_finished ring.stage ≡ false)) }
-        ensures damaged { MatchResult result (λ _. first_damage (states_on (F.device flash.now) area) ≡ None) (λ damaged. first_damage (states_on (F.device flash.now) area) ≡ Some damaged) }
+        ensures damaged { let is = ring_damage (F.device flash.now) area in MatchResult result (λ _. is ≡ None) (λ damaged. is ≡ Some damaged) }
     {
         let found = read_states(flash, &area, steps);
         let states = found.as_slice();
@@ -177,17 +176,18 @@ impl Ring {
 
         ensures touches { Touches (self.old.area ∷ []) (F.device flash.old) (F.device flash.new) (is_err result) }
         ensures list { KeepsEntries (F.device flash.old) (F.device flash.new) self.old.area }
+        ensures idle { erases_on (F.device flash.old) self.old.area ≡ 0 → F.device flash.new ≡ F.device flash.old }
         ensures area { self.new.area ≡ self.old.area }
         ensures reserve { self.new.reserve ≡ self.old.reserve }
 
         ensures stands { OnOk result (StandsOn (F.device flash.new) self.new) }
         ensures ready { OnOk result (self.new.stage ≡ Stage.Ready) }
-        ensures erased { OnOk result (sectors_of (F.device flash.new) self.old.area ≡ mounted_sectors (unit_of (F.device flash.old) self.old.area) (sectors_of (F.device flash.old) self.old.area)) }
-        ensures units { OnOk result ((F.device flash.new).spent ≡ counted (F.device flash.old).spent (erases_due (states_on (F.device flash.old) self.old.area))) }
+        ensures erased { OnOk result (sectors_of (F.device flash.new) self.old.area ≡ mounted_on (F.device flash.old) self.old.area) }
+        ensures units { let d = F.device flash.old in OnOk result (Spends d (F.device flash.new) (erases_on d self.old.area)) }
 
         ensures down { OnErr result (is_up self.new.stage ≡ false) }
-        ensures part { OnErr result ((n : ℕ) × (sectors_of (F.device flash.new) self.old.area ≡ mended_up_to n (sectors_of (F.device flash.old) self.old.area))) }
-        ensures bound { OnErr result (SpendsAtMost (F.device flash.old) (F.device flash.new) (erases_due (states_on (F.device flash.old) self.old.area))) }
+        ensures part { OnErr result (StopsErasing (F.device flash.old) (F.device flash.new) self.old.area) }
+        ensures bound { let d = F.device flash.old in OnErr result (SpendsAtMost d (F.device flash.new) (erases_on d self.old.area)) }
     {
         let is_full = self.is_uncounted();
         self.stage = Stage::Down;

@@ -1,10 +1,11 @@
 // Opening sectors, and putting records.
-ghost use Rattle.std.specs.Prelude.{◌≡◌, ◌+◌, ◌-◌, ◌/◌, ◌<◌, ◌≤◌, ◌∷◌, [], ℕ, true, false, is_err, length, OnOk, OnErr, ◌==◌, if◌then◌else◌};
-ghost use Rattle.flash_map.specs.Area.{unit_of, sector_size, Writes};
+ghost use Rattle.std.specs.Prelude.{◌≡◌, ◌+◌, ◌-◌, ◌/◌, ◌<◌, ◌≤◌, ◌∷◌, [], true, false, is_err, length, OnOk, OnErr, ◌==◌, if◌then◌else◌};
+ghost use Rattle.flash_sim.specs.declared.flash.TheConstants.{PROGRAM_LIMIT};
+ghost use Rattle.flash_map.specs.Area.{sector_size, Writes, OthersStay};
 ghost use Rattle.flash_map.specs.Spending.{Spends, SpendsAtMost};
 ghost use Rattle.flash_map.specs.Touches.{Touches};
 ghost use Rattle.flash_map.specs.Units.{IsUnit, padded};
-ghost use Rattle.fcb_ring.specs.Changing.{kept_room, is_too_long, has_room, is_scratch_left, newest_place, next_place, KeepsOthers, sector_list, FitsOpened, PutsRecord, IsRecordLoss, IsHeaderLoss, CutAppend, AddsRecord, GoesOn, EndsWithRecord, next_id, IsReady, IsDown, append_units, append_lost, place_for, AppendEnds, RotateEnds};
+ghost use Rattle.fcb_ring.specs.Changing.{image_on, cost_on, record_units, header_on, header_units, kept_room, is_too_long, has_room, is_scratch_left, newest_place, next_place, sector_list, FitsOpened, PutsRecord, LosesRecord, LosesHeader, CutAppend, AddsRecord, GoesOn, end_for, opening_units, EndsWithRecord, next_id, IsReady, IsDown, append_lost, place_for, AppendEnds, RotateEnds};
 ghost use Rattle.fcb_ring.specs.Rings.{is_full};
 ghost use Rattle.fcb_ring.specs.Standing.{StandsOn, states_on, KeepsEntries, is_finished, is_up};
 ghost use Rattle.fcb_ring.specs.Writing.{record_image, record_cost};
@@ -28,14 +29,14 @@ pub enum AppendFault {
 // Whether no sector could hold a record with a body of this length that leaves so much room.
 fn is_too_long(geometry: Geometry, kept: u32, len: u32) -> bool
     requires unit { IsUnit geometry.unit }
-    requires len { len ≤ 400 }
+    requires len { len ≤ PROGRAM_LIMIT }
     ensures { result ≡ is_too_long geometry.unit geometry.sector kept len }
 {
     let room = geometry
         .sector
         .saturating_sub(padded(geometry.unit, 8))
         .saturating_sub(kept);
-    len == 0 || 16383 < len || room < record_cost(geometry.unit, len)
+    len == 0 || room < record_cost(geometry.unit, len)
 }
 
 impl Ring {
@@ -49,19 +50,18 @@ impl Ring {
     // Whether a record with a body of this length fits behind those of the newest sector.
     fn has_room(&self, geometry: Geometry, kept: u32, len: u32) -> bool
         requires unit { IsUnit geometry.unit }
-        requires len { len ≤ 400 }
+        requires len { len ≤ PROGRAM_LIMIT }
         ensures { result ≡ has_room geometry.unit geometry.sector self.now kept len }
     {
         let end = self.end as u64 + record_cost(geometry.unit, len) as u64 + kept as u64;
         0 < self.used && end <= geometry.sector as u64
     }
 
-    // Whether no sector but the scratch one is free.
-    fn is_scratch_left(&self) -> bool
-        requires { self.now.used < 64 }
+    /// Whether no sector but the scratch one is free.
+    pub fn is_scratch_left(&self) -> bool
         ensures { result ≡ is_scratch_left self.now }
     {
-        self.used + 1 == self.area.sectors
+        u64::from(self.used) + 1 == u64::from(self.area.sectors)
     }
 
     // The id of the sector that is opened next.
@@ -87,7 +87,7 @@ impl Ring {
 
         ensures touches { Touches (self.old.area ∷ []) (F.device flash.old) (F.device flash.new) (is_err result) }
         ensures list { KeepsEntries (F.device flash.old) (F.device flash.new) self.old.area }
-        ensures others { KeepsOthers (F.device flash.old) (F.device flash.new) self.old.area (next_place self.old) }
+        ensures others { OthersStay (F.device flash.old) (F.device flash.new) self.old.area (next_place self.old) }
         ensures area { self.new.area ≡ self.old.area }
         ensures reserve { self.new.reserve ≡ self.old.reserve }
 
@@ -95,14 +95,14 @@ impl Ring {
         ensures used { OnOk result (self.new.used ≡ self.old.used + 1) }
         ensures oldest { OnOk result (self.new.oldest ≡ self.old.oldest) }
         ensures id { OnOk result (self.new.id ≡ next_id self.old) }
-        ensures end { OnOk result (self.new.end ≡ padded (unit_of (F.device flash.old) self.old.area) 8) }
+        ensures end { OnOk result (self.new.end ≡ header_on (F.device flash.old) self.old.area) }
         ensures stage { OnOk result (self.new.stage ≡ next) }
         ensures fresh { OnOk result (sector_list (F.device flash.new) self.old.area (newest_place self.new) ≡ []) }
-        ensures units { OnOk result (Spends (F.device flash.old) (F.device flash.new) (padded (unit_of (F.device flash.old) self.old.area) 8 / unit_of (F.device flash.old) self.old.area)) }
+        ensures units { let d = F.device flash.old in OnOk result (Spends d (F.device flash.new) (header_units d self.old.area)) }
 
         ensures down { OnErr result (is_up self.new.stage ≡ false) }
-        ensures lost { OnErr result ((F.device flash.old).is_on ≡ true → IsHeaderLoss (F.device flash.new) self.old.area) }
-        ensures bound { OnErr result (SpendsAtMost (F.device flash.old) (F.device flash.new) (padded (unit_of (F.device flash.old) self.old.area) 8 / unit_of (F.device flash.old) self.old.area)) }
+        ensures lost { OnErr result (LosesHeader (F.device flash.old) (F.device flash.new) self.old) }
+        ensures bound { let d = F.device flash.old in OnErr result (SpendsAtMost d (F.device flash.new) (header_units d self.old.area)) }
     {
         let unit = geometry(flash, &self.area).unit;
         let place = self.place(self.used);
@@ -127,11 +127,11 @@ impl Ring {
         requires stands { StandsOn (F.device flash.old) self.old }
         requires writes { is_finished self.old.stage ≡ true }
         requires some { 0 < self.old.used }
-        requires short { record_cost (unit_of (F.device flash.old) self.old.area) (length body.now) ≤ 400 }
-        requires fits { self.old.end + record_cost (unit_of (F.device flash.old) self.old.area) (length body.now) ≤ sector_size (F.device flash.old) self.old.area }
+        requires short { cost_on (F.device flash.old) self.old.area (length body.now) ≤ PROGRAM_LIMIT }
+        requires fits { let d = F.device flash.old in self.old.end + cost_on d self.old.area (length body.now) ≤ sector_size d self.old.area }
 
         ensures touches { Touches (self.old.area ∷ []) (F.device flash.old) (F.device flash.new) (is_err result) }
-        ensures others { KeepsOthers (F.device flash.old) (F.device flash.new) self.old.area (newest_place self.old) }
+        ensures others { OthersStay (F.device flash.old) (F.device flash.new) self.old.area (newest_place self.old) }
         ensures area { self.new.area ≡ self.old.area }
         ensures reserve { self.new.reserve ≡ self.old.reserve }
 
@@ -139,19 +139,19 @@ impl Ring {
         ensures used { OnOk result (self.new.used ≡ self.old.used) }
         ensures oldest { OnOk result (self.new.oldest ≡ self.old.oldest) }
         ensures id { OnOk result (self.new.id ≡ self.old.id) }
-        ensures end { OnOk result (self.new.end ≡ self.old.end + record_cost (unit_of (F.device flash.old) self.old.area) (length body.now)) }
+        ensures end { OnOk result (self.new.end ≡ self.old.end + cost_on (F.device flash.old) self.old.area (length body.now)) }
         ensures stage { OnOk result (self.new.stage ≡ self.old.stage) }
-        ensures written { OnOk result (Writes (F.device flash.old) (F.device flash.new) self.old.area (newest_place self.old) self.old.end (record_image (unit_of (F.device flash.old) self.old.area) body.now)) }
+        ensures written { let d = F.device flash.old in OnOk result (Writes d (F.device flash.new) self.old.area (newest_place self.old) self.old.end (image_on d self.old.area body.now)) }
         ensures ends_with { OnOk result (EndsWithRecord (F.device flash.new) self.new (newest_place self.old) body.now) }
         ensures puts { OnOk result (PutsRecord (F.device flash.old) (F.device flash.new) self.old body.now) }
-        ensures units { OnOk result (Spends (F.device flash.old) (F.device flash.new) (record_cost (unit_of (F.device flash.old) self.old.area) (length body.now) / unit_of (F.device flash.old) self.old.area)) }
+        ensures units { let d = F.device flash.old in OnOk result (Spends d (F.device flash.new) (record_units d self.old.area (length body.now))) }
 
         ensures down { OnErr result (is_up self.new.stage ≡ false) }
         ensures counted { OnErr result (self.old.used < self.old.area.sectors → CutAppend (F.device flash.old) (F.device flash.new) self.old.area (newest_place self.old) body.now) }
-        ensures lost { OnErr result ((F.device flash.old).is_on ≡ true → (done : ℕ) × IsRecordLoss (F.device flash.new) self.old.area (newest_place self.old) self.old.end body.now done) }
+        ensures lost { OnErr result (LosesRecord (F.device flash.old) (F.device flash.new) self.old body.now) }
         ensures full { OnErr result (self.old.used ≡ self.old.area.sectors → is_full (states_on (F.device flash.new) self.old.area) ≡ true) }
         ensures uncounted { OnErr result (self.old.used ≡ self.old.area.sectors → KeepsEntries (F.device flash.old) (F.device flash.new) self.old.area) }
-        ensures bound { OnErr result (SpendsAtMost (F.device flash.old) (F.device flash.new) (record_cost (unit_of (F.device flash.old) self.old.area) (length body.now) / unit_of (F.device flash.old) self.old.area)) }
+        ensures bound { let d = F.device flash.old in OnErr result (SpendsAtMost d (F.device flash.new) (record_units d self.old.area (length body.now))) }
     {
         let unit = geometry(flash, &self.area).unit;
         let record = record_image(unit, body);
@@ -171,22 +171,23 @@ impl Ring {
         requires stands { StandsOn (F.device flash.old) self.old }
         requires ready { self.old.stage ≡ Stage.Ready }
         requires free { self.old.used + 1 < self.old.area.sectors }
-        requires short { record_cost (unit_of (F.device flash.old) self.old.area) (length body.now) ≤ 400 }
-        requires fits { padded (unit_of (F.device flash.old) self.old.area) 8 + record_cost (unit_of (F.device flash.old) self.old.area) (length body.now) ≤ sector_size (F.device flash.old) self.old.area }
+        requires short { cost_on (F.device flash.old) self.old.area (length body.now) ≤ PROGRAM_LIMIT }
+        requires fits { let d = F.device flash.old in header_on d self.old.area + cost_on d self.old.area (length body.now) ≤ sector_size d self.old.area }
 
         ensures touches { Touches (self.old.area ∷ []) (F.device flash.old) (F.device flash.new) (is_err result) }
         ensures area { self.new.area ≡ self.old.area }
         ensures reserve { self.new.reserve ≡ self.old.reserve }
 
-        ensures others { KeepsOthers (F.device flash.old) (F.device flash.new) self.old.area (next_place self.old) }
+        ensures others { OthersStay (F.device flash.old) (F.device flash.new) self.old.area (next_place self.old) }
 
         ensures adds { OnOk result (AddsRecord (F.device flash.old) (F.device flash.new) self.old.area (next_place self.old) body.now) }
         ensures goes_on { OnOk result (GoesOn self.old self.new false) }
+        ensures end { let d = F.device flash.old in OnOk result (self.new.end ≡ header_on d self.old.area + cost_on d self.old.area (length body.now)) }
         ensures ends_with { OnOk result (EndsWithRecord (F.device flash.new) self.new (next_place self.old) body.now) }
-        ensures ready { OnOk result (IsReady (F.device flash.old) (F.device flash.new) self.new (append_units (unit_of (F.device flash.old) self.old.area) (length body.now) false)) }
+        ensures ready { let d = F.device flash.old in OnOk result (IsReady d (F.device flash.new) self.new (opening_units d self.old.area body.now)) }
 
         ensures cut { OnErr result (CutAppend (F.device flash.old) (F.device flash.new) self.old.area (next_place self.old) body.now) }
-        ensures down { OnErr result (IsDown (F.device flash.old) (F.device flash.new) self.new (append_units (unit_of (F.device flash.old) self.old.area) (length body.now) false)) }
+        ensures down { let d = F.device flash.old in OnErr result (IsDown d (F.device flash.new) self.new (opening_units d self.old.area body.now)) }
     {
         self.open_next(flash, Stage::Ready)?;
         self.put_record(flash, body)?;
@@ -197,7 +198,7 @@ impl Ring {
     /// there and leaves `reserve` bytes (none where it goes `into_reserve`), or else into the next, which is opened.
     ///
     /// # Errors
-    /// `TooLong` where the body is empty, has more than 16,383 bytes, or where no sector could hold the record; `Full`
+    /// `TooLong` where the body is empty or no sector could hold the record; `Full`
     /// where it does not fit and no sector but the scratch one is free. Neither changes anything. After `PowerLost` the
     /// ring is down, and the list is the old one, or has the record, or, where the record's first units with FF behind
     /// them check by chance, the body that these spell.
@@ -209,13 +210,14 @@ impl Ring {
     ) -> Result<(), AppendFault>
         requires stands { StandsOn (F.device flash.old) self.old }
         requires ready { self.old.stage ≡ Stage.Ready }
-        requires short { record_cost (unit_of (F.device flash.old) self.old.area) (length body.now) ≤ 400 }
+        requires short { cost_on (F.device flash.old) self.old.area (length body.now) ≤ PROGRAM_LIMIT }
 
         ensures touches { Touches (self.old.area ∷ []) (F.device flash.old) (F.device flash.new) (append_lost result) }
         ensures area { self.new.area ≡ self.old.area }
         ensures reserve { self.new.reserve ≡ self.old.reserve }
-        ensures others { KeepsOthers (F.device flash.old) (F.device flash.new) self.old.area (place_for (F.device flash.old) self.old body.now (kept_room self.old into_reserve)) }
+        ensures others { let d = F.device flash.old in OthersStay d (F.device flash.new) self.old.area (place_for d self.old body.now (kept_room self.old into_reserve)) }
         ensures written { OnOk result (EndsWithRecord (F.device flash.new) self.new (place_for (F.device flash.old) self.old body.now (kept_room self.old into_reserve)) body.now) }
+        ensures end { OnOk result (self.new.end ≡ end_for (F.device flash.old) self.old body.now (kept_room self.old into_reserve)) }
         ensures ends { AppendEnds (F.device flash.old) (F.device flash.new) self.old self.new body.now (kept_room self.old into_reserve) result }
     {
         let geometry = geometry(flash, &self.area);
@@ -251,6 +253,7 @@ impl Ring {
         ensures touches { Touches (self.old.area ∷ []) (F.device flash.old) (F.device flash.new) (append_lost result) }
         ensures area { self.new.area ≡ self.old.area }
         ensures reserve { self.new.reserve ≡ self.old.reserve }
+        ensures others { OthersStay (F.device flash.old) (F.device flash.new) self.old.area (next_place self.old) }
         ensures ends { RotateEnds (F.device flash.old) (F.device flash.new) self.old self.new result }
     {
         if self.is_scratch_left() {

@@ -2,6 +2,7 @@ pub mod Apart
 pub mod AreaCalls
 pub mod CopyLemmas
 pub mod ErasedBytes
+pub mod FormatLemmas
 pub mod MapLemmas
 pub mod OneCall
 pub mod PieceLemmas

@@ -1,5 +1,5 @@
 -- A list of bytes, programmed piece by piece.
-use Rattle.std.proofs.Common.{◌≡◌, ◌⊎◌, inl, inr, ℕ, ◌+◌, ◌*◌, ◌-◌, ◌/◌, ◌%◌, ◌<◌, ◌≤◌, ◌||◌, eqb, IsTrue, Result, Ok, Err, OnErr, false, List, [], ◌∷◌, length, set, take, drop, min, replicate, sym, ◌∙◌, ap, subst, arith, rules}
+use Rattle.std.proofs.Common.{◌≡◌, ◌⊎◌, inl, inr, true, ℕ, ◌+◌, ◌*◌, ◌-◌, ◌/◌, ◌%◌, ◌<◌, ◌≤◌, ◌||◌, eqb, IsTrue, Result, Ok, Err, OnErr, false, List, [], ◌∷◌, length, set, take, drop, min, replicate, sym, ◌∙◌, ap, subst, arith, rules}
 use Rattle.std.specs.Prelude.{slice_range}
 use Rattle.std.proofs.Math.Nat.{mul-sub, mul-mod_left, mul-mod_right, mul-le-mul_left}
 use Rattle.std.proofs.lemmas.Nat.{div-add-mod', le-div}
@@ -8,14 +8,16 @@ use Rattle.std.proofs.lemmas.Bool.Decides.{nat_tests}
 use Rattle.std.proofs.lemmas.Bool.{cases_lt}
 use Rattle.flash_sim.specs.Bank.{IsLawful, bank_at}
 use Rattle.flash_sim.specs.declared.flash.Bank.{Bank}
-use Rattle.flash_sim.specs.Device.{Device, overwritten}
+use Rattle.flash_sim.specs.Device.{Device, overwritten, FailsToProgram}
+use Rattle.flash_sim.specs.declared.flash.At.{At}
 use Rattle.flash_map.specs.declared.area.Area.{Area}
 use Rattle.flash_map.specs.Area.{IsLawfulArea, unit_of, sector_size, sectors_of, sector_bytes, CanProgramIn, Writes, WritesPart}
 use Rattle.flash_map.specs.Touches.{Touches}
 use Rattle.flash_map.proofs.Places.{length-sector}
 use Rattle.flash_map.proofs.Sequence.{can_after, range_apart, sector_written, writes_twice, writes_then_part}
 use Rattle.flash_map.proofs.WholeUnits.{unit_below}
-use Rattle.flash_map.specs.Pieces.{CanProgramAll}
+use Rattle.flash_map.specs.Pieces.{CanProgramAll, LosesWithin}
+use Rattle.flash_map.specs.Units.{IsUnit}
 
 -- what holds, holds at an `Err`
 pub on_err : {T E P : Type 0} (r : Result T E) → P → OnErr r P
@@ -147,3 +149,19 @@ module _ (a b : Device) (area : Area) (lawful : IsLawful a.banks a.bytes) (is_ar
             ∙ overwritten_more (sector_bytes a area sector) offset bytes done (part.0 * unit_of a area) fits (omega arith)
             ∙ ap (λ (n : ℕ). overwritten (sector_bytes a area sector) offset (take n bytes)) sum),
       )
+
+clash : false ≡ true → ⊥
+clash p = search rules
+
+-- Power that was lost in a call behind others was lost in a call of so many bytes.
+pub loses_within : (most : ℕ) (a b new : Device) (areas : List Area) (at : At) (bytes : List ℕ) → Touches areas a b false → FailsToProgram b new at bytes → length bytes ≤ most → LosesWithin most a new
+loses_within most a b new areas at bytes touches fails short on =
+    elim fails [
+      | inl off ↦ absurd (clash (sym off.off ∙ touches.ends.on ∙ on))
+      | inr (done, few, cut) ↦ (record { at = at; want = record { items = bytes }; done = done }, ap (λ (d : Device). d.last_loss) cut.is, short)
+    ]
+
+pub unit-most : (unit : ℕ) → IsUnit unit → unit ≤ 16
+unit-most unit (inl four) = omega (arith, four)
+unit-most unit (inr (inl eight)) = omega (arith, eight)
+unit-most unit (inr (inr sixteen)) = omega (arith, sixteen)

@@ -3,6 +3,7 @@ pub mod Copies
 pub mod Faults
 pub mod Lawful
 pub mod Map
+pub mod On
 pub mod Pieces
 pub mod Sectors
 pub mod Spending

@@ -15,6 +15,10 @@ has_label label area = bytes_eq label area.label.bytes
 abbrev pub shares_sector : Area → Area → Bool
 shares_sector area other = (area.bank == other.bank) && (nat_lt area.first (other.first + other.sectors) && nat_lt other.first (area.first + area.sectors))
 
+-- the area is of an image of this version
+abbrev pub HasVersion : ℕ → Area → Type 0
+HasVersion version area = area.version ≡ version
+
 -- the bank is there, and at least two of its sectors are the area's
 pub record IsInBank (banks : List Bank) (area : Area) : Type 0 where
   pub has_bank : area.bank < length banks

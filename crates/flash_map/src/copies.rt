@@ -2,7 +2,8 @@
 ghost use Rattle.std.specs.Prelude.{◌≡◌, ◌+◌, ◌-◌, ◌/◌, ◌≤◌, ◌<◌, ◌^◌, ◌++◌, ◌∷◌, [], length, replicate, is_err, slice_range, OnOk, OnErr};
 ghost use Rattle.flash_map.specs.Area.{IsLawfulArea, unit_of, sector_size, sector_bytes, Writes, WritesPart};
 ghost use Rattle.flash_map.specs.Copies.{source};
-ghost use Rattle.flash_map.specs.Pieces.{CanProgramAll};
+ghost use Rattle.flash_map.specs.Pieces.{CanProgramAll, LosesWithin};
+ghost use Rattle.flash_map.specs.declared.copies.TheConstants.{COPY_PIECE};
 ghost use Rattle.flash_map.specs.Spending.{Spends, SpendsAtMost};
 ghost use Rattle.flash_map.specs.Touches.{Touches};
 ghost use Rattle.flash_map.specs.Units.{padded, padded_bytes};
@@ -20,7 +21,7 @@ pub struct Source {
 }
 
 // The most bytes of one piece. Every unit divides it.
-const PIECE: u32 = 32;
+const COPY_PIECE: u32 = 32;
 
 // Some bytes of a sector, at most a piece, with FF behind them.
 fn piece_of<F: Flash, L: Ledger>(
@@ -31,7 +32,7 @@ fn piece_of<F: Flash, L: Ledger>(
 ) -> [u8; 32]
     requires lawful { IsLawfulArea (F.device flash.now).banks area.now }
     requires has_sector { from.sector < area.now.sectors }
-    requires short { from.len ≤ 32 }
+    requires short { from.len ≤ COPY_PIECE }
     requires inside { from.offset + from.len ≤ sector_size (F.device flash.now) area.now }
     ensures { let d = F.device flash.now in result ≡ source d area.now from ++ replicate (32 - from.len) 0xFF }
 {
@@ -68,17 +69,18 @@ pub fn copy_padded<F: Flash, L: Ledger>(
         OnOk result (Spends (F.device flash.old) (F.device flash.new) (padded unit from.len / unit)) }
 
     ensures lost { let d = F.device flash.old in OnErr result (WritesPart d (F.device flash.new) area.now sector offset (padded_bytes (unit_of d area.now) (source d area.now from))) }
+    ensures in_pieces { OnErr result (LosesWithin COPY_PIECE (F.device flash.old) (F.device flash.new)) }
     ensures spent_at_most { let unit = unit_of (F.device flash.old) area.now in
         OnErr result (SpendsAtMost (F.device flash.old) (F.device flash.new) (padded unit from.len / unit)) }
 {
     let all = padded(geometry(flash, area).unit, from.len);
     let mut done = 0;
     while done < all {
-        let end = all.min(done + PIECE);
+        let end = all.min(done + COPY_PIECE);
         let part = Source {
             sector: from.sector,
             offset: from.offset + done,
-            len: PIECE.min(from.len - done),
+            len: COPY_PIECE.min(from.len - done),
         };
         let piece = piece_of(flash, area, part, steps);
         let bytes = &piece[..(end - done) as usize];

@@ -1,8 +1,8 @@
 // The areas of a flash, by their labels and in their order.
 ghost use Rattle.std.specs.Prelude.{◌≡◌, ◌↔◌, ◌+◌, false, [], ◌∷◌, ◌++◌, length, IsTrue, IfErr, OnOk, position, slice_get};
-ghost use Rattle.std.specs.List.{list_any};
+ghost use Rattle.std.specs.List.{list_any, All};
 ghost use Rattle.std.specs.Option.{option_copied};
-ghost use Rattle.flash_map.specs.Map.{has_label, shares_sector, IsInBank, Adds};
+ghost use Rattle.flash_map.specs.Map.{has_label, shares_sector, HasVersion, IsInBank, Adds};
 ghost use Rattle.flash_map.specs.declared.map.AddFault.TheVariants.{NoMemory};
 
 use crate::Area;
@@ -63,11 +63,12 @@ impl FlashMap {
     }
 
     /// Adds an area of `banks` behind the others, where it has two sectors or more, lies in its bank and shares no label and
-    /// no sector with them.
+    /// no sector with them. It has their version.
     ///
     /// # Errors
     /// The first cause of `AddFault` that holds, or `NoMemory`. The map is as it was.
     pub fn add(&mut self, banks: &[Bank], area: Area) -> Result<(), AddFault>
+        requires { All (HasVersion area.version) self.old }
         ensures { Adds banks.now self.old self.new area result }
     {
         if self.has_label(&area.label) {

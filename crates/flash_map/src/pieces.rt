@@ -1,7 +1,8 @@
 // Programming in several calls.
 ghost use Rattle.std.specs.Prelude.{◌≡◌, ◌+◌, ◌-◌, ◌/◌, ◌≤◌, ◌++◌, length, replicate, ◌∷◌, [], is_err, OnOk, OnErr};
 ghost use Rattle.flash_map.specs.Area.{IsLawfulArea, unit_of, Writes, WritesPart};
-ghost use Rattle.flash_map.specs.Pieces.{CanProgramAll};
+ghost use Rattle.flash_map.specs.Pieces.{CanProgramAll, LosesWithin};
+ghost use Rattle.flash_map.specs.declared.pieces.TheConstants.{PIECE};
 ghost use Rattle.flash_map.specs.Spending.{Spends, SpendsAtMost};
 ghost use Rattle.flash_map.specs.Touches.{Touches};
 ghost use Rattle.flash_map.specs.Units.{padded, padded_bytes};
@@ -9,13 +10,13 @@ ghost use Rattle.flash_map.specs.Units.{padded, padded_bytes};
 use crate::{Area, area_program, geometry};
 use flash_sim::{Flash, PowerLost};
 
-// The most bytes of one call. Every unit divides it.
-const PIECE: usize = 400;
+/// The most bytes of one call. Every unit divides it.
+pub const PIECE: usize = 400;
 
 // The bytes of the greatest unit.
 const UNIT: usize = 16;
 
-/// Programs any number of whole units of one sector, upward and in calls of at most 400 bytes.
+/// Programs any number of whole units of one sector, upward and in calls of at most `PIECE` bytes.
 ///
 /// # Errors
 /// Where power was off, nothing changed. Where it was lost in the call, fewer than all units were put, the lowest first.
@@ -35,6 +36,7 @@ pub fn program_all<F: Flash>(
     ensures spent { OnOk result (Spends (F.device flash.old) (F.device flash.new) (length bytes.now / unit_of (F.device flash.old) area.now)) }
 
     ensures lost { OnErr result (WritesPart (F.device flash.old) (F.device flash.new) area.now sector offset bytes.now) }
+    ensures in_pieces { OnErr result (LosesWithin PIECE (F.device flash.old) (F.device flash.new)) }
     ensures spent_at_most { OnErr result (SpendsAtMost (F.device flash.old) (F.device flash.new) (length bytes.now / unit_of (F.device flash.old) area.now)) }
 {
     let mut done = 0;
@@ -56,7 +58,7 @@ fn last_unit(bytes: &[u8]) -> [u8; UNIT]
     unit
 }
 
-/// Programs any number of bytes of one sector, with FF behind them up to whole units.
+/// Programs any number of bytes of one sector, with FF behind them up to whole units, upward and in calls of at most `PIECE` bytes.
 ///
 /// # Errors
 /// Where power was off, nothing changed. Where it was lost in the call, fewer than all units were put, the lowest first.
@@ -76,6 +78,7 @@ pub fn program_padded<F: Flash>(
         OnOk result (Spends (F.device flash.old) (F.device flash.new) (padded unit (length bytes.now) / unit)) }
 
     ensures lost { OnErr result (WritesPart (F.device flash.old) (F.device flash.new) area.now sector offset (padded_bytes (unit_of (F.device flash.old) area.now) bytes.now)) }
+    ensures in_pieces { OnErr result (LosesWithin PIECE (F.device flash.old) (F.device flash.new)) }
     ensures spent_at_most { let unit = unit_of (F.device flash.old) area.now in
         OnErr result (SpendsAtMost (F.device flash.old) (F.device flash.new) (padded unit (length bytes.now) / unit)) }
 {

@@ -1,5 +1,6 @@
-ghost use Rattle.std.specs.Prelude.{◌≡◌, ◌<◌, ◌∷◌, [], OnOk, replicate};
+ghost use Rattle.std.specs.Prelude.{◌≡◌, ◌<◌, ◌∷◌, [], All, IfOk, OnOk, replicate};
 ghost use Rattle.flash_sim.specs.Device.{loaded};
+ghost use Rattle.flash_map.specs.Map.{HasVersion};
 
 use super::*;
 use arrayvec::ArrayString;
@@ -17,17 +18,22 @@ const BANK: Bank = Bank {
     count: 6,
 };
 
-fn area(label: &str, bank: usize, first: u32, sectors: u32) -> Result<Area, Fail> {
+fn area(label: &str, bank: usize, first: u32, sectors: u32) -> Result<Area, Fail>
+    ensures { IfOk result (HasVersion 1) }
+{
     let label = ArrayString::from(label)
         .ok()
         .ok_or("a label has 8 bytes at most")?;
-    Ok(Area {
-        label,
-        role: Role::Nvs,
-        bank,
-        first,
-        sectors,
-    })
+    Ok(Area::new(label, Role::Nvs, bank, first, sectors, 1))
+}
+
+// Adds an area of version 1 to a map of such.
+fn added(map: &mut FlashMap, area: Area) -> Result<(), AddFault>
+    requires version { HasVersion 1 area }
+    requires others { All (HasVersion 1) map.old }
+    ensures { All (HasVersion 1) map.new }
+{
+    map.add(&[BANK], area)
 }
 
 #[test]
@@ -44,8 +50,8 @@ fn areas_side_by_side(rt: HostRuntime) -> Result<(), Fail> {
         ("s", 0, 4, 2, Ok(())),
     ];
     for (label, bank, first, sectors, answer) in rows {
-        let added = map.add(&[BANK], area(label, bank, first, sectors)?);
-        assert_eq!(rt; added, answer);
+        let result = added(&mut map, area(label, bank, first, sectors)?);
+        assert_eq!(rt; result, answer);
     }
     assert_eq!(rt; map.len(), 3);
     assert_eq!(rt; map.index_of("s"), Some(2));
@@ -88,20 +94,15 @@ fn exercise<B: Bench, L: Ledger, R: Abort>(
     let label = ArrayString::from("f")
         .ok()
         .ok_or("a label has 8 bytes at most")?;
-    let area = Area {
-        label,
-        role: Role::Fcb,
-        bank: 0,
-        first: 2,
-        sectors: 2,
-    };
+    let area = Area::new(label, Role::Fcb, 0, 2, 2, 1);
     load_blank(alloc, bench)?;
     assert_eq!(rt;
         geometry(bench, &area),
         Geometry {
             unit: 4,
             sector: 16,
-            sectors: 2
+            sectors: 2,
+            kind: Kind::Erasing,
         }
     );
     assert_eq!(rt; padded(4, 409), 412);
@@ -171,13 +172,7 @@ fn exercise_copy<B: Bench, L: Ledger, R: Abort>(
     requires some { 0 < L.parts }
 {
     let mut steps = Steps::<L>::new(blank);
-    let area = Area {
-        label: ArrayString::new(),
-        role: Role::Nvs,
-        bank: 0,
-        first: 0,
-        sectors: 2,
-    };
+    let area = Area::new(ArrayString::new(), Role::Nvs, 0, 0, 2, 1);
     load_numbers(alloc, bench)?;
     let from = Source {
         sector: 1,

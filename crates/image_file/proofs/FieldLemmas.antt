@@ -78,9 +78,9 @@ role_again Fcb = refl
 role_again Sel = refl
 
 -- a bank that was written is read again
-pub bank_said-text : (bank : Bank) → IsImageBank bank → bank_said (bank_text bank) ≡ bank
+pub bank_said-text : (version : ℕ) (bank : Bank) → IsImageBank version bank → bank_said (bank_text bank) ≡ bank
 unfolding bank_said
-bank_said-text bank is =
+bank_said-text version bank is =
     let sector : from_le_bytes w32 (to_le_bytes w32 bank.sector) ≡ bank.sector = from_le_bytes-to_le_bytes_4 bank.sector (omega (arith, is.at_most)) in
     let count : from_le_bytes w32 (to_le_bytes w32 bank.count) ≡ bank.count = from_le_bytes-to_le_bytes_4 bank.count (omega (arith, is.few)) in
     ap (λ (k : Kind). record { kind = k; unit = bank.unit; sector = from_le_bytes w32 (to_le_bytes w32 bank.sector); count = from_le_bytes w32 (to_le_bytes w32 bank.count) }) (kind_again bank.kind)
@@ -104,9 +104,9 @@ zeros_replicate zero = refl
 zeros_replicate (suc n) = zeros_replicate n
 
 -- the label's field, where the text is that of an area
-pub label_of_text : (text : List ℕ) → length text ≡ 16 → IsSpelled text → IsLabelText (get_or text 6 0) (drop 8 text)
+pub label_of_text : (version : ℕ) (text : List ℕ) → length text ≡ 16 → IsSpelled version text → IsLabelText (get_or text 6 0) (drop 8 text)
 unfolding area_said
-label_of_text text len is =
+label_of_text version text len is =
     let n : ℕ = get_or text 6 0 in
     let label : List ℕ = take n (drop 8 text) in
     let six : n ≡ length label = ap (λ (l : List ℕ). get_or l 6 0) is.spelled in
@@ -123,9 +123,9 @@ in_five text =
     let d4 : drop 4 text ≡ field_at text 4 2 ++ (field_at text 6 2 ++ drop 8 text) = sym (take-append-drop 2 (drop 4 text)) ∙ ap (λ (l : List ℕ). field_at text 4 2 ++ l) (drop-drop 2 4 text ∙ sym (take-append-drop 2 (drop 6 text)) ∙ ap (λ (l : List ℕ). field_at text 6 2 ++ l) (drop-drop 2 6 text)) in
     sym (take-append-drop 2 text) ∙ ap (λ (l : List ℕ). take 2 text ++ l) (sym (take-append-drop 2 (drop 2 text)) ∙ ap (λ (l : List ℕ). field_at text 2 2 ++ l) (drop-drop 2 2 text ∙ d4))
 
-pub area_again : (text : List ℕ) → length text ≡ 16 → IsBytes text → role_byte (role_said (get_or text 0 0)) ≡ get_or text 0 0 → get_or text 7 0 ≡ 0 → IsLabelText (get_or text 6 0) (drop 8 text) → text ≡ area_text (area_said text)
+pub area_again : (version : ℕ) (text : List ℕ) → length text ≡ 16 → IsBytes text → role_byte (role_said (get_or text 0 0)) ≡ get_or text 0 0 → get_or text 7 0 ≡ 0 → IsLabelText (get_or text 6 0) (drop 8 text) → text ≡ area_text (area_said version text)
 unfolding area_said
-area_again text len fits role seven is =
+area_again version text len fits role seven is =
     let n : ℕ = get_or text 6 0 in
     let label : List ℕ = take n (drop 8 text) in
     let size : length label ≡ n = omega (arith, length-take n (drop 8 text), is.fits) in
@@ -144,17 +144,17 @@ area_again text len fits role seven is =
     ∙ ap (λ (l : List ℕ). role_byte (role_said (get_or text 0 0)) ∷ get_or text 1 0 ∷ (first ++ (sectors ++ l))) tail
 
 -- an area that was written is read again
-pub area_said-text : (area : Area) → length area.label.bytes ≤ 8 → area.first < 2 ^ 16 → area.sectors < 2 ^ 16 → area_said (area_text area) ≡ plain_area area
+pub area_said-text : (area : Area) → length area.label.bytes ≤ 8 → area.first < 2 ^ 16 → area.sectors < 2 ^ 16 → area_said area.version (area_text area) ≡ plain_area area
 unfolding area_said
 area_said-text area few small short =
     let label : List ℕ = area.label.bytes in
     let first : from_le_bytes w16 (to_le_bytes w16 area.first) ≡ area.first = from_le_bytes-to_le_bytes_2 area.first small in
     let sectors : from_le_bytes w16 (to_le_bytes w16 area.sectors) ≡ area.sectors = from_le_bytes-to_le_bytes_2 area.sectors short in
     let said : ℕ = from_le_bytes w16 (to_le_bytes w16 area.sectors) in
-    ap (λ (l : List ℕ). record { label = record { bytes = l; spare = [] }; role = role_said (role_byte area.role); bank = area.bank; first = from_le_bytes w16 (to_le_bytes w16 area.first); sectors = said }) (take_at label (replicate (8 - length label) 0) (length label) refl)
-    ∙ ap (λ (r : Role). record { label = record { bytes = label; spare = [] }; role = r; bank = area.bank; first = from_le_bytes w16 (to_le_bytes w16 area.first); sectors = said }) (role_again area.role)
-    ∙ ap (λ (n : ℕ). record { label = record { bytes = label; spare = [] }; role = area.role; bank = area.bank; first = n; sectors = said }) first
-    ∙ ap (λ (n : ℕ). record { label = record { bytes = label; spare = [] }; role = area.role; bank = area.bank; first = area.first; sectors = n }) sectors
+    ap (λ (l : List ℕ). record { label = record { bytes = l; spare = [] }; role = role_said (role_byte area.role); bank = area.bank; first = from_le_bytes w16 (to_le_bytes w16 area.first); sectors = said; version = area.version }) (take_at label (replicate (8 - length label) 0) (length label) refl)
+    ∙ ap (λ (r : Role). record { label = record { bytes = label; spare = [] }; role = r; bank = area.bank; first = from_le_bytes w16 (to_le_bytes w16 area.first); sectors = said; version = area.version }) (role_again area.role)
+    ∙ ap (λ (n : ℕ). record { label = record { bytes = label; spare = [] }; role = area.role; bank = area.bank; first = n; sectors = said; version = area.version }) first
+    ∙ ap (λ (n : ℕ). record { label = record { bytes = label; spare = [] }; role = area.role; bank = area.bank; first = area.first; sectors = n; version = area.version }) sectors
 
 -- what was read field by field is what the text says
 pub same_bank : (text : List ℕ) (bank : Bank) → bank.kind ≡ kind_said (get_or text 0 0) → bank.unit ≡ get_or text 1 0 → bank.sector ≡ from_le_bytes w32 (field_at text 4 4) → bank.count ≡ from_le_bytes w32 (field_at text 8 4) → bank ≡ bank_said text
@@ -164,14 +164,15 @@ same_bank text bank kind unit sector count =
     ∙ ap (λ (n : ℕ). record bank { kind = kind_said (get_or text 0 0); unit = get_or text 1 0; sector = n }) sector
     ∙ ap (λ (n : ℕ). record { kind = kind_said (get_or text 0 0); unit = get_or text 1 0; sector = from_le_bytes w32 (field_at text 4 4); count = n }) count
 
-pub same_area : (text : List ℕ) (area : Area) → area.label.bytes ≡ field_at text 8 (get_or text 6 0) → area.role ≡ role_said (get_or text 0 0) → area.bank ≡ get_or text 1 0 → area.first ≡ from_le_bytes w16 (field_at text 2 2) → area.sectors ≡ from_le_bytes w16 (field_at text 4 2) → plain_area area ≡ area_said text
+pub same_area : (version : ℕ) (text : List ℕ) (area : Area) → area.label.bytes ≡ field_at text 8 (get_or text 6 0) → area.role ≡ role_said (get_or text 0 0) → area.bank ≡ get_or text 1 0 → area.first ≡ from_le_bytes w16 (field_at text 2 2) → area.sectors ≡ from_le_bytes w16 (field_at text 4 2) → area.version ≡ version → plain_area area ≡ area_said version text
 unfolding area_said
-same_area text area label role bank first sectors =
+same_area version text area label role bank first sectors versions =
     ap (λ (l : List ℕ). record area { label = record { bytes = l; spare = [] } }) label
     ∙ ap (λ (r : Role). record area { label = record { bytes = field_at text 8 (get_or text 6 0); spare = [] }; role = r }) role
     ∙ ap (λ (n : ℕ). record area { label = record { bytes = field_at text 8 (get_or text 6 0); spare = [] }; role = role_said (get_or text 0 0); bank = n }) bank
     ∙ ap (λ (n : ℕ). record area { label = record { bytes = field_at text 8 (get_or text 6 0); spare = [] }; role = role_said (get_or text 0 0); bank = get_or text 1 0; first = n }) first
-    ∙ ap (λ (n : ℕ). record { label = record { bytes = field_at text 8 (get_or text 6 0); spare = [] }; role = role_said (get_or text 0 0); bank = get_or text 1 0; first = from_le_bytes w16 (field_at text 2 2); sectors = n }) sectors
+    ∙ ap (λ (n : ℕ). record { label = record { bytes = field_at text 8 (get_or text 6 0); spare = [] }; role = role_said (get_or text 0 0); bank = get_or text 1 0; first = from_le_bytes w16 (field_at text 2 2); sectors = n; version = area.version }) sectors
+    ∙ ap (λ (n : ℕ). record { label = record { bytes = field_at text 8 (get_or text 6 0); spare = [] }; role = role_said (get_or text 0 0); bank = get_or text 1 0; first = from_le_bytes w16 (field_at text 2 2); sectors = from_le_bytes w16 (field_at text 4 2); version = n }) versions
 
 pub length-bank_text : (bank : Bank) → length (bank_text bank) ≡ 12
 length-bank_text bank = refl

@@ -1,5 +1,5 @@
 -- Numbers in decimal.
-use Rattle.std.proofs.Common.{◌∷◌, [], get_or, length, ap, Option, Some, None, inl, inr, ◌≡◌, ℕ, ◌^◌, ◌<◌, List, sym, ◌∙◌, subst, arith}
+use Rattle.std.proofs.Common.{refl, ◌∷◌, [], get_or, length, ap, Option, Some, None, inl, inr, ◌≡◌, ℕ, ◌^◌, ◌<◌, List, sym, ◌∙◌, subst, arith}
 use Rattle.std.specs.Prelude.{MatchOption, IfSome}
 use Rattle.std.specs.Option.{option_map}
 use Rattle.std.specs.Fmt.{decimal}
@@ -45,7 +45,7 @@ module _ (item w0 w1 w2 w3 : List ℕ) (words : parts 47 item ≡ w0 ∷ w1 ∷ 
   pub bank_item_is : (kind : Option Kind) (unit sector count : Option ℕ) (found : Option Bank) → IsKind w0 kind → IsNumber w1 unit → IsNumber w2 sector → IsNumber w3 count → found ≡ bank_from kind unit sector count → IsBankItem item found
   bank_item_is kind unit sector count found k u s n is = record {
     sound = subst (λ (f : Option Bank). IfSome f (λ bank. parts 47 item ≡ bank_words bank)) (sym is) (bank_sound kind unit sector count k u s n);
-    only = λ bank lawful other.
+    only = λ version bank lawful other.
         let four = first_of_four w0 w1 w2 w3 (bank_word bank.kind) (decimal bank.unit) (decimal bank.sector) (decimal bank.count) (sym words ∙ other) in
         let is_kind = k.only bank.kind four.0 in
         let is_unit = u.only bank.unit (small_unit bank.unit lawful.unit) four.1 in
@@ -56,46 +56,47 @@ module _ (item w0 w1 w2 w3 : List ℕ) (words : parts 47 item ≡ w0 ∷ w1 ∷ 
   }
 
 pub no_bank_item : (item : List ℕ) → (length (parts 47 item) ≡ 4 → ⊥) → IsBankItem item None
-no_bank_item item not = record { sound = tt; only = λ bank lawful is. absurd (not (ap length is)) }
+no_bank_item item not = record { sound = tt; only = λ version bank lawful is. absurd (not (ap length is)) }
 
 pub first_of_five : (a b c d e a' b' c' d' e' : List ℕ) → a ∷ b ∷ c ∷ d ∷ e ∷ [] ≡ a' ∷ b' ∷ c' ∷ d' ∷ e' ∷ [] → (a ≡ a') × (b ≡ b') × (c ≡ c') × (d ≡ d') × (e ≡ e')
 first_of_five a b c d e a' b' c' d' e' is = (ap (λ (l : List (List ℕ)). get_or l 0 []) is, ap (λ (l : List (List ℕ)). get_or l 1 []) is, ap (λ (l : List (List ℕ)). get_or l 2 []) is, ap (λ (l : List (List ℕ)). get_or l 3 []) is, ap (λ (l : List (List ℕ)). get_or l 4 []) is)
 
 module _ (item w0 w1 w2 w3 w4 : List ℕ) (words : parts 47 item ≡ w0 ∷ w1 ∷ w2 ∷ w3 ∷ w4 ∷ []) where
-  area_sound : (role : Option Role) (label : ArrayString) (bank first sectors : Option ℕ) → label.bytes ≡ w1 → IsLabel w1 → IsRole w0 role → IsNumber w2 bank → IsNumber w3 first → IsNumber w4 sectors → IfSome (area_from role label bank first sectors) (λ area. (parts 47 item ≡ area_words area) × IsLabel area.label.bytes)
-  area_sound (Some role) label (Some bank) (Some first) (Some sectors) l lawful r b f s = (
+  area_sound : (version : ℕ) (role : Option Role) (label : ArrayString) (bank first sectors : Option ℕ) → label.bytes ≡ w1 → IsLabel w1 → IsRole w0 role → IsNumber w2 bank → IsNumber w3 first → IsNumber w4 sectors → IfSome (area_from version role label bank first sectors) (λ area. (parts 47 item ≡ area_words area) × IsLabel area.label.bytes × (area.version ≡ version))
+  area_sound version (Some role) label (Some bank) (Some first) (Some sectors) l lawful r b f s = (
     words ∙ ap (λ (w : List ℕ). w ∷ w1 ∷ w2 ∷ w3 ∷ w4 ∷ []) r.sound ∙ ap (λ (w : List ℕ). area_word role ∷ w ∷ w2 ∷ w3 ∷ w4 ∷ []) (sym l)
         ∙ ap (λ (w : List ℕ). area_word role ∷ label.bytes ∷ w ∷ w3 ∷ w4 ∷ []) b.sound ∙ ap (λ (w : List ℕ). area_word role ∷ label.bytes ∷ decimal bank ∷ w ∷ w4 ∷ []) f.sound
         ∙ ap (λ (w : List ℕ). area_word role ∷ label.bytes ∷ decimal bank ∷ decimal first ∷ w ∷ []) s.sound,
     subst IsLabel (sym l) lawful,
+    refl,
   )
-  area_sound (Some role) label (Some bank) (Some first) None l lawful r b f s = tt
-  area_sound (Some role) label (Some bank) None sectors l lawful r b f s = tt
-  area_sound (Some role) label None first sectors l lawful r b f s = tt
-  area_sound None label bank first sectors l lawful r b f s = tt
+  area_sound version (Some role) label (Some bank) (Some first) None l lawful r b f s = tt
+  area_sound version (Some role) label (Some bank) None sectors l lawful r b f s = tt
+  area_sound version (Some role) label None first sectors l lawful r b f s = tt
+  area_sound version None label bank first sectors l lawful r b f s = tt
 
-  pub area_item_is : (role : Option Role) (label : ArrayString) (bank first sectors : Option ℕ) (found : Option Area) → label.bytes ≡ w1 → IsLabel w1 → IsRole w0 role → IsNumber w2 bank → IsNumber w3 first → IsNumber w4 sectors → found ≡ area_from role label bank first sectors → IsAreaItem item found
-  area_item_is role label bank first sectors found l lawful r b f s is = record {
-    sound = subst (λ (x : Option Area). IfSome x (λ area. (parts 47 item ≡ area_words area) × IsLabel area.label.bytes)) (sym is) (area_sound role label bank first sectors l lawful r b f s);
-    only = λ area fits plain other.
+  pub area_item_is : (version : ℕ) (role : Option Role) (label : ArrayString) (bank first sectors : Option ℕ) (found : Option Area) → label.bytes ≡ w1 → IsLabel w1 → IsRole w0 role → IsNumber w2 bank → IsNumber w3 first → IsNumber w4 sectors → found ≡ area_from version role label bank first sectors → IsAreaItem version item found
+  area_item_is version role label bank first sectors found l lawful r b f s is = record {
+    sound = subst (λ (x : Option Area). IfSome x (λ area. (parts 47 item ≡ area_words area) × IsLabel area.label.bytes × (area.version ≡ version))) (sym is) (area_sound version role label bank first sectors l lawful r b f s);
+    only = λ area fits versions plain other.
         let five = first_of_five w0 w1 w2 w3 w4 (area_word area.role) area.label.bytes (decimal area.bank) (decimal area.first) (decimal area.sectors) (sym words ∙ other) in
         let is_role = r.only area.role five.0 in
         let is_bank = b.only area.bank (omega (arith, fits.bank)) five.2 in
         let is_first = f.only area.first (omega (arith, fits.first)) five.3 in
         let is_sectors = s.only area.sectors (omega (arith, fits.sectors)) five.4 in
-        let made : found ≡ Some (record { label = label; role = area.role; bank = area.bank; first = area.first; sectors = area.sectors }) =
-        is ∙ ap (λ (x : Option Role). area_from x label bank first sectors) is_role ∙ ap (λ (x : Option ℕ). area_from (Some area.role) label x first sectors) is_bank
-        ∙ ap (λ (x : Option ℕ). area_from (Some area.role) label (Some area.bank) x sectors) is_first ∙ ap (λ (x : Option ℕ). area_from (Some area.role) label (Some area.bank) (Some area.first) x) is_sectors in
-        ap (option_map plain_area) made ∙ ap Some (ap (λ (t : List ℕ). record { label = record { bytes = t; spare = [] }; role = area.role; bank = area.bank; first = area.first; sectors = area.sectors }) (l ∙ five.1) ∙ plain);
+        let made : found ≡ Some (record { label = label; role = area.role; bank = area.bank; first = area.first; sectors = area.sectors; version = version }) =
+        is ∙ ap (λ (x : Option Role). area_from version x label bank first sectors) is_role ∙ ap (λ (x : Option ℕ). area_from version (Some area.role) label x first sectors) is_bank
+        ∙ ap (λ (x : Option ℕ). area_from version (Some area.role) label (Some area.bank) x sectors) is_first ∙ ap (λ (x : Option ℕ). area_from version (Some area.role) label (Some area.bank) (Some area.first) x) is_sectors in
+        ap (option_map plain_area) made ∙ ap Some (ap (λ (t : List ℕ). record { label = record { bytes = t; spare = [] }; role = area.role; bank = area.bank; first = area.first; sectors = area.sectors; version = version }) (l ∙ five.1) ∙ ap (λ (v : ℕ). record { label = record { bytes = area.label.bytes; spare = [] }; role = area.role; bank = area.bank; first = area.first; sectors = area.sectors; version = v }) (sym versions) ∙ plain);
   }
 
-  pub no_area_label : (IsLabel w1 → ⊥) → IsAreaItem item None
-  no_area_label not = record {
+  pub no_area_label : (version : ℕ) → (IsLabel w1 → ⊥) → IsAreaItem version item None
+  no_area_label version not = record {
     sound = tt;
-    only = λ area fits plain other.
+    only = λ area fits versions plain other.
         let five = first_of_five w0 w1 w2 w3 w4 (area_word area.role) area.label.bytes (decimal area.bank) (decimal area.first) (decimal area.sectors) (sym words ∙ other) in
         absurd (not (subst IsLabel (sym five.1) fits.label));
   }
 
-pub no_area_item : (item : List ℕ) → (length (parts 47 item) ≡ 5 → ⊥) → IsAreaItem item None
-no_area_item item not = record { sound = tt; only = λ area fits plain is. absurd (not (ap length is)) }
+pub no_area_item : (version : ℕ) (item : List ℕ) → (length (parts 47 item) ≡ 5 → ⊥) → IsAreaItem version item None
+no_area_item version item not = record { sound = tt; only = λ area fits versions plain is. absurd (not (ap length is)) }

@@ -5,11 +5,13 @@ use Rattle.std.proofs.lemmas.List.{take_at, drop_at, drop-drop, take_all, length
 use Rattle.std.proofs.lemmas.List.Sums.{sum_by-cons, sum_by_more_le}
 use Rattle.std.proofs.lemmas.List.FromFn.{fill_by_all, take-map-range_with_len}
 use Rattle.flash_sim.specs.Bank.{bank_at, no_bank, capacity}
+use Rattle.std.proofs.lemmas.List.Elements.{All-get_or}
+use Rattle.flash_map.specs.Map.{HasVersion}
 use Rattle.flash_sim.specs.declared.flash.Bank.{Bank}
 use Rattle.flash_map.specs.declared.area.Area.{Area}
 use Rattle.image_file.specs.Format.{Plain, plain_area, bank_text, area_text, file_of}
 use Rattle.image_file.specs.Lawful.{IsImage, IsImageBank, IsImageArea, HasNeeded, area_at, no_area}
-use Rattle.image_file.specs.Said.{field_at, bank_said, area_said, bank_count, area_count, bank_place, area_place, all_banks, all_areas, areas_said, contents_place, contents_size, contents_said, image_said}
+use Rattle.image_file.specs.Said.{field_at, version_said, bank_said, area_said, bank_count, area_count, bank_place, area_place, all_banks, all_areas, areas_said, contents_place, contents_size, contents_said, image_said}
 use Rattle.image_file.specs.Table.{BankAt, AreaAt, ContentsAt, Needed, End, Holds, AllHold, header_rows, rows_of, contents_rows, rows}
 use Rattle.image_file.proofs.FieldLemmas.{bank_said-text, area_said-text, length-bank_text, length-area_text}
 use Rattle.image_file.proofs.ImageLemmas.{same_image}
@@ -74,6 +76,10 @@ module _ (image : Plain) (is : IsImage image) where
   abbrev bank_bytes : List ℕ
   bank_bytes = flat_map bank_text image.banks
 
+  version_told : version_said file ≡ image.version
+  unfolding file_of
+  version_told = refl
+
   banks_told : bank_count file ≡ length image.banks
   unfolding file_of
   banks_told = refl
@@ -115,7 +121,7 @@ module _ (image : Plain) (is : IsImage image) where
       ∙ nth_text area_text 16 no_area image.areas all_bytes i (λ k below. length-area_text (area_at image.areas k) (few k below)) below
 
   bank_again : (i : ℕ) → i < length image.banks → bank_at image.banks i ≡ bank_said (field_at file (bank_place i) 12)
-  bank_again i below = sym (ap bank_said (bank_field i below) ∙ bank_said-text (bank_at image.banks i) (is.each_bank i below))
+  bank_again i below = sym (ap bank_said (bank_field i below) ∙ bank_said-text image.version (bank_at image.banks i) (is.each_bank i below))
 
   banks_again : image.banks ≡ all_banks file
   banks_again = fill_by_all (λ i. bank_said (field_at file (bank_place i) 12)) image.banks (bank_count file) no_bank (sym banks_told) (λ k below. bank_again k (omega (arith, banks_told)))
@@ -129,14 +135,16 @@ module _ (image : Plain) (is : IsImage image) where
   plain_at : (i : ℕ) → i < length image.areas → plain_area (area_at image.areas i) ≡ area_at image.areas i
   plain_at i below = sym (get_or-map plain_area image.areas i no_area no_area below) ∙ ap (λ (l : List Area). area_at l i) is.plain
 
-  area_again : (i : ℕ) → i < length image.areas → area_at image.areas i ≡ area_said (field_at file (area_place file i) 16)
-  area_again i below = sym (ap area_said (area_field i below) ∙ area_said-text (area_at image.areas i) (few i below) (omega (arith, sectors_few i below)) (omega (arith, sectors_few i below)) ∙ plain_at i below)
+  area_again : (i : ℕ) → i < length image.areas → area_at image.areas i ≡ area_said (version_said file) (field_at file (area_place file i) 16)
+  area_again i below =
+      let version : version_said file ≡ (area_at image.areas i).version = version_told ∙ sym (All-get_or (HasVersion image.version) image.areas i no_area below is.versions) in
+      sym (ap (λ (v : ℕ). area_said v (field_at file (area_place file i) 16)) version ∙ ap (area_said (area_at image.areas i).version) (area_field i below) ∙ area_said-text (area_at image.areas i) (few i below) (omega (arith, sectors_few i below)) (omega (arith, sectors_few i below)) ∙ plain_at i below)
 
   areas_again : image.areas ≡ all_areas file
-  areas_again = fill_by_all (λ i. area_said (field_at file (area_place file i) 16)) image.areas (area_count file) no_area (sym areas_told) (λ k below. area_again k (omega (arith, areas_told)))
+  areas_again = fill_by_all (λ i. area_said (version_said file) (field_at file (area_place file i) 16)) image.areas (area_count file) no_area (sym areas_told) (λ k below. area_again k (omega (arith, areas_told)))
 
   front_again : (i : ℕ) → i < length image.areas → take i image.areas ≡ areas_said file i
-  front_again i below = ap (take i) areas_again ∙ take-map-range_with_len (λ i. area_said (field_at file (area_place file i) 16)) 0 (area_count file) i (omega (arith, areas_told))
+  front_again i below = ap (take i) areas_again ∙ take-map-range_with_len (λ i. area_said (version_said file) (field_at file (area_place file i) 16)) 0 (area_count file) i (omega (arith, areas_told))
 
   copies : AreCopies image.bytes image.banks
   copies = (is.count, is.lengths)
@@ -158,7 +166,7 @@ module _ (image : Plain) (is : IsImage image) where
 
   -- the file says the image
   pub said_again : image ≡ image_said file
-  said_again = same_image file image.banks image.areas image.bytes banks_again areas_again contents_again
+  said_again = same_image file image.version image.banks image.areas image.bytes (sym version_told) banks_again areas_again contents_again
 
   sum_front : (i : ℕ) → i < length image.banks → sum_by capacity (take i image.banks) + capacity (bank_at image.banks i) ≤ sum_by capacity image.banks
   sum_front i below = sum_by_more_le capacity image.banks i no_bank below
@@ -181,7 +189,7 @@ module _ (image : Plain) (is : IsImage image) where
         whole = omega (arith, small, length-file, length-banks);
         rule = record {
           spelled = bank_field i small ∙ ap bank_text (bank_again i small);
-          lawful = subst IsImageBank (bank_again i small) (is.each_bank i small);
+          lawful = subst (IsImageBank (version_said file)) (bank_again i small) (subst (λ (v : ℕ). IsImageBank v (bank_at image.banks i)) (sym version_told) (is.each_bank i small));
         };
       }
 
@@ -206,7 +214,7 @@ module _ (image : Plain) (is : IsImage image) where
   header_holds = (
     record { whole = omega (arith, length-file); rule = refl },
     (
-      record { whole = omega (arith, length-file); rule = refl },
+      record { whole = omega (arith, length-file); rule = is.version },
       (
         record { whole = omega (arith, length-file); rule = (is.some_banks, is.few_banks) },
         (

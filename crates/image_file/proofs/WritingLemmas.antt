@@ -7,7 +7,7 @@ use Rattle.std.proofs.lemmas.Option.{slice_get-get_or}
 use Rattle.flash_sim.specs.Contents.{contents}
 use Rattle.flash_sim.specs.declared.flash.Bank.{Bank}
 use Rattle.flash_map.specs.declared.area.Area.{Area}
-use Rattle.image_file.specs.Format.{plain_area, plain_of, bank_text, area_text, file_of}
+use Rattle.image_file.specs.Format.{version_of, plain_area, plain_of, bank_text, area_text, file_of}
 use Rattle.image_file.specs.Lawful.{IsImage, FitsText, area_at, no_area}
 
 pub regroup : (a b c d : List ℕ) → ((a ++ b) ++ c) ++ d ≡ a ++ (b ++ (c ++ d))
@@ -38,6 +38,15 @@ pub plain_texts : (areas : List Area) → flat_map area_text (map plain_area are
 plain_texts [] = refl
 plain_texts (area ∷ areas) = ap (λ (l : List ℕ). area_text area ++ l) (plain_texts areas)
 
+-- the version of a map that has a first area, and of one that has none
+pub version_some : (areas : List Area) (area : Area) → Some area ≡ slice_get areas 0 → area.version ≡ version_of areas
+version_some [] area is = cc
+version_some (first ∷ areas) area is = ap (λ (a : Area). a.version) (same_some area first is)
+
+pub version_none : (areas : List Area) → nothing ≡ slice_get areas 0 → 1 ≡ version_of areas
+version_none [] is = refl
+version_none (first ∷ areas) is = cc
+
 -- the numbers of a lawful image's areas have room
 pub fits_text : (banks : List Bank) (areas : List Area) (bytes : List (Vec ℕ)) → IsImage (plain_of banks areas bytes) → (i : ℕ) → i < length areas → FitsText (area_at areas i)
 fits_text banks areas bytes is i below =
@@ -52,11 +61,11 @@ fits_text banks areas bytes is i below =
     record { label = few'; bank = omega arith; first = omega arith; sectors = omega arith }
 
 -- header, banks, areas and bytes one behind another are the file
-pub written : (old : List ℕ) (banks : List Bank) (areas : List Area) (bytes : List (Vec ℕ)) → (((old ++ 0x5A ∷ 0x53 ∷ 0x49 ∷ 0x4D ∷ 1 ∷ length banks ∷ length areas ∷ 0 ∷ []) ++ flat_map bank_text banks) ++ flat_map area_text areas) ++ concat (contents bytes) ≡ old ++ file_of (plain_of banks areas bytes)
+pub written : (old : List ℕ) (banks : List Bank) (areas : List Area) (bytes : List (Vec ℕ)) → (((old ++ 0x5A ∷ 0x53 ∷ 0x49 ∷ 0x4D ∷ version_of areas ∷ length banks ∷ length areas ∷ 0 ∷ []) ++ flat_map bank_text banks) ++ flat_map area_text areas) ++ concat (contents bytes) ≡ old ++ file_of (plain_of banks areas bytes)
 unfolding file_of
 written old banks areas bytes =
-    append_assoc ((old ++ 0x5A ∷ 0x53 ∷ 0x49 ∷ 0x4D ∷ 1 ∷ length banks ∷ length areas ∷ 0 ∷ []) ++ flat_map bank_text banks) (flat_map area_text areas) (concat (contents bytes))
-    ∙ append_assoc (old ++ 0x5A ∷ 0x53 ∷ 0x49 ∷ 0x4D ∷ 1 ∷ length banks ∷ length areas ∷ 0 ∷ []) (flat_map bank_text banks) (flat_map area_text areas ++ concat (contents bytes))
-    ∙ append_assoc old (0x5A ∷ 0x53 ∷ 0x49 ∷ 0x4D ∷ 1 ∷ length banks ∷ length areas ∷ 0 ∷ []) (flat_map bank_text banks ++ (flat_map area_text areas ++ concat (contents bytes)))
-    ∙ ap (λ (l : List ℕ). old ++ 0x5A ∷ 0x53 ∷ 0x49 ∷ 0x4D ∷ 1 ∷ length banks ∷ length areas ∷ 0 ∷ (flat_map bank_text banks ++ (l ++ concat (contents bytes)))) (sym (plain_texts areas))
-    ∙ ap (λ (n : ℕ). old ++ 0x5A ∷ 0x53 ∷ 0x49 ∷ 0x4D ∷ 1 ∷ length banks ∷ n ∷ 0 ∷ (flat_map bank_text banks ++ (flat_map area_text (map plain_area areas) ++ concat (contents bytes)))) (sym (length-map areas plain_area))
+    append_assoc ((old ++ 0x5A ∷ 0x53 ∷ 0x49 ∷ 0x4D ∷ version_of areas ∷ length banks ∷ length areas ∷ 0 ∷ []) ++ flat_map bank_text banks) (flat_map area_text areas) (concat (contents bytes))
+    ∙ append_assoc (old ++ 0x5A ∷ 0x53 ∷ 0x49 ∷ 0x4D ∷ version_of areas ∷ length banks ∷ length areas ∷ 0 ∷ []) (flat_map bank_text banks) (flat_map area_text areas ++ concat (contents bytes))
+    ∙ append_assoc old (0x5A ∷ 0x53 ∷ 0x49 ∷ 0x4D ∷ version_of areas ∷ length banks ∷ length areas ∷ 0 ∷ []) (flat_map bank_text banks ++ (flat_map area_text areas ++ concat (contents bytes)))
+    ∙ ap (λ (l : List ℕ). old ++ 0x5A ∷ 0x53 ∷ 0x49 ∷ 0x4D ∷ version_of areas ∷ length banks ∷ length areas ∷ 0 ∷ (flat_map bank_text banks ++ (l ++ concat (contents bytes)))) (sym (plain_texts areas))
+    ∙ ap (λ (n : ℕ). old ++ 0x5A ∷ 0x53 ∷ 0x49 ∷ 0x4D ∷ version_of areas ∷ length banks ∷ n ∷ 0 ∷ (flat_map bank_text banks ++ (flat_map area_text (map plain_area areas) ++ concat (contents bytes)))) (sym (length-map areas plain_area))

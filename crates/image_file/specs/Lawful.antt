@@ -1,23 +1,30 @@
 -- Which images are lawful.
-use Rattle.std.specs.Prelude.{◌≡◌, ℕ, ◌+◌, ◌%◌, ◌^◌, ◌<◌, ◌≤◌, ◌||◌, ◌&&◌, nat_le, Bool, true, false, List, [], length, map, take, count_by, slice_index_or}
-use Rattle.std.specs.List.{list_all}
+use Rattle.std.specs.Prelude.{◌≡◌, ◌⊎◌, ℕ, ◌+◌, ◌%◌, ◌^◌, ◌<◌, ◌≤◌, ◌||◌, ◌&&◌, nat_le, Bool, true, false, List, [], length, map, take, count_by, slice_index_or}
+use Rattle.std.specs.List.{All, list_all}
 use Rattle.flash_sim.specs.Bank.{bank_at, capacity}
 use Rattle.flash_sim.specs.declared.flash.Bank.{Bank}
-use Rattle.flash_sim.specs.declared.flash.Kind.TheVariants.{Erasing, Rewritable}
-use Rattle.flash_map.specs.Map.{IsInBank, IsNewTo}
+use Rattle.flash_sim.specs.declared.flash.Kind.TheVariants.{Erasing}
+use Rattle.flash_map.specs.Map.{HasVersion, IsInBank, IsNewTo}
 use Rattle.flash_map.specs.Units.{IsUnit}
 use Rattle.flash_map.specs.declared.area.Area.{Area}
 use Rattle.flash_map.specs.declared.area.Role.{Role}
 use Rattle.flash_map.specs.declared.area.Role.TheVariants.{Nvs, Zms, Fcb, Sel}
+use Rattle.image_file.specs.declared.lawful.TheConstants.{LEAST_SECTOR, LEAST_LONG_SECTOR, MOST_SECTOR, MOST_SECTORS, MOST_BANKS, MOST_AREAS}
 use Rattle.image_file.specs.Format.{Plain, plain_area}
 
-pub record IsImageBank (bank : Bank) : Type 0 where
+abbrev pub IsVersion : ℕ → Type 0
+IsVersion version = (version ≡ 1) ⊎ (version ≡ 2)
+
+-- an image of this version may have the bank
+pub record IsImageBank (version : ℕ) (bank : Bank) : Type 0 where
   pub unit : IsUnit bank.unit
-  pub at_least : 512 ≤ bank.sector
-  pub at_most : bank.sector ≤ 32768
+  pub at_least : LEAST_SECTOR ≤ bank.sector
+  -- a sector has room for the longest value
+  pub long_values : version ≡ 2 → LEAST_LONG_SECTOR ≤ bank.sector
+  pub at_most : bank.sector ≤ MOST_SECTOR
   pub whole : bank.sector % 64 ≡ 0
   pub some : 2 ≤ bank.count
-  pub few : bank.count ≤ 64
+  pub few : bank.count ≤ MOST_SECTORS
 
 -- a to z and 0 to 9
 abbrev pub is_label_byte : ℕ → Bool
@@ -28,10 +35,10 @@ pub record IsLabel (label : List ℕ) : Type 0 where
   pub few : length label ≤ 8
   pub each : list_all is_label_byte label ≡ true
 
--- a ZMS area stands on a rewritable bank of unit 16, and each other area on an erasing bank
+-- a ZMS area stands on a bank of unit 16, and each other area on an erasing bank
 abbrev pub StandsOn : Role → Bank → Type 0
 StandsOn Nvs bank = bank.kind ≡ Erasing
-StandsOn Zms bank = (bank.kind ≡ Rewritable) × (bank.unit ≡ 16)
+StandsOn Zms bank = bank.unit ≡ 16
 StandsOn Fcb bank = bank.kind ≡ Erasing
 StandsOn Sel bank = bank.kind ≡ Erasing
 
@@ -66,17 +73,19 @@ pub record FitsText (area : Area) : Type 0 where
 
 -- stands for an area that is not there
 abbrev pub no_area : Area
-no_area = record { label = record { bytes = []; spare = [] }; role = Nvs; bank = 0; first = 0; sectors = 0 }
+no_area = record { label = record { bytes = []; spare = [] }; role = Nvs; bank = 0; first = 0; sectors = 0; version = 1 }
 
 abbrev pub area_at : List Area → ℕ → Area
 area_at areas i = slice_index_or areas i no_area
 
 pub record IsImage (image : Plain) : Type 0 where
+  pub version : IsVersion image.version
   pub some_banks : 1 ≤ length image.banks
-  pub few_banks : length image.banks ≤ 2
-  pub each_bank : (i : ℕ) → i < length image.banks → IsImageBank (bank_at image.banks i)
+  pub few_banks : length image.banks ≤ MOST_BANKS
+  pub each_bank : (i : ℕ) → i < length image.banks → IsImageBank image.version (bank_at image.banks i)
   pub some_areas : 1 ≤ length image.areas
-  pub few_areas : length image.areas ≤ 8
+  pub few_areas : length image.areas ≤ MOST_AREAS
+  pub versions : All (HasVersion image.version) image.areas
   -- each area beside those before it
   pub each_area : (i : ℕ) → i < length image.areas → IsImageArea image.banks (take i image.areas) (area_at image.areas i)
   -- with nothing in the unused room of their labels

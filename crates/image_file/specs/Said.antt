@@ -29,14 +29,19 @@ role_said (suc (suc (suc (suc n)))) = Sel
 unfoldable pub bank_said : List ℕ → Bank
 bank_said text = record { kind = kind_said (slice_index text 0); unit = slice_index text 1; sector = from_le_bytes w32 (field_at text 4 4); count = from_le_bytes w32 (field_at text 8 4) }
 
-unfoldable pub area_said : List ℕ → Area
-area_said text = record {
+-- in a file of this version
+unfoldable pub area_said : ℕ → List ℕ → Area
+area_said version text = record {
   label = record { bytes = field_at text 8 (slice_index text 6); spare = [] };
   role = role_said (slice_index text 0);
   bank = slice_index text 1;
   first = from_le_bytes w16 (field_at text 2 2);
   sectors = from_le_bytes w16 (field_at text 4 2);
+  version = version;
 }
+
+abbrev pub version_said : List ℕ → ℕ
+version_said bytes = slice_index bytes 4
 
 abbrev pub bank_count : List ℕ → ℕ
 bank_count bytes = slice_index bytes 5
@@ -56,7 +61,7 @@ abbrev pub banks_said : List ℕ → ℕ → List Bank
 banks_said bytes n = map (λ i. bank_said (field_at bytes (bank_place i) 12)) (range_with_len 0 n)
 
 abbrev pub areas_said : List ℕ → ℕ → List Area
-areas_said bytes n = map (λ i. area_said (field_at bytes (area_place bytes i) 16)) (range_with_len 0 n)
+areas_said bytes n = map (λ i. area_said (version_said bytes) (field_at bytes (area_place bytes i) 16)) (range_with_len 0 n)
 
 abbrev pub all_banks : List ℕ → List Bank
 all_banks bytes = banks_said bytes (bank_count bytes)
@@ -76,4 +81,4 @@ contents_said bytes n = map (λ i. field_at bytes (contents_place bytes i) (cont
 
 -- the image that a file says, lawful or not
 abbrev pub image_said : List ℕ → Plain
-image_said bytes = record { banks = all_banks bytes; areas = all_areas bytes; bytes = contents_said bytes (bank_count bytes) }
+image_said bytes = record { version = version_said bytes; banks = all_banks bytes; areas = all_areas bytes; bytes = contents_said bytes (bank_count bytes) }

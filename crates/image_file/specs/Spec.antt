@@ -11,6 +11,7 @@ use Rattle.flash_map.specs.declared.area.Area.{Area}
 use Rattle.flash_map.specs.declared.area.Role.{Role}
 use Rattle.flash_map.specs.declared.area.Role.TheVariants.{Nvs, Zms, Fcb, Sel}
 use Rattle.image_file.specs.declared.image.Image.{Image}
+use Rattle.image_file.specs.declared.lawful.TheConstants.{MOST_BANKS, MOST_AREAS}
 use Rattle.image_file.specs.declared.image.SpecFault.{SpecFault}
 use Rattle.image_file.specs.declared.image.SpecFault.TheVariants.{BadSpec, NoMemory}
 use Rattle.image_file.specs.Format.{Plain, plain, plain_area}
@@ -34,39 +35,54 @@ bank_words bank = bank_word bank.kind ∷ decimal bank.unit ∷ decimal bank.sec
 abbrev pub area_words : Area → List (List ℕ)
 area_words area = area_word area.role ∷ area.label.bytes ∷ decimal area.bank ∷ decimal area.first ∷ decimal area.sectors ∷ []
 
--- banks and areas so far
+-- the version, and banks and areas so far
 pub record Listed : Type 0 where
+  pub version : ℕ
   pub banks : List Bank
   pub areas : List Area
 
 abbrev pub nothing_listed : Listed
-nothing_listed = record { banks = []; areas = [] }
+nothing_listed = record { version = 1; banks = []; areas = [] }
 
-abbrev pub listed : List Bank → List Area → Listed
-listed banks areas = record { banks = banks; areas = map plain_area areas }
+-- nothing but the version
+abbrev pub second_version : Listed
+second_version = record { version = 2; banks = []; areas = [] }
+
+abbrev pub version_word : List ℕ
+version_word = codes "version=2"
+
+abbrev pub listed : ℕ → List Bank → List Area → Listed
+listed version banks areas = record { version = version; banks = banks; areas = map plain_area areas }
+
+-- the item stands before all others, and tells the version
+pub record AddsVersion (old : Listed) (item : List ℕ) (new : Listed) : Type 0 where
+  pub word : item ≡ version_word
+  pub first : old ≡ nothing_listed
+  pub is : new ≡ second_version
 
 -- new is old with a bank that the item describes
 pub record AddsBank (old : Listed) (item : List ℕ) (new : Listed) : Type 0 where
   pub bank : Bank
   pub words : parts 47 item ≡ bank_words bank
-  pub lawful : IsImageBank bank
+  pub lawful : IsImageBank old.version bank
   pub no_areas : old.areas ≡ []
-  pub few : length old.banks < 2
-  pub is : new ≡ record { banks = old.banks ++ bank ∷ []; areas = [] }
+  pub few : length old.banks < MOST_BANKS
+  pub is : new ≡ record { version = old.version; banks = old.banks ++ bank ∷ []; areas = [] }
 
 -- new is old with an area that the item describes
 pub record AddsArea (old : Listed) (item : List ℕ) (new : Listed) : Type 0 where
   pub area : Area
   pub plain : plain_area area ≡ area
   pub words : parts 47 item ≡ area_words area
+  pub version : area.version ≡ old.version
   pub lawful : IsImageArea old.banks old.areas area
-  pub few : length old.areas < 8
+  pub few : length old.areas < MOST_AREAS
   -- a second selector may not be added
   pub alone : is_selector area ≡ true → count_by is_selector old.areas ≡ 0
-  pub is : new ≡ record { banks = old.banks; areas = old.areas ++ area ∷ [] }
+  pub is : new ≡ record { version = old.version; banks = old.banks; areas = old.areas ++ area ∷ [] }
 
 abbrev pub Adds : Listed → List ℕ → Listed → Type 0
-Adds old item new = AddsBank old item new ⊎ AddsArea old item new
+Adds old item new = AddsVersion old item new ⊎ AddsBank old item new ⊎ AddsArea old item new
 
 abbrev pub AddsAll : Listed → List (List ℕ) → Listed → Type 0
 AddsAll old [] new = new ≡ old
@@ -81,7 +97,7 @@ FirstBad old (item ∷ items) n = (((new : Listed) → Adds old item new → ⊥
 -- the word describes the image, which is blank
 pub record IsSpec (word : List ℕ) (image : Plain) : Type 0 where
   pub lawful : IsImage image
-  pub items : AddsAll nothing_listed (parts 44 word) (record { banks = image.banks; areas = image.areas })
+  pub items : AddsAll nothing_listed (parts 44 word) (record { version = image.version; banks = image.banks; areas = image.areas })
   pub blank : image.bytes ≡ map (λ bank. replicate (capacity bank) 255) image.banks
 
 abbrev pub ReadsSpec : List ℕ → Result Image SpecFault → Type 0
@@ -114,14 +130,14 @@ bank_from None unit sector count = None
 -- the bank that an item describes, if its numbers are below 2^32
 pub record IsBankItem (item : List ℕ) (found : Option Bank) : Type 0 where
   pub sound : IfSome found (λ bank. parts 47 item ≡ bank_words bank)
-  pub only : (bank : Bank) → IsImageBank bank → parts 47 item ≡ bank_words bank → found ≡ Some bank
+  pub only : (version : ℕ) (bank : Bank) → IsImageBank version bank → parts 47 item ≡ bank_words bank → found ≡ Some bank
 
-abbrev pub area_from : Option Role → ArrayString → Option ℕ → Option ℕ → Option ℕ → Option Area
-area_from (Some role) label (Some bank) (Some first) (Some sectors) = Some (record { label = label; role = role; bank = bank; first = first; sectors = sectors })
-area_from (Some role) label (Some bank) (Some first) None = None
-area_from (Some role) label (Some bank) None sectors = None
-area_from (Some role) label None first sectors = None
-area_from None label bank first sectors = None
+abbrev pub area_from : ℕ → Option Role → ArrayString → Option ℕ → Option ℕ → Option ℕ → Option Area
+area_from version (Some role) label (Some bank) (Some first) (Some sectors) = Some (record { label = label; role = role; bank = bank; first = first; sectors = sectors; version = version })
+area_from version (Some role) label (Some bank) (Some first) None = None
+area_from version (Some role) label (Some bank) None sectors = None
+area_from version (Some role) label None first sectors = None
+area_from version None label bank first sectors = None
 
 -- a label, and numbers below 2^32
 pub record FitsItem (area : Area) : Type 0 where
@@ -130,7 +146,7 @@ pub record FitsItem (area : Area) : Type 0 where
   pub first : area.first < 2 ^ 32
   pub sectors : area.sectors < 2 ^ 32
 
--- the area that an item describes, if it fits
-pub record IsAreaItem (item : List ℕ) (found : Option Area) : Type 0 where
-  pub sound : IfSome found (λ area. (parts 47 item ≡ area_words area) × IsLabel area.label.bytes)
-  pub only : (area : Area) → FitsItem area → plain_area area ≡ area → parts 47 item ≡ area_words area → option_map plain_area found ≡ Some area
+-- the area of this version that an item describes, if it fits
+pub record IsAreaItem (version : ℕ) (item : List ℕ) (found : Option Area) : Type 0 where
+  pub sound : IfSome found (λ area. (parts 47 item ≡ area_words area) × IsLabel area.label.bytes × (area.version ≡ version))
+  pub only : (area : Area) → FitsItem area → area.version ≡ version → plain_area area ≡ area → parts 47 item ≡ area_words area → option_map plain_area found ≡ Some area

@@ -5,9 +5,10 @@ use Rattle.flash_sim.specs.declared.flash.Bank.{Bank}
 use Rattle.flash_map.specs.declared.area.Area.{Area}
 use Rattle.image_file.specs.declared.image.ImageWhy.{ImageWhy}
 use Rattle.image_file.specs.declared.image.ImageWhy.TheVariants.{BadMagic, BadVersion, BadBank, BadArea, Short, Long}
+use Rattle.image_file.specs.declared.lawful.TheConstants.{MOST_BANKS, MOST_AREAS}
 use Rattle.image_file.specs.Format.{bank_text, area_text}
-use Rattle.image_file.specs.Lawful.{IsImageBank, IsImageArea, IsLabel, HasNeeded}
-use Rattle.image_file.specs.Said.{field_at, bank_said, area_said, bank_count, area_count, bank_place, area_place, all_banks, all_areas, areas_said, contents_place, contents_size}
+use Rattle.image_file.specs.Lawful.{IsVersion, IsImageBank, IsImageArea, IsLabel, HasNeeded}
+use Rattle.image_file.specs.Said.{field_at, bank_said, area_said, version_said, bank_count, area_count, bank_place, area_place, all_banks, all_areas, areas_said, contents_place, contents_size}
 
 pub data Row : Type 0 where
   Magic : Row
@@ -47,10 +48,10 @@ size bytes Needed = 0
 size bytes (ContentsAt i) = contents_size bytes i
 size bytes End = 0
 
--- the field is the text of a lawful bank
-pub record IsBankText (text : List ℕ) : Type 0 where
+-- the field is the text of a bank that an image of this version may have
+pub record IsBankText (version : ℕ) (text : List ℕ) : Type 0 where
   pub spelled : text ≡ bank_text (bank_said text)
-  pub lawful : IsImageBank (bank_said text)
+  pub lawful : IsImageBank version (bank_said text)
 
 -- a label of this length in a field of eight bytes, with zeros behind it
 pub record IsLabelText (len : ℕ) (text : List ℕ) : Type 0 where
@@ -59,24 +60,24 @@ pub record IsLabelText (len : ℕ) (text : List ℕ) : Type 0 where
   pub zeros : list_all (λ b. b == 0) (drop len text) ≡ true
 
 -- the field is the text of an area with a lawful label
-pub record IsSpelled (text : List ℕ) : Type 0 where
-  pub spelled : text ≡ area_text (area_said text)
-  pub label : IsLabel (area_said text).label.bytes
+pub record IsSpelled (version : ℕ) (text : List ℕ) : Type 0 where
+  pub spelled : text ≡ area_text (area_said version text)
+  pub label : IsLabel (area_said version text).label.bytes
 
 -- the field is the text of an area that may stand on these banks, beside these areas
-pub record IsAreaText (banks : List Bank) (others : List Area) (text : List ℕ) : Type 0 where
-  pub spelled : text ≡ area_text (area_said text)
-  pub lawful : IsImageArea banks others (area_said text)
+pub record IsAreaText (version : ℕ) (banks : List Bank) (others : List Area) (text : List ℕ) : Type 0 where
+  pub spelled : text ≡ area_text (area_said version text)
+  pub lawful : IsImageArea banks others (area_said version text)
 
 -- what a field must be
 abbrev pub Rule : List ℕ → Row → Type 0
 Rule bytes Magic = field_at bytes 0 4 ≡ 0x5A ∷ 0x53 ∷ 0x49 ∷ 0x4D ∷ []
-Rule bytes Version = slice_index bytes 4 ≡ 1
-Rule bytes BankCount = (1 ≤ bank_count bytes) × (bank_count bytes ≤ 2)
-Rule bytes AreaCount = (1 ≤ area_count bytes) × (area_count bytes ≤ 8)
+Rule bytes Version = IsVersion (version_said bytes)
+Rule bytes BankCount = (1 ≤ bank_count bytes) × (bank_count bytes ≤ MOST_BANKS)
+Rule bytes AreaCount = (1 ≤ area_count bytes) × (area_count bytes ≤ MOST_AREAS)
 Rule bytes Zero = slice_index bytes 7 ≡ 0
-Rule bytes (BankAt i) = IsBankText (field_at bytes (bank_place i) 12)
-Rule bytes (AreaAt i) = IsAreaText (all_banks bytes) (areas_said bytes i) (field_at bytes (area_place bytes i) 16)
+Rule bytes (BankAt i) = IsBankText (version_said bytes) (field_at bytes (bank_place i) 12)
+Rule bytes (AreaAt i) = IsAreaText (version_said bytes) (all_banks bytes) (areas_said bytes i) (field_at bytes (area_place bytes i) 16)
 Rule bytes Needed = HasNeeded (all_areas bytes)
 Rule bytes (ContentsAt i) = ⊤
 Rule bytes End = length bytes ≡ contents_place bytes (bank_count bytes)

@@ -72,11 +72,11 @@ fn role_of(byte: u8) -> Option<Role>
     }
 }
 
-/// The lawful bank that a field spells; none where it spells none.
+/// The bank that a field spells in a file of this version; none where it spells none that is lawful.
 #[tactic(auto, unfolding(crate::specs::Said::bank_said))]
-pub fn bank_of(text: &[u8]) -> Option<Bank>
+pub fn bank_of(version: u8, text: &[u8]) -> Option<Bank>
     requires { length text.now ≡ 12 }
-    ensures { MatchOption result (IsBankText text.now → ⊥) (λ bank. (bank ≡ bank_said text.now) × IsBankText text.now) }
+    ensures { MatchOption result (IsBankText version text.now → ⊥) (λ bank. (bank ≡ bank_said text.now) × IsBankText version text.now) }
 {
     let kind = kind_of(text[0])?;
     let bank = Bank {
@@ -85,7 +85,7 @@ pub fn bank_of(text: &[u8]) -> Option<Bank>
         sector: u32_at(text, 4),
         count: u32_at(text, 8),
     };
-    if text[2] == 0 && text[3] == 0 && is_lawful_bank(&bank) {
+    if text[2] == 0 && text[3] == 0 && is_lawful_bank(version, &bank) {
         Some(bank)
     } else {
         None
@@ -94,9 +94,9 @@ pub fn bank_of(text: &[u8]) -> Option<Bank>
 
 /// The area that a field spells, wherever it stands; none where it spells none with a lawful label.
 #[tactic(auto, unfolding(crate::specs::Said::area_said))]
-pub fn area_of(text: &[u8]) -> Option<Area>
+pub fn area_of(version: u8, text: &[u8]) -> Option<Area>
     requires { length text.now ≡ 16 }
-    ensures { MatchOption result (IsSpelled text.now → ⊥) (λ area. (plain_area area ≡ area_said text.now) × IsSpelled text.now) }
+    ensures { MatchOption result (IsSpelled version text.now → ⊥) (λ area. (plain_area area ≡ area_said version text.now) × IsSpelled version text.now) }
 {
     let role = role_of(text[0])?;
     if text[7] != 0 {
@@ -105,13 +105,14 @@ pub fn area_of(text: &[u8]) -> Option<Area>
     let Some(label) = label_of(text[6], text.split_at(8).1) else {
         return None;
     };
-    Some(Area {
+    Some(Area::new(
         label,
         role,
-        bank: usize::from(text[1]),
-        first: u32::from(u16_at(text, 2)),
-        sectors: u32::from(u16_at(text, 4)),
-    })
+        usize::from(text[1]),
+        u32::from(u16_at(text, 2)),
+        u32::from(u16_at(text, 4)),
+        version,
+    ))
 }
 
 // The label of this length in eight bytes, with zeros behind it.

@@ -20,7 +20,7 @@ pub struct Image {
 pub enum ImageWhy {
     /// The first four bytes are not `ZSIM`.
     BadMagic,
-    /// The version is not 1, or the eighth byte is not 0.
+    /// The version is not 1 or 2, or the eighth byte is not 0.
     BadVersion,
     /// The number of banks is not 1 or 2, or a field is no lawful bank.
     BadBank,

@@ -1,6 +1,7 @@
 // Which banks and areas an image may have.
-ghost use Rattle.std.specs.Prelude.{◌≡◌, ◌<◌, ◌≤◌, ◌↔◌, IsTrue, length, map, count_by};
-ghost use Rattle.std.specs.List.{list_all};
+ghost use Rattle.std.specs.Prelude.{◌≡◌, ℕ, ◌<◌, ◌≤◌, ◌↔◌, IsTrue, length, map, count_by};
+ghost use Rattle.std.specs.List.{All, list_all};
+ghost use Rattle.flash_map.specs.Map.{HasVersion};
 ghost use Rattle.flash_sim.specs.Bank.{capacity};
 ghost use Rattle.image_file.specs.Format.{plain_area};
 ghost use Rattle.image_file.specs.Lawful.{IsImageBank, IsLabel, StandsOn, HasNeeded, is_label_byte, is_selector, area_at};
@@ -9,14 +10,33 @@ ghost use Rattle.image_file.specs.Takes.{TakesArea};
 use flash_map::{AddFault, Area, FlashMap, Role};
 use flash_sim::{Bank, Kind, NoMemory};
 
-/// Whether an image may have this bank.
-pub fn is_lawful_bank(bank: &Bank) -> bool
-    ensures { IsTrue result ↔ IsImageBank bank.now }
+/// The fewest bytes of a sector.
+pub const LEAST_SECTOR: u32 = 512;
+
+/// The fewest bytes of a sector in an image of version 2, where a sector has room for longer values.
+pub const LEAST_LONG_SECTOR: u32 = 4096;
+
+/// The most bytes of a sector.
+pub const MOST_SECTOR: u32 = 32_768;
+
+/// The most sectors of a bank.
+pub const MOST_SECTORS: u32 = 64;
+
+/// The most banks of an image.
+pub const MOST_BANKS: usize = 2;
+
+/// The most areas of an image.
+pub const MOST_AREAS: usize = 8;
+
+/// Whether an image of this version may have the bank.
+pub fn is_lawful_bank(version: u8, bank: &Bank) -> bool
+    ensures { IsTrue result ↔ IsImageBank version bank.now }
 {
     matches!(bank.unit, 4 | 8 | 16)
-        && (512..=32_768).contains(&bank.sector)
+        && (LEAST_SECTOR..=MOST_SECTOR).contains(&bank.sector)
+        && (version != 2 || bank.sector >= LEAST_LONG_SECTOR)
         && bank.sector % 64 == 0
-        && (2..=64).contains(&bank.count)
+        && (2..=MOST_SECTORS).contains(&bank.count)
 }
 
 /// Whether a label has 1 to 8 bytes of `a` to `z` and `0` to `9`.
@@ -42,7 +62,7 @@ fn stands_on(role: Role, bank: &Bank) -> bool
     ensures { IsTrue result ↔ StandsOn role bank.now }
 {
     match role {
-        Role::Zms => bank.kind == Kind::Rewritable && bank.unit == 16,
+        Role::Zms => bank.unit == 16,
         Role::Nvs | Role::Fcb | Role::Sel => bank.kind == Kind::Erasing,
     }
 }
@@ -52,7 +72,8 @@ fn stands_on(role: Role, bank: &Bank) -> bool
 /// # Errors
 /// Want of memory alone.
 pub fn take_area(areas: &mut FlashMap, banks: &[Bank], area: Area) -> Result<bool, NoMemory>
-    requires { IsLabel area.label.bytes }
+    requires label { IsLabel area.label.bytes }
+    requires version { All (HasVersion area.version) areas.old }
     ensures { TakesArea banks.now areas.old areas.new area result }
 {
     let Some(bank) = banks.get(area.bank) else {
@@ -98,7 +119,7 @@ pub fn count_selectors(areas: &FlashMap) -> usize
 
 /// How many bytes a bank has.
 pub fn capacity(bank: &Bank) -> usize
-    requires { IsImageBank bank.now }
+    requires { (version : ℕ) × IsImageBank version bank.now }
     ensures { result ≡ capacity bank.now }
 {
     bank.sector as usize * bank.count as usize

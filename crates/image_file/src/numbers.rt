@@ -90,33 +90,28 @@ pub fn bank_item(alloc: Global, item: &[u8]) -> Result<Option<Bank>, AllocError>
 }
 
 fn area_from(
+    version: u8,
     role: Option<Role>,
     label: ArrayString<8>,
     bank: Option<u32>,
     first: Option<u32>,
     sectors: Option<u32>,
 ) -> Option<Area>
-    ensures { result ≡ area_from role label bank first sectors }
+    ensures { result ≡ area_from version role label bank first sectors }
 {
     let role = role?;
     let bank = bank?;
     let first = first?;
     let sectors = sectors?;
-    Some(Area {
-        label,
-        role,
-        bank: bank as usize,
-        first,
-        sectors,
-    })
+    Some(Area::new(label, role, bank as usize, first, sectors, version))
 }
 
-/// The area that an item describes; none only where it describes none with a lawful label and numbers below 2^32.
+/// The area of an image of this version that an item describes; none only where it describes none with a lawful label and numbers below 2^32.
 ///
 /// # Errors
 /// Want of memory alone.
-pub fn area_item(alloc: Global, item: &[u8]) -> Result<Option<Area>, AllocError>
-    ensures { IfOk result (IsAreaItem item.now) }
+pub fn area_item(alloc: Global, item: &[u8], version: u8) -> Result<Option<Area>, AllocError>
+    ensures { IfOk result (IsAreaItem version item.now) }
 {
     let Some((role, label, bank, first, sectors)) = five_words(item) else {
         return Ok(None);
@@ -127,5 +122,5 @@ pub fn area_item(alloc: Global, item: &[u8]) -> Result<Option<Area>, AllocError>
     let bank = number_of(alloc, bank)?;
     let first = number_of(alloc, first)?;
     let sectors = number_of(alloc, sectors)?;
-    Ok(area_from(role_of(role), label, bank, first, sectors))
+    Ok(area_from(version, role_of(role), label, bank, first, sectors))
 }

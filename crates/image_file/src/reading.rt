@@ -4,9 +4,10 @@ ghost use Rattle.flash_sim.specs.Bank.{bank_at, capacity};
 ghost use Rattle.flash_sim.specs.Contents.{contents};
 ghost use Rattle.image_file.specs.declared.image.ImageFault.TheVariants.{Bad};
 ghost use Rattle.image_file.specs.declared.image.ImageWhy.TheVariants.{Short};
+ghost use Rattle.image_file.specs.declared.lawful.TheConstants.{MOST_BANKS, MOST_AREAS};
 ghost use Rattle.image_file.specs.Format.{plain_area};
 ghost use Rattle.image_file.specs.Lawful.{IsImageBank};
-ghost use Rattle.image_file.specs.Said.{bank_said, field_at, bank_place, area_place, bank_count, area_count, banks_said, areas_said, all_banks, all_areas, contents_place, contents_said};
+ghost use Rattle.image_file.specs.Said.{bank_said, version_said, field_at, bank_place, area_place, bank_count, area_count, banks_said, areas_said, all_banks, all_areas, contents_place, contents_said};
 ghost use Rattle.image_file.specs.Table.{BankAt, AreaAt, ContentsAt, Departs, FirstFault, Holds, AllHold, header_rows, rows_of, contents_rows};
 ghost use Rattle.image_file.specs.Reading.{Reads, ReadsImage};
 
@@ -17,9 +18,10 @@ use flash_map::FlashMap;
 use flash_sim::Bank;
 use std::alloc::Global;
 
-// How many banks and areas a file has.
+// The version of a file, and how many banks and areas it has.
 #[derive(Clone, Copy)]
 struct Counts {
+    version: u8,
     banks: usize,
     areas: usize,
 }
@@ -43,13 +45,14 @@ fn byte_at(bytes: &[u8], at: usize) -> Result<u8, ImageFault>
 
 // The first eight bytes.
 fn read_header(bytes: &[u8]) -> Result<Counts, ImageFault>
-    ensures { Reads (λ counts. AllHold bytes.now header_rows × (counts.banks ≡ bank_count bytes.now) × (counts.areas ≡ area_count bytes.now))
+    ensures { Reads (λ counts. AllHold bytes.now header_rows × (counts.version ≡ version_said bytes.now) × (counts.banks ≡ bank_count bytes.now) × (counts.areas ≡ area_count bytes.now))
         (FirstFault bytes.now header_rows) result }
 {
     if field(bytes, 0, 4)? != b"ZSIM".as_slice() {
         return Err(bad(0, ImageWhy::BadMagic));
     }
-    if byte_at(bytes, 4)? != 1 {
+    let version = byte_at(bytes, 4)?;
+    if !(1..=2).contains(&version) {
         return Err(bad(4, ImageWhy::BadVersion));
     }
     let banks = byte_at(bytes, 5)?;
@@ -64,44 +67,59 @@ fn read_header(bytes: &[u8]) -> Result<Counts, ImageFault>
         return Err(bad(7, ImageWhy::BadVersion));
     }
     Ok(Counts {
+        version,
         banks: usize::from(banks),
         areas: usize::from(areas),
     })
 }
 
 // The bank of this number.
-fn read_bank(bytes: &[u8], i: usize) -> Result<Bank, ImageFault>
-    requires few { i < 2 }
+fn read_bank(bytes: &[u8], version: u8, i: usize) -> Result<Bank, ImageFault>
+    requires version { version ≡ version_said bytes.now }
+    requires few { i < MOST_BANKS }
     requires there { bank_place i ≤ length bytes.now }
     ensures { Reads (λ bank. (bank ≡ bank_said (field_at bytes.now (bank_place i) 12)) × Holds bytes.now (BankAt i))
         (Departs bytes.now (BankAt i)) result }
 {
     let at = 8 + 12 * i;
     let text = field(bytes, at, 12)?;
-    let Some(bank) = bank_of(text) else {
+    let Some(bank) = bank_of(version, text) else {
         return Err(bad(at, ImageWhy::BadBank));
     };
     Ok(bank)
 }
 
-fn read_banks(alloc: Global, bytes: &[u8], count: usize) -> Result<Vec<Bank>, ImageFault>
-    requires few { count ≤ 2 }
+fn read_banks(
+    alloc: Global,
+    bytes: &[u8],
+    version: u8,
+    count: usize,
+) -> Result<Vec<Bank>, ImageFault>
+    requires version { version ≡ version_said bytes.now }
+    requires few { count ≤ MOST_BANKS }
     requires there { 8 ≤ length bytes.now }
     ensures { Reads (λ banks. (banks.items ≡ banks_said bytes.now count) × AllHold bytes.now (rows_of BankAt count))
         (FirstFault bytes.now (rows_of BankAt count)) result }
 {
     let mut banks = Vec::new(alloc);
     for i in 0..count {
-        let bank = read_bank(bytes, i)?;
+        let bank = read_bank(bytes, version, i)?;
         banks.push(bank)?;
     }
     Ok(banks)
 }
 
 // Reads the area of this number and adds it to those before it.
-fn read_area(bytes: &[u8], i: usize, banks: &[Bank], areas: &mut FlashMap) -> Result<(), ImageFault>
-    requires few { i < 8 }
-    requires few_banks { bank_count bytes.now ≤ 2 }
+fn read_area(
+    bytes: &[u8],
+    version: u8,
+    i: usize,
+    banks: &[Bank],
+    areas: &mut FlashMap,
+) -> Result<(), ImageFault>
+    requires version { version ≡ version_said bytes.now }
+    requires few { i < MOST_AREAS }
+    requires few_banks { bank_count bytes.now ≤ MOST_BANKS }
     requires banks { banks.now ≡ all_banks bytes.now }
     requires areas { map plain_area areas.old ≡ areas_said bytes.now i }
     requires there { area_place bytes.now i ≤ length bytes.now }
@@ -110,7 +128,7 @@ fn read_area(bytes: &[u8], i: usize, banks: &[Bank], areas: &mut FlashMap) -> Re
 {
     let at = 8 + 12 * banks.len() + 16 * i;
     let text = field(bytes, at, 16)?;
-    let Some(area) = area_of(text) else {
+    let Some(area) = area_of(version, text) else {
         return Err(ImageFault::Bad {
             at: at as u64,
             why: ImageWhy::BadArea,
@@ -128,11 +146,13 @@ fn read_area(bytes: &[u8], i: usize, banks: &[Bank], areas: &mut FlashMap) -> Re
 fn read_areas(
     alloc: Global,
     bytes: &[u8],
+    version: u8,
     banks: &[Bank],
     count: usize,
 ) -> Result<FlashMap, ImageFault>
-    requires few { count ≤ 8 }
-    requires few_banks { bank_count bytes.now ≤ 2 }
+    requires version { version ≡ version_said bytes.now }
+    requires few { count ≤ MOST_AREAS }
+    requires few_banks { bank_count bytes.now ≤ MOST_BANKS }
     requires banks { banks.now ≡ all_banks bytes.now }
     requires there { area_place bytes.now 0 ≤ length bytes.now }
     ensures { Reads (λ areas. (map plain_area areas ≡ areas_said bytes.now count) × AllHold bytes.now (rows_of AreaAt count))
@@ -140,7 +160,7 @@ fn read_areas(
 {
     let mut areas = FlashMap::new(alloc);
     for i in 0..count {
-        read_area(bytes, i, banks, &mut areas)?;
+        read_area(bytes, version, i, banks, &mut areas)?;
     }
     Ok(areas)
 }
@@ -153,7 +173,7 @@ fn read_contents(
     start: usize,
 ) -> Result<Vec<Vec<u8>>, ImageFault>
     requires banks { banks.now ≡ all_banks bytes.now }
-    requires lawful { (i : ℕ) → i < length banks.now → IsImageBank (bank_at banks.now i) }
+    requires lawful { (i : ℕ) → i < length banks.now → IsImageBank (version_said bytes.now) (bank_at banks.now i) }
     requires start { start ≡ contents_place bytes.now 0 }
     requires there { start ≤ length bytes.now }
     ensures { Reads (λ copies. (contents copies.items ≡ contents_said bytes.now (bank_count bytes.now)) × AllHold bytes.now (contents_rows bytes.now))
@@ -185,8 +205,8 @@ pub fn read_image(alloc: Global, bytes: &[u8]) -> Result<Image, ImageFault>
     ensures { ReadsImage bytes.now result }
 {
     let counts = read_header(bytes)?;
-    let banks = read_banks(alloc, bytes, counts.banks)?;
-    let map = read_areas(alloc, bytes, &banks, counts.areas)?;
+    let banks = read_banks(alloc, bytes, counts.version, counts.banks)?;
+    let map = read_areas(alloc, bytes, counts.version, &banks, counts.areas)?;
     if !has_needed(&map) {
         return Err(ImageFault::Bad {
             at: 6,

@@ -1,23 +1,28 @@
 // Reading the word that describes a blank image.
 ghost use Rattle.std.specs.Prelude.{◌≡◌, ◌<◌, ◌↔◌, ℕ, true, length, map, count_by, replicate, IsTrue, IfOk, IfSome};
+ghost use Rattle.std.specs.List.{All};
+ghost use Rattle.flash_map.specs.Map.{HasVersion};
 ghost use Rattle.flash_sim.specs.Bank.{bank_at, capacity};
 ghost use Rattle.flash_sim.specs.Contents.{contents};
 ghost use Rattle.image_file.specs.Format.{plain_area};
-ghost use Rattle.image_file.specs.Items.{IsListed, TakesBank, TakesListed, TakesFound, TakesItem, ReadsItems};
+ghost use Rattle.image_file.specs.Items.{IsListed, TakesVersion, TakesBank, TakesListed, TakesFound, TakesItem, ReadsItems};
 ghost use Rattle.image_file.specs.Lawful.{IsImageBank, IsLabel, is_sel, is_selector};
-ghost use Rattle.image_file.specs.Spec.{listed, ReadsSpec};
+ghost use Rattle.image_file.specs.Spec.{listed, version_word, ReadsSpec};
 
 use crate::image::{Image, SpecFault};
-use crate::lawful::{capacity, count_selectors, has_needed, is_lawful_bank, take_area};
+use crate::lawful::{
+    MOST_AREAS, MOST_BANKS, capacity, count_selectors, has_needed, is_lawful_bank, take_area,
+};
 use crate::numbers::{area_item, bank_item};
 use flash_map::{Area, FlashMap, Role};
 use flash_sim::{Bank, NoMemory};
 use std::alloc::{AllocError, Global};
 use text_parts::cut_at;
 
-// The banks and areas of a word, and how many items it has.
+// The version, the banks and the areas of a word, and how many items it has.
 #[derive(Drop)]
 struct Items {
+    version: u8,
     banks: Vec<Bank>,
     areas: FlashMap,
     count: u32,
@@ -25,16 +30,21 @@ struct Items {
 
 // Adds a bank that may be added, and says whether it may.
 #[tactic(auto, using(std::proofs::lemmas::List::nil_from_length))]
-fn take_bank(banks: &mut Vec<Bank>, areas: &FlashMap, bank: Bank) -> Result<bool, NoMemory>
-    ensures { TakesBank banks.old.items banks.new.items areas.now bank result }
+fn take_bank(
+    version: u8,
+    banks: &mut Vec<Bank>,
+    areas: &FlashMap,
+    bank: Bank,
+) -> Result<bool, NoMemory>
+    ensures { TakesBank version banks.old.items banks.new.items areas.now bank result }
 {
     if areas.len() > 0 {
         return Ok(false);
     }
-    if banks.len() >= 2 {
+    if banks.len() >= MOST_BANKS {
         return Ok(false);
     }
-    if !is_lawful_bank(&bank) {
+    if !is_lawful_bank(version, &bank) {
         return Ok(false);
     }
     match banks.push(bank) {
@@ -55,10 +65,11 @@ fn is_alone(areas: &FlashMap, role: Role) -> bool
 
 // Adds an area that may be added, and says whether it may.
 fn take_listed(areas: &mut FlashMap, banks: &[Bank], area: Area) -> Result<bool, NoMemory>
-    requires { IsLabel area.label.bytes }
+    requires label { IsLabel area.label.bytes }
+    requires version { All (HasVersion area.version) areas.old }
     ensures { TakesListed banks.now areas.old areas.new area result }
 {
-    if areas.len() >= 8 {
+    if areas.len() >= MOST_AREAS {
         return Ok(false);
     }
     if !is_alone(areas, area.role) {
@@ -69,16 +80,18 @@ fn take_listed(areas: &mut FlashMap, banks: &[Bank], area: Area) -> Result<bool,
 }
 
 fn take_found(
+    version: u8,
     banks: &mut Vec<Bank>,
     areas: &mut FlashMap,
     bank: Option<Bank>,
     area: Option<Area>,
 ) -> Result<bool, NoMemory>
-    requires { IfSome area (λ a. IsLabel a.label.bytes) }
-    ensures { TakesFound banks.old.items banks.new.items areas.old areas.new bank area result }
+    requires label { IfSome area (λ a. IsLabel a.label.bytes) }
+    requires version { IfSome area (λ a. All (HasVersion a.version) areas.old) }
+    ensures { TakesFound version banks.old.items banks.new.items areas.old areas.new bank area result }
 {
     match bank {
-        Some(bank) => take_bank(banks, areas, bank),
+        Some(bank) => take_bank(version, banks, areas, bank),
         None => match area {
             Some(area) => take_listed(areas, banks, area),
             None => Ok(false),
@@ -86,25 +99,47 @@ fn take_found(
     }
 }
 
+fn is_version(item: &[u8]) -> bool
+    ensures { IsTrue result ↔ (item.now ≡ version_word) }
+{
+    item == b"version=2".as_slice()
+}
+
+// Takes the second version, if nothing was added yet, and says whether it was.
+fn take_version(version: &mut u8, banks: &[Bank], areas: &FlashMap) -> bool
+    ensures { TakesVersion (listed version.old banks.now areas.now) (listed version.new banks.now areas.now) result }
+{
+    if *version == 1 && banks.is_empty() && areas.len() == 0 {
+        *version = 2;
+        return true;
+    }
+    false
+}
+
 // Adds what an item describes, if it may be added, and says whether it may.
 fn take_item(
     alloc: Global,
     item: &[u8],
+    version: &mut u8,
     banks: &mut Vec<Bank>,
     areas: &mut FlashMap,
 ) -> Result<bool, SpecFault>
-    requires { IsListed (listed banks.old.items areas.old) }
-    ensures { TakesItem item.now (listed banks.old.items areas.old) (listed banks.new.items areas.new) result }
+    requires { IsListed (listed version.old banks.old.items areas.old) }
+    ensures { TakesItem item.now (listed version.old banks.old.items areas.old) (listed version.new banks.new.items areas.new) result }
 {
+    if is_version(item) {
+        return Ok(take_version(version, banks, areas));
+    }
     let bank = bank_item(alloc, item)?;
-    let area = area_item(alloc, item)?;
-    let taken = take_found(banks, areas, bank, area)?;
+    let area = area_item(alloc, item, *version)?;
+    let taken = take_found(*version, banks, areas, bank, area)?;
     Ok(taken)
 }
 
 fn read_items(alloc: Global, word: &[u8]) -> Result<Items, SpecFault>
     ensures { ReadsItems word.now result }
 {
+    let mut version = 1u8;
     let mut banks = Vec::new(alloc);
     let mut areas = FlashMap::new(alloc);
     let mut count = 0u32;
@@ -112,13 +147,14 @@ fn read_items(alloc: Global, word: &[u8]) -> Result<Items, SpecFault>
     while let Some(items) = rest {
         let (item, after) = cut_at(items, b',');
         count += 1;
-        let taken = take_item(alloc, item, &mut banks, &mut areas)?;
+        let taken = take_item(alloc, item, &mut version, &mut banks, &mut areas)?;
         if !taken {
             return Err(SpecFault::BadSpec { item: count });
         }
         rest = after;
     }
     Ok(Items {
+        version,
         banks,
         areas,
         count,
@@ -132,7 +168,7 @@ fn blank_bytes(alloc: Global, len: usize) -> Result<Vec<u8>, AllocError>
 }
 
 fn blank_banks(alloc: Global, banks: &[Bank]) -> Result<Vec<Vec<u8>>, AllocError>
-    requires { (i : ℕ) → i < length banks.now → IsImageBank (bank_at banks.now i) }
+    requires { (version : ℕ) × ((i : ℕ) → i < length banks.now → IsImageBank version (bank_at banks.now i)) }
     ensures { IfOk result (λ copies. contents copies.items ≡ map (λ bank. replicate (capacity bank) 255) banks.now) }
 {
     let mut copies = Vec::new(alloc);
@@ -145,7 +181,7 @@ fn blank_banks(alloc: Global, banks: &[Bank]) -> Result<Vec<Vec<u8>>, AllocError
 
 /// The blank image that a word describes, all FF.
 ///
-/// The items stand between commas, the banks first: `bank=KIND/UNIT/SECTOR/COUNT`, a unit and a sector in bytes, and
+/// The items stand between commas. The first may be `version=2`; without it the version is 1. Then come the banks: `bank=KIND/UNIT/SECTOR/COUNT`, a unit and a sector in bytes, and
 /// `area=ROLE/LABEL/BANK/FIRST/SECTORS`, the bank and the area's first sector counted from 0.
 ///
 /// # Errors

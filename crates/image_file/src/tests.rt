@@ -6,18 +6,50 @@ use flash_sim::NoMemory;
 use std::alloc::Global;
 use std::test::Fail;
 
-// The file of `bank=erasing/4/512/4,area=nvs/main/0/0/4`, but for the 2,048 bytes FF behind it.
+// The file of this word's image, but for the 2,048 bytes FF behind it.
+const FOUR: &str = "bank=erasing/4/512/4,area=nvs/main/0/0/4";
+
 const HEADER: [u8; 36] = [
     0x5A, 0x53, 0x49, 0x4D, 1, 1, 1, 0, 0, 4, 0, 0, 0, 2, 0, 0, 4, 0, 0, 0, 1, 0, 0, 0, 4, 0, 4, 0,
     0x6D, 0x61, 0x69, 0x6E, 0, 0, 0, 0,
 ];
 
-fn blank_file(alloc: Global) -> Result<Vec<u8>, Fail> {
-    let mut file = Vec::from_slice(alloc, &HEADER)?;
-    let blank = vec![in alloc; 255u8; 2048]?;
-    file.extend_from_slice(&blank)?;
-    Ok(file)
-}
+// A word, the size of its file, and bytes of the file from a place on.
+const FILES: [(&str, usize, usize, &[u8]); 5] = [
+    (FOUR, 2084, 0, &HEADER),
+    (
+        "bank=erasing/4/512/2,area=nvs/main/0/0/2",
+        1060,
+        4,
+        &[
+            1, 1, 1, 0, 0, 4, 0, 0, 0, 2, 0, 0, 2, 0, 0, 0, 1, 0, 0, 0, 2, 0, 4, 0, 0x6D, 0x61,
+            0x69, 0x6E, 0, 0, 0, 0, 255,
+        ],
+    ),
+    (
+        "version=2,bank=erasing/4/4096/2,area=nvs/main/0/0/2",
+        8228,
+        4,
+        &[2, 1, 1, 0, 0, 4, 0, 0, 0, 0x10, 0, 0, 2, 0, 0, 0],
+    ),
+    // two banks, the second rewritable, and a selector
+    (
+        "bank=erasing/4/512/6,bank=rewritable/16/512/2,area=nvs/n/0/0/2,area=fcb/f/0/2/2,area=zms/z/1/0/2,area=sel/s/0/4/2",
+        4192,
+        20,
+        &[
+            1, 16, 0, 0, 0, 2, 0, 0, 2, 0, 0, 0, 1, 0, 0, 0, 2, 0, 1, 0, 0x6E, 0, 0, 0, 0, 0, 0, 0,
+            3, 0, 2, 0, 2, 0, 1, 0, 0x66, 0, 0, 0, 0, 0, 0, 0, 2, 1, 0, 0, 2, 0, 1, 0, 0x7A, 0, 0,
+            0, 0, 0, 0, 0, 4, 0, 4, 0, 2, 0, 1, 0, 0x73, 0, 0, 0, 0, 0, 0, 0, 255,
+        ],
+    ),
+    (
+        "bank=erasing/16/512/2,area=zms/main/0/0/2",
+        1060,
+        20,
+        &[2, 0, 0, 0, 2, 0, 4, 0, 0x6D],
+    ),
+];
 
 fn written(alloc: Global, image: &Image) -> Result<Vec<u8>, NoMemory>
     requires { IsImage (plain image.now) }
@@ -25,41 +57,42 @@ fn written(alloc: Global, image: &Image) -> Result<Vec<u8>, NoMemory>
     write_image(alloc, &image.banks, &image.map, &image.bytes)
 }
 
-#[test]
-fn reads_and_writes(rt: HostRuntime) -> Result<(), Fail> {
-    let alloc = rt.alloc();
-    let file = blank_file(alloc)?;
-    let Ok(image) = read_image(alloc, &file) else {
-        panic!(rt; "the bytes are an image");
-    };
-    assert_eq!(rt; image.banks.len(), 1);
-    assert_eq!(rt; image.map.index_of("main"), Some(0));
-    assert_eq!(rt; image.bytes.len(), 1);
-    let again = written(alloc, &image)?;
-    assert_eq!(rt; again.as_slice(), file.as_slice());
-    Ok(())
+// The file of the word's image; of no lawful word an empty one.
+fn file_of(alloc: Global, word: &str) -> Result<Vec<u8>, NoMemory> {
+    match read_spec(alloc, word) {
+        Ok(image) => written(alloc, &image),
+        Err(_) => Ok(Vec::new(alloc)),
+    }
 }
 
 #[test]
-fn short_at_every_length(rt: HostRuntime) -> Result<(), Fail> {
+fn writes_and_reads(rt: HostRuntime) -> Result<(), Fail> {
     let alloc = rt.alloc();
-    let file = blank_file(alloc)?;
-    assert_eq!(rt; file.len(), 2084);
-    for len in 0..2084 {
-        let fault = read_image(alloc, &file[..len]).err();
-        let short = ImageFault::Bad {
-            at: len as u64,
-            why: ImageWhy::Short,
+    for (word, size, at, bytes) in FILES {
+        let file = file_of(alloc, word)?;
+        assert_eq!(rt; file.len(), size, "{word}");
+        assert_eq!(rt;
+            file.get(at..at.saturating_add(bytes.len())),
+            Some(bytes),
+            "{word}"
+        );
+        let Ok(image) = read_image(alloc, &file) else {
+            panic!(rt; "{word}");
         };
-        assert_eq!(rt; fault, Some(short));
+        assert_eq!(rt; image.map.at(0).map(|area| area.version), Some(file[4]));
+        let again = written(alloc, &image)?;
+        assert_eq!(rt; again.as_slice(), file.as_slice());
     }
     Ok(())
 }
 
 // A place, the byte there, and where and why the file is none then.
-const ROWS: [(usize, u8, u64, ImageWhy); 24] = [
+const ROWS: [(usize, u8, u64, ImageWhy); 26] = [
     (3, 0x4E, 0, ImageWhy::BadMagic),
-    (4, 2, 4, ImageWhy::BadVersion),
+    (4, 0, 4, ImageWhy::BadVersion),
+    (4, 3, 4, ImageWhy::BadVersion),
+    // the second version, with sectors of 512 bytes
+    (4, 2, 8, ImageWhy::BadBank),
     (5, 0, 5, ImageWhy::BadBank),
     (5, 3, 5, ImageWhy::BadBank),
     (6, 0, 6, ImageWhy::BadArea),
@@ -84,50 +117,43 @@ const ROWS: [(usize, u8, u64, ImageWhy); 24] = [
     (35, 1, 20, ImageWhy::BadArea),
 ];
 
+// Each file that is shorter or longer, and each in which one byte is another.
 #[test]
 fn first_faults(rt: HostRuntime) -> Result<(), Fail> {
     let alloc = rt.alloc();
-    let mut file = blank_file(alloc)?;
-    for (place, byte, at, why) in ROWS {
-        assert!(rt; place < file.len());
-        let before = file[place];
-        file[place] = byte;
-        let fault = read_image(alloc, &file).err();
+    let file = file_of(alloc, FOUR)?;
+    for len in 0..file.len() {
+        let fault = read_image(alloc, &file[..len]).err();
+        let (at, why) = (len as u64, ImageWhy::Short);
         assert_eq!(rt; fault, Some(ImageFault::Bad { at, why }));
-        assert!(rt; place < file.len());
-        file[place] = before;
     }
-    file.push(0)?;
-    let fault = read_image(alloc, &file).err();
-    let long = ImageFault::Bad {
-        at: 2084,
-        why: ImageWhy::Long,
-    };
-    assert_eq!(rt; fault, Some(long));
-    Ok(())
-}
-
-#[test]
-fn blank_image(rt: HostRuntime) -> Result<(), Fail> {
-    let alloc = rt.alloc();
-    let Ok(image) = read_spec(alloc, "bank=erasing/4/512/2,area=nvs/main/0/0/2") else {
-        panic!(rt; "the word is lawful");
-    };
-    assert_eq!(rt; image.map.len(), 1);
-    let file = written(alloc, &image)?;
-    assert_eq!(rt; file.len(), 1060);
-    let header = [
-        0x5A, 0x53, 0x49, 0x4D, 1, 1, 1, 0, 0, 4, 0, 0, 0, 2, 0, 0, 2, 0, 0, 0, 1, 0, 0, 0, 2, 0,
-        4, 0, 0x6D, 0x61, 0x69, 0x6E, 0, 0, 0, 0, 255,
-    ];
-    let (front, _) = file.as_slice().split_at(37);
-    assert_eq!(rt; front, header.as_slice());
-    assert_eq!(rt; file[1059], 255);
+    for (place, byte, at, why) in ROWS {
+        let mut other = file.clone()?;
+        if let Some(there) = other.get_mut(place) {
+            *there = byte;
+        }
+        let fault = read_image(alloc, &other).err();
+        assert_eq!(rt; fault, Some(ImageFault::Bad { at, why }), "{place}");
+    }
+    let mut longer = file.clone()?;
+    longer.push(0)?;
+    let (at, why) = (2084, ImageWhy::Long);
+    assert_eq!(rt;
+        read_image(alloc, &longer).err(),
+        Some(ImageFault::Bad { at, why })
+    );
     Ok(())
 }
 
 // A word, and the number of its first unlawful item.
-const WORDS: [(&str, u32); 21] = [
+const WORDS: [(&str, u32); 28] = [
+    ("version=2", 2),
+    ("version=2,", 2),
+    ("version=1,bank=erasing/4/512/2,area=nvs/a/0/0/2", 1),
+    ("version=2,version=2", 2),
+    ("bank=erasing/4/4096/2,version=2", 2),
+    ("version=2,bank=erasing/4/512/2,area=nvs/a/0/0/2", 2),
+    ("bank=rewritable/8/512/2,area=zms/a/0/0/2", 2),
     ("", 1),
     ("bank=erasing/4/512/2", 2),
     ("bank=erasing/4/512/2,", 2),
@@ -164,7 +190,7 @@ const WORDS: [(&str, u32); 21] = [
 fn unlawful_words(rt: HostRuntime) -> Result<(), Fail> {
     for (word, item) in WORDS {
         let fault = read_spec(rt.alloc(), word).err();
-        assert_eq!(rt; fault, Some(SpecFault::BadSpec { item }));
+        assert_eq!(rt; fault, Some(SpecFault::BadSpec { item }), "{word}");
     }
     Ok(())
 }

@@ -4,7 +4,7 @@ ghost use Rattle.std.specs.List.{flat_map, concat};
 ghost use Rattle.std.specs.Int.{w32, to_le_bytes};
 ghost use Rattle.flash_sim.specs.Bank.{bank_at};
 ghost use Rattle.flash_sim.specs.Contents.{contents};
-ghost use Rattle.image_file.specs.Format.{kind_byte, role_byte, bank_text, area_text, plain_of, file_of};
+ghost use Rattle.image_file.specs.Format.{kind_byte, role_byte, bank_text, area_text, version_of, plain_of, file_of};
 ghost use Rattle.image_file.specs.Lawful.{IsImage, IsImageBank, FitsText, area_at};
 ghost use Rattle.image_file.specs.Reading.{IsImageFile};
 
@@ -33,7 +33,7 @@ fn role_byte(role: Role) -> u8
 }
 
 fn put_bank(file: &mut Vec<u8>, bank: &Bank) -> Result<(), AllocError>
-    requires { IsImageBank bank.now }
+    requires { (version : ℕ) × IsImageBank version bank.now }
     ensures { OnOk result (file.new.items ≡ file.old.items ++ bank_text bank.now) }
 {
     file.extend_from_slice(&[kind_byte(bank.kind), bank.unit as u8, 0, 0])?;
@@ -50,7 +50,7 @@ fn put_number(file: &mut Vec<u8>, number: u32) -> Result<(), AllocError>
 }
 
 fn put_banks(file: &mut Vec<u8>, banks: &[Bank]) -> Result<(), AllocError>
-    requires { (i : ℕ) → i < length banks.now → IsImageBank (bank_at banks.now i) }
+    requires { (version : ℕ) × ((i : ℕ) → i < length banks.now → IsImageBank version (bank_at banks.now i)) }
     ensures { OnOk result (file.new.items ≡ file.old.items ++ flat_map bank_text banks.now) }
 {
     for bank in banks {
@@ -112,6 +112,16 @@ fn put_contents(file: &mut Vec<u8>, bytes: &[Vec<u8>]) -> Result<(), AllocError>
     Ok(())
 }
 
+// The version of the areas.
+fn version_of(areas: &FlashMap) -> u8
+    ensures { result ≡ version_of areas.now }
+{
+    match areas.at(0) {
+        Some(area) => area.version,
+        None => 1,
+    }
+}
+
 fn put_image(
     file: &mut Vec<u8>,
     banks: &[Bank],
@@ -123,7 +133,8 @@ fn put_image(
 {
     let bank_count = banks.len() as u8;
     let area_count = areas.len() as u8;
-    file.extend_from_slice(&[b'Z', b'S', b'I', b'M', 1, bank_count, area_count, 0])?;
+    let version = version_of(areas);
+    file.extend_from_slice(&[b'Z', b'S', b'I', b'M', version, bank_count, area_count, 0])?;
     put_banks(file, banks)?;
     put_areas(file, areas)?;
     put_contents(file, bytes)?;

@@ -1,10 +1,11 @@
 -- When a host failed, and which lines a script has.
-use Rattle.std.proofs.Common.{◌≡◌, ℕ, ◌-◌, ◌^◌, List, [], ◌∷◌, ap, inl, inr, arith}
+use Rattle.std.proofs.Common.{◌≡◌, ◌≤◌, ℕ, ◌-◌, ◌^◌, Bool, true, false, cond, eqb, List, [], ◌∷◌, length, ap, inl, inr, arith}
 use Rattle.std.specs.List.{AllByRecursion}
 use Rattle.std.proofs.lemmas.Bool.{cases_lt}
 use Rattle.std.proofs.lemmas.List.Elements.{All-from_recursion}
 use Rattle.flash_map.specs.Area.{value_limit}
 use Rattle.flash_map.specs.declared.area.Area.{Area}
+use Rattle.flash_map.specs.declared.area.TheConstants.{VALUE_LIMIT, LONG_VALUE_LIMIT}
 use Rattle.zs_host.specs.Outside.{Outside, failed}
 use Rattle.zs_host.specs.Host.{PrintsPart}
 use Rattle.script_lines.specs.declared.line.Line.{Line}
@@ -25,8 +26,13 @@ fails_reading old new is = fails_by old new (ap (λ (o : Outside). o.faults) is)
 pub fails_printing : (old new : Outside) (bytes : List ℕ) → PrintsPart (failed old) new bytes → Fails old new
 fails_printing old new bytes part = fails_by old new (ap (λ (o : Outside). o.faults) part.2)
 
+short_enough : (long : Bool) (n : ℕ) → n ≤ VALUE_LIMIT → n ≤ cond long LONG_VALUE_LIMIT VALUE_LIMIT
+short_enough true n short = omega arith
+short_enough false n short = short
+
+-- a value that a line may have has room in an area of either version
 lawful_line : (area : Area) (text : List ℕ) (line : Line) → Spells (parts 32 text) line → IsLawfulLine (value_limit area) line
-lawful_line area text (Set id value) spells = (spells.2, spells.3.1, spells.3.2)
+lawful_line area text (Set id value) spells = (spells.2, spells.3.1, short_enough (eqb area.version 2) (length value) spells.3.2)
 lawful_line area text (Get id) spells = spells.1
 lawful_line area text (Delete id) spells = spells.1
 lawful_line area text (Cut units) spells = tt

@@ -13,7 +13,7 @@ use Rattle.flash_map.specs.declared.area.Role.TheVariants.{Nvs}
 use Rattle.flash_map.specs.declared.faults.Damaged.{Damaged}
 use Rattle.script_lines.specs.declared.answer.Answer.{Answer}
 use Rattle.script_lines.specs.declared.line.Line.{Line}
-use Rattle.image_file.specs.Format.{Plain, plain_area}
+use Rattle.image_file.specs.Format.{Plain, plain_area, version_of}
 use Rattle.image_file.specs.Lawful.{IsImage, area_at}
 use Rattle.image_file.specs.Reading.{IsImageFile}
 use Rattle.image_file.proofs.ServingLemmas.{may_be_served}
@@ -47,18 +47,21 @@ lawful_area banks area is = record {
   whole = is.whole;
   several = is.several;
   few = is.few;
+  long_values = is.long_values;
 }
 
 -- the image stays one with the bytes of a bench that has its banks
 pub still_image : (areas : List Area) (old new : Device) → IsImage (held areas old) → new.banks ≡ old.banks → IsLawful new.banks new.bytes → IsImage (held areas new)
 still_image areas old new is same lawful =
     let banks_long : length new.banks ≡ length old.banks = ap length same in
-    subst (λ (banks : List Bank). IsImage (record { banks = banks; areas = map plain_area areas; bytes = new.bytes })) (sym same) (record {
+    subst (λ (banks : List Bank). IsImage (record { version = version_of areas; banks = banks; areas = map plain_area areas; bytes = new.bytes })) (sym same) (record {
+      version = is.version;
       some_banks = is.some_banks;
       few_banks = is.few_banks;
       each_bank = is.each_bank;
       some_areas = is.some_areas;
       few_areas = is.few_areas;
+      versions = is.versions;
       each_area = is.each_area;
       plain = is.plain;
       needed = is.needed;
@@ -67,7 +70,7 @@ still_image areas old new is same lawful =
     })
 
 pub left_file : (areas : List Area) (old new : Device) (bytes : List ℕ) → new.banks ≡ old.banks → IsImageFile bytes (held areas new) → IsImageFile bytes (left (held areas old) new)
-left_file areas old new bytes same is = subst (λ (banks : List Bank). IsImageFile bytes (record { banks = banks; areas = map plain_area areas; bytes = new.bytes })) same is
+left_file areas old new bytes same is = subst (λ (banks : List Bank). IsImageFile bytes (record { version = version_of areas; banks = banks; areas = map plain_area areas; bytes = new.bytes })) same is
 
 only : (area x : Area) (k : ℕ) → k < 1 → get_or (area ∷ []) k x ≡ x → area ≡ x
 only area x zero below is = is
@@ -128,12 +131,12 @@ module _ (areas : List Area) (d : Device) (area : Area) (first : slice_get areas
   pub left_first : (new : Device) → new.banks ≡ d.banks → damage_of (unit_of new area) (sectors_of new area) ≡ None → IsUndamaged (left (held areas d) new) (first_area (held areas d))
   left_first new same is =
       let whole = subst (λ (a : Area). IsUndamaged (held areas new) a) (sym (first_is areas area first)) is in
-      subst (λ (banks : List Bank). IsUndamaged (record { banks = banks; areas = map plain_area areas; bytes = new.bytes }) (first_area (held areas d))) same whole
+      subst (λ (banks : List Bank). IsUndamaged (record { version = version_of areas; banks = banks; areas = map plain_area areas; bytes = new.bytes }) (first_area (held areas d))) same whole
 
   pub rested_first : (new : Device) → new.banks ≡ d.banks → (new.is_on ≡ true → session.IsAtRest new area) → new.is_on ≡ true → IsAtRest (left (held areas d) new) (first_area (held areas d))
   rested_first new same is on =
       let whole = subst (λ (a : Area). IsAtRest (held areas new) a) (sym (first_is areas area first)) (is on) in
-      subst (λ (banks : List Bank). IsAtRest (record { banks = banks; areas = map plain_area areas; bytes = new.bytes }) (first_area (held areas d))) same whole
+      subst (λ (banks : List Bank). IsAtRest (record { version = version_of areas; banks = banks; areas = map plain_area areas; bytes = new.bytes }) (first_area (held areas d))) same whole
 
   pub served_by : length (map plain_area areas) ≡ 1 → area.role ≡ Nvs → IsServedImage (held areas d)
   served_by one role = record { one = one; role = ap (λ (a : Area). a.role) (first_is areas area first) ∙ role }
@@ -145,4 +148,6 @@ one_area areas one = length-map areas plain_area ∙ one
 
 pub held_whole : (areas : List Area) (image : Plain) (bench bench' : Device) → IsLoaded image bench bench' areas → held areas bench' ≡ image
 held_whole areas image bench bench' is =
-    ap (λ (d : Device). held areas d) is.loaded ∙ ap (λ (list : List Area). record { banks = image.banks; areas = list; bytes = image.bytes }) is.areas_are
+    ap (λ (d : Device). held areas d) is.loaded
+    ∙ ap (λ (list : List Area). record { version = version_of areas; banks = image.banks; areas = list; bytes = image.bytes }) is.areas_are
+    ∙ ap (λ (version : ℕ). record { version = version; banks = image.banks; areas = image.areas; bytes = image.bytes }) is.version

@@ -11,18 +11,11 @@ use Rattle.image_file.specs.declared.image.ImageWhy.TheVariants as image_why
 use Rattle.image_file.specs.Format.{Plain}
 use Rattle.image_file.specs.Reading.{IsImageFile}
 use Rattle.image_file.specs.Table.{FirstFault, rows}
+use Rattle.image_tool.specs.declared.reading.TheConstants.{MOST_IMAGE, MOST_SCRIPT}
 use Rattle.image_tool.specs.declared.stops.Refusal.{Refusal}
 use Rattle.image_tool.specs.declared.stops.Refusal.TheVariants.{BadSpec, NoFile, BadFile, Unbuilt, BadArea, BadScript}
 use Rattle.image_tool.specs.declared.stops.Stop.{Stop}
 use Rattle.image_tool.specs.declared.stops.Stop.TheVariants.{Refused, HostFailed, NoMemory}
-
--- the most bytes of a script
-abbrev pub most_script : ℕ
-most_script = 1048576
-
--- the most bytes of an image file
-abbrev pub most_image : ℕ
-most_image = 8388608
 
 -- a call of the host failed: its count rose, or stands at its end
 abbrev pub Fails : Outside → Outside → Type 0
@@ -70,14 +63,14 @@ OnStopped (Err NoMemory) P = P
 -- IMAGE is the file of this image
 pub record HasImage (host : Outside) (name : List ℕ) (image : Plain) : Type 0 where
   pub text : List ℕ
-  pub has : HasShortFile host name most_image text
+  pub has : HasShortFile host name MOST_IMAGE text
   pub is : IsImageFile text image
 
 -- the first place of the file that departs from the format, and how; a file that is too long is refused at its limit
 abbrev pub HasBadFile : Outside → List ℕ → ℕ → ImageWhy → Type 0
 HasBadFile host name at why =
-    ((text : List ℕ) × HasShortFile host name most_image text × FirstFault text (rows text) at why)
-    ⊎ (HasLongFile host name most_image × (at ≡ most_image) × (why ≡ image_why.Long))
+    ((text : List ℕ) × HasShortFile host name MOST_IMAGE text × FirstFault text (rows text) at why)
+    ⊎ (HasLongFile host name MOST_IMAGE × (at ≡ MOST_IMAGE) × (why ≡ image_why.Long))
 
 -- why there is no image
 abbrev pub LacksImage : Outside → List ℕ → Refusal → Type 0
@@ -93,14 +86,14 @@ LacksImage host name (BadScript n why) = ⊥
 -- SCRIPT is a script of these lines
 pub record HasScript (host : Outside) (name : List ℕ) (lines : List Line) : Type 0 where
   pub text : List ℕ
-  pub has : HasShortFile host name most_script text
+  pub has : HasShortFile host name MOST_SCRIPT text
   pub is : IsScript text lines
 
 -- line n is the first that is refused, for this cause; a file that is too long is refused as line 0
 abbrev pub HasBadScript : Outside → List ℕ → ℕ → LineWhy → Type 0
 HasBadScript host name n why =
-    ((text : List ℕ) × HasShortFile host name most_script text × IsBadLine text n × (why ≡ line_why.Unknown))
-    ⊎ (HasLongFile host name most_script × (n ≡ 0) × (why ≡ line_why.Long))
+    ((text : List ℕ) × HasShortFile host name MOST_SCRIPT text × IsBadLine text n × (why ≡ line_why.Unknown))
+    ⊎ (HasLongFile host name MOST_SCRIPT × (n ≡ 0) × (why ≡ line_why.Long))
 
 -- why there is no script
 abbrev pub LacksScript : Outside → List ℕ → Refusal → Type 0

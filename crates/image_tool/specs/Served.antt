@@ -6,9 +6,9 @@ use Rattle.flash_sim.specs.declared.flash.Bank.{Bank}
 use Rattle.flash_map.specs.Sectors.{sectors_from}
 use Rattle.flash_map.specs.declared.area.Area.{Area}
 use Rattle.flash_map.specs.declared.area.Role.TheVariants.{Nvs}
-use Rattle.image_file.specs.Format.{Plain, plain_area}
+use Rattle.image_file.specs.Format.{Plain, plain_area, version_of}
 use Rattle.image_file.specs.Lawful.{area_at}
-use Rattle.slot_list.specs.Items.{Items}
+use Rattle.pair_laws.specs.Items.{Items}
 use Rattle.session.specs.Contents.{items_in}
 
 -- the bank on which an area of the image stands
@@ -37,7 +37,7 @@ left image bench = record image { bytes = bench.bytes }
 
 -- the image of these areas that a bench holds
 abbrev pub held : List Area → Device → Plain
-held areas bench = record { banks = bench.banks; areas = map plain_area areas; bytes = bench.bytes }
+held areas bench = record { version = version_of areas; banks = bench.banks; areas = map plain_area areas; bytes = bench.bytes }
 
 -- a bench with the image's banks and bytes, and power on
 abbrev pub begun : Plain → Device → Device
@@ -45,5 +45,6 @@ begun image bench = loaded bench image.banks image.bytes
 
 -- a bench was loaded with the image, which has these areas
 pub record IsLoaded (image : Plain) (bench bench' : Device) (areas : List Area) : Type 0 where
+  pub version : version_of areas ≡ image.version
   pub areas_are : map plain_area areas ≡ image.areas
   pub loaded : bench' ≡ begun image bench

@@ -16,7 +16,7 @@ mod status;
 mod stops;
 mod top;
 
-use flash_sim::FlatSim;
+use flash_sim::SparseSim;
 pub use status::Status;
 use std::env;
 use std::io::ErrorKind;
@@ -45,7 +45,7 @@ impl Status {
 fn main(rt: HostRuntime) -> ExitCode {
     let alloc = rt.alloc();
     let mut host = RealHost::new(&rt);
-    let mut bench = FlatSim::new(alloc);
+    let mut bench = SparseSim::new(alloc);
     let status = match env::args(&rt) {
         Ok(words) => match words.skip(1).collect::<Vec<String>>(alloc) {
             Ok(words) => tool(alloc, words.as_slice(), &mut host, &mut bench),

@@ -7,23 +7,24 @@ use Rattle.flash_sim.specs.Device.{Device}
 use Rattle.flash_sim.specs.declared.flash.Bank.{Bank}
 use Rattle.flash_sim.specs.Bank.{bank_at}
 use Rattle.flash_map.specs.declared.area.Area.{Area}
-use Rattle.flash_map.specs.Area.{unit_of, sector_at, sectors_of}
+use Rattle.flash_map.specs.Area.{unit_of, sector_at, sectors_of, ChangesOnly}
 use Rattle.flash_map.specs.Units.{IsUnit, is_erased}
-use Rattle.slot_list.specs.Items.{last, SameItems, items_of}
-use Rattle.slot_list.proofs.ItemLemmas as items
-use Rattle.sector_ring.specs.Area.{next, area_pairs}
-use Rattle.sector_ring.specs.Forms.{Collecting, Collected, IsForm, pairs_at, rest, to_copy}
-use Rattle.sector_ring.specs.Rounds.{copies_cost, Collects}
-use Rattle.sector_ring.specs.Steps as ring_steps
-use Rattle.sector_ring.proofs.Collects.{put_copy}
-use Rattle.sector_ring.proofs.Lists.{elsewhere}
-use Rattle.sector_ring.proofs.LiveCost.{live-le, stored-le}
-use Rattle.sector_ring.proofs.Places.{after-apart, after-within}
-use Rattle.sector_ring.proofs.RingSteps.{reads}
-use Rattle.sector_ring.proofs.Rounding.{marked_copies, collection}
+use Rattle.pair_laws.specs.Items.{last, SameItems, items_of}
+use Rattle.pair_laws.proofs.ItemLemmas as items
+use Rattle.ring_laws.specs.Area.{next, area_pairs}
+use Rattle.ring_laws.specs.Forms.{Collecting, Collected, IsForm, pairs_at, rest, to_copy}
+use Rattle.pair_laws.specs.Rounds.{copies_cost}
+use Rattle.ring_laws.specs.Rounds.{Collects}
+use Rattle.ring_laws.specs.Steps as ring_steps
+use Rattle.ring_laws.proofs.Collects.{put_copy}
+use Rattle.ring_laws.proofs.Lists.{elsewhere}
+use Rattle.ring_laws.proofs.LiveCost.{live-le, stored-le}
+use Rattle.ring_laws.proofs.Places.{after-apart, after-within}
+use Rattle.ring_laws.proofs.RingSteps.{reads}
+use Rattle.ring_laws.proofs.Rounding.{marked_copies, collection}
 use Rattle.nvs_store.specs.Geometry.{slot_size, cost, capacity}
 use Rattle.nvs_store.specs.Sector.{pairs, pairs_cost, low, data_end, has_gc_done, is_sound}
-use Rattle.nvs_store.specs.Scans.{reading, list_of, damage_of, ChangesOnly, AddsPairAt, MarksDoneAt}
+use Rattle.nvs_store.specs.Scans.{reading, list_of, damage_of, AddsPairAt, MarksDoneAt}
 use Rattle.nvs_store.proofs.Blank.{blank-closed, blank-not_done, blank-pairs, reads-blank}
 use Rattle.nvs_store.proofs.ScanLemmas.{blank-low, blank-data_end}
 use Rattle.nvs_store.proofs.Sound.{sound-costs}

@@ -11,11 +11,11 @@ use Rattle.flash_map.specs.Spending.{Spends, SpendsAtMost}
 use Rattle.flash_map.specs.Units.{IsUnit}
 use Rattle.flash_map.proofs.Places.{length-sector}
 use Rattle.flash_map.proofs.SpendingLemmas.{spends_then, spends_then_most, most_weaker}
-use Rattle.slot_list.specs.Items.{items_of}
-use Rattle.sector_ring.specs.Area.{next}
-use Rattle.sector_ring.specs.Forms.{Collecting, to_copy}
-use Rattle.sector_ring.proofs.Places.{after-within, after-apart}
-use Rattle.sector_ring.proofs.RingSteps.{reads}
+use Rattle.pair_laws.specs.Items.{items_of}
+use Rattle.ring_laws.specs.Area.{next}
+use Rattle.ring_laws.specs.Forms.{Collecting, to_copy}
+use Rattle.ring_laws.proofs.Places.{after-within, after-apart}
+use Rattle.ring_laws.proofs.RingSteps.{reads}
 use Rattle.nvs_store.specs.declared.scan.Scan.{Scan}
 use Rattle.nvs_store.specs.Geometry.{slot_size, capacity}
 use Rattle.nvs_store.specs.Sector.{low, data_end, pairs, pairs_cost, is_sound}

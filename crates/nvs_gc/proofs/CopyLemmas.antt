@@ -2,11 +2,11 @@
 use Rattle.std.proofs.Common.{◌≡◌, ℕ, ◌+◌, ◌<◌, ◌≤◌, List, ◌∷◌, [], ◌++◌, length, Option, Some, None, refl, sym, ap, subst, inl, inr}
 use Rattle.std.specs.Prelude.{IfSome}
 use Rattle.flash_map.specs.Area.{sector_at}
-use Rattle.sector_ring.specs.Area.{next}
-use Rattle.sector_ring.specs.Forms.{Collecting, to_copy}
-use Rattle.sector_ring.specs.Rounds.{copies_cost}
-use Rattle.live_items.proofs.CopyLemmas as laws
-use Rattle.live_items.proofs.LiveLemmas.{option_cases}
+use Rattle.ring_laws.specs.Area.{next}
+use Rattle.ring_laws.specs.Forms.{Collecting, to_copy}
+use Rattle.pair_laws.specs.Rounds.{copies_cost}
+use Rattle.ring_laws.proofs.CopyLemmas as laws
+use Rattle.ring_laws.proofs.LiveLemmas.{option_cases}
 use Rattle.nvs_store.specs.declared.scan.Found.{Found}
 use Rattle.nvs_store.specs.Geometry.{cost}
 use Rattle.nvs_store.specs.Sector.{used_slots}

@@ -11,10 +11,10 @@ use Rattle.flash_map.specs.Units.{IsUnit, padded, is_erased}
 use Rattle.flash_map.proofs.Rounding.{by_unit, padding}
 use Rattle.flash_map.proofs.SpendingLemmas.{spends_none, spends_then, spends_then_most, units_le}
 use Rattle.flash_map.proofs.Touches.{then, untouched}
-use Rattle.sector_ring.specs.Area.{next, open_sector}
-use Rattle.sector_ring.proofs.RingSteps.{reads}
-use Rattle.sector_ring.specs.Forms.{Collecting, to_copy}
-use Rattle.sector_ring.specs.Rounds.{copies_cost}
+use Rattle.ring_laws.specs.Area.{next, open_sector}
+use Rattle.ring_laws.proofs.RingSteps.{reads}
+use Rattle.ring_laws.specs.Forms.{Collecting, to_copy}
+use Rattle.pair_laws.specs.Rounds.{copies_cost}
 use Rattle.nvs_store.specs.declared.scan.Found.{Found}
 use Rattle.nvs_store.specs.declared.scan.Scan.{Scan}
 use Rattle.nvs_store.specs.Geometry.{slot_size, cost, capacity}

@@ -10,9 +10,9 @@ use Rattle.flash_map.specs.Spending.{Spends, SpendsAtMost}
 use Rattle.flash_map.specs.Touches.{Touches}
 use Rattle.flash_map.proofs.SpendingLemmas.{spends_none, spends_most, most_weaker}
 use Rattle.flash_map.proofs.Touches.{then}
-use Rattle.slot_list.specs.Items.{last, value_of, items_of, with_pair}
-use Rattle.slot_list.proofs.ItemLemmas.{items_of-push, get-items_of, same_map}
-use Rattle.slot_list.proofs.Pairs.{last-push}
+use Rattle.pair_laws.specs.Items.{last, value_of, items_of, with_pair}
+use Rattle.pair_laws.proofs.ItemLemmas.{items_of-push, get-items_of, same_map}
+use Rattle.pair_laws.proofs.Pairs.{last-push}
 use Rattle.nvs_store.specs.Geometry.{cost}
 use Rattle.nvs_gc.specs.declared.nvs.Nvs.{Nvs}
 use Rattle.nvs_gc.specs.Ends.{Fits, Deletes, StopsDeleting, DeleteEnds}

@@ -8,9 +8,9 @@ use Rattle.std.proofs.lemmas.List.{map-append, append-nil, length-replicate, len
 use Rattle.std.proofs.lemmas.Grind.{get_or-set_at}
 use Rattle.std.proofs.lemmas.List.Concat.{flat_map-append, flat_map-cons}
 use Rattle.std.proofs.lemmas.List.Sums.{fold_push}
-use Rattle.sector_ring.specs.Area.{round}
+use Rattle.ring_laws.specs.Area.{round}
 use Rattle.flash_map.specs.Area.{sector_at}
-use Rattle.sector_ring.proofs.Places.{range-append, range_one}
+use Rattle.ring_laws.proofs.Places.{range-append, range_one}
 use Rattle.nvs_store.specs.declared.scan.Found.{Found}
 use Rattle.nvs_store.specs.declared.scan.Placed.{Placed}
 use Rattle.nvs_store.specs.declared.scan.Scan.{Scan}
@@ -23,7 +23,7 @@ use Rattle.nvs_store.proofs.Lookups.{entries_to, entries_to_more}
 use Rattle.nvs_store.proofs.Marks.{counting_entry_counts}
 use Rattle.nvs_gc.specs.Collecting.{is_live, live_in}
 use Rattle.nvs_gc.specs.Latest.{sector_in, slot_in, Tells}
-use Rattle.slot_list.proofs.SlotLemmas.{index-slot_at}
+use Rattle.ring_laws.proofs.SlotLemmas.{index-slot_at}
 
 -- ---- one entry more
 

@@ -3,9 +3,9 @@ use Rattle.std.proofs.Common.{◌≡◌, ℕ, List, length, refl}
 use Rattle.std.specs.Prelude.{sum_by}
 use Rattle.std.specs.List.{range_with_len}
 use Rattle.flash_map.specs.Area.{sector_at}
-use Rattle.sector_ring.specs.Forms.{AtRest}
-use Rattle.sector_ring.specs.Rounds.{copies_cost, live_cost}
-use Rattle.live_items.proofs.LiveSum as live
+use Rattle.ring_laws.specs.Forms.{AtRest}
+use Rattle.pair_laws.specs.Rounds.{copies_cost, live_cost}
+use Rattle.ring_laws.proofs.LiveSum as live
 use Rattle.nvs_store.specs.Geometry.{cost}
 use Rattle.nvs_store.specs.Sector.{used_slots}
 use Rattle.nvs_store.specs.Scans.{reading, list_of, nvs}

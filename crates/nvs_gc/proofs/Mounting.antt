@@ -6,18 +6,19 @@ use Rattle.flash_map.specs.declared.area.Area.{Area}
 use Rattle.flash_map.specs.Area.{unit_of, sector_at, sectors_of}
 use Rattle.flash_map.specs.Spending.{Spends, SpendsAtMost}
 use Rattle.flash_map.proofs.SpendingLemmas.{spends_then, spends_then_most}
-use Rattle.slot_list.specs.Items.{last, items_of}
+use Rattle.pair_laws.specs.Items.{last, items_of}
 use Rattle.flash_map.specs.Units.{IsUnit, is_erased}
-use Rattle.sector_ring.specs.Area.{next, area_pairs, is_closed_at, open_sector}
-use Rattle.sector_ring.specs.Forms.{AtRest, Collecting, Collected, IsForm, to_copy}
-use Rattle.sector_ring.specs.Rounds.{copies_cost, Collects}
-use Rattle.sector_ring.proofs.Collects.{put_copy, erase_victim}
-use Rattle.sector_ring.proofs.Lists.{there, elsewhere}
-use Rattle.sector_ring.proofs.Parts.{to_copy-kept}
-use Rattle.sector_ring.proofs.RingSteps.{reads}
-use Rattle.sector_ring.proofs.Rings.{next-closed}
-use Rattle.sector_ring.proofs.Rounding.{collects_from}
-use Rattle.sector_ring.proofs.Undamaged.{form-of}
+use Rattle.ring_laws.specs.Area.{next, area_pairs, is_closed_at, open_sector}
+use Rattle.ring_laws.specs.Forms.{AtRest, Collecting, Collected, IsForm, to_copy}
+use Rattle.pair_laws.specs.Rounds.{copies_cost}
+use Rattle.ring_laws.specs.Rounds.{Collects}
+use Rattle.ring_laws.proofs.Collects.{put_copy, erase_victim}
+use Rattle.ring_laws.proofs.Lists.{there, elsewhere}
+use Rattle.ring_laws.proofs.Parts.{to_copy-kept}
+use Rattle.ring_laws.proofs.RingSteps.{reads}
+use Rattle.ring_laws.proofs.Rings.{next-closed}
+use Rattle.ring_laws.proofs.Rounding.{collects_from}
+use Rattle.ring_laws.proofs.Undamaged.{form-of}
 use Rattle.nvs_store.specs.declared.scan.Redo.{Redo}
 use Rattle.nvs_store.specs.declared.scan.Redo.TheVariants.{Nothing, EraseNext, CollectAgain}
 use Rattle.nvs_store.specs.declared.scan.Scan.{Scan}

@@ -1,5 +1,5 @@
 -- Which id is the next one with a value.
-use Rattle.std.proofs.Common.{◌≡◌, ℕ, ◌+◌, ◌-◌, ◌<◌, ◌≤◌, Bool, false, cond, eqb, List, [], ◌∷◌, length, map, Option, Some, None, refl, sym, ap, subst, ◌∙◌, inl, inr, arith}
+use Rattle.std.proofs.Common.{◌≡◌, ℕ, ◌+◌, ◌-◌, ◌^◌, ◌<◌, ◌≤◌, Bool, false, cond, eqb, List, [], ◌∷◌, length, map, Option, Some, None, refl, sym, ap, subst, ◌∙◌, inl, inr, arith}
 use Rattle.std.specs.Prelude.{IfSome}
 use Rattle.std.specs.List.{cons_option, filter, flat_map, range_with_len, All}
 use Rattle.std.specs.FinMap.{get}
@@ -7,18 +7,18 @@ use Rattle.std.proofs.lemmas.Bool.{cases_Bool, cases_lt, ne_eqb, or_from}
 use Rattle.std.proofs.lemmas.List.Concat.{flat_map-cons}
 use Rattle.std.proofs.lemmas.List.Elements.{All-nil, All-cons, All-head, All-tail, All-append, All-weaker}
 use Rattle.flash_map.specs.Area.{sector_at}
-use Rattle.slot_list.specs.Items.{items_of}
-use Rattle.slot_list.specs.Live.{names}
-use Rattle.slot_list.proofs.ItemLemmas.{get-items_of}
-use Rattle.slot_list.proofs.LivePairs.{absent, last-is, names-append}
-use Rattle.sector_ring.specs.Area.{round, counts_at, open_sector, area_pairs}
-use Rattle.sector_ring.proofs.Places.{All-range}
-use Rattle.sector_ring.proofs.Stays.{open_within}
+use Rattle.pair_laws.specs.Items.{items_of}
+use Rattle.pair_laws.specs.Live.{names}
+use Rattle.pair_laws.proofs.ItemLemmas.{get-items_of}
+use Rattle.pair_laws.proofs.LivePairs.{absent, last-is, names-append}
+use Rattle.ring_laws.specs.Area.{round, counts_at, open_sector, area_pairs}
+use Rattle.ring_laws.proofs.Places.{All-range}
+use Rattle.ring_laws.proofs.Stays.{open_within}
 use Rattle.nvs_store.specs.declared.scan.Placed.{Placed}
 use Rattle.nvs_store.specs.Sector.{slot_at, counting_entry, entries, pair_of, pairs}
 use Rattle.nvs_store.specs.Scans.{reading, list_of}
 use Rattle.nvs_store.proofs.Lookups.{entries_to, entries_to_more}
-use Rattle.nvs_gc.specs.Ends.{IsNotBetween, HasNoneBetween}
+use Rattle.nvs_gc.specs.Ends.{IsNarrow, IsNotBetween, HasNoneBetween}
 
 -- ---- one slot
 
@@ -27,6 +27,12 @@ least_some first least o p is own = subst (λ (o : Option Placed). IfSome o (IsN
 
 pub least_none : (first least : ℕ) (o : Option Placed) → None ≡ o → IfSome o (IsNotBetween first least)
 least_none first least o is = subst (λ (o : Option Placed). IfSome o (IsNotBetween first least)) is tt
+
+pub narrow_some : (o : Option Placed) (p : Placed) → Some p ≡ o → p.entry.id < 2 ^ 16 → IfSome o IsNarrow
+narrow_some o p is own = subst (λ (o : Option Placed). IfSome o IsNarrow) is own
+
+pub narrow_none : (o : Option Placed) → None ≡ o → IfSome o IsNarrow
+narrow_none o is = subst (λ (o : Option Placed). IfSome o IsNarrow) is tt
 
 -- ---- the least one so far
 
@@ -51,6 +57,20 @@ none_more unit b first before next n k at less own none =
     one : (o : Option Placed) → IfSome o (IsNotBetween first next) → All (IsNotBetween first next) (cons_option o [])
     one None own = All-nil (IsNotBetween first next)
     one (Some p) own = All-cons (IsNotBetween first next) p [] own (All-nil (IsNotBetween first next))
+
+pub narrow_more : (unit : ℕ) (b : List ℕ) (n k : ℕ) → k ≡ n + 1 → IfSome (counting_entry unit (slot_at unit b k)) IsNarrow → All IsNarrow (entries_to unit b n) → All IsNarrow (entries_to unit b (n + 1))
+narrow_more unit b n k at own so_far =
+    let here : IfSome (counting_entry unit (slot_at unit b (n + 1))) IsNarrow = subst (λ (j : ℕ). IfSome (counting_entry unit (slot_at unit b j)) IsNarrow) at own in
+    subst (All IsNarrow) (sym (entries_to_more unit b n))
+    (All-append IsNarrow (entries_to unit b n) (cons_option (counting_entry unit (slot_at unit b (n + 1))) []) so_far (one (counting_entry unit (slot_at unit b (n + 1))) here))
+  where
+    one : (o : Option Placed) → IfSome o IsNarrow → All IsNarrow (cons_option o [])
+    one None own = All-nil IsNarrow
+    one (Some p) own = All-cons IsNarrow p [] own (All-nil IsNarrow)
+
+-- ids of 16 bits are not between others
+pub narrow_between : (ps : List Placed) (end : ℕ) → All IsNarrow ps → HasNoneBetween (2 ^ 16) end ps
+narrow_between ps end narrow = All-weaker IsNarrow (IsNotBetween (2 ^ 16) end) (λ p own low. absurd (omega arith)) ps narrow
 
 unnamed_in : (b : List ℕ) (first next id : ℕ) (ps : List Placed) → first ≤ id → id < next → HasNoneBetween first next ps → names id (map (pair_of b) ps) ≡ false
 unnamed_in b first next id [] low high none = refl

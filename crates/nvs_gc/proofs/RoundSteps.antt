@@ -16,17 +16,18 @@ use Rattle.flash_map.specs.Spending.{Spends, SpendsAtMost}
 use Rattle.flash_map.proofs.Places.{length-sector}
 use Rattle.flash_map.specs.Units.{IsUnit, is_erased}
 use Rattle.flash_map.proofs.SpendingLemmas.{units_le, spends_then, spends_then_most}
-use Rattle.slot_list.specs.Items.{last, items_of}
-use Rattle.slot_list.specs.Live.{live_pairs}
-use Rattle.sector_ring.specs.Area.{next, area_pairs, open_sector}
-use Rattle.sector_ring.specs.Forms.{AtRest, Collecting, IsForm, pairs_at, rest}
-use Rattle.sector_ring.specs.Rounds.{copies_cost, Collects, IsRound}
-use Rattle.sector_ring.specs.Steps as ring_steps
-use Rattle.sector_ring.proofs.Collects.{close, next_blank}
-use Rattle.sector_ring.proofs.Places.{after, after-within, after-apart, flat_map-agree}
-use Rattle.sector_ring.proofs.RingSteps.{reads}
-use Rattle.sector_ring.proofs.Rings.{next-closed}
-use Rattle.sector_ring.proofs.Rounding.{round_blank, round_collected}
+use Rattle.pair_laws.specs.Items.{last, items_of}
+use Rattle.pair_laws.specs.Live.{live_pairs}
+use Rattle.ring_laws.specs.Area.{next, area_pairs, open_sector}
+use Rattle.ring_laws.specs.Forms.{AtRest, Collecting, IsForm, pairs_at, rest}
+use Rattle.pair_laws.specs.Rounds.{copies_cost}
+use Rattle.ring_laws.specs.Rounds.{Collects, IsRound}
+use Rattle.ring_laws.specs.Steps as ring_steps
+use Rattle.ring_laws.proofs.Collects.{close, next_blank}
+use Rattle.ring_laws.proofs.Places.{after, after-within, after-apart, flat_map-agree}
+use Rattle.ring_laws.proofs.RingSteps.{reads}
+use Rattle.ring_laws.proofs.Rings.{next-closed}
+use Rattle.ring_laws.proofs.Rounding.{round_blank, round_collected}
 use Rattle.nvs_store.specs.declared.scan.Redo.{Redo}
 use Rattle.nvs_store.specs.declared.scan.Redo.TheVariants.{Nothing, CollectAgain}
 use Rattle.nvs_store.specs.declared.scan.Scan.{Scan}

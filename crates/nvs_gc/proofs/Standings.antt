@@ -7,10 +7,10 @@ use Rattle.std.proofs.lemmas.List.Edits.{length-between}
 use Rattle.flash_sim.specs.Bank.{IsLawful}
 use Rattle.flash_sim.specs.Device.{Device}
 use Rattle.flash_map.specs.Area.{unit_of, sectors_of}
-use Rattle.slot_list.specs.Items.{value_of}
-use Rattle.slot_list.proofs.ItemLemmas.{get-items_of}
-use Rattle.sector_ring.specs.Forms.{AtRest}
-use Rattle.sector_ring.proofs.Stays.{open_within}
+use Rattle.pair_laws.specs.Items.{value_of}
+use Rattle.pair_laws.proofs.ItemLemmas.{get-items_of}
+use Rattle.ring_laws.specs.Forms.{AtRest}
+use Rattle.ring_laws.proofs.Stays.{open_within}
 use Rattle.nvs_store.specs.Scans.{reading}
 use Rattle.nvs_store.proofs.Appending.{open_is}
 use Rattle.nvs_store.proofs.InArea.{reserved-absent}

@@ -15,19 +15,20 @@ use Rattle.flash_map.specs.Units.{IsUnit, is_erased}
 use Rattle.flash_map.proofs.Places.{length-sector}
 use Rattle.flash_map.proofs.SpendingLemmas.{spends_none, spends_then, spends_most, most_weaker}
 use Rattle.flash_map.proofs.Touches.{then, untouched}
-use Rattle.slot_list.specs.Items.{items_of, with_pair}
-use Rattle.slot_list.proofs.ItemLemmas.{items_of-push}
-use Rattle.sector_ring.specs.Area.{next, area_pairs, open_sector}
-use Rattle.sector_ring.specs.Forms.{AtRest, pairs_at, rest}
-use Rattle.sector_ring.specs.Rounds.{copies_cost, joined, live_cost, parts, collect_oldest, FindsNoRoom, IsCrammed}
-use Rattle.slot_list.specs.Live.{live_pairs}
-use Rattle.sector_ring.specs.Steps as ring_steps
-use Rattle.sector_ring.proofs.Collects.{at_rest-put}
-use Rattle.sector_ring.proofs.LiveCost.{live-le}
-use Rattle.sector_ring.proofs.Parts.{parts-list, parts-count}
-use Rattle.sector_ring.proofs.Places.{after-within}
-use Rattle.sector_ring.proofs.RingSteps.{reads}
-use Rattle.sector_ring.proofs.Rounding.{oldest-is, round-live, no_round, round_more, no_room, crammed}
+use Rattle.pair_laws.specs.Items.{items_of, with_pair}
+use Rattle.pair_laws.proofs.ItemLemmas.{items_of-push}
+use Rattle.ring_laws.specs.Area.{next, area_pairs, open_sector}
+use Rattle.ring_laws.specs.Forms.{AtRest, pairs_at, rest}
+use Rattle.pair_laws.specs.Rounds.{copies_cost, joined, live_cost, collect_oldest, FindsNoRoom}
+use Rattle.ring_laws.specs.Rounds.{parts, IsCrammed}
+use Rattle.pair_laws.specs.Live.{live_pairs}
+use Rattle.ring_laws.specs.Steps as ring_steps
+use Rattle.ring_laws.proofs.Collects.{at_rest-put}
+use Rattle.ring_laws.proofs.LiveCost.{live-le}
+use Rattle.ring_laws.proofs.Parts.{parts-list, parts-count}
+use Rattle.ring_laws.proofs.Places.{after-within}
+use Rattle.ring_laws.proofs.RingSteps.{reads}
+use Rattle.ring_laws.proofs.Rounding.{oldest-is, round-live, no_round, round_more, no_room, crammed}
 use Rattle.nvs_store.specs.declared.scan.Scan.{Scan}
 use Rattle.nvs_store.specs.Geometry.{slot_size, cost, capacity}
 use Rattle.nvs_store.specs.Sector.{low, is_sound}

@@ -8,10 +8,10 @@ use Rattle.flash_map.specs.declared.area.Geometry.{Geometry}
 use Rattle.flash_map.specs.Area.{unit_of, sector_size, sectors_of, geometry_of}
 use Rattle.flash_map.specs.Spending.{Spends, SpendsAtMost}
 use Rattle.flash_map.proofs.SpendingLemmas.{spends_none, spends_most, most_weaker}
-use Rattle.slot_list.specs.Items.{Items, last, value_of, items_of, with_pair}
-use Rattle.slot_list.proofs.ItemLemmas.{items_of-push, get-items_of, same_map}
-use Rattle.slot_list.proofs.Pairs.{last-push}
-use Rattle.sector_ring.specs.Rounds.{live_cost}
+use Rattle.pair_laws.specs.Items.{Items, last, value_of, items_of, with_pair}
+use Rattle.pair_laws.proofs.ItemLemmas.{items_of-push, get-items_of, same_map}
+use Rattle.pair_laws.proofs.Pairs.{last-push}
+use Rattle.pair_laws.specs.Rounds.{live_cost}
 use Rattle.nvs_store.specs.Geometry.{cost, capacity}
 use Rattle.nvs_store.specs.declared.scan.Scan.{Scan}
 use Rattle.nvs_store.specs.Scans.{fits, scan_of}

@@ -1,5 +1,5 @@
 -- How the calls of a store end.
-use Rattle.std.specs.Prelude.{◌≡◌, ◌⊎◌, ℕ, ◌-◌, ◌*◌, ◌^◌, ◌<◌, ◌≤◌, List, length, Option, Some, None, IsTrue, Result, Ok, Err}
+use Rattle.std.specs.Prelude.{◌≡◌, ◌⊎◌, ℕ, ◌-◌, ◌*◌, ◌^◌, ◌<◌, ◌≤◌, List, length, Option, Some, None, Result, Ok, Err}
 use Rattle.std.specs.List.{All}
 use Rattle.std.specs.FinMap.{get, insert, remove}
 use Rattle.flash_sim.specs.Device.{Device}
@@ -9,44 +9,53 @@ use Rattle.flash_map.specs.declared.faults.MountFault.{MountFault}
 use Rattle.flash_map.specs.declared.faults.MountFault.TheVariants.{Damaged as HasDamage, PowerLost as MountLost, NoMemory}
 use Rattle.flash_map.specs.declared.faults.WriteFault.{WriteFault}
 use Rattle.flash_map.specs.declared.faults.WriteFault.TheVariants.{NoSpace, TooLong, PowerLost}
-use Rattle.flash_map.specs.Area.{unit_of, sector_size, sectors_of}
+use Rattle.flash_map.specs.Area.{unit_of, sectors_of}
 use Rattle.flash_map.specs.Spending.{Spends, SpendsAtMost}
-use Rattle.slot_list.specs.Items.{Items}
-use Rattle.sector_ring.specs.Area.{open_sector}
-use Rattle.sector_ring.specs.Rounds.{live_cost, IsCrammed}
-use Rattle.live_items.specs.NextIds.{IsBehind}
+use Rattle.pair_laws.specs.Items.{Items}
+use Rattle.ring_laws.specs.Rounds.{IsCrammed}
+use Rattle.ring_laws.specs.NextIds.{IsBehind}
 use Rattle.nvs_store.specs.declared.scan.Placed.{Placed}
-use Rattle.nvs_store.specs.Geometry.{cost, capacity}
-use Rattle.nvs_store.specs.Scans.{reading, damage_of, fits}
+use Rattle.nvs_store.specs.declared.scan.Redo.TheVariants.{Nothing}
+use Rattle.nvs_store.specs.Geometry.{cost}
+use Rattle.nvs_store.specs.Scans.{reading}
+use Rattle.nvs_store.specs.On.{damage_on, open_on, redo_on, cost_on, capacity_on, FitsOn}
 use Rattle.nvs_gc.specs.declared.nvs.Nvs.{Nvs}
-use Rattle.nvs_gc.specs.Spending.{mount_units, entry_units, most_units}
-use Rattle.nvs_gc.specs.Standing.{list_on, items_on, StandsOn, KeepsItems}
+use Rattle.nvs_gc.specs.Spending.{mount_units_on, entry_units, most_units}
+use Rattle.nvs_gc.specs.Standing.{live_cost_on, items_on, IsUndamaged, StandsOn, KeepsItems}
 
 -- ---- mounting
+
+-- no loss of power left anything undone
+abbrev pub HasNothingToDo : Device → Area → Type 0
+HasNothingToDo d area = redo_on d area (open_on d area) ≡ Nothing
 
 -- The area is damaged, and then nothing changed; or it is not, and its items stay, whether power is lost or not.
 abbrev pub MountEnds : Device → Device → Area → Result Nvs MountFault → Type 0
 MountEnds old new area (Ok nvs) =
-    (damage_of (unit_of old area) (sectors_of old area) ≡ None) × StandsOn new nvs × (nvs.area ≡ area) × KeepsItems old new area
-    × Spends old new (mount_units (unit_of old area) (sectors_of old area))
-MountEnds old new area (Err (HasDamage damaged)) = (damage_of (unit_of old area) (sectors_of old area) ≡ Some damaged) × (new ≡ old)
+    IsUndamaged old area × StandsOn new nvs × (nvs.area ≡ area) × KeepsItems old new area
+    × Spends old new (mount_units_on old area)
+MountEnds old new area (Err (HasDamage damaged)) = (damage_on old area ≡ Some damaged) × (new ≡ old)
 MountEnds old new area (Err MountLost) =
-    (damage_of (unit_of old area) (sectors_of old area) ≡ None) × KeepsItems old new area
-    × SpendsAtMost old new (mount_units (unit_of old area) (sectors_of old area))
+    IsUndamaged old area × KeepsItems old new area
+    × SpendsAtMost old new (mount_units_on old area)
 MountEnds old new area (Err NoMemory) = ⊥
 
 -- ---- reading
 
--- the least id behind this one that has a value, of all ids of 16 bits
+-- the least id behind this one that has a value
 abbrev pub IsNextId : Items → Option ℕ → Option ℕ → Type 0
-IsNextId items after None = (id : ℕ) → id < 2 ^ 16 → IsBehind after id → get items id ≡ None
+IsNextId items after None = (id : ℕ) → IsBehind after id → get items id ≡ None
 IsNextId items after (Some next) = IsBehind after next × (get items next ≡ None → ⊥) × ((id : ℕ) → IsBehind after id → id < next → get items id ≡ None)
 
 -- the entry's id is not from `first` on and before `end`
 abbrev pub IsNotBetween : ℕ → ℕ → Placed → Type 0
 IsNotBetween first end placed = first ≤ placed.entry.id → end ≤ placed.entry.id
 
--- and none of these entries has such an id
+-- the entry's id has 16 bits
+abbrev pub IsNarrow : Placed → Type 0
+IsNarrow placed = placed.entry.id < 2 ^ 16
+
+-- none of these entries has an id between these two
 abbrev pub HasNoneBetween : ℕ → ℕ → List Placed → Type 0
 HasNoneBetween first end placed = All (IsNotBetween first end) placed
 
@@ -58,17 +67,17 @@ Holds d area id bytes = get (items_on d area) id ≡ Some bytes
 
 -- data of this length fits the open sector
 abbrev pub Fits : Device → Nvs → ℕ → Type 0
-Fits d nvs len = IsTrue (fits (unit_of d nvs.area) nvs.scan len)
+Fits d nvs len = FitsOn d nvs.area nvs.scan len
 
 -- data of this length and its entry cost no more than a sector has for them
 abbrev pub IsShort : Device → Area → ℕ → Type 0
-IsShort d area len = cost (unit_of d area) len ≤ capacity (unit_of d area) (sector_size d area)
+IsShort d area len = cost_on d area len ≤ capacity_on d area
 
 -- Each pair of the area is live, and each sector but the blank one has no room for so many bytes beside its pairs.
 abbrev pub IsCrammedFor : Device → Area → ℕ → Type 0
 IsCrammedFor d area need =
     let unit = unit_of d area in
-    IsCrammed (reading unit) (cost unit) need (capacity unit (sector_size d area)) (sectors_of d area) (open_sector (reading unit) (sectors_of d area))
+    IsCrammed (reading unit) (cost unit) need (capacity_on d area) (sectors_of d area) (open_on d area)
 
 -- the item has these bytes, and all others stay
 pub record Writes (old new : Device) (nvs : Nvs) (id : ℕ) (bytes : List ℕ) : Type 0 where
@@ -80,10 +89,10 @@ pub record Writes (old new : Device) (nvs : Nvs) (id : ℕ) (bytes : List ℕ) :
 
 -- No round of collections makes room: in the end the live items leave none in any of the sectors with data.
 pub record FindsNoSpace (old new : Device) (nvs : Nvs) (id : ℕ) (bytes : List ℕ) (need live : ℕ) : Type 0 where
-  pub needs : need ≡ cost (unit_of old nvs.area) (length bytes)
-  pub lives : live ≡ live_cost (cost (unit_of old nvs.area)) (list_on old nvs.area)
+  pub needs : need ≡ cost_on old nvs.area (length bytes)
+  pub lives : live ≡ live_cost_on old nvs.area
   pub short : IsShort old nvs.area (length bytes)
-  pub full : (nvs.area.sectors - 1) * (capacity (unit_of old nvs.area) (sector_size old nvs.area) - need) < live
+  pub full : (nvs.area.sectors - 1) * (capacity_on old nvs.area - need) < live
   pub crammed : IsCrammedFor new nvs.area need
   pub other : ¬ Holds old nvs.area id bytes
   pub unfit : ¬ Fits old nvs (length bytes)

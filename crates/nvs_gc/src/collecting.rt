@@ -1,20 +1,17 @@
 // Closing, collecting, and what a mount has to do again.
-ghost use Rattle.std.specs.Prelude.{◌≡◌, ◌+◌, ◌*◌, ◌/◌, ◌<◌, ◌≤◌, ◌∷◌, [], true, false, is_err, length, IfOk, IfSome, OnOk, OnErr, if◌then◌else◌};
-ghost use Rattle.flash_map.specs.Units.{is_erased};
+ghost use Rattle.std.specs.Prelude.{◌≡◌, ◌+◌, ◌*◌, ◌/◌, ◌<◌, ◌≤◌, ◌∷◌, [], true, false, is_err, IfOk, IfSome, OnOk, OnErr, if◌then◌else◌};
 ghost use Rattle.flash_map.specs.Area.{unit_of, sector_size, sectors_of};
 ghost use Rattle.flash_map.specs.Spending.{Spends, SpendsAtMost};
 ghost use Rattle.flash_map.specs.Touches.{Touches};
-ghost use Rattle.sector_ring.specs.Area.{next, is_blank_at, open_sector};
-ghost use Rattle.sector_ring.specs.Forms.{AtRest, Collecting, to_copy};
-ghost use Rattle.flash_map.specs.Area.{sector_at};
+ghost use Rattle.ring_laws.specs.Area.{next};
 ghost use Rattle.nvs_store.specs.declared.scan.Redo.TheVariants.{Nothing, CollectAgain};
 ghost use Rattle.nvs_store.specs.Geometry.{slot_size};
-ghost use Rattle.nvs_store.specs.Sector.{used_slots};
-ghost use Rattle.nvs_store.specs.Scans.{reading, scan_of, all_found, free, IsInArea};
-ghost use Rattle.nvs_gc.specs.Collecting.{live_in, HasCopied, StopsCopying, Empties, KeepsMarks, CopiesOne, cost_of, rested, CollectsAt, TurnsAt};
+ghost use Rattle.nvs_store.specs.Scans.{free, IsInArea};
+ghost use Rattle.nvs_gc.specs.Collecting.{Empties, rested, CollectingOn, CollectsOn, CopiesOneOn, HasCopiedOn, KeepsMarksOn, RestsOn, StopsCopyingOn, TurnsOn, live_on, live_slot_cost, to_copy_on, used_on};
 ghost use Rattle.nvs_gc.specs.Latest.{Tells};
-ghost use Rattle.nvs_gc.specs.Spending.{copied, redo_units, round_units};
+ghost use Rattle.nvs_gc.specs.Spending.{collect_units, copied_on, redo_units_on, round_units_on};
 ghost use Rattle.nvs_gc.specs.Standing.{IsNvsArea, IsUndamaged, KeepsItems};
+ghost use Rattle.nvs_store.specs.On.{found_on, is_blank_on, open_on, scan_on};
 
 use crate::latest::{LastSlots, last_slots};
 use crate::reading::live_at;
@@ -56,9 +53,9 @@ fn scan_of_blank<F: Flash, L: Ledger>(
 ) -> Scan
     requires area { IsNvsArea (F.device flash.now).banks area.now }
     requires inside { place < area.now.sectors }
-    requires opened { let d = F.device flash.now in open_sector (reading (unit_of d area.now)) (sectors_of d area.now) ≡ place }
-    requires blank { is_erased (sector_at (sectors_of (F.device flash.now) area.now) place) ≡ true }
-    ensures { let d = F.device flash.now in result ≡ scan_of (unit_of d area.now) (sectors_of d area.now) }
+    requires opened { open_on (F.device flash.now) area.now ≡ place }
+    requires blank { is_blank_on (F.device flash.now) area.now place ≡ true }
+    ensures { result ≡ scan_on (F.device flash.now) area.now }
 {
     let blank = blank_scan(&geometry(flash, area));
     let closed = is_closed(flash, area, area.next(place), steps);
@@ -83,9 +80,9 @@ pub fn live_in<F: Flash, L: Ledger>(
     requires area { IsNvsArea (F.device flash.now).banks area.now }
     requires inside { place < area.now.sectors }
     requires some { 0 < slot }
-    requires used { let d = F.device flash.now in slot ≤ length (used_slots (unit_of d area.now) (sector_at (sectors_of d area.now) place)) }
-    requires last { let d = F.device flash.now in Tells last.now.sectors last.now.slots (all_found (unit_of d area.now) (sectors_of d area.now)) }
-    ensures found { let d = F.device flash.now in result ≡ live_in (unit_of d area.now) (sectors_of d area.now) place slot }
+    requires used { slot ≤ used_on (F.device flash.now) area.now place }
+    requires last { Tells last.now.sectors last.now.slots (found_on (F.device flash.now) area.now) }
+    ensures found { result ≡ live_on (F.device flash.now) area.now place slot }
     ensures in_area { IfSome result (IsInArea area.now.sectors (sector_size (F.device flash.now) area.now)) }
     ensures place { IfSome result (λ found. found.sector ≡ place) }
 {
@@ -105,19 +102,23 @@ fn copy_slot<F: Flash, L: Ledger>(
     steps: &mut Steps<L>,
 ) -> Result<(), PowerLost>
     requires area { IsNvsArea (F.device flash.old).banks area.now }
-    requires scan { let d = F.device flash.old in scan.old ≡ scan_of (unit_of d area.now) (sectors_of d area.now) }
+    requires scan { scan.old ≡ scan_on (F.device flash.old) area.now }
     requires inside { victim < area.now.sectors }
     requires other { victim ≡ scan.old.current → ⊥ }
     requires some { 0 < slot }
-    requires last { let d = F.device flash.old in Tells last.now.sectors last.now.slots (all_found (unit_of d area.now) (sectors_of d area.now)) }
-    requires used { let d = F.device flash.old in slot ≤ length (used_slots (unit_of d area.now) (sector_at (sectors_of d area.now) victim)) }
-    requires free { let d = F.device flash.old in let unit = unit_of d area.now in cost_of unit (live_in unit (sectors_of d area.now) victim slot) + 3 * slot_size unit ≤ free scan.old }
+    requires last { Tells last.now.sectors last.now.slots (found_on (F.device flash.old) area.now) }
+    requires used { slot ≤ used_on (F.device flash.old) area.now victim }
+    requires free { let d = F.device flash.old in let unit = unit_of d area.now in
+        live_slot_cost d area.now victim slot + 3 * slot_size unit ≤ free scan.old }
     ensures touches { Touches (area.now ∷ []) (F.device flash.old) (F.device flash.new) (is_err result) }
-    ensures copies { let d = F.device flash.old in let unit = unit_of d area.now in OnOk result (CopiesOne unit (sectors_of d area.now) (sectors_of (F.device flash.new) area.now) scan.old.current (live_in unit (sectors_of d area.now) victim slot)) }
-    ensures scan { let d = F.device flash.new in OnOk result (scan.new ≡ scan_of (unit_of d area.now) (sectors_of d area.now)) }
-    ensures spent { let d = F.device flash.old in let unit = unit_of d area.now in OnOk result (Spends d (F.device flash.new) (cost_of unit (live_in unit (sectors_of d area.now) victim slot) / unit)) }
-    ensures lost { let d = F.device flash.old in OnErr result (KeepsMarks (unit_of d area.now) (sectors_of d area.now) (sectors_of (F.device flash.new) area.now) scan.old.current) }
-    ensures spent_at_most { let d = F.device flash.old in let unit = unit_of d area.now in OnErr result (SpendsAtMost d (F.device flash.new) (cost_of unit (live_in unit (sectors_of d area.now) victim slot) / unit)) }
+    ensures copies { let d = F.device flash.old in
+        OnOk result (CopiesOneOn d (F.device flash.new) area.now scan.old.current (live_on d area.now victim slot)) }
+    ensures scan { OnOk result (scan.new ≡ scan_on (F.device flash.new) area.now) }
+    ensures spent { let d = F.device flash.old in let unit = unit_of d area.now in
+        OnOk result (Spends d (F.device flash.new) (live_slot_cost d area.now victim slot / unit)) }
+    ensures lost { OnErr result (KeepsMarksOn (F.device flash.old) (F.device flash.new) area.now scan.old.current) }
+    ensures spent_at_most { let d = F.device flash.old in let unit = unit_of d area.now in
+        OnErr result (SpendsAtMost d (F.device flash.new) (live_slot_cost d area.now victim slot / unit)) }
 {
     match live_in(flash, area, last, victim, slot, steps) {
         Some(found) => copy_entry(flash, area, scan, &found, steps),
@@ -135,17 +136,20 @@ fn copy_live<F: Flash, L: Ledger>(
     steps: &mut Steps<L>,
 ) -> Result<(), PowerLost>
     requires area { IsNvsArea (F.device flash.old).banks area.now }
-    requires scan { let d = F.device flash.old in scan.old ≡ scan_of (unit_of d area.now) (sectors_of d area.now) }
-    requires collecting { let d = F.device flash.old in Collecting (reading (unit_of d area.now)) (sectors_of d area.now) scan.old.current }
-    requires blank { let d = F.device flash.old in is_blank_at (reading (unit_of d area.now)) (sectors_of d area.now) scan.old.current ≡ true }
+    requires scan { scan.old ≡ scan_on (F.device flash.old) area.now }
+    requires collecting { CollectingOn (F.device flash.old) area.now scan.old.current }
+    requires blank { is_blank_on (F.device flash.old) area.now scan.old.current ≡ true }
     requires victim { victim ≡ next (sectors_of (F.device flash.old) area.now) scan.old.current }
     ensures touches { Touches (area.now ∷ []) (F.device flash.old) (F.device flash.new) (is_err result) }
-    ensures copies { let d = F.device flash.old in let unit = unit_of d area.now in let sectors = sectors_of d area.now in OnOk result (HasCopied unit sectors (sectors_of (F.device flash.new) area.now) scan.old.current (to_copy (reading unit) sectors scan.old.current)) }
-    ensures scan { let d = F.device flash.new in OnOk result (scan.new ≡ scan_of (unit_of d area.now) (sectors_of d area.now)) }
+    ensures copies { let d = F.device flash.old in
+        OnOk result (HasCopiedOn d (F.device flash.new) area.now scan.old.current (to_copy_on d area.now scan.old.current)) }
+    ensures scan { OnOk result (scan.new ≡ scan_on (F.device flash.new) area.now) }
     ensures current { OnOk result (scan.new.current ≡ scan.old.current) }
-    ensures spent { let d = F.device flash.old in let unit = unit_of d area.now in OnOk result (Spends d (F.device flash.new) (copied unit (sectors_of d area.now) scan.old.current / unit)) }
-    ensures lost { let d = F.device flash.old in OnErr result (StopsCopying (unit_of d area.now) (sectors_of d area.now) (sectors_of (F.device flash.new) area.now) scan.old.current) }
-    ensures spent_at_most { let d = F.device flash.old in let unit = unit_of d area.now in OnErr result (SpendsAtMost d (F.device flash.new) (copied unit (sectors_of d area.now) scan.old.current / unit)) }
+    ensures spent { let d = F.device flash.old in
+        OnOk result (Spends d (F.device flash.new) (copied_on d area.now scan.old.current / unit_of d area.now)) }
+    ensures lost { OnErr result (StopsCopyingOn (F.device flash.old) (F.device flash.new) area.now scan.old.current) }
+    ensures spent_at_most { let d = F.device flash.old in
+        OnErr result (SpendsAtMost d (F.device flash.new) (copied_on d area.now scan.old.current / unit_of d area.now)) }
 {
     let unit = geometry(flash, area).unit;
     let used = used_count(sector_view(flash, area, victim, steps), unit);
@@ -165,15 +169,17 @@ fn collect<F: Flash, L: Ledger>(
     steps: &mut Steps<L>,
 ) -> Result<(), PowerLost>
     requires area { IsNvsArea (F.device flash.old).banks area.now }
-    requires scan { let d = F.device flash.old in scan.old ≡ scan_of (unit_of d area.now) (sectors_of d area.now) }
-    requires collecting { let d = F.device flash.old in Collecting (reading (unit_of d area.now)) (sectors_of d area.now) scan.old.current }
-    requires blank { let d = F.device flash.old in is_blank_at (reading (unit_of d area.now)) (sectors_of d area.now) scan.old.current ≡ true }
+    requires scan { scan.old ≡ scan_on (F.device flash.old) area.now }
+    requires collecting { CollectingOn (F.device flash.old) area.now scan.old.current }
+    requires blank { is_blank_on (F.device flash.old) area.now scan.old.current ≡ true }
     ensures touches { Touches (area.now ∷ []) (F.device flash.old) (F.device flash.new) (is_err result) }
-    ensures collects { let d = F.device flash.old in OnOk result (CollectsAt (unit_of d area.now) (sectors_of d area.now) (sectors_of (F.device flash.new) area.now) scan.old.current) }
-    ensures scan { let d = F.device flash.new in OnOk result (rested scan.new ≡ scan_of (unit_of d area.now) (sectors_of d area.now)) }
-    ensures spent { let d = F.device flash.old in let unit = unit_of d area.now in OnOk result (Spends d (F.device flash.new) ((copied unit (sectors_of d area.now) scan.old.current + slot_size unit) / unit + 1)) }
+    ensures collects { OnOk result (CollectsOn (F.device flash.old) (F.device flash.new) area.now scan.old.current) }
+    ensures scan { OnOk result (rested scan.new ≡ scan_on (F.device flash.new) area.now) }
+    ensures spent { let d = F.device flash.old in
+        OnOk result (Spends d (F.device flash.new) (collect_units d area.now scan.old.current)) }
     ensures items { KeepsItems (F.device flash.old) (F.device flash.new) area.now }
-    ensures spent_at_most { let d = F.device flash.old in let unit = unit_of d area.now in OnErr result (SpendsAtMost d (F.device flash.new) ((copied unit (sectors_of d area.now) scan.old.current + slot_size unit) / unit + 1)) }
+    ensures spent_at_most { let d = F.device flash.old in
+        OnErr result (SpendsAtMost d (F.device flash.new) (collect_units d area.now scan.old.current)) }
 {
     let victim = area.next(scan.current);
     copy_live(flash, area, scan, victim, steps)?;
@@ -192,7 +198,8 @@ fn empty<F: Flash, L: Ledger>(
     requires inside { place < area.now.sectors }
     ensures touches { Touches (area.now ∷ []) (F.device flash.old) (F.device flash.new) (is_err result) }
     ensures empties { OnOk result (Empties (sectors_of (F.device flash.old) area.now) (sectors_of (F.device flash.new) area.now) place) }
-    ensures spent { let d = F.device flash.old in OnOk result (Spends d (F.device flash.new) (if is_erased (sector_at (sectors_of d area.now) place) then 0 else 1)) }
+    ensures spent { let d = F.device flash.old in
+        OnOk result (Spends d (F.device flash.new) (if is_blank_on d area.now place then 0 else 1)) }
     ensures same { OnErr result (sectors_of (F.device flash.new) area.now ≡ sectors_of (F.device flash.old) area.now) }
     ensures spent_at_most { OnErr result (SpendsAtMost (F.device flash.old) (F.device flash.new) 0) }
 {
@@ -211,15 +218,17 @@ fn collect_again<F: Flash, L: Ledger>(
     steps: &mut Steps<L>,
 ) -> Result<Scan, PowerLost>
     requires area { IsNvsArea (F.device flash.old).banks area.now }
-    requires scan { let d = F.device flash.old in scan.now ≡ scan_of (unit_of d area.now) (sectors_of d area.now) }
-    requires collecting { let d = F.device flash.old in Collecting (reading (unit_of d area.now)) (sectors_of d area.now) scan.now.current }
+    requires scan { scan.now ≡ scan_on (F.device flash.old) area.now }
+    requires collecting { CollectingOn (F.device flash.old) area.now scan.now.current }
     ensures touches { Touches (area.now ∷ []) (F.device flash.old) (F.device flash.new) (is_err result) }
-    ensures scan { let d = F.device flash.new in IfOk result (λ scan. scan ≡ scan_of (unit_of d area.now) (sectors_of d area.now)) }
+    ensures scan { IfOk result (λ scan. scan ≡ scan_on (F.device flash.new) area.now) }
     ensures rested { IfOk result (λ scan. scan.redo ≡ Nothing) }
     ensures items { KeepsItems (F.device flash.old) (F.device flash.new) area.now }
-    ensures collects { let d = F.device flash.old in OnOk result (CollectsAt (unit_of d area.now) (sectors_of d area.now) (sectors_of (F.device flash.new) area.now) scan.now.current) }
-    ensures spent { let d = F.device flash.old in let unit = unit_of d area.now in OnOk result (Spends d (F.device flash.new) (redo_units unit (sectors_of d area.now) scan.now.current CollectAgain)) }
-    ensures spent_at_most { let d = F.device flash.old in let unit = unit_of d area.now in OnErr result (SpendsAtMost d (F.device flash.new) (redo_units unit (sectors_of d area.now) scan.now.current CollectAgain)) }
+    ensures collects { OnOk result (CollectsOn (F.device flash.old) (F.device flash.new) area.now scan.now.current) }
+    ensures spent { let d = F.device flash.old in
+        OnOk result (Spends d (F.device flash.new) (redo_units_on d area.now scan.now.current CollectAgain)) }
+    ensures spent_at_most { let d = F.device flash.old in
+        OnErr result (SpendsAtMost d (F.device flash.new) (redo_units_on d area.now scan.now.current CollectAgain)) }
 {
     empty(flash, area, scan.current, steps)?;
     let mut blank = scan_of_blank(flash, area, scan.current, steps);
@@ -237,15 +246,20 @@ pub fn redo<F: Flash, L: Ledger>(
 ) -> Result<Scan, PowerLost>
     requires area { IsNvsArea (F.device flash.old).banks area.now }
     requires undamaged { IsUndamaged (F.device flash.old) area.now }
-    requires scan { let d = F.device flash.old in scan ≡ scan_of (unit_of d area.now) (sectors_of d area.now) }
+    requires scan { scan ≡ scan_on (F.device flash.old) area.now }
     ensures touches { Touches (area.now ∷ []) (F.device flash.old) (F.device flash.new) (is_err result) }
-    ensures scan { let d = F.device flash.new in IfOk result (λ scan. scan ≡ scan_of (unit_of d area.now) (sectors_of d area.now)) }
+    ensures scan { IfOk result (λ scan. scan ≡ scan_on (F.device flash.new) area.now) }
     ensures rested { IfOk result (λ scan. scan.redo ≡ Nothing) }
     ensures items { KeepsItems (F.device flash.old) (F.device flash.new) area.now }
-    ensures same { let d = F.device flash.old in OnOk result (AtRest (reading (unit_of d area.now)) (sectors_of d area.now) scan.current → sectors_of (F.device flash.new) area.now ≡ sectors_of d area.now) }
-    ensures collects { let d = F.device flash.old in let unit = unit_of d area.now in OnOk result (Collecting (reading unit) (sectors_of d area.now) scan.current → CollectsAt unit (sectors_of d area.now) (sectors_of (F.device flash.new) area.now) scan.current) }
-    ensures spent { let d = F.device flash.old in let unit = unit_of d area.now in OnOk result (Spends d (F.device flash.new) (redo_units unit (sectors_of d area.now) scan.current scan.redo)) }
-    ensures spent_at_most { let d = F.device flash.old in let unit = unit_of d area.now in OnErr result (SpendsAtMost d (F.device flash.new) (redo_units unit (sectors_of d area.now) scan.current scan.redo)) }
+    ensures same { let d = F.device flash.old in
+        OnOk result (RestsOn d area.now scan.current → sectors_of (F.device flash.new) area.now ≡ sectors_of d area.now) }
+    ensures collects { let d = F.device flash.old in
+        OnOk result (CollectingOn d area.now scan.current → CollectsOn d (F.device flash.new) area.now scan.current) }
+    ensures spent { let d = F.device flash.old in
+        OnOk result (Spends d (F.device flash.new) (redo_units_on d area.now scan.current scan.redo)) }
+    ensures spent_at_most { let d = F.device flash.old in
+        OnErr result (SpendsAtMost d (F.device flash.new) (redo_units_on d area.now scan.current scan.redo)) }
+    ensures idle { scan.redo ≡ Nothing → F.device flash.new ≡ F.device flash.old }
 {
     match scan.redo {
         Redo::Nothing => Ok(scan),
@@ -267,16 +281,18 @@ pub fn round<F: Flash, L: Ledger>(
 ) -> Result<Scan, PowerLost>
     requires area { IsNvsArea (F.device flash.old).banks area.now }
     requires undamaged { IsUndamaged (F.device flash.old) area.now }
-    requires scan { let d = F.device flash.old in scan.now ≡ scan_of (unit_of d area.now) (sectors_of d area.now) }
+    requires scan { scan.now ≡ scan_on (F.device flash.old) area.now }
     requires rested { scan.now.redo ≡ Nothing }
-    requires used { let d = F.device flash.old in is_blank_at (reading (unit_of d area.now)) (sectors_of d area.now) scan.now.current ≡ false }
+    requires used { is_blank_on (F.device flash.old) area.now scan.now.current ≡ false }
     ensures touches { Touches (area.now ∷ []) (F.device flash.old) (F.device flash.new) (is_err result) }
-    ensures scan { let d = F.device flash.new in IfOk result (λ scan. scan ≡ scan_of (unit_of d area.now) (sectors_of d area.now)) }
+    ensures scan { IfOk result (λ scan. scan ≡ scan_on (F.device flash.new) area.now) }
     ensures rested { IfOk result (λ scan. scan.redo ≡ Nothing) }
     ensures items { KeepsItems (F.device flash.old) (F.device flash.new) area.now }
-    ensures turns { let d = F.device flash.old in OnOk result (TurnsAt (unit_of d area.now) (sector_size d area.now) (sectors_of d area.now) (sectors_of (F.device flash.new) area.now) scan.now.current) }
-    ensures spent { let d = F.device flash.old in let unit = unit_of d area.now in OnOk result (Spends d (F.device flash.new) (round_units unit (sectors_of d area.now) scan.now.current)) }
-    ensures spent_at_most { let d = F.device flash.old in let unit = unit_of d area.now in OnErr result (SpendsAtMost d (F.device flash.new) (round_units unit (sectors_of d area.now) scan.now.current)) }
+    ensures turns { OnOk result (TurnsOn (F.device flash.old) (F.device flash.new) area.now scan.now.current) }
+    ensures spent { let d = F.device flash.old in
+        OnOk result (Spends d (F.device flash.new) (round_units_on d area.now scan.now.current)) }
+    ensures spent_at_most { let d = F.device flash.old in
+        OnErr result (SpendsAtMost d (F.device flash.new) (round_units_on d area.now scan.now.current)) }
 {
     put_close(flash, area, scan)?;
     let opened = scan_of_blank(flash, area, area.next(scan.current), steps);

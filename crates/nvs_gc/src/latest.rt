@@ -1,16 +1,15 @@
 // Where the last entry of each id stands, by one walk over the list of an area.
-ghost use Rattle.std.specs.Prelude.{◌≡◌, ℕ, ◌==◌, ◌+◌, ◌-◌, ◌*◌, ◌^◌, ◌<◌, ◌≤◌, not, ◌&&◌, nat_lt, List, [], ◌++◌, length, map, slice_set, slice_index};
+ghost use Rattle.std.specs.Prelude.{◌≡◌, ◌==◌, ◌+◌, ◌-◌, ◌*◌, ◌^◌, ◌<◌, ◌≤◌, ◌&&◌, nat_lt, List, [], ◌++◌, length, map, slice_set, slice_index, ℕ};
 ghost use Rattle.std.specs.List.{flat_map, range_with_len};
 ghost use Rattle.std.specs.Option.{option_map, option_to_list};
-ghost use Rattle.flash_map.specs.Area.{unit_of, sectors_of};
 ghost use Rattle.flash_map.specs.Units.{IsUnit};
-ghost use Rattle.sector_ring.specs.Area.{counts_at};
 ghost use Rattle.nvs_store.specs.declared.scan.Found.{Found as FoundEntry};
 ghost use Rattle.nvs_store.specs.Geometry.{slot_size};
 ghost use Rattle.nvs_store.specs.Sector.{slot_at, counting_entry, entries};
-ghost use Rattle.nvs_store.specs.Scans.{reading, scan_of, found_at, counted_in, all_found};
+ghost use Rattle.nvs_store.specs.Scans.{found_at};
 ghost use Rattle.nvs_gc.specs.Latest.{Tells};
 ghost use Rattle.nvs_gc.specs.Standing.{IsNvsArea};
+ghost use Rattle.nvs_store.specs.On.{counted_on, found_on, scan_on};
 
 use flash_map::{Area, geometry, sector_view};
 use flash_sim::{Flash, Steps};
@@ -102,12 +101,12 @@ fn note_counting<F: Flash, L: Ledger>(
     steps: &mut Steps<L>,
 )
     requires area { IsNvsArea (F.device flash.now).banks area.now }
-    requires scan { let d = F.device flash.now in scan.now ≡ scan_of (unit_of d area.now) (sectors_of d area.now) }
+    requires scan { scan.now ≡ scan_on (F.device flash.now) area.now }
     requires current { scan.now.current < area.now.sectors }
     requires inside { place < area.now.sectors }
     ensures { let d = F.device flash.now in
         (before : List FoundEntry) → Tells last.old.sectors last.old.slots before
-        → Tells last.new.sectors last.new.slots (before ++ counted_in (unit_of d area.now) (sectors_of d area.now) scan.now.current place) }
+        → Tells last.new.sectors last.new.slots (before ++ counted_on d area.now scan.now.current place) }
 {
     if is_hidden(area, scan, place) {
         return;
@@ -127,13 +126,13 @@ fn note_among<F: Flash, L: Ledger>(
     steps: &mut Steps<L>,
 )
     requires area { IsNvsArea (F.device flash.now).banks area.now }
-    requires scan { let d = F.device flash.now in scan.now ≡ scan_of (unit_of d area.now) (sectors_of d area.now) }
+    requires scan { scan.now ≡ scan_on (F.device flash.now) area.now }
     requires current { scan.now.current < area.now.sectors }
     requires order { first ≤ end }
     requires inside { end ≤ area.now.sectors }
     ensures { let d = F.device flash.now in
         (before : List FoundEntry) → Tells last.old.sectors last.old.slots before
-        → Tells last.new.sectors last.new.slots (before ++ flat_map (counted_in (unit_of d area.now) (sectors_of d area.now) scan.now.current) (range_with_len first (end - first))) }
+        → Tells last.new.sectors last.new.slots (before ++ flat_map (counted_on d area.now scan.now.current) (range_with_len first (end - first))) }
 {
     for place in first..end {
         note_counting(flash, area, scan, place, last, steps);
@@ -148,8 +147,8 @@ pub fn last_slots<F: Flash, L: Ledger>(
     steps: &mut Steps<L>,
 ) -> LastSlots
     requires area { IsNvsArea (F.device flash.now).banks area.now }
-    requires scan { let d = F.device flash.now in scan.now ≡ scan_of (unit_of d area.now) (sectors_of d area.now) }
-    ensures { let d = F.device flash.now in Tells result.sectors result.slots (all_found (unit_of d area.now) (sectors_of d area.now)) }
+    requires scan { scan.now ≡ scan_on (F.device flash.now) area.now }
+    ensures { Tells result.sectors result.slots (found_on (F.device flash.now) area.now) }
 {
     let mut last = LastSlots::new();
     let older = scan.current + 1;

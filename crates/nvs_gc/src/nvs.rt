@@ -1,14 +1,13 @@
 // The store, mounting, and closing with a collection.
 ghost use Rattle.std.specs.Prelude.{◌≡◌, ◌∷◌, [], true, false, is_err, OnOk, OnErr};
-ghost use Rattle.flash_map.specs.Area.{unit_of, sector_at, sector_size, sectors_of};
-ghost use Rattle.flash_map.specs.Units.{is_erased};
-ghost use Rattle.nvs_gc.specs.Collecting.{TurnsAt};
+ghost use Rattle.nvs_gc.specs.Collecting.{TurnsOn};
 ghost use Rattle.flash_map.specs.Spending.{Spends, SpendsAtMost};
 ghost use Rattle.flash_map.specs.Touches.{Touches};
 ghost use Rattle.flash_map.specs.Faults.{mount_lost};
-ghost use Rattle.nvs_gc.specs.Ends.{MountEnds};
-ghost use Rattle.nvs_gc.specs.Spending.{round_units};
+ghost use Rattle.nvs_gc.specs.Ends.{HasNothingToDo, MountEnds};
+ghost use Rattle.nvs_gc.specs.Spending.{round_units_on};
 ghost use Rattle.nvs_gc.specs.Standing.{IsNvsArea, StandsOn, KeepsItems};
+ghost use Rattle.nvs_store.specs.On.{is_blank_on};
 
 use crate::collecting::{redo, round};
 use flash_map::{Area, MountFault};
@@ -41,6 +40,7 @@ impl Nvs {
         requires { IsNvsArea (F.device flash.old).banks area }
         ensures touches { Touches (area ∷ []) (F.device flash.old) (F.device flash.new) (mount_lost result) }
         ensures ends { MountEnds (F.device flash.old) (F.device flash.new) area result }
+        ensures idle { HasNothingToDo (F.device flash.old) area → F.device flash.new ≡ F.device flash.old }
     {
         match mount_scan(flash, &area, steps) {
             Err(damaged) => Err(MountFault::Damaged(damaged)),
@@ -53,6 +53,13 @@ impl Nvs {
                 }),
             },
         }
+    }
+
+    /// The area that the store stands on.
+    pub fn area(&self) -> &Area
+        ensures { result.now ≡ self.now.area }
+    {
+        &self.area
     }
 
     /// Whether no call answered that power was lost.
@@ -80,15 +87,15 @@ impl Nvs {
         ensures items { KeepsItems (F.device flash.old) (F.device flash.new) self.old.area }
 
         ensures stands { OnOk result (StandsOn (F.device flash.new) self.new) }
-        ensures turns { let d = F.device flash.old in is_erased (sector_at (sectors_of d self.old.area) self.old.scan.current) ≡ false
-            → OnOk result (TurnsAt (unit_of d self.old.area) (sector_size d self.old.area) (sectors_of d self.old.area) (sectors_of (F.device flash.new) self.old.area) self.old.scan.current) }
-        ensures blank { let d = F.device flash.old in is_erased (sector_at (sectors_of d self.old.area) self.old.scan.current) ≡ true → F.device flash.new ≡ d }
+        ensures turns { let d = F.device flash.old in is_blank_on d self.old.area self.old.scan.current ≡ false
+            → OnOk result (TurnsOn d (F.device flash.new) self.old.area self.old.scan.current) }
+        ensures blank { let d = F.device flash.old in is_blank_on d self.old.area self.old.scan.current ≡ true → F.device flash.new ≡ d }
         ensures units { let d = F.device flash.old in
-            OnOk result (Spends d (F.device flash.new) (round_units (unit_of d self.old.area) (sectors_of d self.old.area) self.old.scan.current)) }
+            OnOk result (Spends d (F.device flash.new) (round_units_on d self.old.area self.old.scan.current)) }
 
         ensures down { OnErr result (self.new.up ≡ false) }
         ensures bound { let d = F.device flash.old in
-            OnErr result (SpendsAtMost d (F.device flash.new) (round_units (unit_of d self.old.area) (sectors_of d self.old.area) self.old.scan.current)) }
+            OnErr result (SpendsAtMost d (F.device flash.new) (round_units_on d self.old.area self.old.scan.current)) }
     {
         if is_blank(flash, &self.area, self.scan.current, steps) {
             return Ok(());
@@ -103,7 +110,7 @@ impl Nvs {
         steps: &mut Steps<L>,
     ) -> Result<(), PowerLost>
         requires stands { StandsOn (F.device flash.old) self.old }
-        requires used { let d = F.device flash.old in is_erased (sector_at (sectors_of d self.old.area) self.old.scan.current) ≡ false }
+        requires used { let d = F.device flash.old in is_blank_on d self.old.area self.old.scan.current ≡ false }
 
         ensures touches { Touches (self.old.area ∷ []) (F.device flash.old) (F.device flash.new) (is_err result) }
         ensures area { self.new.area ≡ self.old.area }
@@ -111,13 +118,13 @@ impl Nvs {
 
         ensures stands { OnOk result (StandsOn (F.device flash.new) self.new) }
         ensures turns { let d = F.device flash.old in
-            OnOk result (TurnsAt (unit_of d self.old.area) (sector_size d self.old.area) (sectors_of d self.old.area) (sectors_of (F.device flash.new) self.old.area) self.old.scan.current) }
+            OnOk result (TurnsOn d (F.device flash.new) self.old.area self.old.scan.current) }
         ensures units { let d = F.device flash.old in
-            OnOk result (Spends d (F.device flash.new) (round_units (unit_of d self.old.area) (sectors_of d self.old.area) self.old.scan.current)) }
+            OnOk result (Spends d (F.device flash.new) (round_units_on d self.old.area self.old.scan.current)) }
 
         ensures down { OnErr result (self.new.up ≡ false) }
         ensures bound { let d = F.device flash.old in
-            OnErr result (SpendsAtMost d (F.device flash.new) (round_units (unit_of d self.old.area) (sectors_of d self.old.area) self.old.scan.current)) }
+            OnErr result (SpendsAtMost d (F.device flash.new) (round_units_on d self.old.area self.old.scan.current)) }
     {
         self.up = false;
         self.scan = round(flash, &self.area, &self.scan, steps)?;

@@ -1,16 +1,17 @@
 // Reading items.
-ghost use Rattle.std.specs.Prelude.{◌≡◌, ℕ, ◌+◌, ◌*◌, ◌^◌, ◌<◌, ◌≤◌, List, length, None, IfSome, option_map};
+ghost use Rattle.std.specs.Prelude.{◌≡◌, ◌+◌, ◌*◌, ◌^◌, ◌<◌, ◌≤◌, List, length, All, None, IfSome, option_map, ℕ};
 ghost use Rattle.std.specs.FinMap as map;
-ghost use Rattle.flash_map.specs.Area.{unit_of, sector_at, sectors_of};
+ghost use Rattle.flash_map.specs.Area.{unit_of, sector_at, sectors_of, sector_bytes};
 ghost use Rattle.flash_map.specs.Units.{IsUnit};
-ghost use Rattle.sector_ring.specs.Rounds.{copies_cost, live_cost};
+ghost use Rattle.pair_laws.specs.Rounds.{copies_cost};
 ghost use Rattle.nvs_store.specs.Sector.{slot_at, used_slots, counting_entry, entries};
 ghost use Rattle.nvs_store.specs.Scans.{all_found};
-ghost use Rattle.nvs_gc.specs.Collecting.{live_in, live_to, cost_of};
+ghost use Rattle.nvs_gc.specs.Collecting.{live_in, live_to, cost_of, used_on};
 ghost use Rattle.nvs_store.specs.Geometry.{cost, slot_size};
-ghost use Rattle.nvs_gc.specs.Ends.{IsNextId, IsNotBetween, HasNoneBetween};
+ghost use Rattle.nvs_gc.specs.Ends.{IsNextId, IsNarrow, IsNotBetween, HasNoneBetween};
 ghost use Rattle.nvs_gc.specs.Latest.{Tells};
-ghost use Rattle.nvs_gc.specs.Standing.{IsNvsArea, StandsOn, list_on, items_on};
+ghost use Rattle.nvs_gc.specs.Standing.{IsNvsArea, StandsOn, items_on, live_cost_on};
+ghost use Rattle.nvs_store.specs.On.{found_on};
 
 use crate::latest::{LastSlots, last_slots};
 use crate::nvs::Nvs;
@@ -39,6 +40,7 @@ fn lesser_of(bytes: &[u8], unit: u32, slot: u32, first: u32, end: u32) -> u32
     ensures no_more { result ≤ end }
     ensures from { result < end → first ≤ result }
     ensures least { IfSome (counting_entry unit (slot_at unit bytes.now slot)) (IsNotBetween first result) }
+    ensures narrow { IfSome (counting_entry unit (slot_at unit bytes.now slot)) IsNarrow }
 {
     match counting_entry(bytes, unit, slot) {
         Some(placed) => lesser(u32::from(placed.entry.id), first, end),
@@ -54,6 +56,7 @@ fn least_of(bytes: &[u8], unit: u32, first: u32, end: u32) -> u32
     ensures no_more { result ≤ end }
     ensures from { result < end → first ≤ result }
     ensures none_before { HasNoneBetween first result (entries unit bytes.now) }
+    ensures narrow { All IsNarrow (entries unit bytes.now) }
 {
     let mut next = end;
     let used = used_count(bytes, unit);
@@ -77,7 +80,8 @@ fn next_in<F: Flash, L: Ledger>(
     ensures no_more { result ≤ end }
     ensures from { result < end → first ≤ result }
     ensures none_before { let d = F.device flash.now in
-        HasNoneBetween first result (entries (unit_of d area.now) (sector_at (sectors_of d area.now) place)) }
+        HasNoneBetween first result (entries (unit_of d area.now) (sector_bytes d area.now place)) }
+    ensures narrow { let d = F.device flash.now in All IsNarrow (entries (unit_of d area.now) (sector_bytes d area.now place)) }
 {
     let unit = geometry(flash, area).unit;
     least_of(sector_view(flash, area, place, steps), unit, first, end)
@@ -143,9 +147,9 @@ fn sector_live_cost<F: Flash, L: Ledger>(
 ) -> u64
     requires area { IsNvsArea (F.device flash.now).banks area.now }
     requires inside { place < area.now.sectors }
-    requires last { let d = F.device flash.now in Tells last.now.sectors last.now.slots (all_found (unit_of d area.now) (sectors_of d area.now)) }
+    requires last { Tells last.now.sectors last.now.slots (found_on (F.device flash.now) area.now) }
     ensures cost { let d = F.device flash.now in
-        result ≡ copies_cost (cost (unit_of d area.now)) (live_to (unit_of d area.now) (sectors_of d area.now) place (length (used_slots (unit_of d area.now) (sector_at (sectors_of d area.now) place)))) }
+        result ≡ copies_cost (cost (unit_of d area.now)) (live_to (unit_of d area.now) (sectors_of d area.now) place (used_on d area.now place)) }
     ensures small { result ≤ 2 ^ 32 }
 {
     let unit = geometry(flash, area).unit;
@@ -178,6 +182,7 @@ impl Nvs {
         ensures no_more { result ≤ 2 ^ 16 }
         ensures from { result < 2 ^ 16 → first ≤ result }
         ensures none_before { (id : ℕ) → first ≤ id → id < result → map.get (items_on (F.device flash.now) self.now.area) id ≡ None }
+        ensures none_above { (id : ℕ) → 2 ^ 16 ≤ id → map.get (items_on (F.device flash.now) self.now.area) id ≡ None }
     {
         let mut next = ID_END;
         for place in 0..self.area.sectors {
@@ -213,7 +218,7 @@ impl Nvs {
     /// What all items cost, in bytes: the data of each, padded, and its entry.
     pub fn live_cost<F: Flash, L: Ledger>(&self, flash: &F, steps: &mut Steps<L>) -> u64
         requires { StandsOn (F.device flash.now) self.now }
-        ensures { let d = F.device flash.now in result ≡ live_cost (cost (unit_of d self.now.area)) (list_on d self.now.area) }
+        ensures { result ≡ live_cost_on (F.device flash.now) self.now.area }
     {
         let last = last_slots(flash, &self.area, &self.scan, steps);
         let mut live = 0;

@@ -1,12 +1,10 @@
-ghost use Rattle.std.specs.Prelude.{◌≡◌, ◌<◌, ◌∷◌, [], OnOk, replicate};
-ghost use Rattle.flash_sim.specs.Device.{loaded};
-ghost use Rattle.flash_map.specs.declared.area.Role.TheVariants.{Nvs as NvsRole};
-ghost use Rattle.nvs_gc.specs.Standing.{StandsOn};
+ghost use Rattle.std.specs.Prelude.{◌≡◌, ◌<◌, ◌∷◌, [], IfOk, OnOk};
+ghost use Rattle.nvs_gc.specs.Standing.{IsNvsArea, StandsOn};
 
 use super::*;
 use arrayvec::ArrayString;
 use flash_map::{Area, Role, WriteFault};
-use flash_sim::{Bank, Bench, FlatSim, Kind, Steps};
+use flash_sim::{Bank, Bench, FlatSim, Kind, PowerLost, Steps};
 use std::alloc::Global;
 use std::marker::Brand;
 use std::process::Abort;
@@ -20,24 +18,17 @@ const BANK: Bank = Bank {
     count: 2,
 };
 
-fn area() -> Area
-    ensures role { result.role ≡ NvsRole }
-    ensures bank { result.bank ≡ 0 }
-    ensures first { result.first ≡ 0 }
-    ensures sectors { result.sectors ≡ 2 }
+// The area of both sectors.
+fn both<B: Bench>(_bench: &B) -> Area
+    requires { (B.device _bench.now).banks ≡ BANK ∷ [] }
+    ensures { IsNvsArea (B.device _bench.now).banks result }
 {
-    Area {
-        label: ArrayString::new(),
-        role: Role::Nvs,
-        bank: 0,
-        first: 0,
-        sectors: 2,
-    }
+    Area::new(ArrayString::new(), Role::Nvs, 0, 0, 2, 1)
 }
 
 fn load_blank<B: Bench>(alloc: Global, bench: &mut B, size: usize) -> Result<(), Fail>
     requires { size ≡ 1024 }
-    ensures { OnOk result (B.device bench.new ≡ loaded (B.device bench.old) (BANK ∷ []) (replicate size 255 ∷ [])) }
+    ensures { OnOk result ((B.device bench.new).banks ≡ BANK ∷ []) }
 {
     let banks = vec![in alloc; BANK]?;
     let bytes = vec![in alloc; vec![in alloc; 255u8; size]?]?;
@@ -45,7 +36,22 @@ fn load_blank<B: Bench>(alloc: Global, bench: &mut B, size: usize) -> Result<(),
     Ok(())
 }
 
-// A value of 100 bytes of item 1, and how much is spent by then.
+// The store on a blank bank that loses power after so many units.
+fn on_blank<B: Bench, L: Ledger>(
+    alloc: Global,
+    bench: &mut B,
+    units: u64,
+    steps: &mut Steps<L>,
+) -> Result<Nvs, Fail>
+    ensures { IfOk result (StandsOn (B.device bench.new)) }
+{
+    load_blank(alloc, bench, 1024)?;
+    bench.arm(units);
+    let area = both(bench);
+    Ok(Nvs::mount(alloc, bench, area, steps)?)
+}
+
+// A value of 100 bytes of item 1, and how much it spends.
 fn wrote<B: Bench, L: Ledger, R: Abort>(
     rt: &R,
     bench: &mut B,
@@ -58,8 +64,9 @@ fn wrote<B: Bench, L: Ledger, R: Abort>(
     ensures stands { OnOk result (StandsOn (B.device bench.new) nvs.new) }
 {
     let value = [byte; 100];
+    let start = bench.spent();
     nvs.write(bench, 1, value.as_slice(), steps)?;
-    assert_eq!(rt; bench.spent(), spent);
+    assert_eq!(rt; bench.spent() - start, spent);
     assert_eq!(rt; nvs.get(bench, 1, steps), Some(value.as_slice()));
     Ok(())
 }
@@ -71,6 +78,7 @@ fn one_item<B: Bench, L: Ledger, R: Abort>(rt: &R, bench: &B, nvs: &Nvs, steps: 
     assert_eq!(rt; nvs.live_cost(bench, steps), 108);
     assert_eq!(rt; nvs.next_id(bench, None, steps), Some(1));
     assert_eq!(rt; nvs.next_id(bench, Some(1), steps), None);
+    assert_eq!(rt; nvs.area().sectors, 2);
     assert!(rt; nvs.is_up());
 }
 
@@ -81,14 +89,13 @@ fn rounds<B: Bench, L: Ledger, R: Abort>(
     bench: &mut B,
     steps: &mut Steps<L>,
 ) -> Result<(), Fail> {
-    load_blank(alloc, bench, 1024)?;
-    let mut nvs = Nvs::mount(alloc, bench, area(), steps)?;
+    let mut nvs = on_blank(alloc, bench, 1000, steps)?;
     wrote(rt, bench, &mut nvs, 0x11, 27, steps)?;
-    wrote(rt, bench, &mut nvs, 0x22, 54, steps)?;
-    wrote(rt, bench, &mut nvs, 0x33, 81, steps)?;
-    wrote(rt, bench, &mut nvs, 0x44, 108, steps)?;
-    wrote(rt, bench, &mut nvs, 0x55, 167, steps)?;
-    wrote(rt, bench, &mut nvs, 0x55, 167, steps)?;
+    wrote(rt, bench, &mut nvs, 0x22, 27, steps)?;
+    wrote(rt, bench, &mut nvs, 0x33, 27, steps)?;
+    wrote(rt, bench, &mut nvs, 0x44, 27, steps)?;
+    wrote(rt, bench, &mut nvs, 0x55, 59, steps)?;
+    wrote(rt, bench, &mut nvs, 0x55, 0, steps)?;
     one_item(rt, bench, &nvs, steps);
     Ok(())
 }
@@ -186,8 +193,7 @@ fn full<B: Bench, L: Ledger, R: Abort>(
     bench: &mut B,
     steps: &mut Steps<L>,
 ) -> Result<(), Fail> {
-    load_blank(alloc, bench, 1024)?;
-    let mut nvs = Nvs::mount(alloc, bench, area(), steps)?;
+    let mut nvs = on_blank(alloc, bench, 1000, steps)?;
     wrote_long(rt, bench, &mut nvs, 1, 66, steps)?;
     finds_no_space(rt, bench, &mut nvs, steps);
     deleted(rt, bench, &mut nvs, 2, steps)?;
@@ -196,6 +202,20 @@ fn full<B: Bench, L: Ledger, R: Abort>(
     nvs.close_and_collect(bench, steps)?;
     next_is_behind_a_delete(rt, bench, &nvs, steps);
     too_long(rt, bench, &mut nvs, steps);
+    Ok(())
+}
+
+// Power is lost in a collection, and the store is down.
+fn lost<B: Bench, L: Ledger, R: Abort>(
+    rt: &R,
+    alloc: Global,
+    bench: &mut B,
+    steps: &mut Steps<L>,
+) -> Result<(), Fail> {
+    let mut nvs = on_blank(alloc, bench, 28, steps)?;
+    wrote(rt, bench, &mut nvs, 0x11, 27, steps)?;
+    assert_eq!(rt; nvs.close_and_collect(bench, steps), Err(PowerLost));
+    assert!(rt; !nvs.is_up());
     Ok(())
 }
 
@@ -212,7 +232,8 @@ fn exercise<B: Bench, L: Ledger, R: Abort>(
 {
     let mut steps = Steps::<L>::new(blank);
     rounds(rt, alloc, bench, &mut steps)?;
-    full(rt, alloc, bench, &mut steps)
+    full(rt, alloc, bench, &mut steps)?;
+    lost(rt, alloc, bench, &mut steps)
 }
 
 #[test]

@@ -1,18 +1,19 @@
 // Writing and deleting items.
 ghost use Rattle.std.specs.Prelude.{◌≡◌, ◌⊎◌, ◌+◌, ◌-◌, ◌*◌, ◌^◌, ◌<◌, ◌∷◌, [], true, false, length, nat_lt, is_err, IfOk, OnOk, OnErr};
 ghost use Rattle.std.specs.Bool.{MatchBool};
-ghost use Rattle.flash_map.specs.Area.{unit_of, sector_size};
+ghost use Rattle.flash_map.specs.Area.{unit_of};
 ghost use Rattle.flash_map.specs.Spending.{Spends, SpendsAtMost};
 ghost use Rattle.flash_map.specs.Touches.{Touches};
 ghost use Rattle.flash_map.specs.Units.{IsUnit};
-ghost use Rattle.slot_list.specs.Items.{with_pair};
-ghost use Rattle.sector_ring.specs.Rounds.{live_cost};
+ghost use Rattle.pair_laws.specs.Items.{with_pair};
+ghost use Rattle.pair_laws.specs.Rounds.{live_cost};
 ghost use Rattle.nvs_store.specs.Geometry.{cost, capacity};
 ghost use Rattle.nvs_store.specs.Scans.{fits};
 ghost use Rattle.flash_map.specs.Faults.{write_lost};
 ghost use Rattle.nvs_gc.specs.Ends.{Holds, Fits, IsShort, IsCrammedFor, WriteEnds, DeleteEnds};
 ghost use Rattle.nvs_gc.specs.Spending.{sector_units, entry_units};
-ghost use Rattle.nvs_gc.specs.Standing.{StandsOn, IsUndamaged, KeepsItems, list_on, items_on};
+ghost use Rattle.nvs_gc.specs.Standing.{StandsOn, IsUndamaged, KeepsItems, list_on, items_on, live_cost_on};
+ghost use Rattle.nvs_store.specs.On.{capacity_on, cost_on};
 
 use crate::nvs::Nvs;
 use flash_map::{WriteFault, geometry};
@@ -67,10 +68,10 @@ impl Nvs {
         ensures same { OnOk result (Fits (F.device flash.old) self.old len → F.device flash.new ≡ F.device flash.old) }
         ensures room { IfOk result (λ room. room ≡ fits (unit_of (F.device flash.new) self.new.area) self.new.scan len) }
         ensures full { let d = F.device flash.old in
-            IfOk result (λ room. room ≡ false → (self.old.area.sectors - 1) * (capacity (unit_of d self.old.area) (sector_size d self.old.area) - cost (unit_of d self.old.area) len) < live_cost (cost (unit_of d self.old.area)) (list_on d self.old.area)) }
-        ensures crammed { IfOk result (λ room. room ≡ false → IsCrammedFor (F.device flash.new) self.old.area (cost (unit_of (F.device flash.old) self.old.area) len)) }
+            IfOk result (λ room. room ≡ false → (self.old.area.sectors - 1) * (capacity_on d self.old.area - cost_on d self.old.area len) < live_cost_on d self.old.area) }
+        ensures crammed { IfOk result (λ room. room ≡ false → IsCrammedFor (F.device flash.new) self.old.area (cost_on (F.device flash.old) self.old.area len)) }
         ensures live { let d = F.device flash.old in
-            OnOk result (live_cost (cost (unit_of d self.old.area)) (list_on (F.device flash.new) self.old.area) ≡ live_cost (cost (unit_of d self.old.area)) (list_on d self.old.area)) }
+            OnOk result (live_cost (cost (unit_of d self.old.area)) (list_on (F.device flash.new) self.old.area) ≡ live_cost_on d self.old.area) }
 
         ensures unfit { OnErr result (¬ Fits (F.device flash.old) self.old len) }
         ensures down { OnErr result (self.new.up ≡ false) }

@@ -4,22 +4,22 @@ use Rattle.std.specs.List.{flat_map}
 use Rattle.std.proofs.lemmas.Bool.{false≢true, cases_eq, cond-true, cond-false, eq-eqb, ne_eqb}
 use Rattle.std.proofs.lemmas.List.{append-nil}
 use Rattle.flash_map.specs.Units.{IsUnit, padded, is_erased}
-use Rattle.sector_ring.specs.Area.{next, is_closed_at, open_sector, area_pairs}
-use Rattle.flash_map.specs.Area.{sector_at}
-use Rattle.sector_ring.specs.Forms.{others, pairs_at}
-use Rattle.sector_ring.specs.Forms as ring_forms
-use Rattle.sector_ring.specs.Steps as ring_steps
-use Rattle.sector_ring.proofs.Collects.{at_rest-put, done-not_blank}
-use Rattle.sector_ring.proofs.RingSteps.{reads}
-use Rattle.sector_ring.proofs.Rings.{next-closed}
-use Rattle.sector_ring.proofs.Stays.{open_kept, next_kept, list-all, list_put}
-use Rattle.sector_ring.proofs.Undamaged.{form-of}
+use Rattle.ring_laws.specs.Area.{next, is_closed_at, open_sector, area_pairs}
+use Rattle.flash_map.specs.Area.{sector_at, ChangesOnly}
+use Rattle.ring_laws.specs.Forms.{others, pairs_at}
+use Rattle.ring_laws.specs.Forms as ring_forms
+use Rattle.ring_laws.specs.Steps as ring_steps
+use Rattle.ring_laws.proofs.Collects.{at_rest-put, done-not_blank}
+use Rattle.ring_laws.proofs.RingSteps.{reads}
+use Rattle.ring_laws.proofs.Rings.{next-closed}
+use Rattle.ring_laws.proofs.Stays.{open_kept, next_kept, list-all, list_put}
+use Rattle.ring_laws.proofs.Undamaged.{form-of}
 use Rattle.nvs_store.specs.declared.scan.Redo.{Redo}
 use Rattle.nvs_store.specs.declared.scan.Redo.TheVariants.{Nothing, EraseNext, CollectAgain}
 use Rattle.nvs_store.specs.declared.scan.Scan.{Scan}
 use Rattle.nvs_store.specs.Geometry.{slot_size, cost, capacity}
 use Rattle.nvs_store.specs.Sector.{AddsPair, StopsAdding, is_sound, is_closed, has_gc_done, low, data_end, pairs, pairs_cost}
-use Rattle.nvs_store.specs.Scans.{reading, sector_scan, scan_at, scan_of, redo_of, fits, damage_of, list_of, marked_redo, ChangesOnly, AddsPairAt, StopsAddingAt, MarksDoneAt}
+use Rattle.nvs_store.specs.Scans.{reading, sector_scan, scan_at, scan_of, redo_of, fits, damage_of, list_of, marked_redo, AddsPairAt, StopsAddingAt, MarksDoneAt}
 use Rattle.nvs_store.proofs.Blank.{reads-blank}
 use Rattle.nvs_store.proofs.Sound.{sound-costs, keeps-further, adds-further, adds-used, fits-costs}
 use Rattle.nvs_store.proofs.Room.{HasRoom}

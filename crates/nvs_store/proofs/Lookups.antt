@@ -12,12 +12,12 @@ use Rattle.nvs_store.specs.declared.scan.Placed.{Placed}
 use Rattle.flash_map.specs.Units.{padded, is_erased}
 use Rattle.nvs_store.specs.Geometry.{slot_size, capacity}
 use Rattle.nvs_store.specs.Entries.{decoded}
-use Rattle.slot_list.specs.Slots.{Slot}
+use Rattle.ring_laws.specs.Slots.{Slot}
 use Rattle.nvs_store.specs.Sector.{slot_at, slots, is_used, used_slots, counts, counting_entry, entries, entry_end, written_end, data_end, low, entries_within, has_fence, is_overfull, placed_cost}
-use Rattle.slot_list.specs.Slots as shared
-use Rattle.slot_list.proofs.SlotCounts as counting
-use Rattle.slot_list.proofs.SlotWalks as walk
-use Rattle.live_items.proofs.SlotEntries.{slots_within}
+use Rattle.ring_laws.specs.Slots as shared
+use Rattle.ring_laws.proofs.SlotCounts as counting
+use Rattle.ring_laws.proofs.SlotWalks as walk
+use Rattle.ring_laws.proofs.SlotEntries.{slots_within}
 
 -- the three outcomes of reading a slot
 pub counting_entry-none : (unit : ℕ) (slot : Slot) → decoded slot.bytes ≡ None → counting_entry unit slot ≡ None

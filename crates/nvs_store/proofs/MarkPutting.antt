@@ -7,7 +7,7 @@ use Rattle.std.proofs.lemmas.List.{take_all, take-append-le, set-get_or}
 use Rattle.flash_sim.specs.Bank.{IsLawful}
 use Rattle.flash_sim.specs.Device.{Device, overwritten}
 use Rattle.flash_map.specs.declared.area.Area.{Area}
-use Rattle.flash_map.specs.Area.{IsLawfulArea, unit_of, sector_size, sectors_of, sector_bytes, Writes, WritesPart}
+use Rattle.flash_map.specs.Area.{IsLawfulArea, unit_of, sector_size, sectors_of, sector_bytes, Writes, WritesPart, ChangesOnly}
 use Rattle.flash_map.specs.Pieces.{CanProgramAll}
 use Rattle.flash_map.specs.Units.{IsUnit, padded, padded_bytes, is_erased}
 use Rattle.flash_map.proofs.PieceLemmas.{sub_whole, next_fits}
@@ -19,7 +19,7 @@ use Rattle.nvs_store.specs.Geometry.{slot_size}
 use Rattle.nvs_store.specs.Entries.{encoded}
 use Rattle.nvs_store.specs.Sector.{is_closed, low, data_end, KeepsList, MarksDone, Closes, special_entry}
 use Rattle.flash_map.specs.Area.{sector_at}
-use Rattle.nvs_store.specs.Scans.{ChangesOnly, MarksDoneAt, StopsMarkingAt, ClosesAt}
+use Rattle.nvs_store.specs.Scans.{MarksDoneAt, StopsMarkingAt, ClosesAt}
 use Rattle.nvs_store.proofs.Appends.{length-entry_image}
 use Rattle.nvs_store.proofs.Cuts.{sizes}
 use Rattle.nvs_store.proofs.EntryBytes.{length-encoded}

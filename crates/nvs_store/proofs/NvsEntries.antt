@@ -2,9 +2,9 @@
 use Rattle.std.proofs.Common.{◌≡◌, ℕ, ◌+◌, ◌-◌, List, length, Some, None, refl, sym, ap, ◌∙◌, inl, inr, arith}
 use Rattle.std.specs.Prelude.{slice_range}
 use Rattle.std.proofs.lemmas.List.Edits.{length-between}
-use Rattle.slot_list.proofs.SlotLemmas.{index-slot_at, start-slot_at}
-use Rattle.live_items.specs.Entries.{AreEntries}
-use Rattle.live_items.proofs.SlotEntries.{read-slots}
+use Rattle.ring_laws.proofs.SlotLemmas.{index-slot_at, start-slot_at}
+use Rattle.ring_laws.specs.Entries.{AreEntries}
+use Rattle.ring_laws.proofs.SlotEntries.{read-slots}
 use Rattle.nvs_store.specs.declared.scan.Placed.{Placed}
 use Rattle.nvs_store.specs.Geometry.{slot_size}
 use Rattle.nvs_store.specs.Sector.{slot_at, is_used, counting_entry}

@@ -10,7 +10,7 @@ use Rattle.flash_sim.specs.Bank.{IsLawful, bank_at}
 use Rattle.flash_sim.specs.Device.{Device, bytes_of, overwritten}
 use Rattle.flash_sim.specs.declared.flash.Bank.{Bank}
 use Rattle.flash_map.specs.declared.area.Area.{Area}
-use Rattle.flash_map.specs.Area.{IsLawfulArea, unit_of, sector_size, sectors_of, sector_bytes, Writes, WritesPart}
+use Rattle.flash_map.specs.Area.{IsLawfulArea, unit_of, sector_size, sectors_of, sector_bytes, Writes, WritesPart, ChangesOnly}
 use Rattle.flash_map.specs.Pieces.{CanProgramAll}
 use Rattle.flash_map.specs.Spending.{Spends, SpendsAtMost}
 use Rattle.flash_map.specs.Units.{IsUnit, padded, padded_bytes, is_erased}
@@ -26,7 +26,7 @@ use Rattle.nvs_store.specs.Geometry.{slot_size, cost}
 use Rattle.nvs_store.specs.Entries.{encoded}
 use Rattle.nvs_store.specs.Sector.{used_slots, low, data_end, AddsPair, StopsAdding}
 use Rattle.flash_map.specs.Area.{sector_at}
-use Rattle.nvs_store.specs.Scans.{ChangesOnly, AddsPairAt, StopsAddingAt}
+use Rattle.nvs_store.specs.Scans.{AddsPairAt, StopsAddingAt}
 use Rattle.nvs_store.proofs.Appends.{fence_of, put_entry, length-entry_image}
 use Rattle.nvs_store.proofs.Cuts.{put_units, data-stops}
 use Rattle.nvs_store.proofs.EntryBytes.{length-encoded}

@@ -13,7 +13,7 @@ use Rattle.nvs_store.specs.declared.scan.Placed.{Placed}
 use Rattle.flash_map.specs.Units.{IsUnit, padded, is_erased}
 use Rattle.nvs_store.specs.Geometry.{slot_size}
 use Rattle.nvs_store.specs.Entries.{entry_of}
-use Rattle.slot_list.specs.Slots.{Slot}
+use Rattle.ring_laws.specs.Slots.{Slot}
 use Rattle.nvs_store.specs.Sector.{counts, counting_entry, entries, used_slots, entry_end, written_end, data_end, low}
 use Rattle.flash_map.proofs.Rounding.{IsPadding, padding}
 use Rattle.nvs_store.proofs.SlotReads.{slot_widths}

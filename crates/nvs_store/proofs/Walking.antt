@@ -2,9 +2,9 @@
 use Rattle.std.proofs.Common.{◌≡◌, ℕ, ◌-◌, ◌<◌, ◌≤◌, List, length, Option, Some, None, sym, ap, ◌∙◌, arith}
 use Rattle.std.specs.List.{last_or, All}
 use Rattle.flash_map.specs.Area.{sector_at}
-use Rattle.sector_ring.specs.Area.{open_sector}
-use Rattle.sector_ring.proofs.Newest.{last-each}
-use Rattle.live_items.proofs.WalkLemmas as walks
+use Rattle.ring_laws.specs.Area.{open_sector}
+use Rattle.ring_laws.proofs.Newest.{last-each}
+use Rattle.ring_laws.proofs.WalkLemmas as walks
 use Rattle.nvs_store.specs.declared.scan.Found.{Found}
 use Rattle.nvs_store.specs.Scans.{reading, found_up_to, all_found, last_wanted, IsNextOlder, nvs}
 use Rattle.nvs_store.proofs.FoundLemmas.{few_slots}

@@ -1,6 +1,7 @@
 pub mod Entries
 pub mod Geometry
 pub mod Images
+pub mod On
 pub mod Scans
 pub mod Sector
 pub mod Sought

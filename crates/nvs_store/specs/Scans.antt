@@ -1,14 +1,14 @@
 -- What a scan says of an area, its list, and what is wrong with it.
-use Rattle.std.specs.Prelude.{◌≡◌, ℕ, ◌+◌, ◌-◌, ◌*◌, ◌<◌, ◌≤◌, Bool, true, List, ◌∷◌, ◌++◌, length, fold, slice_range, slice_set, Option, Some, None, ◌==◌, nat_le, if◌then◌else◌}
+use Rattle.std.specs.Prelude.{◌≡◌, ℕ, ◌+◌, ◌-◌, ◌*◌, ◌<◌, ◌≤◌, Bool, true, List, ◌∷◌, ◌++◌, length, fold, slice_range, Option, Some, None, ◌==◌, nat_le, if◌then◌else◌}
 use Rattle.std.specs.List.{last_or}
 use Rattle.flash_map.specs.declared.faults.Damaged.{Damaged}
 use Rattle.flash_map.specs.Units.{is_erased}
-use Rattle.sector_ring.specs.Area.{next, is_closed_at, open_sector, first_damage}
-use Rattle.flash_map.specs.Area.{sector_at}
-use Rattle.sector_ring.specs.Reading.{Reading}
-use Rattle.live_items.specs.Entries.{Entries}
-use Rattle.live_items.specs.Live as live
-use Rattle.live_items.specs.Walk as walk
+use Rattle.ring_laws.specs.Area.{next, is_closed_at, open_sector, first_damage}
+use Rattle.flash_map.specs.Area.{sector_at, ChangesOnly}
+use Rattle.ring_laws.specs.Reading.{Reading}
+use Rattle.ring_laws.specs.Entries.{Entries}
+use Rattle.ring_laws.specs.Live as live
+use Rattle.ring_laws.specs.Walk as walk
 use Rattle.nvs_store.specs.declared.scan.Found.{Found}
 use Rattle.nvs_store.specs.declared.scan.Placed.{Placed}
 use Rattle.nvs_store.specs.declared.scan.Redo.{Redo}
@@ -139,10 +139,6 @@ abbrev pub found_bytes : List (List ℕ) → Found → List ℕ
 found_bytes sectors f = slice_range (sector_at sectors f.sector) f.entry.offset (f.entry.offset + f.entry.len)
 
 -- ---- what a step leaves
-
--- one sector changed, and no other
-abbrev pub ChangesOnly : List (List ℕ) → List (List ℕ) → ℕ → Type 0
-ChangesOnly old new place = new ≡ slice_set old place (sector_at new place)
 
 -- one sector has one pair more, and no other sector changed
 pub record AddsPairAt (unit : ℕ) (old new : List (List ℕ)) (place id : ℕ) (bytes : List ℕ) : Type 0 where

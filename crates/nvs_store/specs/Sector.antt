@@ -3,8 +3,8 @@ use Rattle.std.specs.Prelude.{◌≡◌, ◌⊎◌, ℕ, ◌+◌, ◌-◌, ◌%�
 use Rattle.std.specs.List.{suffix_len, filter_map, list_any}
 use Rattle.std.specs.Option.{option_and_then, option_map_or}
 use Rattle.flash_map.specs.Units.{padded, is_erased}
-use Rattle.slot_list.specs.Slots as shared
-use Rattle.slot_list.specs.Slots.{Slot}
+use Rattle.ring_laws.specs.Slots as shared
+use Rattle.ring_laws.specs.Slots.{Slot}
 use Rattle.nvs_store.specs.declared.entry.Entry.{Entry}
 use Rattle.nvs_store.specs.declared.scan.Placed.{Placed}
 use Rattle.nvs_store.specs.Geometry.{slot_size, cost, capacity}

@@ -1,16 +1,16 @@
 // The calls that program the open sector of an area.
-ghost use Rattle.std.specs.Prelude.{◌≡◌, ◌⊎◌, ◌+◌, ◌/◌, ◌*◌, ◌^◌, ◌<◌, ◌≤◌, ◌∷◌, [], ◌++◌, length, is_err, true, false, None, IsTrue, OnOk, OnErr};
+ghost use Rattle.std.specs.Prelude.{◌≡◌, ◌⊎◌, ◌+◌, ◌/◌, ◌*◌, ◌^◌, ◌<◌, ◌≤◌, ◌∷◌, [], ◌++◌, length, is_err, true, false, OnOk, OnErr};
 ghost use Rattle.flash_map.specs.declared.area.Role.TheVariants.{Nvs};
-ghost use Rattle.flash_map.specs.Area.{unit_of, sector_size, sectors_of};
+ghost use Rattle.flash_map.specs.Area.{unit_of, sector_size, sectors_of, sector_bytes};
 ghost use Rattle.flash_map.specs.Lawful.{IsLawfulFor};
 ghost use Rattle.flash_map.specs.Spending.{Spends, SpendsAtMost};
 ghost use Rattle.flash_map.specs.Touches.{Touches};
-ghost use Rattle.flash_map.specs.Area.{sector_at};
 ghost use Rattle.nvs_store.specs.declared.scan.Redo.TheVariants.{Nothing};
-ghost use Rattle.nvs_store.specs.Geometry.{slot_size, cost, capacity};
+ghost use Rattle.nvs_store.specs.Geometry.{slot_size, cost};
 ghost use Rattle.nvs_store.specs.Images.{after_append, after_gc_done, after_close};
-ghost use Rattle.nvs_store.specs.Sector.{special_entry, is_closed, is_sound, pairs, pairs_cost};
-ghost use Rattle.nvs_store.specs.Scans.{scan_of, fits, free, damage_of, list_of, found_bytes, AddsPairAt, StopsAddingAt, MarksDoneAt, StopsMarkingAt, ClosesAt};
+ghost use Rattle.nvs_store.specs.Sector.{special_entry, is_sound, pairs, pairs_cost};
+ghost use Rattle.nvs_store.specs.Scans.{free};
+ghost use Rattle.nvs_store.specs.On.{AddsPairOn, AppendsOn, ClosesOn, FitsOn, KeepsListOn, MarksDoneOn, StaysSoundOn, StaysUndamaged, StopsAddingOn, StopsMarkingOn, bytes_on, capacity_on, entry_units, is_closed_on, scan_on, slot_units};
 
 use crate::entry::{Entry, SPECIAL_ID, encode_entry};
 use crate::geometry::slot_size;
@@ -35,33 +35,30 @@ pub fn append<F: Flash>(
 ) -> Result<(), PowerLost>
     requires lawful { IsLawfulFor (F.device flash.old).banks area.now }
     requires role { area.now.role ≡ Nvs }
-    requires scan { let d = F.device flash.old in scan.old ≡ scan_of (unit_of d area.now) (sectors_of d area.now) }
+    requires scan { scan.old ≡ scan_on (F.device flash.old) area.now }
     requires redo { scan.old.redo ≡ Nothing }
     requires ordinary { id < 0xFFFF }
-    requires fits { IsTrue (fits (unit_of (F.device flash.old) area.now) scan.old (length bytes.now)) }
+    requires fits { FitsOn (F.device flash.old) area.now scan.old (length bytes.now) }
 
     ensures touches { Touches (area.now ∷ []) (F.device flash.old) (F.device flash.new) (is_err result) }
     ensures ok { let d = F.device flash.old in
-        OnOk result (AddsPairAt (unit_of d area.now) (sectors_of d area.now) (sectors_of (F.device flash.new) area.now) scan.old.current id bytes.now) }
-    ensures image { let d = F.device flash.old in let unit = unit_of d area.now in
-        OnOk result (sector_at (sectors_of (F.device flash.new) area.now) scan.old.current ≡ after_append unit (sector_at (sectors_of d area.now) scan.old.current) id bytes.now) }
-    ensures list { let d = F.device flash.old in
-        OnOk result (list_of (unit_of d area.now) (sectors_of (F.device flash.new) area.now) ≡ list_of (unit_of d area.now) (sectors_of d area.now) ++ (id, bytes.now) ∷ []) }
-    ensures scan { let d = F.device flash.new in OnOk result (scan.new ≡ scan_of (unit_of d area.now) (sectors_of d area.now)) }
-    ensures spent { let unit = unit_of (F.device flash.old) area.now in
-        OnOk result (Spends (F.device flash.old) (F.device flash.new) (cost unit (length bytes.now) / unit)) }
+        OnOk result (AddsPairOn d (F.device flash.new) area.now scan.old.current id bytes.now) }
+    ensures image { let d = F.device flash.old in
+        OnOk result (sector_bytes (F.device flash.new) area.now scan.old.current
+        ≡ after_append (unit_of d area.now) (sector_bytes d area.now scan.old.current) id bytes.now) }
+    ensures list { OnOk result (AppendsOn (F.device flash.old) (F.device flash.new) area.now id bytes.now) }
+    ensures scan { OnOk result (scan.new ≡ scan_on (F.device flash.new) area.now) }
+    ensures spent { let d = F.device flash.old in
+        OnOk result (Spends d (F.device flash.new) (entry_units d area.now (length bytes.now))) }
 
     ensures lost { let d = F.device flash.old in
-        OnErr result (StopsAddingAt (unit_of d area.now) (sectors_of d area.now) (sectors_of (F.device flash.new) area.now) scan.old.current id bytes.now) }
+        OnErr result (StopsAddingOn d (F.device flash.new) area.now scan.old.current id bytes.now) }
     ensures list_lost { let d = F.device flash.old in
-        OnErr result ((list_of (unit_of d area.now) (sectors_of (F.device flash.new) area.now) ≡ list_of (unit_of d area.now) (sectors_of d area.now))
-        ⊎ (list_of (unit_of d area.now) (sectors_of (F.device flash.new) area.now) ≡ list_of (unit_of d area.now) (sectors_of d area.now) ++ (id, bytes.now) ∷ [])) }
-    ensures spent_at_most { let unit = unit_of (F.device flash.old) area.now in
-        OnErr result (SpendsAtMost (F.device flash.old) (F.device flash.new) (cost unit (length bytes.now) / unit)) }
-    ensures sound { let unit = unit_of (F.device flash.old) area.now in
-        is_sound unit (sector_at (sectors_of (F.device flash.old) area.now) scan.old.current) ≡ true → is_sound unit (sector_at (sectors_of (F.device flash.new) area.now) scan.old.current) ≡ true }
-    ensures undamaged { let unit = unit_of (F.device flash.old) area.now in
-        damage_of unit (sectors_of (F.device flash.old) area.now) ≡ None → damage_of unit (sectors_of (F.device flash.new) area.now) ≡ None }
+        OnErr result (KeepsListOn d (F.device flash.new) area.now ⊎ AppendsOn d (F.device flash.new) area.now id bytes.now) }
+    ensures spent_at_most { let d = F.device flash.old in
+        OnErr result (SpendsAtMost d (F.device flash.new) (entry_units d area.now (length bytes.now))) }
+    ensures sound { StaysSoundOn (F.device flash.old) (F.device flash.new) area.now scan.old.current }
+    ensures undamaged { StaysUndamaged (F.device flash.old) (F.device flash.new) area.now }
 {
     let unit = geometry(flash, area).unit;
     let entry = Entry {
@@ -94,26 +91,28 @@ pub fn copy_entry<F: Flash, L: Ledger>(
 ) -> Result<(), PowerLost>
     requires lawful { IsLawfulFor (F.device flash.old).banks area.now }
     requires role { area.now.role ≡ Nvs }
-    requires scan { let d = F.device flash.old in scan.old ≡ scan_of (unit_of d area.now) (sectors_of d area.now) }
+    requires scan { scan.old ≡ scan_on (F.device flash.old) area.now }
     requires has_source { from.now.sector < area.now.sectors }
     requires other { from.now.sector ≡ scan.old.current → ⊥ }
     requires ordinary { from.now.entry.id < 0xFFFF }
     requires inside { from.now.entry.offset + from.now.entry.len ≤ sector_size (F.device flash.old) area.now }
-    requires free { let unit = unit_of (F.device flash.old) area.now in cost unit from.now.entry.len + 3 * slot_size unit ≤ free scan.old }
+    requires free { let unit = unit_of (F.device flash.old) area.now in
+        cost unit from.now.entry.len + 3 * slot_size unit ≤ free scan.old }
 
     ensures touches { Touches (area.now ∷ []) (F.device flash.old) (F.device flash.new) (is_err result) }
     ensures ok { let d = F.device flash.old in
-        OnOk result (AddsPairAt (unit_of d area.now) (sectors_of d area.now) (sectors_of (F.device flash.new) area.now) scan.old.current from.now.entry.id (found_bytes (sectors_of d area.now) from.now)) }
-    ensures image { let d = F.device flash.old in let unit = unit_of d area.now in
-        OnOk result (sector_at (sectors_of (F.device flash.new) area.now) scan.old.current ≡ after_append unit (sector_at (sectors_of d area.now) scan.old.current) from.now.entry.id (found_bytes (sectors_of d area.now) from.now)) }
-    ensures scan { let d = F.device flash.new in OnOk result (scan.new ≡ scan_of (unit_of d area.now) (sectors_of d area.now)) }
-    ensures spent { let unit = unit_of (F.device flash.old) area.now in
-        OnOk result (Spends (F.device flash.old) (F.device flash.new) (cost unit from.now.entry.len / unit)) }
+        OnOk result (AddsPairOn d (F.device flash.new) area.now scan.old.current from.now.entry.id (bytes_on d area.now from.now)) }
+    ensures image { let d = F.device flash.old in let bytes = sector_bytes d area.now scan.old.current in
+        OnOk result (sector_bytes (F.device flash.new) area.now scan.old.current
+        ≡ after_append (unit_of d area.now) bytes from.now.entry.id (bytes_on d area.now from.now)) }
+    ensures scan { OnOk result (scan.new ≡ scan_on (F.device flash.new) area.now) }
+    ensures spent { let d = F.device flash.old in
+        OnOk result (Spends d (F.device flash.new) (entry_units d area.now from.now.entry.len)) }
 
     ensures lost { let d = F.device flash.old in
-        OnErr result (StopsAddingAt (unit_of d area.now) (sectors_of d area.now) (sectors_of (F.device flash.new) area.now) scan.old.current from.now.entry.id (found_bytes (sectors_of d area.now) from.now)) }
-    ensures spent_at_most { let unit = unit_of (F.device flash.old) area.now in
-        OnErr result (SpendsAtMost (F.device flash.old) (F.device flash.new) (cost unit from.now.entry.len / unit)) }
+        OnErr result (StopsAddingOn d (F.device flash.new) area.now scan.old.current from.now.entry.id (bytes_on d area.now from.now)) }
+    ensures spent_at_most { let d = F.device flash.old in
+        OnErr result (SpendsAtMost d (F.device flash.new) (entry_units d area.now from.now.entry.len)) }
 {
     let unit = geometry(flash, area).unit;
     let entry = Entry {
@@ -158,25 +157,24 @@ fn special(place: u32) -> Entry
 pub fn put_done<F: Flash>(flash: &mut F, area: &Area, scan: &mut Scan) -> Result<(), PowerLost>
     requires lawful { IsLawfulFor (F.device flash.old).banks area.now }
     requires role { area.now.role ≡ Nvs }
-    requires scan { let d = F.device flash.old in scan.old ≡ scan_of (unit_of d area.now) (sectors_of d area.now) }
+    requires scan { scan.old ≡ scan_on (F.device flash.old) area.now }
     requires free { 2 * slot_size (unit_of (F.device flash.old) area.now) ≤ free scan.old }
 
     ensures touches { Touches (area.now ∷ []) (F.device flash.old) (F.device flash.new) (is_err result) }
     ensures ok { let d = F.device flash.old in
-        OnOk result (MarksDoneAt (unit_of d area.now) (sectors_of d area.now) (sectors_of (F.device flash.new) area.now) scan.old.current) }
-    ensures image { let d = F.device flash.old in let unit = unit_of d area.now in
-        OnOk result (sector_at (sectors_of (F.device flash.new) area.now) scan.old.current ≡ after_gc_done unit (sector_at (sectors_of d area.now) scan.old.current)) }
-    ensures scan { let d = F.device flash.new in OnOk result (scan.new ≡ scan_of (unit_of d area.now) (sectors_of d area.now)) }
-    ensures spent { let unit = unit_of (F.device flash.old) area.now in
-        OnOk result (Spends (F.device flash.old) (F.device flash.new) (slot_size unit / unit)) }
-    ensures sound { let unit = unit_of (F.device flash.old) area.now in
-        OnOk result (pairs_cost unit (pairs unit (sector_at (sectors_of (F.device flash.old) area.now) scan.old.current)) ≤ capacity unit (sector_size (F.device flash.old) area.now)
-        → is_sound unit (sector_at (sectors_of (F.device flash.new) area.now) scan.old.current) ≡ true) }
+        OnOk result (MarksDoneOn d (F.device flash.new) area.now scan.old.current) }
+    ensures image { let d = F.device flash.old in
+        OnOk result (sector_bytes (F.device flash.new) area.now scan.old.current
+        ≡ after_gc_done (unit_of d area.now) (sector_bytes d area.now scan.old.current)) }
+    ensures scan { OnOk result (scan.new ≡ scan_on (F.device flash.new) area.now) }
+    ensures spent { let d = F.device flash.old in OnOk result (Spends d (F.device flash.new) (slot_units d area.now)) }
+    ensures sound { let d = F.device flash.old in let unit = unit_of d area.now in
+        OnOk result (pairs_cost unit (pairs unit (sector_bytes d area.now scan.old.current)) ≤ capacity_on d area.now
+        → is_sound unit (sector_bytes (F.device flash.new) area.now scan.old.current) ≡ true) }
 
     ensures lost { let d = F.device flash.old in
-        OnErr result (StopsMarkingAt (unit_of d area.now) (sectors_of d area.now) (sectors_of (F.device flash.new) area.now) scan.old.current) }
-    ensures spent_at_most { let unit = unit_of (F.device flash.old) area.now in
-        OnErr result (SpendsAtMost (F.device flash.old) (F.device flash.new) (slot_size unit / unit)) }
+        OnErr result (StopsMarkingOn d (F.device flash.new) area.now scan.old.current) }
+    ensures spent_at_most { let d = F.device flash.old in OnErr result (SpendsAtMost d (F.device flash.new) (slot_units d area.now)) }
 {
     let unit = geometry(flash, area).unit;
     let slot = scan.low - slot_size(unit);
@@ -196,22 +194,21 @@ pub fn put_done<F: Flash>(flash: &mut F, area: &Area, scan: &mut Scan) -> Result
 pub fn put_close<F: Flash>(flash: &mut F, area: &Area, scan: &Scan) -> Result<(), PowerLost>
     requires lawful { IsLawfulFor (F.device flash.old).banks area.now }
     requires role { area.now.role ≡ Nvs }
-    requires scan { let d = F.device flash.old in scan.now ≡ scan_of (unit_of d area.now) (sectors_of d area.now) }
-    requires not_closed { let d = F.device flash.old in is_closed (unit_of d area.now) (sector_at (sectors_of d area.now) scan.now.current) ≡ false }
+    requires scan { scan.now ≡ scan_on (F.device flash.old) area.now }
+    requires not_closed { is_closed_on (F.device flash.old) area.now scan.now.current ≡ false }
 
     ensures touches { Touches (area.now ∷ []) (F.device flash.old) (F.device flash.new) (is_err result) }
     ensures ok { let d = F.device flash.old in
-        OnOk result (ClosesAt (unit_of d area.now) (sectors_of d area.now) (sectors_of (F.device flash.new) area.now) scan.now.current) }
-    ensures image { let d = F.device flash.old in let unit = unit_of d area.now in
-        OnOk result (sector_at (sectors_of (F.device flash.new) area.now) scan.now.current ≡ after_close unit (sector_at (sectors_of d area.now) scan.now.current)) }
-    ensures spent { let unit = unit_of (F.device flash.old) area.now in
-        OnOk result (Spends (F.device flash.old) (F.device flash.new) (slot_size unit / unit)) }
+        OnOk result (ClosesOn d (F.device flash.new) area.now scan.now.current) }
+    ensures image { let d = F.device flash.old in
+        OnOk result (sector_bytes (F.device flash.new) area.now scan.now.current
+        ≡ after_close (unit_of d area.now) (sector_bytes d area.now scan.now.current)) }
+    ensures spent { let d = F.device flash.old in OnOk result (Spends d (F.device flash.new) (slot_units d area.now)) }
 
     ensures lost { let d = F.device flash.old in
         OnErr result ((sectors_of (F.device flash.new) area.now ≡ sectors_of d area.now)
-        ⊎ ClosesAt (unit_of d area.now) (sectors_of d area.now) (sectors_of (F.device flash.new) area.now) scan.now.current) }
-    ensures spent_at_most { let unit = unit_of (F.device flash.old) area.now in
-        OnErr result (SpendsAtMost (F.device flash.old) (F.device flash.new) (slot_size unit / unit)) }
+        ⊎ ClosesOn d (F.device flash.new) area.now scan.now.current) }
+    ensures spent_at_most { let d = F.device flash.old in OnErr result (SpendsAtMost d (F.device flash.new) (slot_units d area.now)) }
 {
     let g = geometry(flash, area);
     let top = g.sector - slot_size(g.unit);

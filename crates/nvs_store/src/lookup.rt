@@ -5,9 +5,10 @@ ghost use Rattle.std.specs.Option.{option_and_then};
 ghost use Rattle.flash_map.specs.declared.area.Role.TheVariants.{Nvs};
 ghost use Rattle.flash_map.specs.Area.{unit_of, sector_size, sectors_of};
 ghost use Rattle.flash_map.specs.Lawful.{IsLawfulFor};
-ghost use Rattle.slot_list.specs.Items.{last, value_of};
-ghost use Rattle.sector_ring.specs.Walks.{places_before};
-ghost use Rattle.nvs_store.specs.Scans.{scan_of, counted_in, counted_within, last_wanted, last_found, all_found, list_of, found_bytes, found_up_to, IsInArea, IsNextOlder};
+ghost use Rattle.pair_laws.specs.Items.{last, value_of};
+ghost use Rattle.ring_laws.specs.RoundParts.{places_before};
+ghost use Rattle.nvs_store.specs.Scans.{counted_within, last_wanted, found_up_to, IsInArea, IsNextOlder};
+ghost use Rattle.nvs_store.specs.On.{bytes_on, counted_on, found_on, last_found_on, list_on, scan_on};
 
 use crate::scan::{Found, Scan, is_hidden};
 use crate::sector::find_in;
@@ -30,12 +31,12 @@ fn find_at<F: Flash, L: Ledger>(
 ) -> Option<Found>
     requires lawful { IsLawfulFor (F.device flash.now).banks area.now }
     requires role { area.now.role ≡ Nvs }
-    requires scan { let d = F.device flash.now in scan.now ≡ scan_of (unit_of d area.now) (sectors_of d area.now) }
+    requires scan { scan.now ≡ scan_on (F.device flash.now) area.now }
     requires current { scan.now.current < area.now.sectors }
     requires inside { place < area.now.sectors }
     ensures within { let d = F.device flash.now in result ≡ last_wanted wanted (counted_within (unit_of d area.now) (sectors_of d area.now) scan.now.current place slots) }
     ensures whole { let d = F.device flash.now in
-        2 ^ 15 ≤ slots → result ≡ last_wanted wanted (counted_in (unit_of d area.now) (sectors_of d area.now) scan.now.current place) }
+        2 ^ 15 ≤ slots → result ≡ last_wanted wanted (counted_on d area.now scan.now.current place) }
 {
     if is_hidden(area, scan, place) {
         None
@@ -58,12 +59,12 @@ fn find_among<F: Flash, L: Ledger>(
 ) -> Option<Found>
     requires lawful { IsLawfulFor (F.device flash.now).banks area.now }
     requires role { area.now.role ≡ Nvs }
-    requires scan { let d = F.device flash.now in scan.now ≡ scan_of (unit_of d area.now) (sectors_of d area.now) }
+    requires scan { scan.now ≡ scan_on (F.device flash.now) area.now }
     requires current { scan.now.current < area.now.sectors }
     requires order { first ≤ end }
     requires inside { end ≤ area.now.sectors }
     ensures { let d = F.device flash.now in
-        result ≡ last_wanted wanted (flat_map (counted_in (unit_of d area.now) (sectors_of d area.now) scan.now.current) (range_with_len first (end - first))) }
+        result ≡ last_wanted wanted (flat_map (counted_on d area.now scan.now.current) (range_with_len first (end - first))) }
 {
     let mut place = end;
     while place > first {
@@ -86,12 +87,12 @@ pub fn find<F: Flash, L: Ledger>(
 ) -> Option<Found>
     requires lawful { IsLawfulFor (F.device flash.now).banks area.now }
     requires role { area.now.role ≡ Nvs }
-    requires scan { let d = F.device flash.now in scan.now ≡ scan_of (unit_of d area.now) (sectors_of d area.now) }
+    requires scan { scan.now ≡ scan_on (F.device flash.now) area.now }
 
-    ensures found { let d = F.device flash.now in result ≡ last_found (unit_of d area.now) (sectors_of d area.now) id }
+    ensures found { result ≡ last_found_on (F.device flash.now) area.now id }
     // the bytes that it names decide for the id
     ensures value { let d = F.device flash.now in
-        last (list_of (unit_of d area.now) (sectors_of d area.now)) id ≡ option_and_then (λ f. value_of (found_bytes (sectors_of d area.now) f)) result }
+        last (list_on d area.now) id ≡ option_and_then (λ f. value_of (bytes_on d area.now f)) result }
     ensures in_area { IfSome result (IsInArea area.now.sectors (sector_size (F.device flash.now) area.now)) }
 {
     let current = scan.current;
@@ -120,11 +121,11 @@ fn newest_before<F: Flash, L: Ledger>(
 ) -> Option<Found>
     requires lawful { IsLawfulFor (F.device flash.now).banks area.now }
     requires role { area.now.role ≡ Nvs }
-    requires scan { let d = F.device flash.now in scan.now ≡ scan_of (unit_of d area.now) (sectors_of d area.now) }
+    requires scan { scan.now ≡ scan_on (F.device flash.now) area.now }
     requires current { scan.now.current < area.now.sectors }
     requires inside { place < area.now.sectors }
     ensures { let d = F.device flash.now in
-        result ≡ last_wanted None (flat_map (counted_in (unit_of d area.now) (sectors_of d area.now) scan.now.current) (places_before (length (sectors_of d area.now)) scan.now.current place)) }
+        result ≡ last_wanted None (flat_map (counted_on d area.now scan.now.current) (places_before (length (sectors_of d area.now)) scan.now.current place)) }
 {
     let current = scan.current;
     if current < place {
@@ -148,7 +149,7 @@ fn newest_up_to<F: Flash, L: Ledger>(
 ) -> Option<Found>
     requires lawful { IsLawfulFor (F.device flash.now).banks area.now }
     requires role { area.now.role ≡ Nvs }
-    requires scan { let d = F.device flash.now in scan.now ≡ scan_of (unit_of d area.now) (sectors_of d area.now) }
+    requires scan { scan.now ≡ scan_on (F.device flash.now) area.now }
     requires current { scan.now.current < area.now.sectors }
     requires inside { place < area.now.sectors }
     ensures { let d = F.device flash.now in
@@ -172,10 +173,10 @@ pub fn walk<F: Flash, L: Ledger>(
 ) -> Option<Found>
     requires lawful { IsLawfulFor (F.device flash.now).banks area.now }
     requires role { area.now.role ≡ Nvs }
-    requires scan { let d = F.device flash.now in scan.now ≡ scan_of (unit_of d area.now) (sectors_of d area.now) }
+    requires scan { scan.now ≡ scan_on (F.device flash.now) area.now }
     requires inside { IfSome after (λ place. place.0 < area.now.sectors) }
 
-    ensures older { let d = F.device flash.now in IsNextOlder (all_found (unit_of d area.now) (sectors_of d area.now)) after result }
+    ensures older { IsNextOlder (found_on (F.device flash.now) area.now) after result }
     ensures in_area { IfSome result (IsInArea area.now.sectors (sector_size (F.device flash.now) area.now)) }
 {
     match after {

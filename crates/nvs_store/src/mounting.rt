@@ -1,11 +1,12 @@
 // Which sector is open, and what is wrong with an area.
-ghost use Rattle.std.specs.Prelude.{◌≡◌, ◌<◌, None, IfOk, IfErr, OnOk};
+ghost use Rattle.std.specs.Prelude.{◌≡◌, ◌<◌, IfOk, IfErr, OnOk};
 ghost use Rattle.flash_map.specs.declared.area.Role.TheVariants.{Nvs};
 ghost use Rattle.flash_map.specs.Area.{unit_of, sectors_of};
 ghost use Rattle.flash_map.specs.Lawful.{IsLawfulFor};
-ghost use Rattle.sector_ring.specs.Area.{open_sector, openings};
+ghost use Rattle.ring_laws.specs.Area.{openings};
 ghost use Rattle.std.specs.List.{slice_get};
-ghost use Rattle.nvs_store.specs.Scans.{reading, redo_of, scan_of, damage_of};
+ghost use Rattle.nvs_store.specs.Scans.{reading};
+ghost use Rattle.nvs_store.specs.On.{IsUndamaged, damage_on, open_on, redo_on, scan_on};
 
 use crate::places::{Sought, first, has_gc_done, is_closed};
 use crate::scan::{Redo, Scan};
@@ -19,7 +20,7 @@ use std::sync::ledger::Ledger;
 fn open_sector<F: Flash, L: Ledger>(flash: &F, area: &Area, steps: &mut Steps<L>) -> u32
     requires lawful { IsLawfulFor (F.device flash.now).banks area.now }
     requires role { area.now.role ≡ Nvs }
-    ensures value { let d = F.device flash.now in result ≡ open_sector (reading (unit_of d area.now)) (sectors_of d area.now) }
+    ensures value { result ≡ open_on (F.device flash.now) area.now }
     ensures within { result < area.now.sectors }
 {
     if let Some(place) = first(flash, area, Sought::Opening, 0, steps) {
@@ -47,9 +48,9 @@ fn damage<F: Flash, L: Ledger>(
 ) -> Option<Damaged>
     requires lawful { IsLawfulFor (F.device flash.now).banks area.now }
     requires role { area.now.role ≡ Nvs }
-    requires current { let d = F.device flash.now in current ≡ open_sector (reading (unit_of d area.now)) (sectors_of d area.now) }
+    requires current { current ≡ open_on (F.device flash.now) area.now }
     requires within { current < area.now.sectors }
-    ensures { let d = F.device flash.now in result ≡ damage_of (unit_of d area.now) (sectors_of d area.now) }
+    ensures { result ≡ damage_on (F.device flash.now) area.now }
 {
     let Some(_) = first(flash, area, Sought::NotClosed, 0, steps) else {
         return Some(Damaged {
@@ -87,7 +88,7 @@ fn redo<F: Flash, L: Ledger>(flash: &F, area: &Area, current: u32, steps: &mut S
     requires lawful { IsLawfulFor (F.device flash.now).banks area.now }
     requires role { area.now.role ≡ Nvs }
     requires within { current < area.now.sectors }
-    ensures { let d = F.device flash.now in result ≡ redo_of (unit_of d area.now) (sectors_of d area.now) current }
+    ensures { result ≡ redo_on (F.device flash.now) area.now current }
 {
     if is_closed(flash, area, area.next(current), steps) {
         if has_gc_done(flash, area, current, steps) {
@@ -112,9 +113,9 @@ pub fn mount_scan<F: Flash, L: Ledger>(
     requires lawful { IsLawfulFor (F.device flash.now).banks area.now }
     requires role { area.now.role ≡ Nvs }
 
-    ensures scan { let d = F.device flash.now in IfOk result (λ scan. scan ≡ scan_of (unit_of d area.now) (sectors_of d area.now)) }
-    ensures undamaged { let d = F.device flash.now in OnOk result (damage_of (unit_of d area.now) (sectors_of d area.now) ≡ None) }
-    ensures damaged { let d = F.device flash.now in IfErr result (λ e. damage_of (unit_of d area.now) (sectors_of d area.now) ≡ Some e) }
+    ensures scan { IfOk result (λ scan. scan ≡ scan_on (F.device flash.now) area.now) }
+    ensures undamaged { OnOk result (IsUndamaged (F.device flash.now) area.now) }
+    ensures damaged { IfErr result (λ e. damage_on (F.device flash.now) area.now ≡ Some e) }
 {
     let unit = geometry(flash, area).unit;
     let current = open_sector(flash, area, steps);

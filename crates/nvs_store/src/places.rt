@@ -1,15 +1,12 @@
 // The sectors of an area, one after another and round its end.
-ghost use Rattle.std.specs.Prelude.{◌≡◌, ◌==◌, ◌+◌, ◌-◌, ◌<◌, ◌≤◌, length, IfSome, if◌then◌else◌};
+ghost use Rattle.std.specs.Prelude.{◌≡◌, ◌==◌, ◌+◌, ◌-◌, ◌<◌, ◌≤◌, IfSome, if◌then◌else◌};
 ghost use Rattle.std.specs.List.{find, range_with_len};
 ghost use Rattle.flash_map.specs.declared.area.Role.TheVariants.{Nvs};
-ghost use Rattle.flash_map.specs.Area.{unit_of, sector_size, sectors_of};
+ghost use Rattle.flash_map.specs.Area.{unit_of, sectors_of, sector_bytes};
 ghost use Rattle.flash_map.specs.Lawful.{IsLawfulFor};
-ghost use Rattle.sector_ring.specs.Area.{next, previous, counts_at, is_closed_at, is_blank_at};
-ghost use Rattle.flash_map.specs.Area.{sector_at};
-ghost use Rattle.flash_map.specs.Units.{is_erased};
-ghost use Rattle.nvs_store.specs.Scans.{reading};
-ghost use Rattle.nvs_store.specs.Sector.{has_gc_done, has_fence, is_overfull};
+ghost use Rattle.nvs_store.specs.Sector.{has_gc_done};
 ghost use Rattle.nvs_store.specs.Sought.{named, is_sought};
+ghost use Rattle.nvs_store.specs.On.{counts_on, is_blank_on, is_closed_on};
 
 use crate::sector;
 use flash_map::{Area, geometry, is_erased, sector_view};
@@ -41,7 +38,7 @@ pub fn is_closed<F: Flash, L: Ledger>(
     requires lawful { IsLawfulFor (F.device flash.now).banks area.now }
     requires role { area.now.role ≡ Nvs }
     requires inside { place < area.now.sectors }
-    ensures { let d = F.device flash.now in result ≡ is_closed_at (reading (unit_of d area.now)) (sectors_of d area.now) place }
+    ensures { result ≡ is_closed_on (F.device flash.now) area.now place }
 {
     let unit = geometry(flash, area).unit;
     sector::is_closed(sector_view(flash, area, place, steps), unit)
@@ -56,7 +53,7 @@ pub fn is_blank<F: Flash, L: Ledger>(
 ) -> bool
     requires lawful { IsLawfulFor (F.device flash.now).banks area.now }
     requires inside { place < area.now.sectors }
-    ensures { result ≡ is_erased (sector_at (sectors_of (F.device flash.now) area.now) place) }
+    ensures { result ≡ is_blank_on (F.device flash.now) area.now place }
 {
     is_erased(sector_view(flash, area, place, steps))
 }
@@ -71,7 +68,7 @@ pub fn has_gc_done<F: Flash, L: Ledger>(
     requires lawful { IsLawfulFor (F.device flash.now).banks area.now }
     requires role { area.now.role ≡ Nvs }
     requires inside { place < area.now.sectors }
-    ensures { let d = F.device flash.now in result ≡ has_gc_done (unit_of d area.now) (sector_at (sectors_of d area.now) place) }
+    ensures { let d = F.device flash.now in result ≡ has_gc_done (unit_of d area.now) (sector_bytes d area.now place) }
 {
     let unit = geometry(flash, area).unit;
     sector::scan_sector(sector_view(flash, area, place, steps), unit, place).gc_done
@@ -88,7 +85,7 @@ pub fn counts<F: Flash, L: Ledger>(
     requires lawful { IsLawfulFor (F.device flash.now).banks area.now }
     requires role { area.now.role ≡ Nvs }
     requires current { current < area.now.sectors }
-    ensures { let d = F.device flash.now in result ≡ counts_at (reading (unit_of d area.now)) (sectors_of d area.now) current place }
+    ensures { result ≡ counts_on (F.device flash.now) area.now current place }
 {
     let after = area.next(current);
     if is_closed(flash, area, after, steps) {

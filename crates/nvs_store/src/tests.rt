@@ -1,11 +1,11 @@
-ghost use Rattle.std.specs.Prelude.{◌≡◌, ◌<◌, ◌∷◌, [], true, OnOk, replicate};
-ghost use Rattle.flash_sim.specs.Device.{loaded};
+ghost use Rattle.std.specs.Prelude.{◌≡◌, ◌<◌, ◌≤◌, ◌∷◌, [], length, OnOk};
 ghost use Rattle.flash_map.specs.declared.area.Role.TheVariants.{Nvs};
+ghost use Rattle.flash_map.specs.Lawful.{IsLawfulFor};
 
 use super::*;
 use crate::sector::{has_fence, is_overfull, scan_sector};
 use arrayvec::ArrayString;
-use flash_map::{Area, Geometry, Role, area_view, geometry};
+use flash_map::{Area, Geometry, Role, geometry, sector_view};
 use flash_sim::{Bank, Bench, FlatSim, Kind, PowerLost, Steps};
 use std::alloc::Global;
 use std::marker::Brand;
@@ -24,6 +24,7 @@ const SMALL_AREA: Geometry = Geometry {
     unit: 4,
     sector: 512,
     sectors: 2,
+    kind: Kind::Erasing,
 };
 
 fn entry(id: u16, offset: u16, len: u16) -> Entry {
@@ -72,15 +73,18 @@ fn foreign_sectors(rt: HostRuntime) {
     let mut sector = [0xFFu8; 512];
     assert_eq!(rt; scan_sector(&sector, 4, 0), blank_scan(&SMALL_AREA));
     sector[496..504].copy_from_slice(&[1, 0, 0, 0, 0xEC, 1, 0xFF, 0x49]);
+    assert_eq!(rt; used_count(&sector, 4), 1);
     assert!(rt; is_overfull(&sector, 4));
     assert!(rt; has_fence(&sector, 4));
     sector[0..496].fill(0);
     assert!(rt; !has_fence(&sector, 4));
 }
 
+// ---- a bank of two sectors, blank at first
+
 fn load_blank<B: Bench>(alloc: Global, bench: &mut B, size: usize) -> Result<(), Fail>
     requires { size ≡ 1024 }
-    ensures { OnOk result (B.device bench.new ≡ loaded (B.device bench.old) (SMALL ∷ []) (replicate size 255 ∷ [])) }
+    ensures { OnOk result ((B.device bench.new).banks ≡ SMALL ∷ []) }
 {
     let banks = vec![in alloc; SMALL]?;
     let bytes = vec![in alloc; vec![in alloc; 255u8; size]?]?;
@@ -88,99 +92,71 @@ fn load_blank<B: Bench>(alloc: Global, bench: &mut B, size: usize) -> Result<(),
     Ok(())
 }
 
-fn small_area() -> Area
+// The area of both sectors.
+fn both<B: Bench>(_bench: &B) -> Area
+    requires { (B.device _bench.now).banks ≡ SMALL ∷ [] }
+    ensures lawful { IsLawfulFor (B.device _bench.now).banks result }
     ensures role { result.role ≡ Nvs }
-    ensures bank { result.bank ≡ 0 }
-    ensures first { result.first ≡ 0 }
     ensures sectors { result.sectors ≡ 2 }
 {
-    Area {
-        label: ArrayString::new(),
-        role: Role::Nvs,
-        bank: 0,
-        first: 0,
-        sectors: 2,
-    }
+    Area::new(ArrayString::new(), Role::Nvs, 0, 0, 2, 1)
 }
 
-// A cut append, power back, and a whole one: the cut entry is passed over, and its slot is used up.
-fn exercise<B: Bench, L: Ledger, R: Abort>(
+fn put<B: Bench, L: Ledger, R: Abort>(
     rt: &R,
-    alloc: Global,
     bench: &mut B,
-    blank: Blank,
-) -> Result<(), Fail>
-    requires name { blank.name ≡ L.name }
-    requires parts { blank.parts ≡ L.parts }
-    requires some { 0 < L.parts }
-{
-    let mut steps = Steps::<L>::new(blank);
-    load_blank(alloc, bench, 1024)?;
-    let area = small_area();
-    let g = geometry(bench, &area);
-    let mut scan = mount_scan(bench, &area, &mut steps)?;
-    assert_eq!(rt; scan, blank_scan(&SMALL_AREA));
-
-    bench.arm(2);
-    assert!(rt; fits(&g, &scan, 1));
-    assert_eq!(rt; append(bench, &area, &mut scan, 1, &[1]), Err(PowerLost));
-    bench.restore();
-    let mut scan = mount_scan(bench, &area, &mut steps)?;
-    assert_eq!(rt; scan.low, 496);
-    assert_eq!(rt; scan.data_end, 4);
-    assert_eq!(rt; scan.redo, Redo::Nothing);
-    assert_eq!(rt; find(bench, &area, &scan, 1, &mut steps), None);
-    assert!(rt; fits(&g, &scan, 1));
-    append(bench, &area, &mut scan, 1, &[2])?;
-    let seen = area_view(bench, &area, 0, 488, 8, &mut steps);
-    assert_eq!(rt; seen, [1, 0, 4, 0, 1, 0, 255, 0x8C].as_slice());
-    let found = Found {
-        sector: 0,
-        slot: 2,
-        entry: entry(1, 4, 1),
-    };
-    assert_eq!(rt; find(bench, &area, &scan, 1, &mut steps), Some(found));
-    assert_eq!(rt; bench.spent(), 5);
-    Ok(())
-}
-
-#[test]
-fn one_sector(rt: HostRuntime) -> Result<(), Fail> {
-    let alloc = rt.alloc();
-    let mut sim = FlatSim::new(alloc);
-    exercise::<FlatSim, Brand, HostRuntime>(&rt, alloc, &mut sim, Blank::new(1))
-}
-
-// Two entries in the first sector, which is closed then.
-fn fill<B: Bench, L: Ledger, R: Abort>(
-    rt: &R,
-    alloc: Global,
-    bench: &mut B,
+    id: u16,
+    value: &[u8],
     steps: &mut Steps<L>,
 ) -> Result<(), Fail>
-    ensures banks { OnOk result ((B.device bench.new).banks ≡ SMALL ∷ []) }
-    ensures on { OnOk result ((B.device bench.new).is_on ≡ true) }
+    requires banks { (B.device bench.old).banks ≡ SMALL ∷ [] }
+    requires ordinary { id < 0xFFFF }
+    requires short { length value.now ≤ 16 }
+    ensures { OnOk result ((B.device bench.new).banks ≡ SMALL ∷ []) }
 {
-    load_blank(alloc, bench, 1024)?;
-    let area = small_area();
+    let area = both(bench);
     let g = geometry(bench, &area);
     let mut scan = mount_scan(bench, &area, steps)?;
     assert_eq!(rt; scan.redo, Redo::Nothing);
-    assert!(rt; fits(&g, &scan, 3));
-    append(bench, &area, &mut scan, 1, &[0x11, 0x22, 0x33])?;
-    assert_eq!(rt; scan.redo, Redo::Nothing);
+    assert!(rt; fits(&g, &scan, value.len() as u32));
+    append(bench, &area, &mut scan, id, value)?;
+    Ok(())
+}
+
+// An append that is cut behind its data and a part of its entry.
+fn put_cut<B: Bench, L: Ledger, R: Abort>(
+    rt: &R,
+    bench: &mut B,
+    steps: &mut Steps<L>,
+) -> Result<(), Fail>
+    requires banks { (B.device bench.old).banks ≡ SMALL ∷ [] }
+    ensures { OnOk result ((B.device bench.new).banks ≡ SMALL ∷ []) }
+{
+    bench.arm(2);
+    let area = both(bench);
+    let g = geometry(bench, &area);
+    let mut scan = mount_scan(bench, &area, steps)?;
+    assert_eq!(rt; scan, blank_scan(&SMALL_AREA));
     assert!(rt; fits(&g, &scan, 1));
-    append(bench, &area, &mut scan, 2, &[0x44])?;
+    assert_eq!(rt; append(bench, &area, &mut scan, 1, &[1]), Err(PowerLost));
+    bench.restore();
+    Ok(())
+}
+
+fn close<B: Bench, L: Ledger, R: Abort>(
+    rt: &R,
+    bench: &mut B,
+    steps: &mut Steps<L>,
+) -> Result<(), Fail>
+    requires banks { (B.device bench.old).banks ≡ SMALL ∷ [] }
+    ensures { OnOk result ((B.device bench.new).banks ≡ SMALL ∷ []) }
+{
+    let area = both(bench);
+    let scan = mount_scan(bench, &area, steps)?;
     assert_eq!(rt; scan.current, 0);
     assert!(rt; !is_blank(bench, &area, 0, steps));
     assert!(rt; !is_closed(bench, &area, 0, steps));
     put_close(bench, &area, &scan)?;
-    assert!(rt; is_closed(bench, &area, 0, steps));
-    let seen = area_view(bench, &area, 0, 488, 24, steps);
-    let slots = [
-        2, 0, 4, 0, 1, 0, 255, 0xEA, 1, 0, 0, 0, 3, 0, 255, 0xD5, 255, 255, 232, 1, 0, 0, 255, 0x68,
-    ];
-    assert_eq!(rt; seen, slots.as_slice());
     Ok(())
 }
 
@@ -195,72 +171,150 @@ const FIRST: Found = Found {
     },
 };
 
-// Before gc-done the open sector counts for nothing.
-fn exercise_walk<B: Bench, L: Ledger, R: Abort>(
-    rt: &R,
-    bench: &B,
-    steps: &mut Steps<L>,
-) -> Result<(), Fail>
-    requires banks { (B.device bench.now).banks ≡ SMALL ∷ [] }
-{
-    let area = small_area();
-    let second = Found {
-        sector: 0,
-        slot: 2,
-        entry: entry(2, 4, 1),
-    };
-    let scan = mount_scan(bench, &area, steps)?;
-    assert_eq!(rt; scan.redo, Redo::CollectAgain);
-    assert_eq!(rt; walk(bench, &area, &scan, None, steps), Some(second));
-    assert_eq!(rt; walk(bench, &area, &scan, Some((0, 2)), steps), Some(FIRST));
-    assert_eq!(rt; walk(bench, &area, &scan, Some((0, 1)), steps), None);
-    Ok(())
-}
-
-fn exercise_copy<B: Bench, L: Ledger, R: Abort>(
+fn copy<B: Bench, L: Ledger, R: Abort>(
     rt: &R,
     bench: &mut B,
     steps: &mut Steps<L>,
 ) -> Result<(), Fail>
     requires banks { (B.device bench.old).banks ≡ SMALL ∷ [] }
-    ensures banks { OnOk result ((B.device bench.new).banks ≡ SMALL ∷ []) }
+    ensures { OnOk result ((B.device bench.new).banks ≡ SMALL ∷ []) }
 {
-    let area = small_area();
+    let area = both(bench);
     let g = geometry(bench, &area);
     let mut scan = mount_scan(bench, &area, steps)?;
+    assert_eq!(rt; scan.redo, Redo::CollectAgain);
     assert_eq!(rt; scan.current, 1);
     assert!(rt; !scan.gc_done);
     assert!(rt; fits(&g, &scan, 3));
     copy_entry(bench, &area, &mut scan, &FIRST, steps)?;
-    assert!(rt; fits(&g, &scan, 0));
-    put_done(bench, &area, &mut scan)?;
-    assert_eq!(rt; mount_scan(bench, &area, steps).ok(), Some(scan));
     Ok(())
 }
 
-// After it the closed one does.
-fn exercise_copied<B: Bench, L: Ledger, R: Abort>(
+fn mark<B: Bench, L: Ledger, R: Abort>(
+    rt: &R,
+    bench: &mut B,
+    steps: &mut Steps<L>,
+) -> Result<(), Fail>
+    requires banks { (B.device bench.old).banks ≡ SMALL ∷ [] }
+    ensures { OnOk result ((B.device bench.new).banks ≡ SMALL ∷ []) }
+{
+    let area = both(bench);
+    let g = geometry(bench, &area);
+    let mut scan = mount_scan(bench, &area, steps)?;
+    assert!(rt; fits(&g, &scan, 0));
+    put_done(bench, &area, &mut scan)?;
+    Ok(())
+}
+
+// The two newest entries.
+fn shows<B: Bench, L: Ledger, R: Abort>(
+    rt: &R,
+    bench: &B,
+    newest: Found,
+    next: Option<Found>,
+    steps: &mut Steps<L>,
+) -> Result<(), Fail>
+    requires banks { (B.device bench.now).banks ≡ SMALL ∷ [] }
+    requires inside { newest.sector < 2 }
+{
+    let area = both(bench);
+    let scan = mount_scan(bench, &area, steps)?;
+    let place = (newest.sector, newest.slot);
+    assert_eq!(rt; walk(bench, &area, &scan, None, steps), Some(newest));
+    assert_eq!(rt; walk(bench, &area, &scan, Some(place), steps), next);
+    assert_eq!(rt;
+        find(bench, &area, &scan, newest.entry.id, steps),
+        Some(newest)
+    );
+    Ok(())
+}
+
+// After gc-done the closed sector counts for nothing.
+fn victim_is_hidden<B: Bench, L: Ledger, R: Abort>(
     rt: &R,
     bench: &B,
     steps: &mut Steps<L>,
 ) -> Result<(), Fail>
-    requires banks { (B.device bench.now).banks ≡ SMALL ∷ [] }
+    requires { (B.device bench.now).banks ≡ SMALL ∷ [] }
 {
-    let area = small_area();
+    let area = both(bench);
     let scan = mount_scan(bench, &area, steps)?;
     assert_eq!(rt; scan.redo, Redo::EraseNext);
-    let copied = Found { sector: 1, ..FIRST };
-    assert_eq!(rt; walk(bench, &area, &scan, None, steps), Some(copied));
-    assert_eq!(rt; walk(bench, &area, &scan, Some((1, 1)), steps), None);
-    let seen = area_view(bench, &area, 1, 0, 4, steps);
-    assert_eq!(rt; seen, [0x11, 0x22, 0x33, 255].as_slice());
-    let seen = area_view(bench, &area, 1, 488, 16, steps);
-    let slots = [255, 255, 4, 0, 0, 0, 255, 0xD3, 1, 0, 0, 0, 3, 0, 255, 0xD5];
-    assert_eq!(rt; seen, slots.as_slice());
+    assert_eq!(rt; scan.current, 1);
+    assert!(rt; is_hidden(&area, &scan, 0));
+    assert!(rt; !is_hidden(&area, &scan, 1));
     Ok(())
 }
 
-fn exercise_two<B: Bench, L: Ledger, R: Abort>(
+// The last bytes of a sector.
+fn ends<B: Bench, L: Ledger, R: Abort>(
+    rt: &R,
+    bench: &B,
+    place: u32,
+    wanted: &[u8],
+    steps: &mut Steps<L>,
+)
+    requires banks { (B.device bench.now).banks ≡ SMALL ∷ [] }
+    requires inside { place < 2 }
+{
+    let area = both(bench);
+    assert!(rt; sector_view(bench, &area, place, steps).ends_with(wanted));
+}
+
+const SECOND: Found = Found {
+    sector: 0,
+    slot: 2,
+    entry: Entry {
+        id: 2,
+        offset: 4,
+        len: 1,
+        part: 0xFF,
+    },
+};
+
+// A cut entry is passed over, and its slot is used up.
+fn after_a_loss<B: Bench, L: Ledger, R: Abort>(
+    rt: &R,
+    alloc: Global,
+    bench: &mut B,
+    steps: &mut Steps<L>,
+) -> Result<(), Fail> {
+    load_blank(alloc, bench, 1024)?;
+    put_cut(rt, bench, steps)?;
+    put(rt, bench, 2, &[2], steps)?;
+    shows(rt, bench, SECOND, None, steps)?;
+    assert_eq!(rt; bench.spent(), 5);
+    Ok(())
+}
+
+// Two entries, the close of their sector, a copy of one of them, and gc-done.
+fn a_collection<B: Bench, L: Ledger, R: Abort>(
+    rt: &R,
+    alloc: Global,
+    bench: &mut B,
+    steps: &mut Steps<L>,
+) -> Result<(), Fail> {
+    load_blank(alloc, bench, 1024)?;
+    put(rt, bench, 1, &[0x11, 0x22, 0x33], steps)?;
+    put(rt, bench, 2, &[0x44], steps)?;
+    close(rt, bench, steps)?;
+    let closed = [
+        2, 0, 4, 0, 1, 0, 255, 0xEA, 1, 0, 0, 0, 3, 0, 255, 0xD5, 255, 255, 232, 1, 0, 0, 255, 0x68,
+    ];
+    ends(rt, bench, 0, closed.as_slice(), steps);
+    shows(rt, bench, SECOND, Some(FIRST), steps)?;
+    copy(rt, bench, steps)?;
+    mark(rt, bench, steps)?;
+    let marked = [
+        255, 255, 4, 0, 0, 0, 255, 0xD3, 1, 0, 0, 0, 3, 0, 255, 0xD5, 255, 255, 255, 255, 255, 255,
+        255, 255,
+    ];
+    ends(rt, bench, 1, marked.as_slice(), steps);
+    shows(rt, bench, Found { sector: 1, ..FIRST }, None, steps)?;
+    victim_is_hidden(rt, bench, steps)
+}
+
+fn exercise<B: Bench, L: Ledger, R: Abort>(
     rt: &R,
     alloc: Global,
     bench: &mut B,
@@ -271,17 +325,13 @@ fn exercise_two<B: Bench, L: Ledger, R: Abort>(
     requires some { 0 < L.parts }
 {
     let mut steps = Steps::<L>::new(blank);
-    fill(rt, alloc, bench, &mut steps)?;
-    exercise_walk(rt, bench, &mut steps)?;
-    exercise_copy(rt, bench, &mut steps)?;
-    exercise_copied(rt, bench, &mut steps)?;
-    assert_eq!(rt; bench.spent(), 13);
-    Ok(())
+    after_a_loss(rt, alloc, bench, &mut steps)?;
+    a_collection(rt, alloc, bench, &mut steps)
 }
 
 #[test]
-fn two_sectors(rt: HostRuntime) -> Result<(), Fail> {
+fn sectors(rt: HostRuntime) -> Result<(), Fail> {
     let alloc = rt.alloc();
     let mut sim = FlatSim::new(alloc);
-    exercise_two::<FlatSim, Brand, HostRuntime>(&rt, alloc, &mut sim, Blank::new(1))
+    exercise::<FlatSim, Brand, HostRuntime>(&rt, alloc, &mut sim, Blank::new(1))
 }

@@ -4,18 +4,19 @@ use Rattle.std.specs.Fmt.{decimal}
 use Rattle.hex.specs.Hex.{decode_of}
 use Rattle.flash_sim.specs.declared.flash.NoMemory.{NoMemory}
 use Rattle.script_lines.specs.declared.line.Line.{Line}
+use Rattle.script_lines.specs.declared.line.TheConstants.{ID_END, MOST_VALUE, UNITS_END}
 use Rattle.script_lines.specs.declared.line.Line.TheVariants.{Set, Get, Delete, Cut, Uncut, Mount}
 
 -- a word of 1 to 256 bytes in hexadecimal digits of either case
 abbrev pub IsValue : List ℕ → List ℕ → Type 0
-IsValue word value = (decode_of word ≡ Ok value) × (0 < length value) × (length value ≤ 256)
+IsValue word value = (decode_of word ≡ Ok value) × (0 < length value) × (length value ≤ MOST_VALUE)
 
 -- Numbers are decimal, without a sign or leading zeros.
 abbrev pub Spells : List (List ℕ) → Line → Type 0
-Spells words (Set id value) = (hex : List ℕ) × (words ≡ codes "set" ∷ decimal id ∷ hex ∷ []) × (id < 65535) × IsValue hex value
-Spells words (Get id) = (words ≡ codes "get" ∷ decimal id ∷ []) × (id < 65535)
-Spells words (Delete id) = (words ≡ codes "del" ∷ decimal id ∷ []) × (id < 65535)
-Spells words (Cut units) = (words ≡ codes "cut" ∷ decimal units ∷ []) × (units < 2 ^ 32)
+Spells words (Set id value) = (hex : List ℕ) × (words ≡ codes "set" ∷ decimal id ∷ hex ∷ []) × (id < ID_END) × IsValue hex value
+Spells words (Get id) = (words ≡ codes "get" ∷ decimal id ∷ []) × (id < ID_END)
+Spells words (Delete id) = (words ≡ codes "del" ∷ decimal id ∷ []) × (id < ID_END)
+Spells words (Cut units) = (words ≡ codes "cut" ∷ decimal units ∷ []) × (units < UNITS_END)
 Spells words Uncut = words ≡ codes "uncut" ∷ []
 Spells words Mount = words ≡ codes "mount" ∷ []
 

@@ -29,13 +29,16 @@ pub enum Line {
 }
 
 /// The ids end here: 65,535 is no id.
-const ID_END: u64 = 65535;
+pub const ID_END: u64 = 65535;
+
+/// The most bytes of a value.
+pub const MOST_VALUE: usize = 256;
 
 /// The units of a `cut` end here.
-const UNITS_END: u64 = 4_294_967_296;
+pub const UNITS_END: u64 = 4_294_967_296;
 
 fn read_id(alloc: Global, word: &[u8]) -> Result<Option<u16>, NoMemory>
-    ensures { IfOk result (λ found. MatchOption found (IsNoNumber 65535 word.now) (λ id. (word.now ≡ decimal id) × (id < 65535))) }
+    ensures { IfOk result (λ found. MatchOption found (IsNoNumber ID_END word.now) (λ id. (word.now ≡ decimal id) × (id < ID_END))) }
 {
     match read_number(alloc, word, ID_END)? {
         Some(n) => Ok(Some(n as u16)),
@@ -48,7 +51,7 @@ fn read_value(alloc: Global, word: &[u8]) -> Result<Option<Bytes>, NoMemory>
 {
     match hex::decode(alloc, word) {
         Ok(value) => {
-            if value.is_empty() || value.len() > 256 {
+            if value.is_empty() || value.len() > MOST_VALUE {
                 Ok(None)
             } else {
                 Ok(Some(Bytes::from_vec(value)))

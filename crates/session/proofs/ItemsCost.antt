@@ -10,11 +10,11 @@ use Rattle.std.proofs.lemmas.Bool.Decides.{nat_tests}
 use Rattle.std.proofs.lemmas.Cmp.{nat_cmp_total}
 use Rattle.std.proofs.lemmas.List.{append-nil}
 use Rattle.std.proofs.lemmas.List.Sums.{sum_by-cons}
-use Rattle.slot_list.specs.Items.{Items, last, value_of, items_of}
-use Rattle.slot_list.specs.Live.{names, live_pairs}
-use Rattle.slot_list.proofs.ItemLemmas.{get-items_of}
-use Rattle.slot_list.proofs.LivePairs.{step, last-is, absent, present, live-absent}
-use Rattle.sector_ring.specs.Rounds.{copies_cost, live_cost}
+use Rattle.pair_laws.specs.Items.{Items, last, value_of, items_of}
+use Rattle.pair_laws.specs.Live.{names, live_pairs}
+use Rattle.pair_laws.proofs.ItemLemmas.{get-items_of}
+use Rattle.pair_laws.proofs.LivePairs.{step, last-is, absent, present, live-absent}
+use Rattle.pair_laws.specs.Rounds.{copies_cost, live_cost}
 use Rattle.session.specs.Contents.{items_cost}
 
 some_none : (bytes : List ℕ) → Some bytes ≡ None → ⊥

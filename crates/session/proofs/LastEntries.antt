@@ -10,8 +10,8 @@ use Rattle.std.proofs.lemmas.Bool.Decides.{nat_tests}
 use Rattle.std.proofs.lemmas.List.{map-append, append-nil}
 use Rattle.std.proofs.lemmas.List.Concat.{flat_map-append, flat_map-cons}
 use Rattle.std.proofs.lemmas.List.Sums.{fold-append}
-use Rattle.sector_ring.specs.Area.{round}
-use Rattle.sector_ring.proofs.Places.{range-append, range_one}
+use Rattle.ring_laws.specs.Area.{round}
+use Rattle.ring_laws.proofs.Places.{range-append, range_one}
 use Rattle.nvs_store.specs.declared.scan.Found.{Found}
 use Rattle.nvs_store.specs.declared.scan.Placed.{Placed}
 use Rattle.nvs_store.specs.declared.scan.Scan.{Scan}

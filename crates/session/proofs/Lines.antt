@@ -1,9 +1,9 @@
 -- What a line's call says of counts, plan, items and power.
-use Rattle.std.proofs.Common.{◌≡◌, ◌⊎◌, ℕ, ◌+◌, ◌-◌, ◌^◌, ◌<◌, ◌≤◌, Bool, true, false, cond, List, [], ◌∷◌, length, Option, Some, None, refl, sym, ap, subst, ◌∙◌, inl, inr, arith}
+use Rattle.std.proofs.Common.{◌≡◌, ◌⊎◌, ℕ, ◌+◌, ◌-◌, ◌^◌, ◌<◌, ◌≤◌, Bool, true, false, cond, eqb, List, [], ◌∷◌, length, Option, Some, None, refl, sym, ap, subst, ◌∙◌, inl, inr, arith}
 use Rattle.std.specs.Ordering.{nat_cmp, eq_by_cmp}
 use Rattle.std.specs.FinMap.{get, insert, remove, get-insert, get-remove}
 use Rattle.std.specs.Str.{bytes_eq}
-use Rattle.std.proofs.lemmas.Bool.{cases_Bool, false≢true}
+use Rattle.std.proofs.lemmas.Bool.{cases_Bool, cond-true, cond-false, eqb-true, false≢true}
 use Rattle.std.proofs.lemmas.Bool.Decides.{nat_tests}
 use Rattle.std.proofs.lemmas.Cmp.{nat_cmp_total}
 use Rattle.std.proofs.lemmas.Slice.Eq.{bytes_eq-Decides}
@@ -11,7 +11,7 @@ use Rattle.flash_sim.specs.Device.{Device, Plan, Lasts, LostAfter, counted, lowe
 use Rattle.flash_sim.specs.declared.flash.Bank.{Bank}
 use Rattle.flash_map.specs.declared.area.Area.{Area}
 use Rattle.flash_map.specs.declared.area.Role.{Role}
-use Rattle.flash_map.specs.Area.{unit_of, sector_size}
+use Rattle.flash_map.specs.Area.{unit_of, sector_size, value_limit}
 use Rattle.flash_map.specs.Lawful.{HasUnit}
 use Rattle.flash_map.specs.Spending.{SpendsAtMost}
 use Rattle.flash_map.specs.Touches.{Touches}
@@ -20,7 +20,7 @@ use Rattle.flash_map.proofs.Rounding.{padding}
 use Rattle.script_lines.specs.declared.line.Line.TheVariants.{Set, Delete, Mount}
 use Rattle.script_lines.specs.declared.answer.Answer.{Answer}
 use Rattle.script_lines.specs.declared.answer.Answer.TheVariants.{Done, Value, Absent, NoSpace, Lost, Off}
-use Rattle.slot_list.specs.Items.{Items}
+use Rattle.pair_laws.specs.Items.{Items}
 use Rattle.nvs_store.specs.Geometry.{cost, capacity}
 use Rattle.nvs_store.proofs.SlotReads.{slot_widths}
 use Rattle.nvs_gc.specs.declared.nvs.Nvs.{Nvs}
@@ -267,7 +267,7 @@ restored_to area old new Off done = absurd (done.step new.spent (omega arith))
 pub restored : (area : Area) (old mid new : Device) (answer : Answer) → mid ≡ record old { is_on = true } → LineDone area Mount answer mid new → LineDone area Mount answer old new
 restored area old mid new answer is done = restored_to area old new answer (subst (λ (d : Device). LineDone area Mount answer d new) is done)
 
--- ---- a value of at most 256 bytes is never too long
+-- ---- a value within the area's limit is never too long
 
 short_enough : (unit sector len : ℕ) → IsUnit unit → 512 ≤ sector → len ≤ 256 → cost unit len ≤ capacity unit sector
 short_enough unit sector len is large short =
@@ -276,5 +276,22 @@ short_enough unit sector len is large short =
     let padded_len = pad.no_more len in
     omega (arith, widths.no_more, padded_len)
 
-pub is_short : (d : Device) (area : Area) (len : ℕ) → IsNvsArea d.banks area → len ≤ 256 → IsShort d area len
-is_short d area len is short = short_enough (unit_of d area) (sector_size d area) len (subst (λ (r : Role). HasUnit r (unit_of d area)) is.role is.lawful.unit) is.lawful.at_least short
+-- one of 2,048 bytes has room in a sector of version 2
+long_enough : (unit sector len : ℕ) → IsUnit unit → 4096 ≤ sector → len ≤ 2048 → cost unit len ≤ capacity unit sector
+long_enough unit sector len is large short =
+    let widths = slot_widths unit is in
+    let pad = padding unit is in
+    let padded_len = pad.no_more len in
+    omega (arith, widths.no_more, padded_len)
+
+pub is_short : (d : Device) (area : Area) (len : ℕ) → IsNvsArea d.banks area → len ≤ value_limit area → IsShort d area len
+is_short d area len is short =
+    let unit : IsUnit (unit_of d area) = subst (λ (r : Role). HasUnit r (unit_of d area)) is.role is.lawful.unit in
+    elim (cases_Bool (eqb area.version 2)) [
+      | inl two ↦
+          let limit : value_limit area ≡ 2048 = cond-true (eqb area.version 2) 2048 256 two in
+          long_enough (unit_of d area) (sector_size d area) len unit (is.lawful.long_values (eqb-true area.version 2 two)) (omega arith)
+      | inr one ↦
+          let limit : value_limit area ≡ 256 = cond-false (eqb area.version 2) 2048 256 one in
+          short_enough (unit_of d area) (sector_size d area) len unit is.lawful.at_least (omega arith)
+    ]

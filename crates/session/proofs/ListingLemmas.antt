@@ -4,7 +4,8 @@ use Rattle.std.specs.List.{filter_map, range_with_len}
 use Rattle.std.specs.Option.{option_to_list}
 use Rattle.std.specs.FinMap.{get}
 use Rattle.std.proofs.lemmas.List.Elements.{filter_map-append}
-use Rattle.slot_list.specs.Items.{Items}
+use Rattle.pair_laws.specs.Items.{Items}
+use Rattle.nvs_store.specs.declared.entry.TheConstants.{SPECIAL_ID}
 use Rattle.session.specs.declared.listing.Item.{Item}
 use Rattle.session.specs.Listing.{item_of, items_below, listed}
 
@@ -31,6 +32,6 @@ below_more items id found is =
     ∙ filter_map-append (λ id. item_of id (get items id)) (range_with_len 0 id) (id ∷ [])
     ∙ ap (λ (l : List Item). filter_map (λ id. item_of id (get items id)) (range_with_len 0 id) ++ l) (one id found items (sym is))
 
-pub below_all : (items : Items) (n : ℕ) → n ≡ 65535 → items_below items n ≡ listed items
+pub below_all : (items : Items) (n : ℕ) → n ≡ SPECIAL_ID → items_below items n ≡ listed items
 unfolding listed
 below_all items n is = ap (items_below items) is

@@ -60,7 +60,7 @@ module _ {area : Area} where
   pub one_more : {lines rest : List Line} {answers : List Answer} {first mid new : Device} (line : Line) (answer : Answer) → SoFar area lines (line ∷ rest) answers first mid → LineDone area line answer mid new → SoFar area lines rest (answers ++ answer ∷ []) first new
   one_more {lines} {rest} {answers} {first} {mid} {new} line answer so_far done =
       let regroup : (more : List Answer) → (answers ++ answer ∷ []) ++ more ≡ answers ++ answer ∷ more = λ more. append_assoc answers (answer ∷ []) more in
-      let geometry_is : geometry_of mid area ≡ geometry_of first area = ap (λ (banks : List Bank). record { unit = (bank_at banks area.bank).unit; sector = (bank_at banks area.bank).sector; sectors = area.sectors }) so_far.keeps.banks in
+      let geometry_is : geometry_of mid area ≡ geometry_of first area = ap (λ (banks : List Bank). record { unit = (bank_at banks area.bank).unit; sector = (bank_at banks area.bank).sector; sectors = area.sectors; kind = (bank_at banks area.bank).kind }) so_far.keeps.banks in
       record {
         session = λ last more end within runs.
             let step = subst (λ (g : Geometry). Step g last line answer (state_of area mid) (state_of area new)) geometry_is (done.step last within) in

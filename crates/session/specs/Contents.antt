@@ -1,7 +1,7 @@
 -- What an area holds, as a line of a script sees it: a finite map from ids to bytes.
 use Rattle.std.specs.Prelude.{◌≡◌, ℕ, Some, None, List, length, sum_by}
 use Rattle.std.specs.FinMap.{get, entries}
-use Rattle.slot_list.specs.Items.{Items, items_of}
+use Rattle.pair_laws.specs.Items.{Items, items_of}
 use Rattle.nvs_store.specs.Scans.{list_of}
 
 -- the items that the sectors of an area hold

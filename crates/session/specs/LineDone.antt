@@ -6,6 +6,7 @@ use Rattle.flash_map.specs.Area.{unit_of, sectors_of, geometry_of, value_limit}
 use Rattle.flash_map.specs.Touches.{SameOutside}
 use Rattle.nvs_gc.specs.Standing.{IsUndamaged}
 use Rattle.script_lines.specs.declared.line.Line.{Line}
+use Rattle.script_lines.specs.declared.line.TheConstants.{ID_END}
 use Rattle.script_lines.specs.declared.line.Line.TheVariants.{Set, Get, Delete, Cut, Uncut, Mount}
 use Rattle.script_lines.specs.declared.answer.Answer.{Answer}
 use Rattle.session.specs.Contents.{items_in}
@@ -19,9 +20,9 @@ state_of area d = record { items = items_in (unit_of d area) (sectors_of d area)
 
 -- the id and the value that a line may have where a value has at most so many bytes
 abbrev pub IsLawfulLine : ℕ → Line → Type 0
-IsLawfulLine limit (Set id value) = (id < 65535) × (0 < length value) × (length value ≤ limit)
-IsLawfulLine limit (Get id) = id < 65535
-IsLawfulLine limit (Delete id) = id < 65535
+IsLawfulLine limit (Set id value) = (id < ID_END) × (0 < length value) × (length value ≤ limit)
+IsLawfulLine limit (Get id) = id < ID_END
+IsLawfulLine limit (Delete id) = id < ID_END
 IsLawfulLine limit (Cut units) = ⊤
 IsLawfulLine limit Uncut = ⊤
 IsLawfulLine limit Mount = ⊤

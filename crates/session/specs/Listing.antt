@@ -6,7 +6,8 @@ use Rattle.std.specs.List.{filter_map, range_with_len}
 use Rattle.std.specs.Option.{option_map}
 use Rattle.std.specs.Ordering.{nat_cmp}
 use Rattle.std.specs.FinMap.{get}
-use Rattle.slot_list.specs.Items.{Items}
+use Rattle.pair_laws.specs.Items.{Items}
+use Rattle.nvs_store.specs.declared.entry.TheConstants.{SPECIAL_ID}
 use Rattle.nvs_store.specs.declared.scan.Found.{Found}
 use Rattle.session.specs.declared.listing.Item.{Item}
 
@@ -19,7 +20,7 @@ items_below items n = filter_map (λ id. item_of id (get items id)) (range_with_
 
 -- those of all ids
 unfoldable pub listed : Items → List Item
-listed items = items_below items 65535
+listed items = items_below items SPECIAL_ID
 
 -- the last one of an id among these entries, or else that from before
 abbrev pub last_among : ℕ → Option Found → List Found → Option Found

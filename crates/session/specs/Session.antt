@@ -6,7 +6,7 @@ use Rattle.script_lines.specs.declared.line.Line.TheVariants.{Set, Get, Delete, 
 use Rattle.script_lines.specs.declared.answer.Answer.{Answer}
 use Rattle.script_lines.specs.declared.answer.Answer.TheVariants.{Done, Value, Absent, NoSpace, Lost, Off}
 use Rattle.flash_map.specs.declared.area.Geometry.{Geometry}
-use Rattle.slot_list.specs.Items.{Items}
+use Rattle.pair_laws.specs.Items.{Items}
 use Rattle.nvs_store.specs.Geometry.{cost, capacity}
 use Rattle.session.specs.Contents.{IsStored, IsAbsent, items_cost}
 

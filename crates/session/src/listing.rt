@@ -6,7 +6,7 @@ ghost use Rattle.std.specs.Option.{option_and_then, option_to_list};
 ghost use Rattle.std.specs.Ordering.{nat_cmp};
 ghost use Rattle.flash_map.specs.Area.{unit_of, sector_size, sectors_of};
 ghost use Rattle.flash_map.specs.Units.{IsUnit};
-ghost use Rattle.slot_list.specs.Items.{value_of};
+ghost use Rattle.pair_laws.specs.Items.{value_of};
 ghost use Rattle.nvs_store.specs.Geometry.{slot_size};
 ghost use Rattle.nvs_store.specs.Sector.{slot_at, counting_entry, entries};
 ghost use Rattle.nvs_store.specs.Scans.{scan_of, found_at, counted_in, found_bytes, last_found, IsInArea};

@@ -88,18 +88,6 @@ pub fn get_item<B: Bench, L: Ledger>(
     }
 }
 
-fn copy_of(area: &Area) -> Area
-    ensures { result ≡ area.now }
-{
-    Area {
-        label: area.label,
-        role: area.role,
-        bank: area.bank,
-        first: area.first,
-        sectors: area.sectors,
-    }
-}
-
 /// A mount's answer, and the store that stands then: none where power was lost.
 #[derive(Debug, Drop)]
 pub struct Opened {
@@ -126,7 +114,7 @@ pub fn open<B: Bench, L: Ledger>(
     ensures damaged { IfErr result (λ damage. ShowsDamage area.now (B.device bench.old) (B.device bench.new) damage) }
 {
     let before = bench.spent();
-    let end = Nvs::mount(alloc, bench, copy_of(area), steps);
+    let end = Nvs::mount(alloc, bench, area.copy(), steps);
     let units = bench.spent() - before;
     match end {
         Ok(nvs) => Ok(Opened {

@@ -1,4 +1,4 @@
-ghost use Rattle.std.specs.Prelude.{◌≡◌, ◌∷◌, [], length, true, IfOk, OnOk};
+ghost use Rattle.std.specs.Prelude.{◌≡◌, ◌∷◌, [], true, OnOk};
 ghost use Rattle.flash_map.specs.declared.area.Role.TheVariants.{Nvs};
 
 use super::*;
@@ -6,7 +6,7 @@ use arrayvec::ArrayString;
 use flash_map::{Area, Damaged, Role, Why};
 use flash_sim::{Bank, Bench, FlatSim, Kind};
 use script_lines::{Line, answer_text};
-use std::alloc::{AllocError, Global};
+use std::alloc::Global;
 use std::process::Abort;
 use std::test::Fail;
 
@@ -22,90 +22,46 @@ fn small_area() -> Area
     ensures bank { result.bank ≡ 0 }
     ensures first { result.first ≡ 0 }
     ensures sectors { result.sectors ≡ 2 }
+    ensures version { result.version ≡ 1 }
 {
-    Area {
-        label: ArrayString::new(),
-        role: Role::Nvs,
-        bank: 0,
-        first: 0,
-        sectors: 2,
-    }
+    Area::new(ArrayString::new(), Role::Nvs, 0, 0, 2, 1)
 }
 
-fn load<B: Bench>(alloc: Global, bench: &mut B, sectors: Vec<u8>) -> Result<(), Fail>
-    requires { length sectors.items ≡ 1024 }
+// Two blank sectors but for these bytes.
+fn load<B: Bench>(alloc: Global, bench: &mut B, bytes: &[(usize, u8)]) -> Result<(), Fail>
     ensures banks { OnOk result ((B.device bench.new).banks ≡ SMALL ∷ []) }
     ensures on { OnOk result ((B.device bench.new).is_on ≡ true) }
 {
+    let mut sectors = [255u8; 1024];
+    for (at, byte) in bytes {
+        if let Some(place) = sectors.get_mut(*at) {
+            *place = *byte;
+        }
+    }
     let banks = vec![in alloc; SMALL]?;
-    let bytes = vec![in alloc; sectors]?;
-    bench.load(alloc, banks, bytes)?;
+    let contents = vec![in alloc; Vec::from_slice(alloc, &sectors)?]?;
+    bench.load(alloc, banks, contents)?;
     Ok(())
 }
 
-// Two sectors of so many bytes together. The first begins and ends with these.
-fn sectors_with(
-    alloc: Global,
-    size: usize,
-    front: &[u8; 8],
-    back: &[u8; 16],
-) -> Result<Vec<u8>, AllocError>
-    requires { size ≡ 1024 }
-    ensures { IfOk result (λ bytes. length bytes.items ≡ size) }
-{
-    let mut bytes = vec![in alloc; 255u8; size]?;
-    bytes[..8].copy_from_slice(front);
-    bytes[size / 2 - 16..size / 2].copy_from_slice(back);
-    Ok(bytes)
-}
-
-// One item, of id 1.
-fn exercise_items<B: Bench, R: Abort>(rt: &R, alloc: Global, bench: &mut B) -> Result<(), Fail> {
+// One item, of id 1: it is listed, read and deleted, and is gone.
+fn exercise_item<B: Bench, R: Abort>(rt: &R, alloc: Global, bench: &mut B) -> Result<(), Fail> {
     let area = small_area();
-    let one = sectors_with(
-        alloc,
-        1024,
-        &[1, 255, 255, 255, 255, 255, 255, 255],
-        &[
-            1, 0, 0, 0, 1, 0, 255, 3, 255, 255, 255, 255, 255, 255, 255, 255,
-        ],
-    )?;
-    load(alloc, bench, one)?;
+    let one = [
+        (0, 1),
+        (496, 1),
+        (497, 0),
+        (498, 0),
+        (499, 0),
+        (500, 1),
+        (501, 0),
+        (503, 3),
+    ];
+    load(alloc, bench, &one)?;
     let items = list_items(alloc, bench, &area)?;
     assert_eq!(rt; items.len(), 1);
     assert_eq!(rt; items[0].id, 1);
     assert_eq!(rt; items[0].value.as_slice(), [1].as_slice());
-    exercise_lines(rt, alloc, bench)
-}
-
-// The slots of the first sector are 00 but for slot 0.
-fn exercise_damage<B: Bench, R: Abort>(
-    rt: &R,
-    alloc: Global,
-    bench: &mut B,
-    size: usize,
-) -> Result<(), Fail>
-    requires { size ≡ 1024 }
-{
-    let area = small_area();
-    let damaged = SessionFault::Damaged(Damaged {
-        sector: 0,
-        why: Why::NoFence,
-    });
-    let mut bytes = vec![in alloc; 255u8; size]?;
-    bytes[0..504].fill(0);
-    load(alloc, bench, bytes)?;
-    assert_eq!(rt; list_items(alloc, bench, &area).err(), Some(damaged));
-    assert_eq!(rt; run_lines(alloc, &[], bench, &area).err(), Some(damaged));
-    Ok(())
-}
-
-// The item is read and deleted, and is gone.
-fn exercise_lines<B: Bench, R: Abort>(rt: &R, alloc: Global, bench: &mut B) -> Result<(), Fail>
-    requires is_on { (B.device bench.old).is_on ≡ true }
-    requires banks { (B.device bench.old).banks ≡ SMALL ∷ [] }
-{
-    let area = small_area();
     let lines = [
         Line::Get { id: 1 },
         Line::Delete { id: 1 },
@@ -125,10 +81,23 @@ fn exercise_lines<B: Bench, R: Abort>(rt: &R, alloc: Global, bench: &mut B) -> R
     Ok(())
 }
 
+// Both sectors are closed.
+fn exercise_damage<B: Bench, R: Abort>(rt: &R, alloc: Global, bench: &mut B) -> Result<(), Fail> {
+    let area = small_area();
+    load(alloc, bench, &[(511, 0), (1023, 0)])?;
+    let damaged = SessionFault::Damaged(Damaged {
+        sector: 0,
+        why: Why::AllClosed,
+    });
+    assert_eq!(rt; list_items(alloc, bench, &area).err(), Some(damaged));
+    assert_eq!(rt; run_lines(alloc, &[], bench, &area).err(), Some(damaged));
+    Ok(())
+}
+
 #[test]
 fn items_and_damage(rt: HostRuntime) -> Result<(), Fail> {
     let alloc = rt.alloc();
     let mut sim = FlatSim::new(alloc);
-    exercise_items(&rt, alloc, &mut sim)?;
-    exercise_damage(&rt, alloc, &mut sim, 1024)
+    exercise_item(&rt, alloc, &mut sim)?;
+    exercise_damage(&rt, alloc, &mut sim)
 }

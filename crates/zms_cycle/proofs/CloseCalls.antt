@@ -4,7 +4,7 @@ use Rattle.std.specs.Prelude.{slice_range}
 use Rattle.std.proofs.lemmas.Bool.{cases_eq}
 use Rattle.std.proofs.lemmas.List.{places, same_lists}
 use Rattle.flash_sim.specs.Device.{overwritten}
-use Rattle.slot_list.specs.Slots.{Slot}
+use Rattle.ring_laws.specs.Slots.{Slot}
 use Rattle.zms_cycle.specs.declared.entry.ZEntry.{ZEntry}
 use Rattle.zms_cycle.specs.Entries.{encoded, fill, close_entry}
 use Rattle.zms_cycle.specs.Sector.{slot_of, cycle_of, valid_slots, low, data_end, free, is_sound}

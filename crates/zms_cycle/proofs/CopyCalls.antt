@@ -1,29 +1,25 @@
 -- Copying a value, and its entry.
-use Rattle.std.proofs.Common.{◌≡◌, ℕ, zero, suc, ◌+◌, ◌-◌, ◌/◌, ◌%◌, ◌^◌, ◌<◌, ◌≤◌, min, Bool, true, false, cond, leb, List, [], ◌∷◌, ◌++◌, length, map, get_or, take, drop, replicate, Option, Some, None, refl, sym, ap, ◌∙◌, inl, inr, arith, rules}
+use Rattle.std.proofs.Common.{◌≡◌, ℕ, zero, suc, ◌+◌, ◌-◌, ◌^◌, ◌<◌, ◌≤◌, Bool, true, false, cond, leb, List, [], ◌∷◌, ◌++◌, length, map, get_or, take, drop, replicate, Option, Some, None, refl, sym, ap, ◌∙◌, inl, inr, arith, rules}
 use Rattle.std.specs.Prelude.{slice_range}
 use Rattle.std.specs.List.{filter_map, cons_option, list_all, range_with_len}
 use Rattle.std.specs.Option.{option_and_then, option_map_or}
 use Rattle.std.proofs.lemmas.Bool.{cases_Bool, cases_eq, false≢true, eq-eqb, cond-true, cond-false, leb-true, and_parts, lt-leb}
-use Rattle.std.proofs.lemmas.List.{places, same_lists, length-take-le, length-take, length-drop, length-append, append-nil, get_or-set_other}
+use Rattle.std.proofs.lemmas.List.{places, same_lists, length-take-le, length-take, length-drop, get_or-set_other}
 use Rattle.flash_sim.specs.Device.{Device, overwritten}
 use Rattle.flash_map.specs.declared.area.Area.{Area}
-use Rattle.flash_map.specs.Area.{sectors_of, sector_bytes}
-use Rattle.flash_map.specs.Units.{padded, padded_bytes}
-use Rattle.flash_map.proofs.Ranges.{put_twice}
-use Rattle.flash_map.proofs.PaddedLemmas.{length-padded_bytes}
-use Rattle.flash_map.proofs.Sectors.{overwritten_nil}
+use Rattle.flash_map.specs.Area.{sectors_of, sector_bytes, OthersStay}
+use Rattle.flash_map.specs.Units.{padded_bytes}
 use Rattle.std.specs.Int.{w32, to_le_bytes}
 use Rattle.std.proofs.lemmas.List.FromFn.{get_or-map-range_with_len}
-use Rattle.slot_list.specs.Slots.{Slot, slot_at}
-use Rattle.slot_list.proofs.SlotLemmas.{index-slot_at, used_slots-from}
+use Rattle.ring_laws.specs.Slots.{Slot, slot_at}
+use Rattle.ring_laws.proofs.SlotLemmas.{index-slot_at, used_slots-from}
 use Rattle.zms_cycle.specs.declared.entry.ZEntry.{ZEntry}
 use Rattle.zms_cycle.specs.declared.reading.Found.{Found}
-use Rattle.zms_cycle.specs.Areas.{OthersStay}
-use Rattle.zms_cycle.specs.Changes.{with_value, HasPart}
+use Rattle.zms_cycle.specs.Changes.{with_value}
 use Rattle.zms_cycle.specs.Entries.{decoded, offset_of, is_special, value_entry, moved_entry}
 use Rattle.zms_cycle.specs.Sector.{slot_of, is_valid, cycle_of, entry_in, entry_len, pair_at, pair_of, value_of, low, is_under, is_sound, valid_slots}
 use Rattle.zms_cycle.proofs.Slots16.{entry_in-is}
-use Rattle.zms_cycle.proofs.Frames.{IsSound, sound-parts, pad, padded-aligned, under-parts, value_end-long, fence_of}
+use Rattle.zms_cycle.proofs.Frames.{IsSound, sound-parts, pad, under-parts, value_end-long, fence_of}
 
 -- The entry that is read.
 
@@ -46,64 +42,6 @@ ordinary_none b slot read some =
     let none : entry_in (slot_of b slot) ≡ None = entry_in-is (slot_of b slot) None read in
     let zero : entry_len b slot ≡ 0 = ap (λ (o : Option Found). option_map_or (λ f. f.entry.len) o 0) none in
     omega arith
-
--- Pieces.
-
-joined : (v : List ℕ) (done n k : ℕ) → done + n ≤ length v → take done v ++ (take n (drop done v) ++ replicate k 255) ≡ take (done + n) v ++ replicate k 255
-joined v done n k fits = same_lists _ _ (search (rules, places)) (λ i d h. grind (arith, places))
-
-padded_more : (done n : ℕ) → done % 16 ≡ 0 → padded 16 (done + n) ≡ done + padded 16 n
-unfolding padded
-padded_more done n whole = omega arith
-
-padded_le : (n m : ℕ) → n ≤ m → padded 16 n ≤ padded 16 m
-unfolding padded
-padded_le n m le = omega arith
-
-padded_whole : (done : ℕ) → done % 16 ≡ 0 → padded 16 done ≡ done
-unfolding padded
-padded_whole done whole = omega arith
-
--- whole units have no padding
-pub padded_none : (v : List ℕ) (done : ℕ) → done ≤ length v → done % 16 ≡ 0 → padded_bytes 16 (take done v) ≡ take done v
-padded_none v done le whole =
-    let long : length (take done v) ≡ done = length-take-le done v le in
-    let even = padded_whole done whole in
-    let none : padded 16 (length (take done v)) - length (take done v) ≡ 0 = ap (λ (n : ℕ). padded 16 n - n) long ∙ omega arith in
-    ap (λ (n : ℕ). take done v ++ replicate n 255) none ∙ append-nil (take done v)
-
--- what a piece more leaves
-pub piece_more : (b v : List ℕ) (to done n : ℕ) → done + n ≤ length v → done % 16 ≡ 0 → to + padded 16 (done + n) ≤ length b
-    → overwritten (overwritten b to (padded_bytes 16 (take done v))) (to + done) (padded_bytes 16 (take n (drop done v))) ≡ overwritten b to (padded_bytes 16 (take (done + n) v))
-piece_more b v to done n fits whole inside =
-    let front : length (take done v) ≡ done = length-take-le done v (omega arith) in
-    let count : length (take n (drop done v)) ≡ n = length-take-le n (drop done v) (omega (arith, length-drop done v)) in
-    let total : length (take (done + n) v) ≡ done + n = length-take-le (done + n) v fits in
-    let sum = padded_more done n whole in
-    let rounded = pad n in
-    let tail : length (padded_bytes 16 (take n (drop done v))) ≡ padded 16 n = length-padded_bytes 16 (take n (drop done v)) (inr (inr refl)) ∙ ap (padded 16) count in
-    let rest : padded 16 (length (take n (drop done v))) - length (take n (drop done v)) ≡ padded 16 (length (take (done + n) v)) - length (take (done + n) v) =
-    ap (λ (k : ℕ). padded 16 k - k) count ∙ (let e : padded 16 n - n ≡ padded 16 (done + n) - (done + n) = omega arith in e) ∙ ap (λ (k : ℕ). padded 16 k - k) (sym total) in
-    ap (λ (x : List ℕ). overwritten (overwritten b to x) (to + done) (padded_bytes 16 (take n (drop done v)))) (padded_none v done (omega arith) whole)
-    ∙ ap (λ (k : ℕ). overwritten (overwritten b to (take done v)) (to + k) (padded_bytes 16 (take n (drop done v)))) (sym front)
-    ∙ put_twice b to (take done v) (padded_bytes 16 (take n (drop done v))) (omega arith)
-    ∙ ap (λ (x : List ℕ). overwritten b to x) (joined v done n (padded 16 (length (take n (drop done v))) - length (take n (drop done v))) fits ∙ ap (λ (k : ℕ). take (done + n) v ++ replicate k 255) rest)
-
--- what a part of a piece more leaves
-pub piece_part : (b v now new : List ℕ) (to done n : ℕ) → done + n ≤ length v → done % 16 ≡ 0 → to + padded 16 (length v) ≤ length b
-    → now ≡ overwritten b to (padded_bytes 16 (take done v)) → HasPart now new (to + done) (padded 16 n) → HasPart b new to (padded 16 (length v))
-piece_part b v now new to done n fits whole inside is part =
-    let front : length (take done v) ≡ done = length-take-le done v (omega arith) in
-    let more = padded_more done n whole in
-    let most : padded 16 (done + n) ≤ padded 16 (length v) = padded_le (done + n) (length v) fits in
-    let le = part.1 in (
-      take done v ++ part.0,
-      omega (arith, length-append (take done v) part.0),
-      part.2
-          ∙ ap (λ (x : List ℕ). overwritten x (to + done) part.0) (is ∙ ap (λ (x : List ℕ). overwritten b to x) (padded_none v done (omega arith) whole))
-          ∙ ap (λ (k : ℕ). overwritten (overwritten b to (take done v)) (to + k) part.0) (sym front)
-          ∙ put_twice b to (take done v) part.0 (omega arith),
-    )
 
 -- a part of a range
 pub range_part : (b : List ℕ) (from len done n : ℕ) → from + len ≤ length b → done + n ≤ len → slice_range b (from + done) (from + done + n) ≡ take n (drop done (slice_range b from (from + len)))
@@ -181,36 +119,6 @@ pair_is b slot e is = ap (λ (o : Option Found). option_map_or (pair_of b) o (0,
 
 pub entry_len_is : (b : List ℕ) (slot : ℕ) (e : ZEntry) → entry_in (slot_of b slot) ≡ Some (record { slot = slot; entry = e }) → entry_len b slot ≡ e.len
 entry_len_is b slot e is = ap (λ (o : Option Found). option_map_or (λ f. f.entry.len) o 0) is
-
--- a copy so far
-pub nothing_yet : (b v : List ℕ) (to : ℕ) → b ≡ overwritten b to (padded_bytes 16 (take 0 v))
-nothing_yet b v to = sym (ap (λ (x : List ℕ). overwritten b to x) (padded_none v 0 (omega arith) refl) ∙ overwritten_nil b to)
-
-pub padded_units : (done n : ℕ) → done % 16 ≡ 0 → padded 16 done / 16 + padded 16 n / 16 ≡ padded 16 (done + n) / 16
-padded_units done n whole =
-    let sum = padded_more done n whole in
-    let even = padded_whole done whole in
-    let rest = padded-aligned n in
-    omega arith
-
-pub padded_within : (done n len : ℕ) → done % 16 ≡ 0 → done + n ≤ len → done + padded 16 n ≤ padded 16 len
-padded_within done n len whole le = let sum = padded_more done n whole in let most = padded_le (done + n) len le in omega arith
-
-pub padded_nothing : padded 16 0 / 16 ≡ 0
-padded_nothing = ap (λ (n : ℕ). n / 16) (padded_whole 0 refl)
-
--- whole units are done before each piece
-pub padded_next : (done len n : ℕ) → n ≡ min (len - done) 32 → done % 16 ≡ 0 → done + n < len → (done + n) % 16 ≡ 0
-padded_next done len n count whole more = let full : n ≡ 32 = omega arith in omega arith
-
-pub padded_fits : (done n len to size : ℕ) → done + n ≤ len → to + padded 16 len ≤ size → to + padded 16 (done + n) ≤ size
-padded_fits done n len to size le fits = let most = padded_le (done + n) len le in omega arith
-
-pub padded_at : (len count to size : ℕ) → count ≡ len → to + padded 16 len ≤ size → to + padded 16 count ≤ size
-padded_at len count to size same fits = let e : padded 16 count ≡ padded 16 len = ap (padded 16) same in omega arith
-
-pub padded_sum : (done n : ℕ) → done % 16 ≡ 0 → padded 16 (done + n) ≡ done + padded 16 n
-padded_sum done n whole = padded_more done n whole
 
 -- a value that has its length stands in the sector
 pub range_fits : (b : List ℕ) (from len : ℕ) → 0 < len → length (slice_range b from (from + len)) ≡ len → from + len ≤ length b

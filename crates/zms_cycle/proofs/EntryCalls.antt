@@ -7,14 +7,14 @@ use Rattle.flash_sim.specs.Bank.{IsLawful, bank_at}
 use Rattle.flash_sim.specs.Device.{Device, overwritten}
 use Rattle.flash_sim.specs.declared.flash.Bank.{Bank}
 use Rattle.flash_map.specs.declared.area.Area.{Area}
-use Rattle.flash_map.specs.Area.{unit_of, sector_size, sector_bytes, Writes, WritesPart}
+use Rattle.flash_map.specs.Area.{unit_of, sector_size, sector_bytes, Writes, WritesPart, OthersStay}
 use Rattle.flash_map.specs.Pieces.{CanProgramAll}
 use Rattle.flash_map.specs.Spending.{SpendsBetween}
 use Rattle.flash_map.specs.Units.{padded, padded_bytes}
 use Rattle.flash_map.proofs.PaddedLemmas.{length-padded_bytes}
 use Rattle.flash_map.proofs.SpendingBounds.{between_none, between_within}
 use Rattle.zms_cycle.specs.declared.entry.ZEntry.{ZEntry}
-use Rattle.zms_cycle.specs.Areas.{IsZmsSector, HasSlot, OthersStay}
+use Rattle.zms_cycle.specs.Areas.{IsZmsSector, HasSlot}
 use Rattle.zms_cycle.specs.Entries.{encoded, value_entry, done_entry}
 use Rattle.zms_cycle.specs.Sector.{cycle_of, valid_slots, data_len, low, data_end, is_sound}
 use Rattle.zms_cycle.specs.Changes.{with_slot, guarded, with_value, HasPart, KeepsList, AddsPair, MarksDone}

@@ -8,10 +8,10 @@ use Rattle.flash_map.proofs.Rounding.{padding}
 use Rattle.flash_sim.specs.Device.{overwritten}
 use Rattle.flash_map.proofs.Ranges.{range_above, range_below}
 use Rattle.flash_map.proofs.Sectors.{length-overwritten}
-use Rattle.slot_list.specs.Slots.{Slot, used_slots}
-use Rattle.slot_list.proofs.SlotCosts.{fold_max-ge}
-use Rattle.slot_list.proofs.SlotLemmas.{HasFence, HasFence-from_low}
-use Rattle.slot_list.proofs.SlotChanges.{SameFrom, slot_at-from, used_slots-kept}
+use Rattle.ring_laws.specs.Slots.{Slot, used_slots}
+use Rattle.ring_laws.proofs.SlotCosts.{fold_max-ge}
+use Rattle.ring_laws.proofs.SlotLemmas.{HasFence, HasFence-from_low}
+use Rattle.ring_laws.proofs.SlotChanges.{SameFrom, slot_at-from, used_slots-kept}
 use Rattle.zms_cycle.specs.Entries.{offset_of, decoded}
 use Rattle.zms_cycle.specs.declared.reading.Found.{Found}
 use Rattle.zms_cycle.specs.Sector.{slot_of, is_valid, cycle_of, valid_slots, holds_close, is_closed, entry_in, entries, holds_done, data_len, capacity, low, value_end, end_of, data_end, is_under, has_guard, is_sound, entry_cost, holds_too_much, is_overfull, value_of, pair_of, pairs, part_of_list}

@@ -8,8 +8,8 @@ use Rattle.flash_map.specs.Units.{padded_bytes}
 use Rattle.flash_map.proofs.PaddedLemmas.{length-padded_bytes}
 use Rattle.flash_map.proofs.Ranges.{range_above}
 use Rattle.flash_map.proofs.Sectors.{length-overwritten}
-use Rattle.slot_list.specs.Slots.{Slot}
-use Rattle.slot_list.proofs.SlotChanges.{SameFrom, slot_at-from}
+use Rattle.ring_laws.specs.Slots.{Slot}
+use Rattle.ring_laws.proofs.SlotChanges.{SameFrom, slot_at-from}
 use Rattle.zms_cycle.specs.Sector.{slot_of, is_valid_under, is_valid, cycle_of, valid_slots, data_len, low, data_end}
 use Rattle.zms_cycle.specs.Changes.{guarded, guard_units, with_value, next_cycle}
 use Rattle.zms_cycle.proofs.EntryCalls.{IsReady}

@@ -4,9 +4,9 @@ use Rattle.std.specs.Prelude.{fold}
 use Rattle.std.specs.List.{filter_map, list_any, list_all}
 use Rattle.std.specs.Option.{option_map_or}
 use Rattle.std.proofs.lemmas.Bool.{false≢true, cases_Bool, cases_lt, cond-true, cond-false, and_from, and_left, and_right, and_parts, or_from, or_parts, eq-eqb, eqb-true, ne_eqb, le-leb, lt-ltb, le-ltb}
-use Rattle.slot_list.specs.Slots.{Slot, used_slots}
-use Rattle.slot_list.proofs.SlotChanges.{slot_at-same, slot_at-from, used_slots-under}
-use Rattle.slot_list.proofs.SlotLemmas.{used_slots-from}
+use Rattle.ring_laws.specs.Slots.{Slot, used_slots}
+use Rattle.ring_laws.proofs.SlotChanges.{slot_at-same, slot_at-from, used_slots-under}
+use Rattle.ring_laws.proofs.SlotLemmas.{used_slots-from}
 use Rattle.zms_cycle.specs.declared.entry.ZEntry.{ZEntry}
 use Rattle.zms_cycle.specs.Entries.{encoded, decoded, fill, offset_of, is_empty, close_entry, empty_entry}
 use Rattle.zms_cycle.specs.declared.reading.Found.{Found}

@@ -11,9 +11,9 @@ use Rattle.flash_sim.specs.declared.flash.Kind.TheVariants.{Rewritable}
 use Rattle.flash_map.specs.declared.area.Area.{Area}
 use Rattle.flash_map.specs.declared.area.Role.{Role}
 use Rattle.flash_map.specs.declared.area.Role.TheVariants.{Zms}
-use Rattle.flash_map.specs.Lawful.{HasUnit, kind_of}
-use Rattle.slot_list.specs.Slots.{Slot, slot_at}
-use Rattle.slot_list.proofs.SlotLemmas.{used_slots-from}
+use Rattle.flash_map.specs.Lawful.{HasUnit, HasKind}
+use Rattle.ring_laws.specs.Slots.{Slot, slot_at}
+use Rattle.ring_laws.proofs.SlotLemmas.{used_slots-from}
 use Rattle.zms_cycle.specs.declared.reading.Found.{Found}
 use Rattle.zms_cycle.specs.Areas.{IsZmsSector}
 use Rattle.zms_cycle.specs.Changes.{AddsPair}
@@ -37,8 +37,8 @@ pub is_used : (b : List ℕ) (cycle : ℕ) → cycle_of b ≡ Some cycle → IsS
 is_used b cycle is = subst (λ (o : Option ℕ). IsSome o) (sym is) refl
 
 -- an area of two sectors that is a whole bank
-pub whole_bank : (d : Device) (area : Area) (bank : Bank) (sector : ℕ) → d.banks ≡ bank ∷ [] → bank ≡ record { kind = Rewritable; unit = 16; sector = 512; count = 2 } → area.role ≡ Zms → area.bank ≡ 0 → area.first ≡ 0 → area.sectors ≡ 2 → sector < 2 → IsZmsSector d area sector
-whole_bank d area bank sector banks bank_is role at first count below =
+pub whole_bank : (d : Device) (area : Area) (bank : Bank) (sector : ℕ) → d.banks ≡ bank ∷ [] → bank ≡ record { kind = Rewritable; unit = 16; sector = 512; count = 2 } → area.role ≡ Zms → area.bank ≡ 0 → area.first ≡ 0 → area.sectors ≡ 2 → area.version ≡ 1 → sector < 2 → IsZmsSector d area sector
+whole_bank d area bank sector banks bank_is role at first count version below =
     let is : bank_at d.banks area.bank ≡ record { kind = Rewritable; unit = 16; sector = 512; count = 2 } = ap (λ (l : List Bank). bank_at l area.bank) banks ∙ ap (λ (i : ℕ). bank_at (bank ∷ []) i) at ∙ bank_is in
     let many : length d.banks ≡ 1 = ap length banks in
     let size : (bank_at d.banks area.bank).sector ≡ 512 = ap (λ (b : Bank). b.sector) is in
@@ -46,15 +46,17 @@ whole_bank d area bank sector banks bank_is role at first count below =
     record {
       lawful = record {
         in_bank = record { has_bank = omega arith; in_bank = omega arith };
-        kind = ap (λ (b : Bank). b.kind) is ∙ sym (ap kind_of role);
+        kind = subst (λ (r : Role). HasKind r (bank_at d.banks area.bank).kind) (sym role) tt;
         unit = subst (λ (r : Role). HasUnit r (bank_at d.banks area.bank).unit) (sym role) (ap (λ (b : Bank). b.unit) is);
         at_least = omega arith;
         at_most = omega arith;
         whole = ap (λ (n : ℕ). n % 64) size;
         several = omega arith;
         few = omega arith;
+        long_values = λ two. absurd (omega arith);
       };
       role = role;
+      rewritable = ap (λ (b : Bank). b.kind) is;
       has_sector = omega arith;
     }
 

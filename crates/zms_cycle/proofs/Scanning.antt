@@ -3,10 +3,10 @@ use Rattle.std.proofs.Common.{◌≡◌, ℕ, ◌+◌, ◌-◌, ◌^◌, min, ma
 use Rattle.std.specs.Prelude.{fold, sum_by, IsSome}
 use Rattle.std.specs.List.{filter_map, list_any}
 use Rattle.std.specs.Option.{option_and_then, option_map_or}
-use Rattle.slot_list.specs.Slots.{Slot, used_slots}
-use Rattle.slot_list.proofs.SlotLemmas.{index-slot_at}
-use Rattle.slot_list.proofs.SlotCounts.{slots_to, slots_to_used}
-use Rattle.slot_list.proofs.SlotWalks.{most_step, slot_step, sum_step}
+use Rattle.ring_laws.specs.Slots.{Slot, used_slots}
+use Rattle.ring_laws.proofs.SlotLemmas.{index-slot_at}
+use Rattle.ring_laws.proofs.SlotCounts.{slots_to, slots_to_used}
+use Rattle.ring_laws.proofs.SlotWalks.{most_step, slot_step, sum_step}
 use Rattle.zms_cycle.specs.declared.entry.ZEntry.{ZEntry}
 use Rattle.zms_cycle.specs.declared.reading.Found.{Found}
 use Rattle.zms_cycle.specs.declared.reading.SectorState.{SectorState}

@@ -6,13 +6,13 @@ use Rattle.flash_sim.specs.Bank.{IsLawful}
 use Rattle.flash_sim.specs.Device.{Device, overwritten, Programs, FailsToProgram, units_in}
 use Rattle.flash_sim.specs.declared.flash.At.{At}
 use Rattle.flash_map.specs.declared.area.Area.{Area}
-use Rattle.flash_map.specs.Area.{unit_of, sector_size, sectors_of, sector_bytes, CanProgramIn, Writes, WritesPart}
+use Rattle.flash_map.specs.Area.{unit_of, sector_size, sectors_of, sector_bytes, CanProgramIn, Writes, WritesPart, OthersStay}
 use Rattle.flash_map.specs.Spending.{SpendsBetween}
 use Rattle.flash_map.proofs.AreaCalls.{unwritten}
 use Rattle.flash_map.proofs.SpendingBounds.{between_program, between_within}
 use Rattle.zms_cycle.specs.declared.entry.ZEntry.{ZEntry}
 use Rattle.zms_cycle.specs.Entries.{decoded, fill}
-use Rattle.zms_cycle.specs.Areas.{IsZmsSector, HasSlot, OthersStay}
+use Rattle.zms_cycle.specs.Areas.{IsZmsSector, HasSlot}
 use Rattle.zms_cycle.specs.Changes.{with_slot, guarded}
 use Rattle.zms_cycle.specs.Sector.{slot_of, is_valid_under}
 use Rattle.zms_cycle.proofs.AreaFacts.{unit_is, never_erasing, size_is, sector_set, others_set}

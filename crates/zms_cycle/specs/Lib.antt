@@ -3,3 +3,4 @@ pub mod Entries
 pub mod Sector
 pub mod States
 pub mod Changes
+pub mod OnArea

@@ -4,7 +4,7 @@ use Rattle.std.specs.Prelude.{ℕ, ◌+◌, ◌-◌, ◌*◌, ◌%◌, max, Bool
 use Rattle.std.specs.List.{filter_map, list_all, list_any}
 use Rattle.std.specs.Option.{option_and_then, option_map_or}
 use Rattle.flash_map.specs.Units.{padded}
-use Rattle.slot_list.specs.Slots.{Slot, slot_at, used_slots, low as low_of}
+use Rattle.ring_laws.specs.Slots.{Slot, slot_at, used_slots, low as low_of}
 use Rattle.zms_cycle.specs.declared.entry.ZEntry.{ZEntry}
 use Rattle.zms_cycle.specs.declared.reading.Found.{Found}
 use Rattle.zms_cycle.specs.Entries.{decoded, offset_of, is_special, is_empty, is_close, is_done}

@@ -2,12 +2,13 @@
 ghost use Rattle.std.specs.Prelude.{◌≡◌, ◌+◌, ◌-◌, ◌*◌, ◌/◌, ◌%◌, ◌^◌, ◌<◌, ◌≤◌, ◌∷◌, [], ◌++◌, nat_le, length, replicate, is_err, IsTrue, IsSome, OnOk, OnErr, if◌then◌else◌};
 ghost use Rattle.std.specs.Int.{w32, to_le_bytes};
 ghost use Rattle.flash_sim.specs.Device.{overwritten};
-ghost use Rattle.flash_map.specs.Area.{sector_size, sector_bytes};
+ghost use Rattle.flash_map.specs.Area.{sector_size, sector_bytes, OthersStay};
 ghost use Rattle.flash_map.specs.Units.{padded, padded_bytes};
 ghost use Rattle.flash_map.specs.Spending.{SpendsBetween};
 ghost use Rattle.flash_map.specs.Touches.{Touches};
-ghost use Rattle.zms_cycle.specs.Areas.{IsZmsSector, HasSlot, OthersStay};
+ghost use Rattle.zms_cycle.specs.Areas.{IsZmsSector, HasSlot};
 ghost use Rattle.zms_cycle.specs.Changes.{guard_units, with_value, HasPart, KeepsList, AddsPair, MarksDone};
+ghost use Rattle.zms_cycle.specs.OnArea.{IsUsedOn, IsSoundOn, FitsOn, free_on, Makes, Adds, entry_units, next_guard};
 ghost use Rattle.zms_cycle.specs.Entries.{value_entry, done_entry};
 ghost use Rattle.zms_cycle.specs.Sector.{cycle_of, valid_slots, data_len, cost, free, is_sound, fits};
 
@@ -124,21 +125,20 @@ pub fn put_entry<F: Flash, L: Ledger>(
     steps: &mut Steps<L>,
 ) -> Result<(), PowerLost>
     requires zms { IsZmsSector (F.device flash.old) area.now sector }
-    requires used { IsSome (cycle_of (sector_bytes (F.device flash.old) area.now sector)) }
-    requires sound { IsTrue (is_sound (sector_bytes (F.device flash.old) area.now sector)) }
+    requires used { IsUsedOn (F.device flash.old) area.now sector }
+    requires sound { IsSoundOn (F.device flash.old) area.now sector }
     requires ordinary { id < 0xFFFFFFFF }
-    requires room { IsTrue (fits (sector_bytes (F.device flash.old) area.now sector) (length bytes.now)) }
+    requires room { FitsOn (F.device flash.old) area.now sector (length bytes.now) }
 
     ensures touches { Touches (area.now ∷ []) (F.device flash.old) (F.device flash.new) (is_err result) }
     ensures others { OthersStay (F.device flash.old) (F.device flash.new) area.now sector }
-    ensures ok { OnOk result (AddsPair (sector_bytes (F.device flash.old) area.now sector) (sector_bytes (F.device flash.new) area.now sector) id bytes.now) }
-    ensures lost { OnErr result (KeepsList (sector_bytes (F.device flash.old) area.now sector) (sector_bytes (F.device flash.new) area.now sector)) }
-    ensures spends { let units = cost (length bytes.now) / 16 in
+    ensures ok { OnOk result (Adds (F.device flash.old) (F.device flash.new) area.now sector id bytes.now) }
+    ensures lost { OnErr result (Makes KeepsList (F.device flash.old) (F.device flash.new) area.now sector) }
+    ensures spends { let units = entry_units (length bytes.now) in
         OnOk result (SpendsBetween (F.device flash.old) (F.device flash.new) units (units + 1)) }
-    ensures guards { let b = sector_bytes (F.device flash.old) area.now sector in
-        let units = cost (length bytes.now) / 16 + guard_units (cycle_of b) (length (valid_slots b) + 2 + 1) b in
+    ensures guards { let units = entry_units (length bytes.now) + next_guard (F.device flash.old) area.now sector in
         OnOk result (SpendsBetween (F.device flash.old) (F.device flash.new) units units) }
-    ensures spends_lost { OnErr result (SpendsBetween (F.device flash.old) (F.device flash.new) 0 (cost (length bytes.now) / 16 + 1)) }
+    ensures spends_lost { OnErr result (SpendsBetween (F.device flash.old) (F.device flash.new) 0 (entry_units (length bytes.now) + 1)) }
 {
     let opened = opened_sector(flash, area, sector, steps);
     let entry = value_entry(opened.cycle, id, bytes, opened.data_end);
@@ -171,17 +171,16 @@ pub fn put_done<F: Flash, L: Ledger>(
     steps: &mut Steps<L>,
 ) -> Result<(), PowerLost>
     requires zms { IsZmsSector (F.device flash.old) area.now sector }
-    requires used { IsSome (cycle_of (sector_bytes (F.device flash.old) area.now sector)) }
-    requires sound { IsTrue (is_sound (sector_bytes (F.device flash.old) area.now sector)) }
-    requires room { 32 ≤ free (sector_bytes (F.device flash.old) area.now sector) }
+    requires used { IsUsedOn (F.device flash.old) area.now sector }
+    requires sound { IsSoundOn (F.device flash.old) area.now sector }
+    requires room { 32 ≤ free_on (F.device flash.old) area.now sector }
 
     ensures touches { Touches (area.now ∷ []) (F.device flash.old) (F.device flash.new) (is_err result) }
     ensures others { OthersStay (F.device flash.old) (F.device flash.new) area.now sector }
-    ensures ok { OnOk result (MarksDone (sector_bytes (F.device flash.old) area.now sector) (sector_bytes (F.device flash.new) area.now sector)) }
-    ensures lost { OnErr result (KeepsList (sector_bytes (F.device flash.old) area.now sector) (sector_bytes (F.device flash.new) area.now sector)) }
+    ensures ok { OnOk result (Makes MarksDone (F.device flash.old) (F.device flash.new) area.now sector) }
+    ensures lost { OnErr result (Makes KeepsList (F.device flash.old) (F.device flash.new) area.now sector) }
     ensures spends { OnOk result (SpendsBetween (F.device flash.old) (F.device flash.new) 1 2) }
-    ensures guards { let b = sector_bytes (F.device flash.old) area.now sector in
-        let units = 1 + guard_units (cycle_of b) (length (valid_slots b) + 2 + 1) b in
+    ensures guards { let units = 1 + next_guard (F.device flash.old) area.now sector in
         OnOk result (SpendsBetween (F.device flash.old) (F.device flash.new) units units) }
     ensures spends_lost { OnErr result (SpendsBetween (F.device flash.old) (F.device flash.new) 0 2) }
 {

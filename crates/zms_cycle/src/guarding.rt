@@ -1,9 +1,9 @@
 // Single units of a sector: the guard, and an entry above its guard.
 ghost use Rattle.std.specs.Prelude.{◌≡◌, ◌⊎◌, ◌+◌, ◌-◌, ◌*◌, ◌<◌, ◌≤◌, ◌∷◌, [], false, length, is_err, OnOk, OnErr, if◌then◌else◌};
-ghost use Rattle.flash_map.specs.Area.{IsLawfulArea, sector_size, sectors_of, sector_bytes};
+ghost use Rattle.flash_map.specs.Area.{IsLawfulArea, sector_size, sectors_of, sector_bytes, OthersStay};
 ghost use Rattle.flash_map.specs.Spending.{SpendsBetween};
 ghost use Rattle.flash_map.specs.Touches.{Touches};
-ghost use Rattle.zms_cycle.specs.Areas.{IsZmsSector, HasSlot, OthersStay};
+ghost use Rattle.zms_cycle.specs.Areas.{IsZmsSector, HasSlot};
 ghost use Rattle.zms_cycle.specs.Changes.{with_slot, guarded};
 ghost use Rattle.zms_cycle.specs.Entries.{encoded};
 ghost use Rattle.zms_cycle.specs.Sector.{slot_of, is_valid_under};

@@ -1,11 +1,12 @@
 // Closing and emptying a sector.
 ghost use Rattle.std.specs.Prelude.{◌≡◌, ◌+◌, ◌-◌, ◌*◌, ◌/◌, ◌<◌, ◌≤◌, ◌∷◌, [], length, is_err, Some, IsTrue, IsSome, OnOk, OnErr};
-ghost use Rattle.flash_map.specs.Area.{sector_size, sectors_of, sector_bytes};
+ghost use Rattle.flash_map.specs.Area.{sector_size, sectors_of, sector_bytes, OthersStay};
 ghost use Rattle.flash_map.specs.Spending.{SpendsBetween};
 ghost use Rattle.flash_map.specs.Touches.{Touches};
-ghost use Rattle.zms_cycle.specs.Areas.{IsZmsSector, HasSlot, OthersStay};
+ghost use Rattle.zms_cycle.specs.Areas.{IsZmsSector, HasSlot};
 ghost use Rattle.zms_cycle.specs.Changes.{with_slot, guard_units, IsFilled, KeepsList, StopsEmptying, Closes, Empties, next_cycle};
 ghost use Rattle.zms_cycle.specs.Entries.{fill, empty_entry, close_entry};
+ghost use Rattle.zms_cycle.specs.OnArea.{IsUsedOn, IsSoundOn, free_on, Makes, emptying_units};
 ghost use Rattle.zms_cycle.specs.Sector.{cycle_of, valid_slots, low, data_end, free, is_sound};
 
 use crate::guarding::{put_unit, slot_start};
@@ -64,11 +65,10 @@ pub fn empty_sector<F: Flash, L: Ledger>(
 
     ensures touches { Touches (area.now ∷ []) (F.device flash.old) (F.device flash.new) (is_err result) }
     ensures others { OthersStay (F.device flash.old) (F.device flash.new) area.now sector }
-    ensures ok { OnOk result (Empties (sector_bytes (F.device flash.old) area.now sector) (sector_bytes (F.device flash.new) area.now sector)) }
-    ensures lost { OnErr result (StopsEmptying (sector_bytes (F.device flash.old) area.now sector) (sector_bytes (F.device flash.new) area.now sector)) }
+    ensures ok { OnOk result (Makes Empties (F.device flash.old) (F.device flash.new) area.now sector) }
+    ensures lost { OnErr result (Makes StopsEmptying (F.device flash.old) (F.device flash.new) area.now sector) }
     ensures spends { OnOk result (SpendsBetween (F.device flash.old) (F.device flash.new) 1 3) }
-    ensures guards { let b = sector_bytes (F.device flash.old) area.now sector in
-        let units = 1 + guard_units (Some (next_cycle (cycle_of b))) 1 b + guard_units (Some (next_cycle (cycle_of b))) 2 b in
+    ensures guards { let units = emptying_units (F.device flash.old) area.now sector in
         OnOk result (SpendsBetween (F.device flash.old) (F.device flash.new) units units) }
     ensures spends_lost { OnErr result (SpendsBetween (F.device flash.old) (F.device flash.new) 0 3) }
 {
@@ -145,15 +145,17 @@ pub fn close<F: Flash, L: Ledger>(
     steps: &mut Steps<L>,
 ) -> Result<(), PowerLost>
     requires zms { IsZmsSector (F.device flash.old) area.now sector }
-    requires used { IsSome (cycle_of (sector_bytes (F.device flash.old) area.now sector)) }
-    requires sound { IsTrue (is_sound (sector_bytes (F.device flash.old) area.now sector)) }
+    requires used { IsUsedOn (F.device flash.old) area.now sector }
+    requires sound { IsSoundOn (F.device flash.old) area.now sector }
 
     ensures touches { Touches (area.now ∷ []) (F.device flash.old) (F.device flash.new) (is_err result) }
     ensures others { OthersStay (F.device flash.old) (F.device flash.new) area.now sector }
-    ensures ok { OnOk result (Closes (sector_bytes (F.device flash.old) area.now sector) (sector_bytes (F.device flash.new) area.now sector)) }
-    ensures lost { OnErr result (KeepsList (sector_bytes (F.device flash.old) area.now sector) (sector_bytes (F.device flash.new) area.now sector)) }
-    ensures spends { OnOk result (SpendsBetween (F.device flash.old) (F.device flash.new) 1 (free (sector_bytes (F.device flash.old) area.now sector) / 16 + 1)) }
-    ensures spends_lost { OnErr result (SpendsBetween (F.device flash.old) (F.device flash.new) 0 (free (sector_bytes (F.device flash.old) area.now sector) / 16 + 1)) }
+    ensures ok { OnOk result (Makes Closes (F.device flash.old) (F.device flash.new) area.now sector) }
+    ensures lost { OnErr result (Makes KeepsList (F.device flash.old) (F.device flash.new) area.now sector) }
+    ensures spends { let most = free_on (F.device flash.old) area.now sector / 16 + 1 in
+        OnOk result (SpendsBetween (F.device flash.old) (F.device flash.new) 1 most) }
+    ensures spends_lost { let most = free_on (F.device flash.old) area.now sector / 16 + 1 in
+        OnErr result (SpendsBetween (F.device flash.old) (F.device flash.new) 0 most) }
 {
     let opened = opened_sector(flash, area, sector, steps);
     let size = geometry(flash, area).sector;

@@ -7,29 +7,30 @@ use Rattle.std.proofs.lemmas.List.{length-set, set-set, set-get_or}
 use Rattle.std.proofs.lemmas.List.Sums.{sum_by_push}
 use Rattle.flash_sim.specs.Device.{Device}
 use Rattle.flash_map.specs.declared.area.Area.{Area}
-use Rattle.flash_map.specs.Area.{sector_at, sectors_of}
-use Rattle.slot_list.specs.Items.{last, SameItems, items_of}
-use Rattle.slot_list.specs.Slots.{Slot}
-use Rattle.slot_list.proofs.ItemLemmas as items
-use Rattle.sector_ring.specs.Area.{next, area_pairs}
-use Rattle.sector_ring.specs.Forms.{Collecting, Collected, IsForm, pairs_at, rest, to_copy}
-use Rattle.sector_ring.specs.Reading.{is_sound as ring_sound}
-use Rattle.sector_ring.specs.Rounds.{copies_cost, stored_cost, Collects}
-use Rattle.sector_ring.specs.Steps as ring_steps
-use Rattle.sector_ring.proofs.Collects.{put_copy, put_victim}
-use Rattle.sector_ring.proofs.Lists.{elsewhere}
-use Rattle.sector_ring.proofs.LiveCost.{live-le, stored-le}
-use Rattle.sector_ring.proofs.Places.{after, after-apart, after-within}
-use Rattle.sector_ring.proofs.Rings.{next-closed}
-use Rattle.sector_ring.proofs.RingSteps.{reads}
-use Rattle.sector_ring.proofs.Rounding.{marked_copies, collection}
-use Rattle.live_items.proofs.SectorCosts.{costs_are as sector_costs}
+use Rattle.flash_map.specs.Area.{sector_at, sectors_of, ChangesOnly}
+use Rattle.pair_laws.specs.Items.{last, SameItems, items_of}
+use Rattle.ring_laws.specs.Slots.{Slot}
+use Rattle.pair_laws.proofs.ItemLemmas as items
+use Rattle.ring_laws.specs.Area.{next, area_pairs}
+use Rattle.ring_laws.specs.Forms.{Collecting, Collected, IsForm, pairs_at, rest, to_copy}
+use Rattle.ring_laws.specs.Reading.{is_sound as ring_sound}
+use Rattle.pair_laws.specs.Rounds.{copies_cost, stored_cost}
+use Rattle.ring_laws.specs.Rounds.{Collects}
+use Rattle.ring_laws.specs.Steps as ring_steps
+use Rattle.ring_laws.proofs.Collects.{put_copy, put_victim}
+use Rattle.ring_laws.proofs.Lists.{elsewhere}
+use Rattle.ring_laws.proofs.LiveCost.{live-le, stored-le}
+use Rattle.ring_laws.proofs.Places.{after, after-apart, after-within}
+use Rattle.ring_laws.proofs.Rings.{next-closed}
+use Rattle.ring_laws.proofs.RingSteps.{reads}
+use Rattle.ring_laws.proofs.Rounding.{marked_copies, collection}
+use Rattle.ring_laws.proofs.SectorCosts.{costs_are as sector_costs}
 use Rattle.zms_cycle.specs.declared.reading.Found.{Found}
 use Rattle.zms_cycle.specs.Changes.{AddsPair, MarksDone, Empties}
 use Rattle.zms_cycle.specs.Sector.{slot_of, is_valid, cycle_of, valid_slots, is_closed, entry_in, entries, has_gc_done, holds_done, cost, capacity, low, data_end, end_of, has_guard, is_under, is_sound, pair_of, pairs, entry_cost, holds_too_much}
 use Rattle.zms_cycle.proofs.Frames.{sound-parts, sound_of}
 use Rattle.zms_store.specs.Area.{is_begun, is_unused, reading, list_of, damage_of, zms}
-use Rattle.zms_store.specs.Collecting.{ChangesOnly, HasCopied, StopsCopying, KeepsMarks, CollectsAt}
+use Rattle.zms_store.specs.Collecting.{HasCopied, StopsCopying, KeepsMarks, CollectsAt}
 use Rattle.zms_store.specs.Spending.{copied}
 use Rattle.zms_store.specs.Standing.{KeepsItems}
 use Rattle.zms_store.proofs.Damages.{form_undamaged}

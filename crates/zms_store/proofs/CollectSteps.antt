@@ -3,22 +3,23 @@ use Rattle.std.proofs.Common.{◌≡◌, ℕ, ◌+◌, ◌≤◌, Bool, true, fa
 use Rattle.std.specs.Prelude.{IsSome, is_some}
 use Rattle.flash_sim.specs.Device.{Device}
 use Rattle.flash_map.specs.declared.area.Area.{Area}
-use Rattle.flash_map.specs.Area.{sector_at, sectors_of}
-use Rattle.slot_list.specs.Items.{last, items_of}
+use Rattle.flash_map.specs.Area.{sector_at, sectors_of, ChangesOnly}
+use Rattle.pair_laws.specs.Items.{last, items_of}
 use Rattle.std.proofs.lemmas.Bool.{le-ltb}
-use Rattle.sector_ring.specs.Area.{next, open_sector, area_pairs}
-use Rattle.sector_ring.specs.Forms.{AtRest, Collecting, Collected, IsForm, to_copy}
-use Rattle.sector_ring.specs.Rounds.{copies_cost, Collects}
-use Rattle.sector_ring.proofs.Collects.{put_victim, erase_victim}
-use Rattle.sector_ring.proofs.Rings.{open-not_closed, next-closed}
-use Rattle.sector_ring.proofs.Rounding.{collects_from}
-use Rattle.sector_ring.proofs.Parts.{to_copy-kept}
-use Rattle.sector_ring.proofs.Places.{after}
+use Rattle.ring_laws.specs.Area.{next, open_sector, area_pairs}
+use Rattle.ring_laws.specs.Forms.{AtRest, Collecting, Collected, IsForm, to_copy}
+use Rattle.pair_laws.specs.Rounds.{copies_cost}
+use Rattle.ring_laws.specs.Rounds.{Collects}
+use Rattle.ring_laws.proofs.Collects.{put_victim, erase_victim}
+use Rattle.ring_laws.proofs.Rings.{open-not_closed, next-closed}
+use Rattle.ring_laws.proofs.Rounding.{collects_from}
+use Rattle.ring_laws.proofs.Parts.{to_copy-kept}
+use Rattle.ring_laws.proofs.Places.{after}
 use Rattle.zms_cycle.specs.Changes.{KeepsList, Empties, StopsEmptying}
 use Rattle.zms_cycle.specs.Sector.{cycle_of, is_closed, has_gc_done, cost, low, free}
 use Rattle.zms_store.specs.declared.sector.Redo.TheVariants.{Nothing, EmptyNext, CollectAgain}
 use Rattle.zms_store.specs.Area.{is_begun, is_unused, reading, redo_of, list_of, damage_of}
-use Rattle.zms_store.specs.Collecting.{ChangesOnly, Begins, HasCopied, StopsCopying, CollectsAt}
+use Rattle.zms_store.specs.Collecting.{Begins, HasCopied, StopsCopying, CollectsAt}
 use Rattle.zms_store.specs.Spending.{copied, begin_units}
 use Rattle.zms_store.specs.Standing.{KeepsItems}
 use Rattle.zms_store.proofs.Areas.{keeps-by, stopped, has_stopped, none_copied, from_start, marks_stopped, only_then, only_length, empties_unused, copied-le}

@@ -1,11 +1,11 @@
 -- What the copies of a collection are, entry by entry, and what they cost: the laws on live items, for ZMS.
 use Rattle.std.proofs.Common.{◌≡◌, ℕ, ◌+◌, ◌<◌, ◌≤◌, true, List, ◌∷◌, [], ◌++◌, length, Some, None, sym, ap, ◌∙◌, arith}
 use Rattle.flash_map.specs.Area.{sector_at}
-use Rattle.sector_ring.specs.Area.{next}
-use Rattle.sector_ring.specs.Forms.{Collecting, to_copy}
-use Rattle.sector_ring.specs.Rounds.{copies_cost}
-use Rattle.slot_list.proofs.SlotLemmas.{index-slot_at}
-use Rattle.live_items.proofs.CopyLemmas as laws
+use Rattle.ring_laws.specs.Area.{next}
+use Rattle.ring_laws.specs.Forms.{Collecting, to_copy}
+use Rattle.pair_laws.specs.Rounds.{copies_cost}
+use Rattle.ring_laws.proofs.SlotLemmas.{index-slot_at}
+use Rattle.ring_laws.proofs.CopyLemmas as laws
 use Rattle.zms_cycle.specs.Sector.{slot_of, entry_in, valid_slots, cost, is_sound}
 use Rattle.zms_store.specs.declared.sector.Placed.{Placed}
 use Rattle.zms_store.specs.Area.{reading, placed_bytes, zms}

@@ -2,25 +2,26 @@
 use Rattle.std.proofs.Common.{◌≡◌, ℕ, ◌+◌, ◌*◌, ◌/◌, ◌<◌, ◌≤◌, ◌⊎◌, true, false, List, [], ◌∷◌, length, Option, Some, None, refl, sym, ap, subst, ◌∙◌, inl, inr, arith}
 use Rattle.std.specs.Prelude.{Result, Ok, Err, OnOk, OnErr, IsErr, is_err}
 use Rattle.flash_sim.specs.Device.{Device}
+use Rattle.flash_sim.specs.Bank.{bank_at}
 use Rattle.flash_sim.specs.declared.flash.Bank.{Bank}
 use Rattle.flash_map.specs.Lawful.{IsLawfulFor}
 use Rattle.flash_map.specs.declared.area.Area.{Area}
-use Rattle.flash_map.specs.Area.{sector_at, sectors_of}
+use Rattle.flash_map.specs.Area.{sector_at, sectors_of, ChangesOnly}
 use Rattle.flash_map.specs.Spending.{SpendsBetween}
 use Rattle.flash_map.specs.Touches.{Touches}
 use Rattle.flash_map.proofs.SpendingBounds.{between_none, between_then, between_within}
 use Rattle.flash_map.proofs.Touches.{then, untouched}
-use Rattle.sector_ring.specs.Area.{next, open_sector}
-use Rattle.sector_ring.specs.Forms.{Collecting, to_copy}
-use Rattle.sector_ring.specs.Rounds.{copies_cost}
-use Rattle.sector_ring.proofs.Places.{after-within}
-use Rattle.sector_ring.proofs.RingSteps.{reads}
+use Rattle.ring_laws.specs.Area.{next, open_sector}
+use Rattle.ring_laws.specs.Forms.{Collecting, to_copy}
+use Rattle.pair_laws.specs.Rounds.{copies_cost}
+use Rattle.ring_laws.proofs.Places.{after-within}
+use Rattle.ring_laws.proofs.RingSteps.{reads}
 use Rattle.zms_cycle.specs.Changes.{AddsPair}
 use Rattle.zms_cycle.specs.Sector.{slot_of, valid_slots, entry_in, entry_len, pair_at, value_of, cost, free, is_sound}
 use Rattle.zms_cycle.proofs.CopyCalls.{pair_is, entry_len_is}
 use Rattle.zms_store.specs.declared.sector.Placed.{Placed}
 use Rattle.zms_store.specs.Area.{reading, placed_bytes}
-use Rattle.zms_store.specs.Collecting.{ChangesOnly, live_in, live_to, HasCopied, StopsCopying, KeepsMarks, CopiesOne, cost_of}
+use Rattle.zms_store.specs.Collecting.{live_in, live_to, HasCopied, StopsCopying, KeepsMarks, CopiesOne, cost_of}
 use Rattle.zms_store.specs.Standing.{IsZmsArea}
 use Rattle.zms_store.specs.Spending.{copied}
 use Rattle.zms_store.proofs.Areas.{stopped, has_stopped, one_copied, marks_stopped, victim-sound, copied-le}
@@ -176,4 +177,4 @@ pub next_within : (d : Device) (area : Area) (place : ℕ) → place < length (s
 next_within d area place within = let next_in = after-within (length (sectors_of d area)) place within in omega (arith, length-sectors d area)
 
 pub still_area : (a d : Device) (area : Area) → d.banks ≡ a.banks → IsZmsArea a.banks area → IsZmsArea d.banks area
-still_area a d area banks is = record { lawful = subst (λ (bs : List Bank). IsLawfulFor bs area) (sym banks) is.lawful; role = is.role }
+still_area a d area banks is = record { lawful = subst (λ (bs : List Bank). IsLawfulFor bs area) (sym banks) is.lawful; role = is.role; rewritable = ap (λ (bs : List Bank). (bank_at bs area.bank).kind) banks ∙ is.rewritable }

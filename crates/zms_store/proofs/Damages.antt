@@ -7,12 +7,12 @@ use Rattle.flash_map.specs.declared.faults.Why.{Why}
 use Rattle.flash_map.specs.declared.faults.Why.TheVariants.{AllClosed, TwoOpen, Dirty, NoFence, Overfull}
 use Rattle.flash_map.specs.declared.faults.Damaged.{Damaged}
 use Rattle.flash_map.specs.Area.{sector_at}
-use Rattle.sector_ring.specs.Area.{previous, places, is_closed_at, is_blank_at, follows_closed, openings, open_sector, counts_at, looked_at, first_of_kind, first_damage}
-use Rattle.sector_ring.specs.Forms.{IsForm}
-use Rattle.sector_ring.proofs.Places.{All-range, find_none}
-use Rattle.sector_ring.proofs.RingSteps.{reads}
-use Rattle.sector_ring.proofs.Searches.{second-filter, second-none}
-use Rattle.sector_ring.proofs.Undamaged.{HasNoDamage, rows, only-opening, opening-is, option_cases, cond_none, or_none, no_kind, found, find-filter, form-of}
+use Rattle.ring_laws.specs.Area.{previous, places, is_closed_at, is_blank_at, follows_closed, openings, open_sector, counts_at, looked_at, first_of_kind, first_damage}
+use Rattle.ring_laws.specs.Forms.{IsForm}
+use Rattle.ring_laws.proofs.Places.{All-range, find_none}
+use Rattle.ring_laws.proofs.RingSteps.{reads}
+use Rattle.ring_laws.proofs.Searches.{second-filter, second-none}
+use Rattle.ring_laws.proofs.Undamaged.{HasNoDamage, rows, only-opening, opening-is, option_cases, cond_none, or_none, no_kind, found, find-filter, form-of}
 use Rattle.zms_cycle.specs.Sector.{has_guard, is_sound, holds_too_much, is_overfull, pairs}
 use Rattle.zms_cycle.proofs.Frames.{sound_of}
 use Rattle.zms_store.specs.Area.{is_begun, reading, is_second_open, is_overfull_at, damage_of}

@@ -3,8 +3,8 @@ use Rattle.std.proofs.Common.{◌≡◌, ℕ, zero, suc, ◌+◌, ◌-◌, ◌*�
 use Rattle.std.specs.Prelude.{slice_range, slice_index}
 use Rattle.std.proofs.lemmas.Bool.{cases_Bool, cond-true, cond-false, le-leb, lt-leb}
 use Rattle.crc8_entry.specs.Crc.{crc}
-use Rattle.slot_list.specs.Slots.{Slot}
-use Rattle.slot_list.proofs.SlotLemmas.{bytes-slot_at}
+use Rattle.ring_laws.specs.Slots.{Slot}
+use Rattle.ring_laws.proofs.SlotLemmas.{bytes-slot_at}
 use Rattle.zms_cycle.specs.declared.entry.ZEntry.{ZEntry}
 use Rattle.zms_cycle.specs.declared.reading.Found.{Found}
 use Rattle.zms_cycle.specs.Entries.{decoded, entry_of, offset_of, is_special}

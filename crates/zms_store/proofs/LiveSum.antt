@@ -3,9 +3,9 @@ use Rattle.std.proofs.Common.{◌≡◌, ℕ, ◌<◌, true, List, length}
 use Rattle.std.specs.Prelude.{sum_by}
 use Rattle.std.specs.List.{range_with_len}
 use Rattle.flash_map.specs.Area.{sector_at}
-use Rattle.sector_ring.specs.Forms.{AtRest}
-use Rattle.sector_ring.specs.Rounds.{copies_cost, live_cost}
-use Rattle.live_items.proofs.LiveSum as live
+use Rattle.ring_laws.specs.Forms.{AtRest}
+use Rattle.pair_laws.specs.Rounds.{copies_cost, live_cost}
+use Rattle.ring_laws.proofs.LiveSum as live
 use Rattle.zms_cycle.specs.Sector.{cost, is_sound, valid_slots}
 use Rattle.zms_store.specs.Area.{reading, list_of, zms}
 use Rattle.zms_store.specs.Collecting.{live_to}

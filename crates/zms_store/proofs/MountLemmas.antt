@@ -6,10 +6,10 @@ use Rattle.std.specs.Prelude.{unwrap_or}
 use Rattle.flash_map.specs.declared.faults.Damaged.{Damaged}
 use Rattle.flash_map.specs.declared.faults.Why.TheVariants.{AllClosed, TwoOpen, Overfull}
 use Rattle.flash_map.specs.Area.{sector_at}
-use Rattle.sector_ring.specs.Area.{next, previous, places, is_closed_at, is_blank_at, follows_closed, open_sector, counts_at, first_of_kind}
-pub use Rattle.sector_ring.proofs.AreaReads.{length-sectors, next_there, previous_there}
-use Rattle.sector_ring.proofs.AreaReads as reads
-use Rattle.sector_ring.proofs.Searches.{all-found, not_all-found}
+use Rattle.ring_laws.specs.Area.{next, previous, places, is_closed_at, is_blank_at, follows_closed, open_sector, counts_at, first_of_kind}
+pub use Rattle.ring_laws.proofs.AreaReads.{length-sectors, next_there, previous_there}
+use Rattle.ring_laws.proofs.AreaReads as reads
+use Rattle.ring_laws.proofs.Searches.{all-found, not_all-found}
 use Rattle.zms_cycle.specs.Sector.{has_gc_done, has_guard, holds_too_much}
 use Rattle.zms_store.specs.declared.places.Sought.{Sought}
 use Rattle.zms_store.specs.declared.places.Sought.TheVariants as sought

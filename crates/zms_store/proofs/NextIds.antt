@@ -3,11 +3,11 @@ use Rattle.std.proofs.Common.{◌≡◌, ℕ, ◌+◌, ◌<◌, List, [], ◌∷
 use Rattle.std.specs.Prelude.{IfSome}
 use Rattle.std.proofs.lemmas.List.{map-append, append-nil}
 use Rattle.flash_map.specs.Area.{sector_at}
-use Rattle.slot_list.specs.Items.{Items, items_of}
-use Rattle.slot_list.proofs.SlotWalks.{entries_more}
-use Rattle.sector_ring.specs.Area.{open_sector}
-use Rattle.live_items.specs.NextIds.{Follows, IsAtMost, IsLeastOf}
-use Rattle.live_items.proofs.NextIds.{least_kept, least_none, least_push, no_value}
+use Rattle.pair_laws.specs.Items.{Items, items_of}
+use Rattle.ring_laws.proofs.SlotWalks.{entries_more}
+use Rattle.ring_laws.specs.Area.{open_sector}
+use Rattle.ring_laws.specs.NextIds.{Follows, IsAtMost, IsLeastOf}
+use Rattle.ring_laws.proofs.NextIds.{least_kept, least_none, least_push, no_value}
 use Rattle.zms_cycle.specs.declared.reading.Found.{Found}
 use Rattle.zms_cycle.specs.Sector.{slot_of, entry_in, pair_of, pairs}
 use Rattle.zms_cycle.proofs.Scanning.{entries_to}

@@ -4,9 +4,9 @@ use Rattle.std.specs.Prelude.{is_some}
 use Rattle.std.specs.List.{flat_map, range_with_len}
 use Rattle.std.specs.Option.{option_and_then, option_map}
 use Rattle.flash_map.specs.Area.{sector_at}
-use Rattle.slot_list.specs.Items.{last, value_of}
-use Rattle.sector_ring.specs.Area.{counts_at, open_sector}
-use Rattle.live_items.proofs.LastLemmas as laws
+use Rattle.pair_laws.specs.Items.{last, value_of}
+use Rattle.ring_laws.specs.Area.{counts_at, open_sector}
+use Rattle.ring_laws.proofs.LastLemmas as laws
 use Rattle.zms_cycle.specs.Sector.{entries}
 use Rattle.zms_store.specs.declared.sector.Placed.{Placed}
 use Rattle.zms_store.specs.Area.{reading, placed_at, placed_bytes, counted_in, last_of, last_in, last_placed, list_of, zms}

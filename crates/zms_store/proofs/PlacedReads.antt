@@ -6,8 +6,8 @@ use Rattle.flash_sim.specs.Device.{Device}
 use Rattle.flash_map.specs.declared.area.Area.{Area}
 use Rattle.flash_map.specs.Area.{sector_size, sectors_of, sector_at}
 use Rattle.flash_map.proofs.Places.{length-sector}
-use Rattle.slot_list.specs.Items.{value_of}
-use Rattle.sector_ring.specs.Area.{counts_at, open_sector}
+use Rattle.pair_laws.specs.Items.{value_of}
+use Rattle.ring_laws.specs.Area.{counts_at, open_sector}
 use Rattle.zms_cycle.specs.Sector.{is_sound}
 use Rattle.zms_store.specs.declared.sector.Placed.{Placed}
 use Rattle.zms_store.specs.Area.{reading, IsPlaced, placed_bytes}

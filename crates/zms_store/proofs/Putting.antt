@@ -5,18 +5,18 @@ use Rattle.std.specs.List.{filter_map}
 use Rattle.std.specs.Option.{option_map_or}
 use Rattle.std.proofs.lemmas.Bool.{false≢true, cases_Bool, cases_eq, and_left, cond-true, cond-false, eq-eqb, ne_eqb, leb-true}
 use Rattle.std.proofs.lemmas.List.Sums.{sum_by_push}
-use Rattle.flash_map.specs.Area.{sector_at}
-use Rattle.slot_list.specs.Items.{last, items_of, with_pair}
-use Rattle.slot_list.specs.Slots.{Slot}
-use Rattle.slot_list.proofs.ItemLemmas.{items_of-push}
-use Rattle.slot_list.proofs.SlotCosts.{slots_cost}
-use Rattle.sector_ring.specs.Area.{area_pairs}
-use Rattle.sector_ring.specs.Forms.{AtRest}
-use Rattle.sector_ring.specs.Reading.{is_sound as ring_sound}
-use Rattle.sector_ring.specs.Rounds.{stored_cost}
-use Rattle.sector_ring.specs.Steps as ring_steps
-use Rattle.sector_ring.proofs.Collects.{put_pair, put_nothing, blank-sound}
-use Rattle.sector_ring.proofs.RingSteps.{reads}
+use Rattle.flash_map.specs.Area.{sector_at, ChangesOnly}
+use Rattle.pair_laws.specs.Items.{last, items_of, with_pair}
+use Rattle.ring_laws.specs.Slots.{Slot}
+use Rattle.pair_laws.proofs.ItemLemmas.{items_of-push}
+use Rattle.ring_laws.proofs.SlotCosts.{slots_cost}
+use Rattle.ring_laws.specs.Area.{area_pairs}
+use Rattle.ring_laws.specs.Forms.{AtRest}
+use Rattle.ring_laws.specs.Reading.{is_sound as ring_sound}
+use Rattle.pair_laws.specs.Rounds.{stored_cost}
+use Rattle.ring_laws.specs.Steps as ring_steps
+use Rattle.ring_laws.proofs.Collects.{put_pair, put_nothing, blank-sound}
+use Rattle.ring_laws.proofs.RingSteps.{reads}
 use Rattle.zms_cycle.specs.declared.entry.ZEntry.{ZEntry}
 use Rattle.zms_cycle.specs.declared.reading.Found.{Found}
 use Rattle.zms_cycle.specs.Changes.{KeepsSlots, KeepsList, AddsPair, StopsEmptying}
@@ -25,7 +25,7 @@ use Rattle.zms_cycle.specs.Sector.{slot_of, is_valid, cycle_of, valid_slots, hol
 use Rattle.zms_cycle.proofs.Frames.{end_of-above}
 use Rattle.zms_cycle.proofs.Slots16.{entry_in-is}
 use Rattle.zms_store.specs.Area.{is_begun, is_unused, reading, list_of, damage_of}
-use Rattle.zms_store.specs.Collecting.{ChangesOnly, Begins}
+use Rattle.zms_store.specs.Collecting.{Begins}
 use Rattle.zms_store.proofs.Areas.{keeps-by, only_then, empties_unused, unused_end, costs_are, ring_sound_of, roomy_of}
 use Rattle.zms_store.proofs.EntryReads.{is_read}
 use Rattle.zms_store.proofs.RoundSteps.{ring_same}

@@ -7,12 +7,12 @@ use Rattle.std.proofs.lemmas.List.Concat.{flat_map-cons}
 use Rattle.flash_sim.specs.Device.{Device}
 use Rattle.flash_map.specs.declared.area.Area.{Area}
 use Rattle.flash_map.specs.Area.{sector_at, sectors_of}
-use Rattle.slot_list.specs.Live.{names}
-use Rattle.slot_list.specs.Slots.{Slot}
-use Rattle.slot_list.proofs.ItemLemmas.{get-items_of}
-use Rattle.slot_list.proofs.LivePairs.{absent, last-is, names-append}
-use Rattle.sector_ring.specs.Area.{round, counts_at, open_sector, area_pairs}
-use Rattle.sector_ring.specs.Forms.{pairs_at}
+use Rattle.pair_laws.specs.Live.{names}
+use Rattle.ring_laws.specs.Slots.{Slot}
+use Rattle.pair_laws.proofs.ItemLemmas.{get-items_of}
+use Rattle.pair_laws.proofs.LivePairs.{absent, last-is, names-append}
+use Rattle.ring_laws.specs.Area.{round, counts_at, open_sector, area_pairs}
+use Rattle.ring_laws.specs.Forms.{pairs_at}
 use Rattle.zms_cycle.specs.declared.reading.Found.{Found}
 use Rattle.zms_cycle.specs.Sector.{valid_slots, entry_in, pair_of}
 use Rattle.zms_cycle.proofs.CopyCalls.{ordinary_id}

@@ -4,24 +4,25 @@ use Rattle.std.specs.Prelude.{IsSome}
 use Rattle.std.specs.List.{flat_map, list_all, All}
 use Rattle.std.proofs.lemmas.Bool.{false≢true, cases_Bool, cases_eq, cond-false, ne_eqb, leb-false, le-leb}
 use Rattle.std.proofs.lemmas.List.Elements.{All-nil, All-cons}
-use Rattle.flash_map.specs.Area.{sector_at}
-use Rattle.slot_list.specs.Items.{last, items_of}
-use Rattle.slot_list.specs.Live.{live_pairs}
-use Rattle.slot_list.specs.Slots.{Slot}
-use Rattle.sector_ring.specs.Area.{next, area_pairs}
-use Rattle.sector_ring.specs.Forms.{AtRest, Collecting, IsForm, pairs_at, rest}
-use Rattle.sector_ring.specs.Reading.{is_sound as ring_sound}
-use Rattle.sector_ring.specs.Rounds.{copies_cost, stored_cost, Collects, IsRound}
-use Rattle.sector_ring.specs.Steps as ring_steps
-use Rattle.sector_ring.proofs.Collects.{close, next_blank, put_nothing}
-use Rattle.sector_ring.proofs.Rings.{next-closed}
-use Rattle.sector_ring.proofs.Places.{after, after-within, after-apart, flat_map-agree}
-use Rattle.sector_ring.proofs.Rounding.{round_blank, round_collected}
+use Rattle.flash_map.specs.Area.{sector_at, ChangesOnly}
+use Rattle.pair_laws.specs.Items.{last, items_of}
+use Rattle.pair_laws.specs.Live.{live_pairs}
+use Rattle.ring_laws.specs.Slots.{Slot}
+use Rattle.ring_laws.specs.Area.{next, area_pairs}
+use Rattle.ring_laws.specs.Forms.{AtRest, Collecting, IsForm, pairs_at, rest}
+use Rattle.ring_laws.specs.Reading.{is_sound as ring_sound}
+use Rattle.pair_laws.specs.Rounds.{copies_cost, stored_cost}
+use Rattle.ring_laws.specs.Rounds.{Collects, IsRound}
+use Rattle.ring_laws.specs.Steps as ring_steps
+use Rattle.ring_laws.proofs.Collects.{close, next_blank, put_nothing}
+use Rattle.ring_laws.proofs.Rings.{next-closed}
+use Rattle.ring_laws.proofs.Places.{after, after-within, after-apart, flat_map-agree}
+use Rattle.ring_laws.proofs.Rounding.{round_blank, round_collected}
 use Rattle.zms_cycle.specs.declared.reading.Found.{Found}
 use Rattle.zms_cycle.specs.Changes.{KeepsList, Closes}
 use Rattle.zms_cycle.specs.Sector.{slot_of, is_valid, cycle_of, valid_slots, is_closed, entries, has_gc_done, cost, capacity, low, data_end, free, fits, is_under, is_sound, pairs}
 use Rattle.zms_store.specs.Area.{is_begun, is_unused, reading, list_of, damage_of}
-use Rattle.zms_store.specs.Collecting.{ChangesOnly, CollectsAt, TurnsAt}
+use Rattle.zms_store.specs.Collecting.{CollectsAt, TurnsAt}
 use Rattle.zms_store.specs.Spending.{copied}
 use Rattle.zms_store.proofs.Areas.{keeps-by, only_length, only_else, copied-le, ring_sound_of, roomy_of, unused_end}
 use Rattle.zms_store.proofs.Sectors.{laws, unused_slots, begun_count}

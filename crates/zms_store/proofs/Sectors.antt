@@ -8,11 +8,11 @@ use Rattle.std.proofs.lemmas.List.FromFn.{length-map-range_with_len, get_or-map-
 use Rattle.std.proofs.lemmas.List.Sums.{prefix_len_is, prefix_len_stops}
 use Rattle.std.proofs.Math.Nat.{div-le_self}
 use Rattle.std.proofs.lemmas.Nat.{le-div}
-use Rattle.slot_list.proofs.SlotWalks as walks
-use Rattle.slot_list.specs.Slots.{Slot, slot_at, slots, used_slots}
-use Rattle.slot_list.proofs.SlotLemmas.{index-slot_at, length-used_slots}
-use Rattle.slot_list.proofs.SlotCounts.{slots_to_used, used_inside, used_count_fits}
-use Rattle.sector_ring.specs.Reading.{IsReading}
+use Rattle.ring_laws.proofs.SlotWalks as walks
+use Rattle.ring_laws.specs.Slots.{Slot, slot_at, slots, used_slots}
+use Rattle.ring_laws.proofs.SlotLemmas.{index-slot_at, length-used_slots}
+use Rattle.ring_laws.proofs.SlotCounts.{slots_to_used, used_inside, used_count_fits}
+use Rattle.ring_laws.specs.Reading.{IsReading}
 use Rattle.zms_cycle.specs.declared.entry.ZEntry.{ZEntry}
 use Rattle.zms_cycle.specs.declared.reading.Found.{Found}
 use Rattle.zms_cycle.specs.declared.reading.SectorState.TheVariants.{Blank, Used}

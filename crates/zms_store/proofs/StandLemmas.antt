@@ -5,10 +5,10 @@ use Rattle.flash_sim.specs.Bank.{IsLawful}
 use Rattle.flash_sim.specs.Device.{Device}
 use Rattle.flash_map.specs.declared.area.Area.{Area}
 use Rattle.flash_map.specs.Area.{sectors_of, sector_size}
-use Rattle.sector_ring.specs.Area.{next, is_closed_at, open_sector}
-use Rattle.sector_ring.specs.Forms.{AtRest}
-use Rattle.sector_ring.proofs.Stays.{open_within}
-use Rattle.sector_ring.proofs.Rings.{next-closed}
+use Rattle.ring_laws.specs.Area.{next, is_closed_at, open_sector}
+use Rattle.ring_laws.specs.Forms.{AtRest}
+use Rattle.ring_laws.proofs.Stays.{open_within}
+use Rattle.ring_laws.proofs.Rings.{next-closed}
 use Rattle.zms_store.specs.declared.store.Zms.{Zms}
 use Rattle.zms_store.specs.Area.{is_begun, is_unused, reading, damage_of}
 use Rattle.zms_store.specs.Standing.{IsZmsArea, StandsOn}

@@ -3,7 +3,7 @@ use Rattle.std.proofs.Common.{◌≡◌, ℕ, ◌<◌, true, arith}
 use Rattle.flash_sim.specs.Bank.{IsLawful}
 use Rattle.flash_sim.specs.Device.{Device}
 use Rattle.flash_map.specs.Area.{sectors_of, sector_at}
-use Rattle.sector_ring.specs.Forms.{AtRest}
+use Rattle.ring_laws.specs.Forms.{AtRest}
 use Rattle.zms_cycle.specs.Sector.{is_sound}
 use Rattle.zms_store.specs.declared.store.Zms.{Zms}
 use Rattle.zms_store.specs.Area.{reading}

@@ -4,13 +4,13 @@ use Rattle.std.specs.Prelude.{is_some}
 use Rattle.std.specs.List.{filter_map, flat_map, last_or}
 use Rattle.std.specs.Option.{option_map}
 use Rattle.flash_map.specs.Area.{sector_at}
-use Rattle.slot_list.proofs.SlotWalks.{last_that, found_here, found_none}
-use Rattle.sector_ring.specs.Area.{counts_at, open_sector}
-use Rattle.sector_ring.specs.Walks.{places_before}
-use Rattle.sector_ring.proofs.Newest as newest
-use Rattle.live_items.specs.Walk as walked
-use Rattle.live_items.proofs.SlotEntries.{read-within, slots_within}
-use Rattle.live_items.proofs.WalkLemmas as walks
+use Rattle.ring_laws.proofs.SlotWalks.{last_that, found_here, found_none}
+use Rattle.ring_laws.specs.Area.{counts_at, open_sector}
+use Rattle.ring_laws.specs.RoundParts.{places_before}
+use Rattle.ring_laws.proofs.Newest as newest
+use Rattle.ring_laws.specs.Walk as walked
+use Rattle.ring_laws.proofs.SlotEntries.{read-within, slots_within}
+use Rattle.ring_laws.proofs.WalkLemmas as walks
 use Rattle.zms_cycle.specs.declared.reading.Found.{Found}
 use Rattle.zms_cycle.specs.Sector.{cycle_of, entry_in, is_valid, slot_of, valid_slots}
 use Rattle.zms_cycle.proofs.Scanning.{entries_to}

@@ -12,11 +12,11 @@ use Rattle.flash_map.specs.Spending.{SpendsBetween}
 use Rattle.flash_map.specs.Touches.{Touches}
 use Rattle.flash_map.proofs.SpendingBounds.{between_none, between_then, between_within}
 use Rattle.flash_map.proofs.Touches.{then}
-use Rattle.slot_list.specs.Items.{Items, last, value_of, items_of, with_pair}
-use Rattle.slot_list.proofs.ItemLemmas.{items_of-push, get-items_of, same_map}
-use Rattle.slot_list.proofs.Pairs.{last-push}
-use Rattle.sector_ring.specs.Area.{open_sector}
-use Rattle.sector_ring.specs.Rounds.{live_cost}
+use Rattle.pair_laws.specs.Items.{Items, last, value_of, items_of, with_pair}
+use Rattle.pair_laws.proofs.ItemLemmas.{items_of-push, get-items_of, same_map}
+use Rattle.pair_laws.proofs.Pairs.{last-push}
+use Rattle.ring_laws.specs.Area.{open_sector}
+use Rattle.pair_laws.specs.Rounds.{live_cost}
 use Rattle.zms_cycle.specs.Sector.{cost, capacity, fits}
 use Rattle.zms_cycle.proofs.Frames.{pad, data_len-short, data_len-long}
 use Rattle.zms_store.specs.declared.store.Zms.{Zms}

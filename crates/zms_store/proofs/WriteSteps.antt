@@ -13,15 +13,16 @@ use Rattle.flash_map.specs.Spending.{SpendsBetween}
 use Rattle.flash_map.specs.Touches.{Touches}
 use Rattle.flash_map.proofs.SpendingBounds.{between_none, between_then, between_within}
 use Rattle.flash_map.proofs.Touches.{then, untouched}
-use Rattle.slot_list.specs.Live.{live_pairs}
-use Rattle.sector_ring.specs.Area.{next, open_sector, area_pairs}
-use Rattle.sector_ring.specs.Forms.{AtRest, pairs_at, rest}
-use Rattle.sector_ring.specs.Rounds.{copies_cost, joined, live_cost, parts, collect_oldest, FindsNoRoom, IsCrammed}
-use Rattle.sector_ring.proofs.LiveCost.{live-le}
-use Rattle.sector_ring.proofs.Parts.{parts-list, parts-count}
-use Rattle.sector_ring.proofs.Places.{after-within}
-use Rattle.sector_ring.proofs.RingSteps.{reads}
-use Rattle.sector_ring.proofs.Rounding.{oldest-is, round-live, no_round, round_more, no_room, crammed}
+use Rattle.pair_laws.specs.Live.{live_pairs}
+use Rattle.ring_laws.specs.Area.{next, open_sector, area_pairs}
+use Rattle.ring_laws.specs.Forms.{AtRest, pairs_at, rest}
+use Rattle.pair_laws.specs.Rounds.{copies_cost, joined, live_cost, collect_oldest, FindsNoRoom}
+use Rattle.ring_laws.specs.Rounds.{parts, IsCrammed}
+use Rattle.ring_laws.proofs.LiveCost.{live-le}
+use Rattle.ring_laws.proofs.Parts.{parts-list, parts-count}
+use Rattle.ring_laws.proofs.Places.{after-within}
+use Rattle.ring_laws.proofs.RingSteps.{reads}
+use Rattle.ring_laws.proofs.Rounding.{oldest-is, round-live, no_round, round_more, no_room, crammed}
 use Rattle.zms_cycle.specs.Sector.{cost, capacity, free, fits}
 use Rattle.zms_store.specs.declared.store.Zms.{Zms}
 use Rattle.zms_store.specs.Area.{is_unused, reading}

@@ -1,8 +1,8 @@
 -- The entries of ZMS, as the laws on live items ask for them.
 use Rattle.std.proofs.Common.{refl, ◌∙◌, arith}
-use Rattle.slot_list.proofs.SlotLemmas.{index-slot_at}
-use Rattle.live_items.specs.Entries.{AreEntries}
-use Rattle.live_items.proofs.SlotEntries.{read-slots}
+use Rattle.ring_laws.proofs.SlotLemmas.{index-slot_at}
+use Rattle.ring_laws.specs.Entries.{AreEntries}
+use Rattle.ring_laws.proofs.SlotEntries.{read-slots}
 use Rattle.zms_cycle.specs.Sector.{slot_of, is_valid, cycle_of, entry_in}
 use Rattle.zms_store.specs.Area.{zms}
 use Rattle.zms_store.proofs.EntryReads.{is_read, bytes_len}

@@ -5,10 +5,10 @@ use Rattle.std.specs.Option.{option_or}
 use Rattle.flash_map.specs.declared.faults.Damaged.{Damaged}
 use Rattle.flash_map.specs.declared.faults.Why.TheVariants.{AllClosed, TwoOpen, Overfull}
 use Rattle.flash_map.specs.Area.{sector_at}
-use Rattle.sector_ring.specs.Area.{places, next, previous, is_closed_at, counts_at, looked_at, open_sector, area_pairs, first_of_kind}
-use Rattle.sector_ring.specs.Reading.{Reading}
-use Rattle.live_items.specs.Entries.{Entries}
-use Rattle.live_items.specs.Live as live
+use Rattle.ring_laws.specs.Area.{places, next, previous, is_closed_at, counts_at, looked_at, open_sector, area_pairs, first_of_kind}
+use Rattle.ring_laws.specs.Reading.{Reading}
+use Rattle.ring_laws.specs.Entries.{Entries}
+use Rattle.ring_laws.specs.Live as live
 use Rattle.zms_cycle.specs.declared.reading.Found.{Found}
 use Rattle.zms_cycle.specs.Sector.{slot_of, is_valid, cycle_of, valid_slots, is_closed, entry_in, entries, has_gc_done, cost, data_end, has_guard, is_sound, holds_too_much, is_overfull, value_of, pairs}
 use Rattle.zms_store.specs.declared.sector.Marks.{Marks}

@@ -1,18 +1,15 @@
 -- How far a collection has come, and what its steps make of an area.
-use Rattle.std.specs.Prelude.{◌≡◌, ◌⊎◌, ℕ, ◌+◌, ◌<◌, ◌≤◌, Bool, true, false, List, length, slice_set, Option, Some, None, IsSome}
-use Rattle.flash_map.specs.Area.{sector_at}
-use Rattle.sector_ring.specs.Area.{next}
-use Rattle.sector_ring.specs.Forms.{to_copy, pairs_at}
-use Rattle.live_items.specs.Live as live
-use Rattle.sector_ring.specs.Rounds.{copies_cost, Collects, IsRound}
+use Rattle.std.specs.Prelude.{◌≡◌, ◌⊎◌, ℕ, ◌+◌, ◌<◌, ◌≤◌, Bool, true, false, List, length, Option, Some, None, IsSome}
+use Rattle.flash_map.specs.Area.{sector_at, ChangesOnly}
+use Rattle.ring_laws.specs.Area.{next}
+use Rattle.ring_laws.specs.Forms.{to_copy, pairs_at}
+use Rattle.ring_laws.specs.Live as live
+use Rattle.pair_laws.specs.Rounds.{copies_cost}
+use Rattle.ring_laws.specs.Rounds.{Collects, IsRound}
 use Rattle.zms_cycle.specs.Changes.{AddsPair, Empties}
 use Rattle.zms_cycle.specs.Sector.{cycle_of, is_closed, has_gc_done, cost, capacity, low, data_end, fits, is_sound, pairs}
 use Rattle.zms_store.specs.declared.sector.Placed.{Placed}
 use Rattle.zms_store.specs.Area.{reading, zms, placed_bytes}
-
--- one sector changed, and no other
-abbrev pub ChangesOnly : List (List ℕ) → List (List ℕ) → ℕ → Type 0
-ChangesOnly old new place = new ≡ slice_set old place (sector_at new place)
 
 -- the entry is the last of its id in the list, and has a value
 abbrev pub is_live : List (List ℕ) → Placed → Bool

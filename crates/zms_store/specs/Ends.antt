@@ -10,15 +10,17 @@ use Rattle.flash_map.specs.declared.faults.WriteFault.{WriteFault}
 use Rattle.flash_map.specs.declared.faults.WriteFault.TheVariants.{NoSpace, TooLong, PowerLost}
 use Rattle.flash_map.specs.Area.{sector_size, sectors_of, sector_bytes}
 use Rattle.flash_map.specs.Spending.{SpendsBetween}
-use Rattle.slot_list.specs.Items.{Items}
-use Rattle.sector_ring.specs.Area.{open_sector}
-use Rattle.sector_ring.specs.Rounds.{live_cost, IsCrammed}
-use Rattle.live_items.specs.NextIds.{IsBehind}
+use Rattle.pair_laws.specs.Items.{Items}
+use Rattle.ring_laws.specs.Area.{open_sector}
+use Rattle.pair_laws.specs.Rounds.{live_cost}
+use Rattle.ring_laws.specs.Rounds.{IsCrammed}
+use Rattle.ring_laws.specs.NextIds.{IsBehind}
 use Rattle.zms_cycle.specs.Sector.{cost, capacity, fits}
-use Rattle.zms_store.specs.Area.{reading, damage_of, redo_of}
+use Rattle.zms_store.specs.Area.{reading}
 use Rattle.zms_store.specs.declared.store.Zms.{Zms}
-use Rattle.zms_store.specs.Spending.{mount_units, Redoes, StopsRedoing, entry_units, most_units}
-use Rattle.zms_store.specs.Standing.{list_on, items_on, StandsOn, KeepsItems}
+use Rattle.zms_store.specs.Spending.{Redoes, StopsRedoing, entry_units, most_units}
+use Rattle.zms_store.specs.OnStore.{redo_on, mount_units_on}
+use Rattle.zms_store.specs.Standing.{list_on, items_on, damage_on, IsUndamaged, StandsOn, KeepsItems}
 
 -- mounting
 
@@ -26,12 +28,12 @@ use Rattle.zms_store.specs.Standing.{list_on, items_on, StandsOn, KeepsItems}
 -- programmed is what there is to redo.
 abbrev pub MountEnds : Device → Device → Area → Result Zms MountFault → Type 0
 MountEnds old new area (Ok zms) =
-    (damage_of (sectors_of old area) ≡ None) × StandsOn new zms × (zms.area ≡ area) × KeepsItems old new area
-    × Redoes old new (mount_units (sectors_of old area)) (redo_of (sectors_of old area) (open_sector reading (sectors_of old area)))
-MountEnds old new area (Err (HasDamage damaged)) = (damage_of (sectors_of old area) ≡ Some damaged) × (new ≡ old)
+    IsUndamaged old area × StandsOn new zms × (zms.area ≡ area) × KeepsItems old new area
+    × Redoes old new (mount_units_on old area) (redo_on old area)
+MountEnds old new area (Err (HasDamage damaged)) = (damage_on old area ≡ Some damaged) × (new ≡ old)
 MountEnds old new area (Err MountLost) =
-    (damage_of (sectors_of old area) ≡ None) × KeepsItems old new area
-    × StopsRedoing old new (mount_units (sectors_of old area)) (redo_of (sectors_of old area) (open_sector reading (sectors_of old area)))
+    IsUndamaged old area × KeepsItems old new area
+    × StopsRedoing old new (mount_units_on old area) (redo_on old area)
 MountEnds old new area (Err NoMemory) = ⊥
 
 -- reading

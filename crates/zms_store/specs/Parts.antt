@@ -1,7 +1,7 @@
 -- What the list of a ZMS area is made of.
 use Rattle.std.specs.Prelude.{◌≡◌, ℕ, ◌<◌, ◌≤◌, true, List, length, Some, None}
 use Rattle.flash_map.specs.Area.{sector_at}
-use Rattle.sector_ring.specs.Area.{counts_at, open_sector}
+use Rattle.ring_laws.specs.Area.{counts_at, open_sector}
 use Rattle.zms_cycle.specs.Sector.{pairs, part_of_list}
 use Rattle.zms_store.specs.Area.{reading, damage_of}
 

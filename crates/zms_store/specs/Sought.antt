@@ -1,6 +1,6 @@
 -- What a mount looks for from sector to sector.
 use Rattle.std.specs.Prelude.{ℕ, ◌<◌, ⊤, Bool, not, List}
-use Rattle.sector_ring.specs.Area.{is_closed_at, is_blank_at, follows_closed}
+use Rattle.ring_laws.specs.Area.{is_closed_at, is_blank_at, follows_closed}
 use Rattle.zms_store.specs.declared.places.Sought.{Sought}
 use Rattle.zms_store.specs.declared.places.Sought.TheVariants.{NotClosed, Opening, InUse, SecondOpen, Full}
 use Rattle.zms_store.specs.Area.{reading, is_second_open, is_overfull_at}

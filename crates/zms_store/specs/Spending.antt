@@ -3,9 +3,9 @@ use Rattle.std.specs.Prelude.{◌≡◌, ℕ, ◌+◌, ◌*◌, ◌/◌, Bool, L
 use Rattle.flash_sim.specs.Device.{Device}
 use Rattle.flash_map.specs.Area.{sector_at}
 use Rattle.flash_map.specs.Spending.{SpendsBetween}
-use Rattle.sector_ring.specs.Area.{next, is_blank_at, open_sector}
-use Rattle.sector_ring.specs.Forms.{to_copy}
-use Rattle.sector_ring.specs.Rounds.{copies_cost}
+use Rattle.ring_laws.specs.Area.{next, is_blank_at, open_sector}
+use Rattle.ring_laws.specs.Forms.{to_copy}
+use Rattle.pair_laws.specs.Rounds.{copies_cost}
 use Rattle.zms_cycle.specs.Sector.{cycle_of, cost, free}
 use Rattle.zms_store.specs.declared.sector.Redo.{Redo}
 use Rattle.zms_store.specs.declared.sector.Redo.TheVariants.{Nothing, EmptyNext, CollectAgain}

@@ -2,8 +2,8 @@
 use Rattle.std.specs.Prelude.{◌≡◌, ℕ, List, [], ◌∷◌, ◌++◌, map, length, take, Option, Some, None, if◌then◌else◌}
 use Rattle.std.specs.List.{filter_map, flat_map, last_or}
 use Rattle.flash_map.specs.Area.{sector_at}
-use Rattle.sector_ring.specs.Area.{counts_at}
-use Rattle.sector_ring.specs.Walks.{places_before}
+use Rattle.ring_laws.specs.Area.{counts_at}
+use Rattle.ring_laws.specs.RoundParts.{places_before}
 use Rattle.zms_cycle.specs.declared.reading.Found.{Found}
 use Rattle.zms_cycle.specs.Sector.{entry_in, valid_slots}
 use Rattle.zms_store.specs.declared.sector.Placed.{Placed}

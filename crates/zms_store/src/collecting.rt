@@ -1,14 +1,14 @@
 // Closing, collecting, and what a mount has to do again.
 ghost use Rattle.std.specs.Prelude.{◌≡◌, ◌≢◌, ◌+◌, ◌*◌, ◌/◌, ◌<◌, ◌≤◌, ◌∷◌, [], true, false, None, is_err, length, IfSome, IfOk, OnOk, OnErr, IsTrue, IsSome};
-ghost use Rattle.flash_map.specs.Area.{sector_size, sectors_of, sector_at};
+ghost use Rattle.flash_map.specs.Area.{sector_size, sectors_of, sector_at, ChangesOnly};
 ghost use Rattle.flash_map.specs.Spending.{SpendsBetween};
 ghost use Rattle.flash_map.specs.Touches.{Touches};
-ghost use Rattle.sector_ring.specs.Area.{next, is_blank_at, is_closed_at, open_sector};
-ghost use Rattle.sector_ring.specs.Forms.{AtRest, Collecting, to_copy};
+ghost use Rattle.ring_laws.specs.Area.{next, is_blank_at, is_closed_at, open_sector};
+ghost use Rattle.ring_laws.specs.Forms.{AtRest, Collecting, to_copy};
 ghost use Rattle.zms_cycle.specs.Changes.{StopsEmptying};
 ghost use Rattle.zms_cycle.specs.Sector.{cycle_of, valid_slots, is_sound, free};
 ghost use Rattle.zms_store.specs.Area.{reading, redo_of, IsPlaced};
-ghost use Rattle.zms_store.specs.Collecting.{ChangesOnly, is_live, live_in, Begins, HasCopied, StopsCopying, KeepsMarks, CopiesOne, cost_of, CollectsAt, TurnsAt};
+ghost use Rattle.zms_store.specs.Collecting.{is_live, live_in, Begins, HasCopied, StopsCopying, KeepsMarks, CopiesOne, cost_of, CollectsAt, TurnsAt};
 ghost use Rattle.zms_store.specs.Spending.{begin_units, copied, redo_units, Redoes, StopsRedoing, round_units, has_no_victim, close_units};
 ghost use Rattle.zms_store.specs.Standing.{IsZmsArea, IsUndamaged, KeepsItems};
 

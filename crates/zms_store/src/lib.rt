@@ -20,6 +20,4 @@ pub use sector::Placed;
 pub use store::Zms;
 
 #[cfg(test)]
-mod script_tests;
-#[cfg(test)]
 mod tests;

@@ -5,8 +5,8 @@ ghost use Rattle.std.specs.Option.{option_and_then};
 ghost use Rattle.flash_map.specs.declared.area.Role.TheVariants.{Zms};
 ghost use Rattle.flash_map.specs.Area.{sectors_of};
 ghost use Rattle.flash_map.specs.Lawful.{IsLawfulFor};
-ghost use Rattle.sector_ring.specs.Area.{open_sector};
-ghost use Rattle.slot_list.specs.Items.{last, value_of};
+ghost use Rattle.ring_laws.specs.Area.{open_sector};
+ghost use Rattle.pair_laws.specs.Items.{last, value_of};
 ghost use Rattle.zms_store.specs.Area.{reading, IsPlaced, counted_in, last_of, last_placed, list_of, placed_bytes};
 
 use crate::places::counts;

@@ -3,7 +3,7 @@ ghost use Rattle.std.specs.Prelude.{◌≡◌, ◌<◌, Some, None, IfOk, IfErr,
 ghost use Rattle.flash_map.specs.declared.area.Role.TheVariants.{Zms};
 ghost use Rattle.flash_map.specs.Area.{sectors_of};
 ghost use Rattle.flash_map.specs.Lawful.{IsLawfulFor};
-ghost use Rattle.sector_ring.specs.Area.{open_sector};
+ghost use Rattle.ring_laws.specs.Area.{open_sector};
 ghost use Rattle.zms_store.specs.Area.{reading, redo_of, damage_of};
 
 use crate::places::{Sought, first, marks_at};

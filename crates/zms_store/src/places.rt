@@ -4,7 +4,7 @@ ghost use Rattle.std.specs.List.{find, range_with_len};
 ghost use Rattle.flash_map.specs.declared.area.Role.TheVariants.{Zms};
 ghost use Rattle.flash_map.specs.Area.{sector_size, sectors_of, sector_at};
 ghost use Rattle.flash_map.specs.Lawful.{IsLawfulFor};
-ghost use Rattle.sector_ring.specs.Area.{counts_at, follows_closed};
+ghost use Rattle.ring_laws.specs.Area.{counts_at, follows_closed};
 ghost use Rattle.zms_store.specs.Area.{reading, marks_of, is_second_open, is_overfull_at};
 ghost use Rattle.zms_store.specs.Sought.{is_sought, NamesWithin};
 

@@ -3,14 +3,14 @@ ghost use Rattle.std.specs.Prelude.{◌≡◌, ◌+◌, ◌^◌, ◌<◌, ◌≤
 ghost use Rattle.std.specs.Option.{option_map};
 ghost use Rattle.std.specs.FinMap as map;
 ghost use Rattle.flash_map.specs.Area.{sectors_of, sector_at};
-ghost use Rattle.sector_ring.specs.Area.{open_sector};
-ghost use Rattle.sector_ring.specs.Rounds.{copies_cost, live_cost};
-ghost use Rattle.live_items.specs.NextIds.{is_between, Follows, IsAtMost, IsLeastOf};
+ghost use Rattle.ring_laws.specs.Area.{open_sector};
+ghost use Rattle.pair_laws.specs.Rounds.{copies_cost, live_cost};
+ghost use Rattle.ring_laws.specs.NextIds.{is_between, Follows, IsAtMost, IsLeastOf};
 ghost use Rattle.zms_cycle.specs.Sector.{cost, is_sound, pairs, valid_slots};
-ghost use Rattle.zms_store.specs.Area.{reading, all_placed, IsListed, IsPlaced, placed_bytes};
+ghost use Rattle.zms_store.specs.Area.{reading, IsListed, placed_bytes};
 ghost use Rattle.zms_store.specs.Collecting.{live_in, live_to, cost_of};
 ghost use Rattle.zms_store.specs.Ends.{IsNextId};
-ghost use Rattle.zms_store.specs.Standing.{IsZmsArea, StandsOn, list_on, items_on};
+ghost use Rattle.zms_store.specs.Standing.{IsZmsArea, StandsOn, IsPlacedOn, list_on, items_on, placed_on};
 ghost use Rattle.zms_store.specs.Walk.{IsNextOlder};
 
 use crate::collecting::live_in;
@@ -230,8 +230,8 @@ impl Zms {
         requires stands { StandsOn (F.device flash.now) self.now }
         requires inside { IfSome after (λ place. place.0 < self.now.area.sectors) }
 
-        ensures older { let d = F.device flash.now in IsNextOlder (all_placed (sectors_of d self.now.area)) after result }
-        ensures placed { let d = F.device flash.now in IfSome result (λ p. IsPlaced (sectors_of d self.now.area) self.now.current p) }
+        ensures older { IsNextOlder (placed_on (F.device flash.now) self.now.area) after result }
+        ensures placed { IfSome result (IsPlacedOn (F.device flash.now) self.now) }
     {
         walk(flash, &self.area, self.current, after, steps)
     }

@@ -1,14 +1,13 @@
 // The store, mounting, and closing with a collection.
 ghost use Rattle.std.specs.Prelude.{◌≡◌, ◌∷◌, [], true, false, is_err, OnOk, OnErr};
-ghost use Rattle.flash_map.specs.Area.{sector_size, sectors_of, sector_bytes};
+ghost use Rattle.flash_map.specs.Area.{sectors_of};
 ghost use Rattle.flash_map.specs.Spending.{SpendsBetween};
 ghost use Rattle.flash_map.specs.Touches.{Touches};
-ghost use Rattle.sector_ring.specs.Area.{is_blank_at};
-ghost use Rattle.zms_store.specs.Area.{reading, is_begun};
-ghost use Rattle.zms_store.specs.Collecting.{TurnsAt};
+ghost use Rattle.ring_laws.specs.Area.{is_blank_at};
+ghost use Rattle.zms_store.specs.Area.{reading};
 ghost use Rattle.flash_map.specs.Faults.{mount_lost};
 ghost use Rattle.zms_store.specs.Ends.{MountEnds};
-ghost use Rattle.zms_store.specs.Spending.{round_units, has_no_victim, close_units};
+ghost use Rattle.zms_store.specs.OnStore.{is_begun_on, has_no_victim_on, close_units_on, round_units_on, Turns};
 ghost use Rattle.zms_store.specs.Standing.{IsZmsArea, StandsOn, KeepsItems};
 
 use crate::collecting::{redo, round};
@@ -59,6 +58,13 @@ impl Zms {
         }
     }
 
+    /// The area that the store stands on.
+    pub fn area(&self) -> &Area
+        ensures { result.now ≡ self.now.area }
+    {
+        &self.area
+    }
+
     /// Whether no call answered that power was lost.
     pub fn is_up(&self) -> bool
         ensures { result ≡ self.now.up }
@@ -85,13 +91,14 @@ impl Zms {
 
         ensures stands { OnOk result (StandsOn (F.device flash.new) self.new) }
         ensures units { let d = F.device flash.old in
-            SpendsBetween d (F.device flash.new) 0 (round_units (sectors_of d self.old.area) self.old.current) }
-        ensures close_alone { let d = F.device flash.old in is_begun (sector_bytes d self.old.area self.old.current) ≡ true
-            → OnOk result (has_no_victim (sectors_of d self.old.area) self.old.current ≡ true → SpendsBetween d (F.device flash.new) 1 (close_units (sectors_of d self.old.area) self.old.current)) }
-        ensures close_alone_lost { let d = F.device flash.old in OnErr result (has_no_victim (sectors_of d self.old.area) self.old.current ≡ true → SpendsBetween d (F.device flash.new) 0 (close_units (sectors_of d self.old.area) self.old.current)) }
-        ensures turns { let d = F.device flash.old in is_begun (sector_bytes d self.old.area self.old.current) ≡ true
-            → OnOk result (TurnsAt (sector_size d self.old.area) (sectors_of d self.old.area) (sectors_of (F.device flash.new) self.old.area) self.old.current) }
-        ensures unused { let d = F.device flash.old in is_begun (sector_bytes d self.old.area self.old.current) ≡ false → F.device flash.new ≡ d }
+            SpendsBetween d (F.device flash.new) 0 (round_units_on d self.old) }
+        ensures close_alone { let d = F.device flash.old in is_begun_on d self.old ≡ true → OnOk result (
+            has_no_victim_on d self.old ≡ true → SpendsBetween d (F.device flash.new) 1 (close_units_on d self.old)) }
+        ensures close_alone_lost { let d = F.device flash.old in OnErr result (
+            has_no_victim_on d self.old ≡ true → SpendsBetween d (F.device flash.new) 0 (close_units_on d self.old)) }
+        ensures turns { let d = F.device flash.old in is_begun_on d self.old ≡ true
+            → OnOk result (Turns d (F.device flash.new) self.old) }
+        ensures unused { let d = F.device flash.old in is_begun_on d self.old ≡ false → F.device flash.new ≡ d }
 
         ensures down { OnErr result (self.new.up ≡ false) }
     {
@@ -116,11 +123,13 @@ impl Zms {
 
         ensures stands { OnOk result (StandsOn (F.device flash.new) self.new) }
         ensures turns { let d = F.device flash.old in
-            OnOk result (TurnsAt (sector_size d self.old.area) (sectors_of d self.old.area) (sectors_of (F.device flash.new) self.old.area) self.old.current) }
+            OnOk result (Turns d (F.device flash.new) self.old) }
         ensures units { let d = F.device flash.old in
-            SpendsBetween d (F.device flash.new) 0 (round_units (sectors_of d self.old.area) self.old.current) }
-        ensures close_alone { let d = F.device flash.old in OnOk result (has_no_victim (sectors_of d self.old.area) self.old.current ≡ true → SpendsBetween d (F.device flash.new) 1 (close_units (sectors_of d self.old.area) self.old.current)) }
-        ensures close_alone_lost { let d = F.device flash.old in OnErr result (has_no_victim (sectors_of d self.old.area) self.old.current ≡ true → SpendsBetween d (F.device flash.new) 0 (close_units (sectors_of d self.old.area) self.old.current)) }
+            SpendsBetween d (F.device flash.new) 0 (round_units_on d self.old) }
+        ensures close_alone { let d = F.device flash.old in OnOk result (
+            has_no_victim_on d self.old ≡ true → SpendsBetween d (F.device flash.new) 1 (close_units_on d self.old)) }
+        ensures close_alone_lost { let d = F.device flash.old in OnErr result (
+            has_no_victim_on d self.old ≡ true → SpendsBetween d (F.device flash.new) 0 (close_units_on d self.old)) }
 
         ensures down { OnErr result (self.new.up ≡ false) }
     {

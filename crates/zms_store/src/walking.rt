@@ -4,8 +4,8 @@ ghost use Rattle.std.specs.List.{flat_map, last_or, range_with_len};
 ghost use Rattle.flash_map.specs.declared.area.Role.TheVariants.{Zms};
 ghost use Rattle.flash_map.specs.Area.{sectors_of};
 ghost use Rattle.flash_map.specs.Lawful.{IsLawfulFor};
-ghost use Rattle.sector_ring.specs.Area.{open_sector};
-ghost use Rattle.sector_ring.specs.Walks.{places_before};
+ghost use Rattle.ring_laws.specs.Area.{open_sector};
+ghost use Rattle.ring_laws.specs.RoundParts.{places_before};
 ghost use Rattle.zms_store.specs.Area.{reading, placed_at, counted_in, all_placed, IsListed, IsPlaced};
 ghost use Rattle.zms_store.specs.Walk.{entries_within, counted_within, placed_up_to, IsNextOlder};
 

@@ -10,7 +10,13 @@ use Rattle.fcb_ring.specs.Standing.{KeepsEntries}
 use Rattle.fcb_ring.proofs.AppendLemmas.{is_err_by}
 use Rattle.backend_fcb.proofs.CopySteps.{keeps-then}
 use Rattle.backend_fcb.proofs.PutsCosts.{undamaged-kept}
-use Rattle.backend_fcb.proofs.Collected.{Begun, Copied, Ended, settings-kept, begun-undamaged, begun-end, begun-fresh, collected, collected-undamaged, collected-ready, collected-settings, after-used, begin-units, stop-units, end-units, copied-now}
+use Rattle.backend_fcb.proofs.Collected.{Copied, Ended, settings-kept, begun-undamaged, begun-end, begun-fresh, collected, collected-undamaged, collected-ready, collected-settings, after-used, begin-units, stop-units, end-units, copied-now}
+use Rattle.flash_map.proofs.PieceLemmas.{on_err}
+use Rattle.fcb_ring.specs.Chance.{HasNoChance}
+use Rattle.fcb_ring.specs.Changing.{next_place}
+use Rattle.fcb_ring.proofs.AreaLemmas.{area_after}
+use Rattle.fcb_ring.proofs.ChanceLemmas.{header-chance, erase-chance}
+use Rattle.backend_fcb.proofs.Tearing.{lost-then}
 use Rattle.backend_fcb.proofs.collecting.collect.Goals as goal
 
 pub returns-in_err-begin_collect-clause-settings : goal.returns-in_err-begin_collect-clause-settings
@@ -19,7 +25,7 @@ returns-in_err-begin_collect-clause-settings g c =
     let before : Ring = c.args.ring.now in
     let lawful = g.met.F.Flash.is_lawful c.args.flash.now in
     let b : Device = g.F.Flash.device c.begin_collect.new.flash in
-    settings-kept a b before.area c.in_err-begin_collect.ensures.list
+    settings-kept a b before.area c.in_err-begin_collect.ensures.stopped.list
 
 pub returns-in_err-begin_collect-clause-undamaged : goal.returns-in_err-begin_collect-clause-undamaged
 returns-in_err-begin_collect-clause-undamaged g c =
@@ -27,7 +33,7 @@ returns-in_err-begin_collect-clause-undamaged g c =
     let before : Ring = c.args.ring.now in
     let lawful = g.met.F.Flash.is_lawful c.args.flash.now in
     let b : Device = g.F.Flash.device c.begin_collect.new.flash in
-    undamaged-kept a b before.area lawful (g.met.F.Flash.is_lawful c.begin_collect.new.flash) c.requires.ready.stands.area c.in_err-begin_collect.ensures.touches.banks c.in_err-begin_collect.ensures.list c.requires.ready.undamaged
+    undamaged-kept a b before.area lawful (g.met.F.Flash.is_lawful c.begin_collect.new.flash) c.requires.ready.stands.area c.in_err-begin_collect.ensures.touches.banks c.in_err-begin_collect.ensures.stopped.list c.requires.ready.undamaged
 
 pub returns-in_err-begin_collect-clause-at_most : goal.returns-in_err-begin_collect-clause-at_most
 returns-in_err-begin_collect-clause-at_most g c =
@@ -35,7 +41,7 @@ returns-in_err-begin_collect-clause-at_most g c =
     let before : Ring = c.args.ring.now in
     let lawful = g.met.F.Flash.is_lawful c.args.flash.now in
     let b : Device = g.F.Flash.device c.begin_collect.new.flash in
-    begin-units a b before lawful c.requires.ready.stands c.in_err-begin_collect.ensures.bound
+    begin-units a b before lawful c.requires.ready.stands c.in_err-begin_collect.ensures.stopped.bound
 
 pub copy_live-requires-clause-undamaged : goal.copy_live-requires-clause-undamaged
 copy_live-requires-clause-undamaged g c =
@@ -44,9 +50,8 @@ copy_live-requires-clause-undamaged g c =
     let lawful = g.met.F.Flash.is_lawful c.args.flash.now in
     let b : Device = g.F.Flash.device c.begin_collect.new.flash in
     let ring : Ring = c.begin_collect.new.self in
-    let one = c.in_ok-begin_collect.ensures in
-    let begun : Begun a b before ring = record { banks = one.touches.banks; list = one.list; others = one.others; area = one.area; reserve = one.reserve; stands = one.stands; stage = one.collecting; goes_on = one.goes_on; end = one.end; fresh = one.no_copies } in
-    begun-undamaged a b before ring begun lawful (g.met.F.Flash.is_lawful c.begin_collect.new.flash) c.requires.ready
+    let one = c.in_ok-begin_collect.ensures.begun in
+    begun-undamaged a b before ring one lawful (g.met.F.Flash.is_lawful c.begin_collect.new.flash) c.requires.ready
 
 pub copy_live-requires-clause-no_copies : goal.copy_live-requires-clause-no_copies
 copy_live-requires-clause-no_copies g c =
@@ -55,9 +60,8 @@ copy_live-requires-clause-no_copies g c =
     let lawful = g.met.F.Flash.is_lawful c.args.flash.now in
     let b : Device = g.F.Flash.device c.begin_collect.new.flash in
     let ring : Ring = c.begin_collect.new.self in
-    let one = c.in_ok-begin_collect.ensures in
-    let begun : Begun a b before ring = record { banks = one.touches.banks; list = one.list; others = one.others; area = one.area; reserve = one.reserve; stands = one.stands; stage = one.collecting; goes_on = one.goes_on; end = one.end; fresh = one.no_copies } in
-    begun-fresh a b before ring begun
+    let one = c.in_ok-begin_collect.ensures.begun in
+    begun-fresh a b before ring one
 
 pub copy_live-requires-clause-end : goal.copy_live-requires-clause-end
 copy_live-requires-clause-end g c =
@@ -66,9 +70,8 @@ copy_live-requires-clause-end g c =
     let lawful = g.met.F.Flash.is_lawful c.args.flash.now in
     let b : Device = g.F.Flash.device c.begin_collect.new.flash in
     let ring : Ring = c.begin_collect.new.self in
-    let one = c.in_ok-begin_collect.ensures in
-    let begun : Begun a b before ring = record { banks = one.touches.banks; list = one.list; others = one.others; area = one.area; reserve = one.reserve; stands = one.stands; stage = one.collecting; goes_on = one.goes_on; end = one.end; fresh = one.no_copies } in
-    begun-end a b before ring begun
+    let one = c.in_ok-begin_collect.ensures.begun in
+    begun-end a b before ring one
 
 pub returns-in_err-copy_live-clause-settings : goal.returns-in_err-copy_live-clause-settings
 returns-in_err-copy_live-clause-settings g c =
@@ -77,8 +80,7 @@ returns-in_err-copy_live-clause-settings g c =
     let lawful = g.met.F.Flash.is_lawful c.args.flash.now in
     let b : Device = g.F.Flash.device c.begin_collect.new.flash in
     let ring : Ring = c.begin_collect.new.self in
-    let one = c.in_ok-begin_collect.ensures in
-    let begun : Begun a b before ring = record { banks = one.touches.banks; list = one.list; others = one.others; area = one.area; reserve = one.reserve; stands = one.stands; stage = one.collecting; goes_on = one.goes_on; end = one.end; fresh = one.no_copies } in
+    let one = c.in_ok-begin_collect.ensures.begun in
     let d : Device = g.F.Flash.device c.copy_live.new.flash in
     let now : Ring = c.copy_live.new.ring in
     let two = c.in_err-copy_live.ensures in
@@ -92,13 +94,12 @@ returns-in_err-copy_live-clause-undamaged g c =
     let lawful = g.met.F.Flash.is_lawful c.args.flash.now in
     let b : Device = g.F.Flash.device c.begin_collect.new.flash in
     let ring : Ring = c.begin_collect.new.self in
-    let one = c.in_ok-begin_collect.ensures in
-    let begun : Begun a b before ring = record { banks = one.touches.banks; list = one.list; others = one.others; area = one.area; reserve = one.reserve; stands = one.stands; stage = one.collecting; goes_on = one.goes_on; end = one.end; fresh = one.no_copies } in
+    let one = c.in_ok-begin_collect.ensures.begun in
     let d : Device = g.F.Flash.device c.copy_live.new.flash in
     let now : Ring = c.copy_live.new.ring in
     let two = c.in_err-copy_live.ensures in
     let kept : KeepsEntries a d before.area = keeps-then a b d before.area one.list (subst (λ (x : Area). KeepsEntries b d x) one.area two.list) in
-    undamaged-kept a d before.area lawful (g.met.F.Flash.is_lawful c.copy_live.new.flash) c.requires.ready.stands.area (two.touches.banks ∙ one.touches.banks) kept c.requires.ready.undamaged
+    undamaged-kept a d before.area lawful (g.met.F.Flash.is_lawful c.copy_live.new.flash) c.requires.ready.stands.area (two.touches.banks ∙ one.banks) kept c.requires.ready.undamaged
 
 pub returns-in_err-copy_live-clause-at_most : goal.returns-in_err-copy_live-clause-at_most
 returns-in_err-copy_live-clause-at_most g c =
@@ -107,13 +108,12 @@ returns-in_err-copy_live-clause-at_most g c =
     let lawful = g.met.F.Flash.is_lawful c.args.flash.now in
     let b : Device = g.F.Flash.device c.begin_collect.new.flash in
     let ring : Ring = c.begin_collect.new.self in
-    let one = c.in_ok-begin_collect.ensures in
-    let begun : Begun a b before ring = record { banks = one.touches.banks; list = one.list; others = one.others; area = one.area; reserve = one.reserve; stands = one.stands; stage = one.collecting; goes_on = one.goes_on; end = one.end; fresh = one.no_copies } in
+    let one = c.in_ok-begin_collect.ensures.begun in
     let d : Device = g.F.Flash.device c.copy_live.new.flash in
     let now : Ring = c.copy_live.new.ring in
     let two = c.in_err-copy_live.ensures in
     let kept : KeepsEntries a d before.area = keeps-then a b d before.area one.list (subst (λ (x : Area). KeepsEntries b d x) one.area two.list) in
-    stop-units a b before ring lawful c.requires.ready.stands begun one.units d now two.stops
+    stop-units a b before ring lawful c.requires.ready.stands one one.units d now two.stops
 
 pub end_collect-requires-clause-stands : goal.end_collect-requires-clause-stands
 end_collect-requires-clause-stands g c =
@@ -122,13 +122,12 @@ end_collect-requires-clause-stands g c =
     let lawful = g.met.F.Flash.is_lawful c.args.flash.now in
     let b : Device = g.F.Flash.device c.begin_collect.new.flash in
     let ring : Ring = c.begin_collect.new.self in
-    let one = c.in_ok-begin_collect.ensures in
-    let begun : Begun a b before ring = record { banks = one.touches.banks; list = one.list; others = one.others; area = one.area; reserve = one.reserve; stands = one.stands; stage = one.collecting; goes_on = one.goes_on; end = one.end; fresh = one.no_copies } in
+    let one = c.in_ok-begin_collect.ensures.begun in
     let d : Device = g.F.Flash.device c.copy_live.new.flash in
     let now : Ring = c.copy_live.new.ring in
     let two = c.in_ok-copy_live.ensures in
     let copied : Copied b d ring now = record { banks = two.touches.banks; list = two.list; others = two.others; area = two.area; reserve = two.reserve; copies = two.copies } in
-    let copies = copied-now b d ring now one.stands one.collecting two.copies in
+    let copies = copied-now b d ring now one.stands one.stage two.copies in
     copies.1.stands
 
 pub end_collect-requires-clause-collecting : goal.end_collect-requires-clause-collecting
@@ -138,13 +137,12 @@ end_collect-requires-clause-collecting g c =
     let lawful = g.met.F.Flash.is_lawful c.args.flash.now in
     let b : Device = g.F.Flash.device c.begin_collect.new.flash in
     let ring : Ring = c.begin_collect.new.self in
-    let one = c.in_ok-begin_collect.ensures in
-    let begun : Begun a b before ring = record { banks = one.touches.banks; list = one.list; others = one.others; area = one.area; reserve = one.reserve; stands = one.stands; stage = one.collecting; goes_on = one.goes_on; end = one.end; fresh = one.no_copies } in
+    let one = c.in_ok-begin_collect.ensures.begun in
     let d : Device = g.F.Flash.device c.copy_live.new.flash in
     let now : Ring = c.copy_live.new.ring in
     let two = c.in_ok-copy_live.ensures in
     let copied : Copied b d ring now = record { banks = two.touches.banks; list = two.list; others = two.others; area = two.area; reserve = two.reserve; copies = two.copies } in
-    let copies = copied-now b d ring now one.stands one.collecting two.copies in
+    let copies = copied-now b d ring now one.stands one.stage two.copies in
     copies.1.stage
 
 pub returns-in_err-end_collect-clause-touches : goal.returns-in_err-end_collect-clause-touches
@@ -154,18 +152,17 @@ returns-in_err-end_collect-clause-touches g c =
     let lawful = g.met.F.Flash.is_lawful c.args.flash.now in
     let b : Device = g.F.Flash.device c.begin_collect.new.flash in
     let ring : Ring = c.begin_collect.new.self in
-    let one = c.in_ok-begin_collect.ensures in
-    let begun : Begun a b before ring = record { banks = one.touches.banks; list = one.list; others = one.others; area = one.area; reserve = one.reserve; stands = one.stands; stage = one.collecting; goes_on = one.goes_on; end = one.end; fresh = one.no_copies } in
+    let one = c.in_ok-begin_collect.ensures.begun in
     let d : Device = g.F.Flash.device c.copy_live.new.flash in
     let now : Ring = c.copy_live.new.ring in
     let two = c.in_ok-copy_live.ensures in
     let copied : Copied b d ring now = record { banks = two.touches.banks; list = two.list; others = two.others; area = two.area; reserve = two.reserve; copies = two.copies } in
-    let copies = copied-now b d ring now one.stands one.collecting two.copies in
+    let copies = copied-now b d ring now one.stands one.stage two.copies in
     let e : Device = g.F.Flash.device c.end_collect.new.flash in
     let three = c.in_err-end_collect.ensures in
     let kept : KeepsEntries a e before.area = keeps-then a d e before.area (keeps-then a b d before.area one.list (subst (λ (x : Area). KeepsEntries b d x) one.area two.list)) (subst (λ (x : Area). KeepsEntries d e x) (two.area ∙ one.area) three.list) in
     is_err_by c.from_residual-in_err-end_collect.result (Touches (before.area ∷ []) a e) c.from_residual-in_err-end_collect.ensures.0
-    (then (then one.touches (subst (λ (x : Area). Touches (x ∷ []) b d false) one.area two.touches)) (subst (λ (x : Area). Touches (x ∷ []) d e true) (two.area ∙ one.area) three.touches))
+    (then (then c.in_ok-begin_collect.ensures.touches (subst (λ (x : Area). Touches (x ∷ []) b d false) one.area two.touches)) (subst (λ (x : Area). Touches (x ∷ []) d e true) (two.area ∙ one.area) three.touches))
 
 pub returns-in_err-end_collect-clause-settings : goal.returns-in_err-end_collect-clause-settings
 returns-in_err-end_collect-clause-settings g c =
@@ -174,13 +171,12 @@ returns-in_err-end_collect-clause-settings g c =
     let lawful = g.met.F.Flash.is_lawful c.args.flash.now in
     let b : Device = g.F.Flash.device c.begin_collect.new.flash in
     let ring : Ring = c.begin_collect.new.self in
-    let one = c.in_ok-begin_collect.ensures in
-    let begun : Begun a b before ring = record { banks = one.touches.banks; list = one.list; others = one.others; area = one.area; reserve = one.reserve; stands = one.stands; stage = one.collecting; goes_on = one.goes_on; end = one.end; fresh = one.no_copies } in
+    let one = c.in_ok-begin_collect.ensures.begun in
     let d : Device = g.F.Flash.device c.copy_live.new.flash in
     let now : Ring = c.copy_live.new.ring in
     let two = c.in_ok-copy_live.ensures in
     let copied : Copied b d ring now = record { banks = two.touches.banks; list = two.list; others = two.others; area = two.area; reserve = two.reserve; copies = two.copies } in
-    let copies = copied-now b d ring now one.stands one.collecting two.copies in
+    let copies = copied-now b d ring now one.stands one.stage two.copies in
     let e : Device = g.F.Flash.device c.end_collect.new.flash in
     let three = c.in_err-end_collect.ensures in
     let kept : KeepsEntries a e before.area = keeps-then a d e before.area (keeps-then a b d before.area one.list (subst (λ (x : Area). KeepsEntries b d x) one.area two.list)) (subst (λ (x : Area). KeepsEntries d e x) (two.area ∙ one.area) three.list) in
@@ -193,17 +189,16 @@ returns-in_err-end_collect-clause-undamaged g c =
     let lawful = g.met.F.Flash.is_lawful c.args.flash.now in
     let b : Device = g.F.Flash.device c.begin_collect.new.flash in
     let ring : Ring = c.begin_collect.new.self in
-    let one = c.in_ok-begin_collect.ensures in
-    let begun : Begun a b before ring = record { banks = one.touches.banks; list = one.list; others = one.others; area = one.area; reserve = one.reserve; stands = one.stands; stage = one.collecting; goes_on = one.goes_on; end = one.end; fresh = one.no_copies } in
+    let one = c.in_ok-begin_collect.ensures.begun in
     let d : Device = g.F.Flash.device c.copy_live.new.flash in
     let now : Ring = c.copy_live.new.ring in
     let two = c.in_ok-copy_live.ensures in
     let copied : Copied b d ring now = record { banks = two.touches.banks; list = two.list; others = two.others; area = two.area; reserve = two.reserve; copies = two.copies } in
-    let copies = copied-now b d ring now one.stands one.collecting two.copies in
+    let copies = copied-now b d ring now one.stands one.stage two.copies in
     let e : Device = g.F.Flash.device c.end_collect.new.flash in
     let three = c.in_err-end_collect.ensures in
     let kept : KeepsEntries a e before.area = keeps-then a d e before.area (keeps-then a b d before.area one.list (subst (λ (x : Area). KeepsEntries b d x) one.area two.list)) (subst (λ (x : Area). KeepsEntries d e x) (two.area ∙ one.area) three.list) in
-    undamaged-kept a e before.area lawful (g.met.F.Flash.is_lawful c.end_collect.new.flash) c.requires.ready.stands.area (three.touches.banks ∙ two.touches.banks ∙ one.touches.banks) kept c.requires.ready.undamaged
+    undamaged-kept a e before.area lawful (g.met.F.Flash.is_lawful c.end_collect.new.flash) c.requires.ready.stands.area (three.touches.banks ∙ two.touches.banks ∙ one.banks) kept c.requires.ready.undamaged
 
 pub returns-in_err-end_collect-clause-at_most : goal.returns-in_err-end_collect-clause-at_most
 returns-in_err-end_collect-clause-at_most g c =
@@ -212,17 +207,16 @@ returns-in_err-end_collect-clause-at_most g c =
     let lawful = g.met.F.Flash.is_lawful c.args.flash.now in
     let b : Device = g.F.Flash.device c.begin_collect.new.flash in
     let ring : Ring = c.begin_collect.new.self in
-    let one = c.in_ok-begin_collect.ensures in
-    let begun : Begun a b before ring = record { banks = one.touches.banks; list = one.list; others = one.others; area = one.area; reserve = one.reserve; stands = one.stands; stage = one.collecting; goes_on = one.goes_on; end = one.end; fresh = one.no_copies } in
+    let one = c.in_ok-begin_collect.ensures.begun in
     let d : Device = g.F.Flash.device c.copy_live.new.flash in
     let now : Ring = c.copy_live.new.ring in
     let two = c.in_ok-copy_live.ensures in
     let copied : Copied b d ring now = record { banks = two.touches.banks; list = two.list; others = two.others; area = two.area; reserve = two.reserve; copies = two.copies } in
-    let copies = copied-now b d ring now one.stands one.collecting two.copies in
+    let copies = copied-now b d ring now one.stands one.stage two.copies in
     let e : Device = g.F.Flash.device c.end_collect.new.flash in
     let three = c.in_err-end_collect.ensures in
     let kept : KeepsEntries a e before.area = keeps-then a d e before.area (keeps-then a b d before.area one.list (subst (λ (x : Area). KeepsEntries b d x) one.area two.list)) (subst (λ (x : Area). KeepsEntries d e x) (two.area ∙ one.area) three.list) in
-    end-units a b before ring lawful c.requires.ready.stands begun one.units d e now copies.0 (g.met.F.Flash.is_lawful c.copy_live.new.flash) two.touches.banks two.area copies.1 three.bound
+    end-units a b before ring lawful c.requires.ready.stands one one.units d e now copies.0 (g.met.F.Flash.is_lawful c.copy_live.new.flash) two.touches.banks two.area copies.1 three.bound
 
 pub returns-clause-touches : goal.returns-clause-touches
 returns-clause-touches g c =
@@ -231,19 +225,18 @@ returns-clause-touches g c =
     let lawful = g.met.F.Flash.is_lawful c.args.flash.now in
     let b : Device = g.F.Flash.device c.begin_collect.new.flash in
     let ring : Ring = c.begin_collect.new.self in
-    let one = c.in_ok-begin_collect.ensures in
-    let begun : Begun a b before ring = record { banks = one.touches.banks; list = one.list; others = one.others; area = one.area; reserve = one.reserve; stands = one.stands; stage = one.collecting; goes_on = one.goes_on; end = one.end; fresh = one.no_copies } in
+    let one = c.in_ok-begin_collect.ensures.begun in
     let d : Device = g.F.Flash.device c.copy_live.new.flash in
     let now : Ring = c.copy_live.new.ring in
     let two = c.in_ok-copy_live.ensures in
     let copied : Copied b d ring now = record { banks = two.touches.banks; list = two.list; others = two.others; area = two.area; reserve = two.reserve; copies = two.copies } in
-    let copies = copied-now b d ring now one.stands one.collecting two.copies in
+    let copies = copied-now b d ring now one.stands one.stage two.copies in
     let e : Device = g.F.Flash.device c.end_collect.new.flash in
     let after : Ring = c.end_collect.new.self in
     let three = c.in_ok-end_collect.ensures in
     let ended : Ended d e now after = record { banks = three.touches.banks; others = three.others; area = three.area; reserve = three.reserve; stands = three.stands; ready = three.ready; end = three.end; oldest = three.ends.oldest; used = three.ends.used } in
     let left : before.used + 1 ≡ before.area.sectors = eqb-true (before.used + 1) before.area.sectors c.requires.left in
-    then (then one.touches (subst (λ (x : Area). Touches (x ∷ []) b d false) one.area two.touches)) (subst (λ (x : Area). Touches (x ∷ []) d e false) (two.area ∙ one.area) three.touches)
+    then (then c.in_ok-begin_collect.ensures.touches (subst (λ (x : Area). Touches (x ∷ []) b d false) one.area two.touches)) (subst (λ (x : Area). Touches (x ∷ []) d e false) (two.area ∙ one.area) three.touches)
 
 pub returns-clause-area : goal.returns-clause-area
 returns-clause-area g c =
@@ -252,13 +245,12 @@ returns-clause-area g c =
     let lawful = g.met.F.Flash.is_lawful c.args.flash.now in
     let b : Device = g.F.Flash.device c.begin_collect.new.flash in
     let ring : Ring = c.begin_collect.new.self in
-    let one = c.in_ok-begin_collect.ensures in
-    let begun : Begun a b before ring = record { banks = one.touches.banks; list = one.list; others = one.others; area = one.area; reserve = one.reserve; stands = one.stands; stage = one.collecting; goes_on = one.goes_on; end = one.end; fresh = one.no_copies } in
+    let one = c.in_ok-begin_collect.ensures.begun in
     let d : Device = g.F.Flash.device c.copy_live.new.flash in
     let now : Ring = c.copy_live.new.ring in
     let two = c.in_ok-copy_live.ensures in
     let copied : Copied b d ring now = record { banks = two.touches.banks; list = two.list; others = two.others; area = two.area; reserve = two.reserve; copies = two.copies } in
-    let copies = copied-now b d ring now one.stands one.collecting two.copies in
+    let copies = copied-now b d ring now one.stands one.stage two.copies in
     let e : Device = g.F.Flash.device c.end_collect.new.flash in
     let after : Ring = c.end_collect.new.self in
     let three = c.in_ok-end_collect.ensures in
@@ -273,19 +265,18 @@ returns-clause-settings g c =
     let lawful = g.met.F.Flash.is_lawful c.args.flash.now in
     let b : Device = g.F.Flash.device c.begin_collect.new.flash in
     let ring : Ring = c.begin_collect.new.self in
-    let one = c.in_ok-begin_collect.ensures in
-    let begun : Begun a b before ring = record { banks = one.touches.banks; list = one.list; others = one.others; area = one.area; reserve = one.reserve; stands = one.stands; stage = one.collecting; goes_on = one.goes_on; end = one.end; fresh = one.no_copies } in
+    let one = c.in_ok-begin_collect.ensures.begun in
     let d : Device = g.F.Flash.device c.copy_live.new.flash in
     let now : Ring = c.copy_live.new.ring in
     let two = c.in_ok-copy_live.ensures in
     let copied : Copied b d ring now = record { banks = two.touches.banks; list = two.list; others = two.others; area = two.area; reserve = two.reserve; copies = two.copies } in
-    let copies = copied-now b d ring now one.stands one.collecting two.copies in
+    let copies = copied-now b d ring now one.stands one.stage two.copies in
     let e : Device = g.F.Flash.device c.end_collect.new.flash in
     let after : Ring = c.end_collect.new.self in
     let three = c.in_ok-end_collect.ensures in
     let ended : Ended d e now after = record { banks = three.touches.banks; others = three.others; area = three.area; reserve = three.reserve; stands = three.stands; ready = three.ready; end = three.end; oldest = three.ends.oldest; used = three.ends.used } in
     let left : before.used + 1 ≡ before.area.sectors = eqb-true (before.used + 1) before.area.sectors c.requires.left in
-    collected-settings a b d e before ring now after c.requires.ready left lawful begun copied ended
+    collected-settings a b d e before ring now after c.requires.ready left lawful one copied ended
 
 pub returns-clause-undamaged : goal.returns-clause-undamaged
 returns-clause-undamaged g c =
@@ -294,19 +285,18 @@ returns-clause-undamaged g c =
     let lawful = g.met.F.Flash.is_lawful c.args.flash.now in
     let b : Device = g.F.Flash.device c.begin_collect.new.flash in
     let ring : Ring = c.begin_collect.new.self in
-    let one = c.in_ok-begin_collect.ensures in
-    let begun : Begun a b before ring = record { banks = one.touches.banks; list = one.list; others = one.others; area = one.area; reserve = one.reserve; stands = one.stands; stage = one.collecting; goes_on = one.goes_on; end = one.end; fresh = one.no_copies } in
+    let one = c.in_ok-begin_collect.ensures.begun in
     let d : Device = g.F.Flash.device c.copy_live.new.flash in
     let now : Ring = c.copy_live.new.ring in
     let two = c.in_ok-copy_live.ensures in
     let copied : Copied b d ring now = record { banks = two.touches.banks; list = two.list; others = two.others; area = two.area; reserve = two.reserve; copies = two.copies } in
-    let copies = copied-now b d ring now one.stands one.collecting two.copies in
+    let copies = copied-now b d ring now one.stands one.stage two.copies in
     let e : Device = g.F.Flash.device c.end_collect.new.flash in
     let after : Ring = c.end_collect.new.self in
     let three = c.in_ok-end_collect.ensures in
     let ended : Ended d e now after = record { banks = three.touches.banks; others = three.others; area = three.area; reserve = three.reserve; stands = three.stands; ready = three.ready; end = three.end; oldest = three.ends.oldest; used = three.ends.used } in
     let left : before.used + 1 ≡ before.area.sectors = eqb-true (before.used + 1) before.area.sectors c.requires.left in
-    collected-undamaged a b d e before ring now after c.requires.ready left lawful begun copied ended (g.met.F.Flash.is_lawful c.end_collect.new.flash)
+    collected-undamaged a b d e before ring now after c.requires.ready left lawful one copied ended (g.met.F.Flash.is_lawful c.end_collect.new.flash)
 
 pub returns-clause-at_most : goal.returns-clause-at_most
 returns-clause-at_most g c =
@@ -315,19 +305,18 @@ returns-clause-at_most g c =
     let lawful = g.met.F.Flash.is_lawful c.args.flash.now in
     let b : Device = g.F.Flash.device c.begin_collect.new.flash in
     let ring : Ring = c.begin_collect.new.self in
-    let one = c.in_ok-begin_collect.ensures in
-    let begun : Begun a b before ring = record { banks = one.touches.banks; list = one.list; others = one.others; area = one.area; reserve = one.reserve; stands = one.stands; stage = one.collecting; goes_on = one.goes_on; end = one.end; fresh = one.no_copies } in
+    let one = c.in_ok-begin_collect.ensures.begun in
     let d : Device = g.F.Flash.device c.copy_live.new.flash in
     let now : Ring = c.copy_live.new.ring in
     let two = c.in_ok-copy_live.ensures in
     let copied : Copied b d ring now = record { banks = two.touches.banks; list = two.list; others = two.others; area = two.area; reserve = two.reserve; copies = two.copies } in
-    let copies = copied-now b d ring now one.stands one.collecting two.copies in
+    let copies = copied-now b d ring now one.stands one.stage two.copies in
     let e : Device = g.F.Flash.device c.end_collect.new.flash in
     let after : Ring = c.end_collect.new.self in
     let three = c.in_ok-end_collect.ensures in
     let ended : Ended d e now after = record { banks = three.touches.banks; others = three.others; area = three.area; reserve = three.reserve; stands = three.stands; ready = three.ready; end = three.end; oldest = three.ends.oldest; used = three.ends.used } in
     let left : before.used + 1 ≡ before.area.sectors = eqb-true (before.used + 1) before.area.sectors c.requires.left in
-    end-units a b before ring lawful c.requires.ready.stands begun one.units d e now copies.0 (g.met.F.Flash.is_lawful c.copy_live.new.flash) two.touches.banks two.area copies.1 (spends_most d e 1 three.units)
+    end-units a b before ring lawful c.requires.ready.stands one one.units d e now copies.0 (g.met.F.Flash.is_lawful c.copy_live.new.flash) two.touches.banks two.area copies.1 (spends_most d e 1 three.units)
 
 pub returns-clause-ready : goal.returns-clause-ready
 returns-clause-ready g c =
@@ -336,19 +325,18 @@ returns-clause-ready g c =
     let lawful = g.met.F.Flash.is_lawful c.args.flash.now in
     let b : Device = g.F.Flash.device c.begin_collect.new.flash in
     let ring : Ring = c.begin_collect.new.self in
-    let one = c.in_ok-begin_collect.ensures in
-    let begun : Begun a b before ring = record { banks = one.touches.banks; list = one.list; others = one.others; area = one.area; reserve = one.reserve; stands = one.stands; stage = one.collecting; goes_on = one.goes_on; end = one.end; fresh = one.no_copies } in
+    let one = c.in_ok-begin_collect.ensures.begun in
     let d : Device = g.F.Flash.device c.copy_live.new.flash in
     let now : Ring = c.copy_live.new.ring in
     let two = c.in_ok-copy_live.ensures in
     let copied : Copied b d ring now = record { banks = two.touches.banks; list = two.list; others = two.others; area = two.area; reserve = two.reserve; copies = two.copies } in
-    let copies = copied-now b d ring now one.stands one.collecting two.copies in
+    let copies = copied-now b d ring now one.stands one.stage two.copies in
     let e : Device = g.F.Flash.device c.end_collect.new.flash in
     let after : Ring = c.end_collect.new.self in
     let three = c.in_ok-end_collect.ensures in
     let ended : Ended d e now after = record { banks = three.touches.banks; others = three.others; area = three.area; reserve = three.reserve; stands = three.stands; ready = three.ready; end = three.end; oldest = three.ends.oldest; used = three.ends.used } in
     let left : before.used + 1 ≡ before.area.sectors = eqb-true (before.used + 1) before.area.sectors c.requires.left in
-    collected-ready a b d e before ring now after c.requires.ready left lawful begun copied ended (g.met.F.Flash.is_lawful c.end_collect.new.flash)
+    collected-ready a b d e before ring now after c.requires.ready left lawful one copied ended (g.met.F.Flash.is_lawful c.end_collect.new.flash)
 
 pub returns-clause-collects : goal.returns-clause-collects
 returns-clause-collects g c =
@@ -357,19 +345,18 @@ returns-clause-collects g c =
     let lawful = g.met.F.Flash.is_lawful c.args.flash.now in
     let b : Device = g.F.Flash.device c.begin_collect.new.flash in
     let ring : Ring = c.begin_collect.new.self in
-    let one = c.in_ok-begin_collect.ensures in
-    let begun : Begun a b before ring = record { banks = one.touches.banks; list = one.list; others = one.others; area = one.area; reserve = one.reserve; stands = one.stands; stage = one.collecting; goes_on = one.goes_on; end = one.end; fresh = one.no_copies } in
+    let one = c.in_ok-begin_collect.ensures.begun in
     let d : Device = g.F.Flash.device c.copy_live.new.flash in
     let now : Ring = c.copy_live.new.ring in
     let two = c.in_ok-copy_live.ensures in
     let copied : Copied b d ring now = record { banks = two.touches.banks; list = two.list; others = two.others; area = two.area; reserve = two.reserve; copies = two.copies } in
-    let copies = copied-now b d ring now one.stands one.collecting two.copies in
+    let copies = copied-now b d ring now one.stands one.stage two.copies in
     let e : Device = g.F.Flash.device c.end_collect.new.flash in
     let after : Ring = c.end_collect.new.self in
     let three = c.in_ok-end_collect.ensures in
     let ended : Ended d e now after = record { banks = three.touches.banks; others = three.others; area = three.area; reserve = three.reserve; stands = three.stands; ready = three.ready; end = three.end; oldest = three.ends.oldest; used = three.ends.used } in
     let left : before.used + 1 ≡ before.area.sectors = eqb-true (before.used + 1) before.area.sectors c.requires.left in
-    collected a b d e before ring now after c.requires.ready left lawful begun copied ended
+    collected a b d e before ring now after c.requires.ready left lawful one copied ended
 
 pub returns-clause-used : goal.returns-clause-used
 returns-clause-used g c =
@@ -378,16 +365,39 @@ returns-clause-used g c =
     let lawful = g.met.F.Flash.is_lawful c.args.flash.now in
     let b : Device = g.F.Flash.device c.begin_collect.new.flash in
     let ring : Ring = c.begin_collect.new.self in
-    let one = c.in_ok-begin_collect.ensures in
-    let begun : Begun a b before ring = record { banks = one.touches.banks; list = one.list; others = one.others; area = one.area; reserve = one.reserve; stands = one.stands; stage = one.collecting; goes_on = one.goes_on; end = one.end; fresh = one.no_copies } in
+    let one = c.in_ok-begin_collect.ensures.begun in
     let d : Device = g.F.Flash.device c.copy_live.new.flash in
     let now : Ring = c.copy_live.new.ring in
     let two = c.in_ok-copy_live.ensures in
     let copied : Copied b d ring now = record { banks = two.touches.banks; list = two.list; others = two.others; area = two.area; reserve = two.reserve; copies = two.copies } in
-    let copies = copied-now b d ring now one.stands one.collecting two.copies in
+    let copies = copied-now b d ring now one.stands one.stage two.copies in
     let e : Device = g.F.Flash.device c.end_collect.new.flash in
     let after : Ring = c.end_collect.new.self in
     let three = c.in_ok-end_collect.ensures in
     let ended : Ended d e now after = record { banks = three.touches.banks; others = three.others; area = three.area; reserve = three.reserve; stands = three.stands; ready = three.ready; end = three.end; oldest = three.ends.oldest; used = three.ends.used } in
     let left : before.used + 1 ≡ before.area.sectors = eqb-true (before.used + 1) before.area.sectors c.requires.left in
-    after-used a b d e before ring now after c.requires.ready left lawful begun copied ended
+    after-used a b d e before ring now after c.requires.ready left lawful one copied ended
+
+pub returns-in_err-begin_collect-clause-lost : goal.returns-in_err-begin_collect-clause-lost
+returns-in_err-begin_collect-clause-lost g c =
+    let b : Device = g.F.Flash.device c.begin_collect.new.flash in
+    on_err c.from_residual.result (λ on. header-chance b c.args.ring.now.area (g.met.F.Flash.is_lawful c.begin_collect.new.flash) (area_after (g.F.Flash.device c.args.flash.now) b c.args.ring.now.area c.in_err-begin_collect.ensures.touches.banks c.requires.ready.stands.area) (next_place c.args.ring.now) (c.in_err-begin_collect.ensures.stopped.lost on))
+
+pub returns-in_err-copy_live-clause-lost : goal.returns-in_err-copy_live-clause-lost
+returns-in_err-copy_live-clause-lost g c =
+    let one = c.in_ok-begin_collect.ensures.begun in
+    on_err c.from_residual-in_err-copy_live.result (lost-then (g.F.Flash.device c.args.flash.now) (g.F.Flash.device c.begin_collect.new.flash) (g.F.Flash.device c.copy_live.new.flash) c.args.ring.now.area c.begin_collect.new.self.area c.in_ok-begin_collect.ensures.touches one.area c.in_err-copy_live.ensures.lost)
+
+pub returns-in_err-end_collect-clause-lost : goal.returns-in_err-end_collect-clause-lost
+returns-in_err-end_collect-clause-lost g c =
+    let a : Device = g.F.Flash.device c.args.flash.now in
+    let b : Device = g.F.Flash.device c.begin_collect.new.flash in
+    let d : Device = g.F.Flash.device c.copy_live.new.flash in
+    let e : Device = g.F.Flash.device c.end_collect.new.flash in
+    let area : Area = c.args.ring.now.area in
+    let one = c.in_ok-begin_collect.ensures.begun in
+    let two = c.in_ok-copy_live.ensures in
+    let three = c.in_err-end_collect.ensures in
+    let touches : Touches (area ∷ []) a d false = then c.in_ok-begin_collect.ensures.touches (subst (λ (x : Area). Touches (x ∷ []) b d false) one.area two.touches) in
+    let erase : (on : d.is_on ≡ true) → HasNoChance e c.copy_live.new.ring.area = λ on. erase-chance e c.copy_live.new.ring.area (g.met.F.Flash.is_lawful c.end_collect.new.flash) (area_after d e c.copy_live.new.ring.area three.touches.banks (copied-now b d c.begin_collect.new.self c.copy_live.new.ring one.stands one.stage two.copies).1.stands.area) c.copy_live.new.ring.oldest (three.lost on) in
+    on_err c.from_residual-in_err-end_collect.result (lost-then a d e area c.copy_live.new.ring.area touches (two.area ∙ one.area) erase)

@@ -1,4 +1,5 @@
 use Rattle.std.proofs.Common.{◌≡◌, ◌<◌, List, Option, Some, None, sym, ap, subst, ◌∙◌}
+use Rattle.flash_map.specs.Area.{value_limit}
 use Rattle.std.specs.Prelude.{Contains}
 use Rattle.flash_sim.specs.Device.{Device}
 use Rattle.flash_map.specs.declared.area.Area.{Area}
@@ -7,8 +8,9 @@ use Rattle.fcb_ring.specs.declared.record.RecordAt.{RecordAt}
 use Rattle.fcb_ring.specs.declared.ring.Ring.{Ring}
 use Rattle.fcb_ring.specs.Standing.{IsNext, entries_on, record_places}
 use Rattle.fcb_ring.specs.Entries.{bodies}
-use Rattle.settings_list.specs.Live.{live_bodies}
-use Rattle.backend_fcb.proofs.CopySteps.{IsCopying, copying-start, copying-listed, copying-fits, copying-step, copying-end, copying-stands, stops-then, stops-none, stops-other, oldest-some, is-other, is-oldest}
+use Rattle.settings_laws.specs.Live.{live_bodies}
+use Rattle.backend_fcb.proofs.CopySteps.{IsCopying, copying-others, copying-start, copying-listed, copying-fits, copying-step, copying-end, copying-stands, stops-then, stops-none, stops-other, oldest-some, is-other, is-oldest}
+use Rattle.backend_fcb.proofs.Tearing.{lost-then}
 use Rattle.backend_fcb.proofs.WalkLemmas.{Entry, left_at, for-listed, at-smaller}
 use Rattle.backend_fcb.proofs.collecting.copy_live.Goals as goal
 
@@ -58,7 +60,7 @@ returns-in_err-copy_if_live-clause-stops g c =
     let so_far : IsCopying (g.F.Flash.device c.args.flash.now) (g.F.Flash.device c.loop-at.flash) c.args.ring.now c.loop-at.ring (Some c.in-Some.entry) =
     subst (λ (o : Option RecordAt). IsCopying (g.F.Flash.device c.args.flash.now) (g.F.Flash.device c.loop-at.flash) c.args.ring.now c.loop-at.ring o) c.in-Some.is c.loop-at.invariant in
     let e : Device = g.F.Flash.device c.copy_if_live.new.flash in
-    on_err c.from_residual.result (stops-then a d e before now c.copy_if_live.new.ring (live_bodies (bodies so_far.done) (bodies so_far.later)) so_far.touches.banks so_far.area so_far.copies c.in_err-copy_if_live.ensures.stops)
+    on_err c.from_residual.result (stops-then a d e before now c.copy_if_live.new.ring (live_bodies (value_limit c.args.ring.now.area) (bodies so_far.done) (bodies so_far.later)) so_far.touches.banks so_far.area so_far.copies c.in_err-copy_if_live.ensures.stops)
 
 pub next-at-requires-in-Some-clause-stands : goal.next-at-requires-in-Some-clause-stands
 next-at-requires-in-Some-clause-stands g c =
@@ -124,3 +126,20 @@ returns-clause-copies g c =
     let so_far : IsCopying (g.F.Flash.device c.args.flash.now) (g.F.Flash.device c.loop-at.flash) c.args.ring.now c.loop-at.ring None =
     subst (λ (o : Option RecordAt). IsCopying (g.F.Flash.device c.args.flash.now) (g.F.Flash.device c.loop-at.flash) c.args.ring.now c.loop-at.ring o) c.in_default.is c.loop-at.invariant in
     copying-end a d before now None c.requires.stands c.requires.collecting so_far (stops-none a d before now so_far)
+
+pub returns-in_err-copy_if_live-clause-lost : goal.returns-in_err-copy_if_live-clause-lost
+returns-in_err-copy_if_live-clause-lost g c =
+    let a : Device = g.F.Flash.device c.args.flash.now in
+    let d : Device = g.F.Flash.device c.loop-at.flash in
+    let before : Ring = c.args.ring.now in
+    let now : Ring = c.loop-at.ring in
+    let so_far : IsCopying a d c.args.ring.now c.loop-at.ring (Some c.in-Some.entry) = subst (λ (o : Option RecordAt). IsCopying a d c.args.ring.now c.loop-at.ring o) c.in-Some.is c.loop-at.invariant in
+    let e : Device = g.F.Flash.device c.copy_if_live.new.flash in
+    on_err c.from_residual.result (lost-then a d e before.area now.area so_far.touches so_far.area c.in_err-copy_if_live.ensures.lost)
+
+pub returns-in_err-copy_if_live-clause-others : goal.returns-in_err-copy_if_live-clause-others
+returns-in_err-copy_if_live-clause-others g c =
+    let so_far : IsCopying (g.F.Flash.device c.args.flash.now) (g.F.Flash.device c.loop-at.flash) c.args.ring.now c.loop-at.ring (Some c.in-Some.entry) =
+    subst (λ (o : Option RecordAt). IsCopying (g.F.Flash.device c.args.flash.now) (g.F.Flash.device c.loop-at.flash) c.args.ring.now c.loop-at.ring o) c.in-Some.is c.loop-at.invariant in
+    let did = c.in_err-copy_if_live.ensures in
+    copying-others (g.F.Flash.device c.args.flash.now) (g.F.Flash.device c.loop-at.flash) (g.F.Flash.device c.copy_if_live.new.flash) c.args.ring.now c.loop-at.ring c.copy_if_live.new.ring c.in-Some.entry so_far did.list did.others

@@ -1,10 +1,11 @@
 use Rattle.fcb_ring.specs.Standing.{entries_on, record_places}
+use Rattle.flash_map.specs.Area.{value_limit}
 use Rattle.backend_fcb.proofs.WalkLemmas.{left_at}
 use Rattle.backend_fcb.proofs.LookupSteps.{NoneSoFar}
 use Rattle.backend_fcb.proofs.lookup.is_named_behind.Given as goal
 
 abbrev pub invariant-loop-at : goal.invariant-loop-at
-invariant-loop-at g l = NoneSoFar (entries_on (g.F.Flash.device l.flash) l.ring.area) l.fn.entry l.name l.at
+invariant-loop-at g l = NoneSoFar (value_limit l.ring.area) (entries_on (g.F.Flash.device l.flash) l.ring.area) l.fn.entry l.name l.at
 
 abbrev pub decreases-loop-at : goal.decreases-loop-at
 decreases-loop-at g l = left_at (record_places (entries_on (g.F.Flash.device l.flash) l.ring.area)) l.at

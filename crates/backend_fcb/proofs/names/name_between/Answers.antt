@@ -1,7 +1,8 @@
 use Rattle.std.proofs.Common.{Bool, cond, Some, None, sym, ap, ◌∙◌}
+use Rattle.flash_map.specs.Area.{value_limit}
 use Rattle.std.specs.Option.{option_map}
 use Rattle.backend_fcb.specs.Walking.{name_between}
-use Rattle.settings_list.proofs.BodyLemmas.{setting-says}
+use Rattle.settings_laws.proofs.BodyLemmas.{setting-says}
 use Rattle.backend_fcb.proofs.NameSteps.{read-is}
 use Rattle.backend_fcb.proofs.names.name_between.Goals as goal
 
@@ -15,7 +16,7 @@ returns-then-not-is_between c =
 
 pub returns : goal.returns
 returns c =
-    let says = setting-says c.args.body.now c.in_ok-setting.setting.name.now c.in_ok-setting.setting.value.now (sym c.in_ok-setting.ensures) in
+    let says = setting-says (value_limit c.args.ring.now.area) c.args.body.now c.in_ok-setting.setting.name.now c.in_ok-setting.setting.value.now (sym c.in_ok-setting.ensures) in
     c.ok.ensures.value ∙ read-is c.in_ok-setting.setting.name.now c.read.result c.read.ensures.reads (c.read.ensures.names.1 says.lawful)
     ∙ sym (ap (λ (b : Bool). cond b (Some c.in_ok-setting.setting.name.now) None) (sym c.is_between.ensures ∙ c.if-not-is_between.false))
     ∙ ap (name_between (option_map (λ other. other.now) c.args.after) (option_map (λ other. other.now) c.args.before)) c.in_ok-setting.ensures

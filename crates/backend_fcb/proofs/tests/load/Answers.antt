@@ -1,8 +1,6 @@
-use Rattle.std.proofs.Common.{◌≡◌, ◌*◌, length, arith}
+use Rattle.std.proofs.Common.{arith}
 use Rattle.backend_fcb.proofs.TestBanks.{one-lawful}
 use Rattle.backend_fcb.proofs.tests.load.Goals as goal
 
 pub load-requires : goal.load-requires
-load-requires g c =
-    let long : length c.in_ok-vec.field-0.items ≡ 512 * c.args.sectors = omega (arith, c.in_ok-vec.ensures.len) in
-    rw (c.in_ok-banks.ensures.items, c.in_ok-bytes.ensures.items) (one-lawful c.args.unit c.args.sectors c.in_ok-vec.field-0.items c.requires.unit c.requires.few long)
+load-requires g c = rw (c.in_ok-banks.ensures.items, c.in_ok-all.ensures.items) (one-lawful c.args.unit c.args.sectors c.args.bytes.items c.requires.unit c.requires.few (omega arith))

@@ -1,4 +1,4 @@
-use Rattle.std.proofs.Common.{◌≡◌, ℕ, ◌+◌, ◌<◌, [], ◌∷◌, length, true, false, Bool, Result, Ok, Err, is_err, OnOk, refl, sym, ap, subst, ◌∙◌, arith}
+use Rattle.std.proofs.Common.{◌≡◌, ℕ, ◌+◌, ◌<◌, [], ◌∷◌, length, true, false, Bool, Result, Ok, Err, is_err, OnOk, OnErr, None, refl, sym, ap, subst, ◌∙◌, arith}
 use Rattle.std.proofs.lemmas.Bool.{both_ways}
 use Rattle.flash_sim.specs.Device.{Device}
 use Rattle.flash_map.specs.declared.area.Area.{Area}
@@ -13,13 +13,18 @@ use Rattle.fcb_ring.specs.Changing.{append_lost}
 use Rattle.fcb_ring.specs.declared.writing.AppendFault.TheVariants.{Full, PowerLost}
 use Rattle.fcb_ring.specs.Writing.{record_cost}
 use Rattle.backend_fcb.specs.Changing.{Collects, TryEnds, PutEnds, collect_units}
-use Rattle.backend_fcb.specs.Standing.{settings_on}
-use Rattle.backend_fcb.proofs.PutSteps.{IsSearching, searching-start, kept-same, searching-touches, searching-lost, searching-more, searching-ends, searching-stops, searching-most, ok-other, lost-other}
+use Rattle.fcb_ring.specs.Chance.{HasNoChance}
+use Rattle.backend_fcb.specs.Standing.{damage_on, settings_on}
+use Rattle.backend_fcb.proofs.PutSteps.{IsSearching, searching-start, kept-same, searching-touches, searching-lost, searching-more, searching-ends, searching-stops, searching-most, searching-cut, ok-other, lost-other}
 use Rattle.backend_fcb.proofs.writing.put.Goals as goal
 
 ok-by : {T E P : Type 0} (r : Result T E) → OnOk r P → is_err r ≡ false → P
 ok-by (Ok x) p e = p
 ok-by (Err x) p e = absurd (both_ways true e refl)
+
+err-by : {T E P : Type 0} (r : Result T E) → OnErr r P → is_err r ≡ true → P
+err-by (Ok x) p e = absurd (both_ways false refl e)
+err-by (Err x) p e = p
 
 pub loop-round-init : goal.loop-round-init
 loop-round-init g c = record { within = omega arith; so_far = searching-start (g.F.Flash.device c.args.flash.now) c.args.ring.now (length c.args.body.now) (kept_room c.args.ring.now c.args.into_reserve) c.requires.ready }
@@ -160,6 +165,28 @@ returns-then-is_err-clause-at_most g c =
     let did = c.collect.ensures in
     let most : SpendsAtMost d f (collect_units d now) = subst (λ (r : Ring). SpendsAtMost d f (collect_units d r)) full.1 (subst (λ (x : Device). SpendsAtMost x f (collect_units x ring)) full.0 did.at_most) in
     searching-lost a d before now len kept c.loop-round._round so_far f most c.args.rounds (omega arith)
+
+pub returns-then-is_err-clause-ends : goal.returns-then-is_err-clause-ends
+returns-then-is_err-clause-ends g c =
+    let a : Device = g.F.Flash.device c.args.flash.now in
+    let d : Device = g.F.Flash.device c.loop-round.flash in
+    let before : Ring = c.args.ring.now in
+    let now : Ring = c.loop-round.ring in
+    let len : ℕ = length c.args.body.now in
+    let kept : ℕ = kept_room before c.args.into_reserve in
+    let so_far : IsSearching a d before now (length c.args.body.now) (kept_room before c.args.into_reserve) c.loop-round._round = c.loop-round.invariant.so_far in
+    let room = kept-same a d before now len kept c.loop-round._round so_far c.args.into_reserve in
+    let e : Device = g.F.Flash.device c.try_append.new.flash in
+    let full : TryEnds {T = Unit {0}} d e now c.try_append.new.ring c.args.body.now kept (Err Full) = subst (λ (k : ℕ). TryEnds {T = Unit {0}} d e now c.try_append.new.ring c.args.body.now k (Err Full)) room (rw c.in-Err-Full.field-0-is at c.in-Err-Full.ensures.ends) in
+    let f : Device = g.F.Flash.device c.collect.new.flash in
+    let ring : Ring = c.try_append.new.ring in
+    let did = c.collect.ensures in
+    let most : SpendsAtMost d f (collect_units d now) = subst (λ (r : Ring). SpendsAtMost d f (collect_units d r)) full.1 (subst (λ (x : Device). SpendsAtMost x f (collect_units x ring)) full.0 did.at_most) in
+    let failed = sym c.is_err.ensures.value ∙ c.if-is_err.true in
+    let settings : settings_on f now.area ≡ settings_on d now.area = subst (λ (r : Ring). settings_on f r.area ≡ settings_on d r.area) full.1 (subst (λ (x : Device). settings_on f ring.area ≡ settings_on x ring.area) full.0 did.settings) in
+    let undamaged : damage_on f now.area ≡ None = subst (λ (r : Ring). damage_on f r.area ≡ None) full.1 did.undamaged in
+    let lost : d.is_on ≡ true → HasNoChance f now.area = subst (λ (r : Ring). d.is_on ≡ true → HasNoChance f r.area) full.1 (subst (λ (x : Device). x.is_on ≡ true → HasNoChance f ring.area) full.0 (err-by c.collect.result did.lost failed)) in
+    searching-cut a d before now len kept c.loop-round._round so_far f c.collect.new.ring c.args.body.now refl full.2 (err-by c.collect.result did.down failed) undamaged settings lost
 
 pub loop-round-preserved : goal.loop-round-preserved
 loop-round-preserved g c =

@@ -1,4 +1,4 @@
-use Rattle.std.proofs.Common.{◌≡◌, ℕ, ◌<◌, List, length, sym, ap, ◌∙◌, arith}
+use Rattle.std.proofs.Common.{◌≡◌, ℕ, ◌<◌, false, List, length, sym, ap, ◌∙◌, arith}
 use Rattle.std.specs.Prelude.{count_by}
 use Rattle.std.proofs.lemmas.List.{take_all}
 use Rattle.flash_sim.specs.Device.{counted}
@@ -8,7 +8,9 @@ use Rattle.fcb_ring.specs.SectorStates.{is_torn}
 use Rattle.flash_map.specs.Area.{sector_at}
 use Rattle.fcb_ring.proofs.AreaLemmas.{count-sectors, area_after}
 use Rattle.fcb_ring.proofs.StandLemmas.{mended-behind}
-use Rattle.fcb_ring.proofs.MountLemmas.{on_err, mends_next, mends_all, spends_next, spends_part}
+use Rattle.flash_map.proofs.FormatLemmas.{on_err, spends_next, spends_part}
+use Rattle.fcb_ring.proofs.MountLemmas.{mends_next, mends_all, none-due}
+use Rattle.fcb_ring.proofs.CollectLemmas.{erase-lost}
 use Rattle.fcb_ring.proofs.erasing.erase_torn.Goals as goal
 
 pub is_torn-is_due-requires : goal.is_torn-is_due-requires
@@ -40,6 +42,10 @@ loop-sector-preserved g c =
       within = omega arith;
       touches = then kept.touches c.in_ok-erase_if.ensures.touches;
       so_far = mends_next (sectors_of a area) (sectors_of b area) (sectors_of after area) j (sector_size b area) c.is_torn-is_due.result inside kept.so_far (sym (ap length bytes) ∙ c.sector_view.ensures.len) due c.in_ok-erase_if.ensures.erased;
+      idle = λ none.
+          let before = kept.idle none in
+          let here-not : is_torn (sector_at (sectors_of b area) j) ≡ false = ap is_torn here ∙ none-due is_torn (sectors_of a area) j inside none in
+          c.in_ok-erase_if.ensures.idle (due ∙ here-not) ∙ before;
       spent = spends_next is_torn a b after (sectors_of a area) j c.is_torn-is_due.result inside (due ∙ ap is_torn here) kept.spent c.in_ok-erase_if.ensures.units;
     }
 
@@ -53,3 +59,19 @@ returns-clause-units g c =
     let a = g.F.Flash.device c.args.flash.now in
     c.loop-sector.invariant.spent
     ∙ ap (λ (l : List (List ℕ)). counted a.spent (count_by is_torn l)) (take_all c.loop-sector.sector (sectors_of a c.args.area.now) (omega (arith, count-sectors a c.args.area.now)))
+
+pub returns-in_err-erase_if-clause-idle : goal.returns-in_err-erase_if-clause-idle
+returns-in_err-erase_if-clause-idle g c none =
+    let a = g.F.Flash.device c.args.flash.now in
+    let b = g.F.Flash.device c.loop-sector.flash in
+    let area = c.args.area.now in
+    let j = c.loop-sector.sector in
+    let inside : j < length (sectors_of a area) = omega (arith, count-sectors a area) in
+    let here : sector_at (sectors_of b area) j ≡ sector_at (sectors_of a area) j = ap (λ (l : List (List ℕ)). sector_at l j) c.loop-sector.invariant.so_far ∙ mended-behind j (sectors_of a area) j inside (omega arith) in
+    let due : c.is_torn-is_due.result ≡ is_torn (sector_at (sectors_of b area) j) = c.is_torn-is_due.ensures ∙ ap is_torn c.sector_view.ensures.bytes in
+    c.in_err-erase_if.ensures.idle (due ∙ ap is_torn here ∙ none-due is_torn (sectors_of a area) j inside none) ∙ c.loop-sector.invariant.idle none
+
+pub returns-in_err-erase_if-clause-part : goal.returns-in_err-erase_if-clause-part
+returns-in_err-erase_if-clause-part g c =
+    let kept = c.loop-sector.invariant in
+    on_err c.from_residual.result (c.loop-sector.sector, c.in_err-erase_if.ensures.same ∙ kept.so_far, λ on. erase-lost (g.F.Flash.device c.loop-sector.flash) (g.F.Flash.device c.erase_if.new.flash) c.args.area.now c.loop-sector.sector c.in_err-erase_if.ensures.touches.banks c.in_err-erase_if.ensures.lost (kept.touches.ends.on ∙ on))

@@ -11,5 +11,6 @@ invariant-loop-sector g l = record {
   within : l.sector ≤ l.sector-end;
   touches : Touches (l.area ∷ []) (g.F.Flash.device l.initial.flash) (g.F.Flash.device l.flash) false;
   so_far : sectors_of (g.F.Flash.device l.flash) l.area ≡ mended_up_to l.sector (sectors_of (g.F.Flash.device l.initial.flash) l.area);
+  idle : count_by is_torn (sectors_of (g.F.Flash.device l.initial.flash) l.area) ≡ 0 → g.F.Flash.device l.flash ≡ g.F.Flash.device l.initial.flash;
   spent : (g.F.Flash.device l.flash).spent ≡ counted (g.F.Flash.device l.initial.flash).spent (count_by is_torn (take l.sector (sectors_of (g.F.Flash.device l.initial.flash) l.area)));
 }

@@ -1,6 +1,6 @@
 use Rattle.std.proofs.Common.{◌≡◌, ℕ, ◌+◌, ◌-◌, ◌/◌, ◌≤◌, List, [], ◌∷◌, ◌++◌, length, take, drop, replicate, sym, ap, subst, ◌∙◌, arith}
 use Rattle.std.proofs.Math.Nat.{zero-mod}
-use Rattle.std.proofs.lemmas.List.{take_all}
+use Rattle.std.proofs.lemmas.List.{take_all, length-take}
 use Rattle.flash_sim.specs.Bank.{bank_at}
 use Rattle.flash_sim.specs.Device.{Device}
 use Rattle.flash_sim.specs.declared.flash.Bank.{Bank}
@@ -13,11 +13,12 @@ use Rattle.flash_map.specs.Spending.{Spends, SpendsAtMost}
 use Rattle.flash_map.specs.Units.{IsUnit, padded, padded_bytes}
 use Rattle.flash_map.proofs.CopyLemmas.{piece_at, piece_there, piece_is, source_part, length-source, writes_nothing, spends_nothing}
 use Rattle.flash_map.proofs.PaddedLemmas.{length-padded_bytes}
-use Rattle.flash_map.proofs.PieceLemmas.{piece_len-is, on_err, can_piece, written_more, part_more}
+use Rattle.flash_map.proofs.PieceLemmas.{loses_within, piece_len-is, on_err, can_piece, written_more, part_more}
 use Rattle.flash_map.proofs.Places.{length-sector, place_fits}
 use Rattle.flash_map.proofs.Rounding.{is_unit}
 use Rattle.flash_map.proofs.SpendingLemmas.{spends-programs, most-fails, piece_spends, piece_at_most}
 use Rattle.flash_map.proofs.Touches.{then, untouched}
+use Rattle.flash_map.specs.declared.copies.TheConstants.{COPY_PIECE}
 use Rattle.flash_map.proofs.copies.copy_padded.Goals as goal
 
 pub loop-done-init : goal.loop-done-init
@@ -291,3 +292,13 @@ returns-clause-spent g c =
     let done : ℕ = c.loop-done.done in
     let same : done ≡ padded unit from.len = omega (arith, kept.in_range, all) ∙ ap (padded unit) long in
     subst (λ (n : ℕ). Spends a b (n / unit)) same kept.spent
+
+pub returns-in_err-area_program-clause-in_pieces : goal.returns-in_err-area_program-clause-in_pieces
+returns-in_err-area_program-clause-in_pieces g c =
+    let a : Device = g.F.Flash.device c.args.flash.now in
+    let b : Device = g.F.Flash.device c.loop-done.flash in
+    let last : Device = g.F.Flash.device c.area_program.new.flash in
+    let piece : List ℕ = take (c.min-end.result - c.loop-done.done) c.piece_of-piece.result in
+    let long = length-take (c.min-end.result - c.loop-done.done) c.piece_of-piece.result in
+    on_err c.from_residual.result
+    (loses_within COPY_PIECE a b last (c.args.area.now ∷ []) (place_of b c.args.area.now c.args.sector (c.args.offset + c.loop-done.done)) piece c.loop-done.invariant.touches c.in_err-area_program.ensures.lost (omega (arith, long, c.min-end.ensures)))

@@ -1,10 +1,13 @@
-use Rattle.std.proofs.Common.{◌≡◌, ◌+◌, ◌*◌, ◌/◌, length, take, ap}
+use Rattle.std.proofs.Common.{◌≡◌, ◌≤◌, ◌∷◌, [], ◌+◌, ◌*◌, ◌/◌, length, take, ap, arith}
+use Rattle.std.proofs.lemmas.List.{length-take}
 use Rattle.std.proofs.lemmas.Result.{on_ok_weaker, on_err_weaker}
 use Rattle.flash_sim.specs.Device.{Device}
 use Rattle.flash_map.specs.declared.area.Geometry.{Geometry}
 use Rattle.flash_map.specs.Area.{unit_of, place_of}
 use Rattle.flash_map.proofs.PaddedLemmas.{can_front, front_part, front_most, all_written, all_spent, can_last, last_written, last_part, last_spent, last_most}
-use Rattle.flash_map.proofs.PieceLemmas.{on_err}
+use Rattle.flash_map.proofs.PieceLemmas.{on_err, loses_within, unit-most}
+use Rattle.flash_map.proofs.Rounding.{is_unit}
+use Rattle.flash_map.specs.declared.pieces.TheConstants.{PIECE}
 use Rattle.flash_map.proofs.SpendingLemmas.{spends-programs, most-fails}
 use Rattle.flash_map.proofs.Touches.{then}
 use Rattle.flash_map.proofs.pieces.program_padded.Goals as goal
@@ -95,3 +98,15 @@ returns-clause-spent_at_most g c =
     let b : Device = g.F.Flash.device c.program_all.new.flash in
     let end : Device = g.F.Flash.device c.area_program.new.flash in
     on_err_weaker c.area_program.result (λ cut. last_most a b c.args.area.now lawful c.requires.lawful c.args.sector c.args.offset c.args.bytes.now c.requires.can c.geometry-unit.result.unit unit c.if-whole-bytes.false c.in_ok-program_all.ensures.touches c.in_ok-program_all.ensures.ok c.in_ok-program_all.ensures.spent c.last_unit-last.result c.last_unit-last.ensures end (most-fails b end (place_of b c.args.area.now c.args.sector (c.args.offset + length c.args.bytes.now / c.geometry-unit.result.unit * c.geometry-unit.result.unit)) (take c.geometry-unit.result.unit c.last_unit-last.result) cut)) c.area_program.ensures.lost
+
+pub returns-clause-in_pieces : goal.returns-clause-in_pieces
+returns-clause-in_pieces g c =
+    let a : Device = g.F.Flash.device c.args.flash.now in
+    let lawful = g.met.F.Flash.is_lawful c.args.flash.now in
+    let unit : c.geometry-unit.result.unit ≡ unit_of a c.args.area.now = ap (λ (x : Geometry). x.unit) c.geometry-unit.ensures in
+    let b : Device = g.F.Flash.device c.program_all.new.flash in
+    let end : Device = g.F.Flash.device c.area_program.new.flash in
+    let long = length-take c.geometry-unit.result.unit c.last_unit-last.result in
+    let most = unit-most (unit_of a c.args.area.now) (is_unit (unit_of a c.args.area.now) (lawful.each_bank c.args.area.now.bank c.requires.lawful.has_bank).unit) in
+    let short : length (take c.geometry-unit.result.unit c.last_unit-last.result) ≤ PIECE = omega (arith, long, unit, most) in
+    on_err_weaker c.area_program.result (λ cut. loses_within PIECE a b end (c.args.area.now ∷ []) (place_of b c.args.area.now c.args.sector (c.args.offset + length c.args.bytes.now / c.geometry-unit.result.unit * c.geometry-unit.result.unit)) (take c.geometry-unit.result.unit c.last_unit-last.result) c.in_ok-program_all.ensures.touches cut short) c.area_program.ensures.lost

@@ -13,6 +13,6 @@ returns-then-is_lawful_bank c =
       same,
       record {
         spelled = bank_again text c.requires (λ i. omega (arith, c.type_inv.text i)) kind (search rules) (search rules);
-        lawful = subst IsImageBank same (c.is_lawful_bank.ensures.0 c.if-is_lawful_bank.true);
+        lawful = subst (IsImageBank c.args.version) same (c.is_lawful_bank.ensures.0 c.if-is_lawful_bank.true);
       },
     )

@@ -1,12 +1,12 @@
-use Rattle.std.proofs.Common.{◌≡◌, inr, ℕ, ◌+◌, ◌*◌, ◌<◌, length, [], map, ap, ◌∙◌, refl, arith}
-use Rattle.flash_map.specs.declared.area.Role.TheVariants.{Nvs}
+use Rattle.std.proofs.Common.{◌≡◌, inr, ℕ, ◌+◌, ◌*◌, ◌<◌, length, map, ap, ◌∙◌, refl, arith}
 use Rattle.image_file.specs.declared.image.ImageWhy.{ImageWhy}
 use Rattle.image_file.specs.declared.image.ImageWhy.TheVariants.{Short}
 use Rattle.image_file.specs.Format.{plain_area}
+use Rattle.image_file.specs.Lawful.{no_area}
 use Rattle.image_file.specs.Said.{areas_said, area_place, field_at}
 use Rattle.image_file.specs.Table.{AreaAt, Holds, Departs}
 use Rattle.image_file.proofs.LawfulLemmas.{area_taken, area_not_taken}
-use Rattle.image_file.proofs.ReadingLemmas.{exit, ends, length-all_banks, area_holds, area_refused, area_unspelled}
+use Rattle.image_file.proofs.ReadingLemmas.{exit, ends, length-all_banks, area_holds, area_refused, area_unspelled, one_version}
 use Rattle.image_file.proofs.reading.read_area.Goals as goal
 
 -- as many banks as the file says
@@ -28,10 +28,16 @@ returns-in_default c =
     let text : c.in_ok-text.text.now ≡ field_at c.args.bytes.now (area_place c.args.bytes.now c.args.i) 16 = c.in_ok-text.ensures.1 ∙ ap (λ (p : ℕ). field_at c.args.bytes.now p 16) place in
     inr (record {
       whole = omega (arith, c.in_ok-text.ensures.0, place);
-      broken = area_unspelled c.args.bytes.now c.args.i c.args.banks.now c.args.areas.now (record { label = record { bytes = []; spare = [] }; role = Nvs; bank = 0; first = 0; sectors = 0 }) c.in_ok-text.text.now c.requires.banks c.requires.areas text c.in_default.ensures;
+      broken = area_unspelled c.args.bytes.now c.args.version c.args.i c.args.banks.now c.args.areas.now no_area c.in_ok-text.text.now c.requires.version c.requires.banks c.requires.areas text c.in_default.ensures;
       place = place;
       cause = refl;
     })
+
+pub take_area-requires-clause-version : goal.take_area-requires-clause-version
+take_area-requires-clause-version c =
+    let place : 8 + 12 * length c.args.banks.now + 16 * c.args.i ≡ area_place c.args.bytes.now c.args.i = omega (arith, ap length c.requires.banks, length-all_banks c.args.bytes.now) in
+    let text : c.in_ok-text.text.now ≡ field_at c.args.bytes.now (area_place c.args.bytes.now c.args.i) 16 = c.in_ok-text.ensures.1 ∙ ap (λ (p : ℕ). field_at c.args.bytes.now p 16) place in
+    one_version c.args.bytes.now c.args.version c.args.i c.args.banks.now c.args.areas.now c.in-Some.area c.in_ok-text.text.now c.requires.version c.requires.banks c.requires.areas text c.in-Some.ensures.0
 
 pub returns-then-not-branch : goal.returns-then-not-branch
 returns-then-not-branch c =
@@ -39,7 +45,7 @@ returns-then-not-branch c =
     let text : c.in_ok-text.text.now ≡ field_at c.args.bytes.now (area_place c.args.bytes.now c.args.i) 16 = c.in_ok-text.ensures.1 ∙ ap (λ (p : ℕ). field_at c.args.bytes.now p 16) place in
     inr (record {
       whole = omega (arith, c.in_ok-text.ensures.0, place);
-      broken = area_refused c.args.bytes.now c.args.i c.args.banks.now c.args.areas.now c.in-Some.area c.in_ok-text.text.now c.requires.banks c.requires.areas text c.in-Some.ensures.0 (area_not_taken c.args.banks.now c.args.areas.now c.take_area.new.areas c.in-Some.area c.in_ok-take_area.field-0 c.if-not-branch.true c.in_ok-take_area.ensures);
+      broken = area_refused c.args.bytes.now c.args.version c.args.i c.args.banks.now c.args.areas.now c.in-Some.area c.in_ok-text.text.now c.requires.version c.requires.banks c.requires.areas text c.in-Some.ensures.0 (area_not_taken c.args.banks.now c.args.areas.now c.take_area.new.areas c.in-Some.area c.in_ok-take_area.field-0 c.if-not-branch.true c.in_ok-take_area.ensures);
       place = place;
       cause = refl;
     })
@@ -49,4 +55,4 @@ returns c =
     let place : 8 + 12 * length c.args.banks.now + 16 * c.args.i ≡ area_place c.args.bytes.now c.args.i = omega (arith, ap length c.requires.banks, length-all_banks c.args.bytes.now) in
     let text : c.in_ok-text.text.now ≡ field_at c.args.bytes.now (area_place c.args.bytes.now c.args.i) 16 = c.in_ok-text.ensures.1 ∙ ap (λ (p : ℕ). field_at c.args.bytes.now p 16) place in
     let taken = area_taken c.args.banks.now c.args.areas.now c.take_area.new.areas c.in-Some.area c.in_ok-take_area.field-0 c.if-not-branch.false c.in_ok-take_area.ensures in
-    area_holds c.args.bytes.now c.args.i c.args.banks.now c.args.areas.now c.in-Some.area c.in_ok-text.text.now c.requires.banks c.requires.areas text c.take_area.new.areas (omega (arith, c.in_ok-text.ensures.0, place)) c.in-Some.ensures.0 c.in-Some.ensures.1 taken.0 taken.1
+    area_holds c.args.bytes.now c.args.version c.args.i c.args.banks.now c.args.areas.now c.in-Some.area c.in_ok-text.text.now c.requires.version c.requires.banks c.requires.areas text c.take_area.new.areas (omega (arith, c.in_ok-text.ensures.0, place)) c.in-Some.ensures.0 c.in-Some.ensures.1 taken.0 taken.1

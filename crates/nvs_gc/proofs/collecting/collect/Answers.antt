@@ -6,7 +6,7 @@ use Rattle.flash_map.specs.Area.{unit_of, sector_size, sectors_of}
 use Rattle.flash_map.proofs.PieceLemmas.{on_err}
 use Rattle.flash_map.proofs.SpendingLemmas.{most_weaker, units_le}
 use Rattle.flash_map.proofs.Touches.{then}
-use Rattle.sector_ring.specs.Area.{next}
+use Rattle.ring_laws.specs.Area.{next}
 use Rattle.nvs_store.specs.Geometry.{slot_size}
 use Rattle.nvs_store.proofs.MountLemmas.{length-sectors, next_there}
 use Rattle.nvs_store.proofs.Views.{unit_is}

@@ -9,8 +9,8 @@ use Rattle.flash_map.proofs.SpendingLemmas.{most_weaker}
 use Rattle.flash_map.proofs.Touches.{then}
 use Rattle.flash_map.proofs.Sequence.{lawful_after}
 use Rattle.flash_map.specs.Units.{is_erased}
-use Rattle.sector_ring.specs.Forms.{Collecting}
-use Rattle.sector_ring.proofs.RingSteps.{reads}
+use Rattle.ring_laws.specs.Forms.{Collecting}
+use Rattle.ring_laws.proofs.RingSteps.{reads}
 use Rattle.nvs_store.specs.Geometry.{slot_size}
 use Rattle.nvs_store.specs.Scans.{reading}
 use Rattle.nvs_store.proofs.MountLemmas.{length-sectors}

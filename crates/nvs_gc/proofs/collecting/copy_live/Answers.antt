@@ -7,8 +7,8 @@ use Rattle.flash_map.specs.Area.{unit_of, sector_at, sectors_of}
 use Rattle.flash_map.specs.Spending.{Spends, SpendsAtMost}
 use Rattle.flash_map.proofs.PieceLemmas.{on_err}
 use Rattle.flash_map.proofs.Places.{length-sector}
-use Rattle.sector_ring.specs.Area.{next}
-use Rattle.sector_ring.proofs.Places.{after-within}
+use Rattle.ring_laws.specs.Area.{next}
+use Rattle.ring_laws.proofs.Places.{after-within}
 use Rattle.nvs_store.specs.Geometry.{slot_size}
 use Rattle.nvs_store.specs.Sector.{used_slots}
 use Rattle.nvs_store.specs.Scans.{free}

@@ -3,9 +3,9 @@ use Rattle.std.proofs.lemmas.Result.{on_ok_weaker}
 use Rattle.flash_sim.specs.Device.{Device}
 use Rattle.flash_map.specs.declared.area.Area.{Area}
 use Rattle.flash_map.specs.Area.{unit_of, sector_size, sectors_of}
-use Rattle.sector_ring.specs.Area.{next}
-use Rattle.sector_ring.proofs.Places.{after-apart}
-use Rattle.sector_ring.proofs.Stays.{open_within}
+use Rattle.ring_laws.specs.Area.{next}
+use Rattle.ring_laws.proofs.Places.{after-apart}
+use Rattle.ring_laws.proofs.Stays.{open_within}
 use Rattle.nvs_store.specs.Scans.{reading, scan_of}
 use Rattle.nvs_store.proofs.Appending.{open_is}
 use Rattle.nvs_store.proofs.MountLemmas.{length-sectors, next_there}

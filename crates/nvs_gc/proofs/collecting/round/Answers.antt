@@ -5,7 +5,7 @@ use Rattle.flash_map.specs.Area.{unit_of, sector_at, sectors_of}
 use Rattle.flash_map.specs.Units.{is_erased}
 use Rattle.flash_map.proofs.PieceLemmas.{on_err}
 use Rattle.flash_map.proofs.SpendingLemmas.{most_weaker}
-use Rattle.sector_ring.proofs.Rings.{open-not_closed}
+use Rattle.ring_laws.proofs.Rings.{open-not_closed}
 use Rattle.nvs_store.specs.Geometry.{slot_size}
 use Rattle.nvs_store.specs.Scans.{reading}
 use Rattle.nvs_store.proofs.MountLemmas.{length-sectors, next_there}

@@ -4,7 +4,7 @@ use Rattle.flash_map.specs.declared.area.Geometry.{Geometry}
 use Rattle.flash_map.specs.Area.{unit_of, sector_size, sectors_of}
 use Rattle.flash_map.specs.Units.{IsUnit}
 use Rattle.flash_map.proofs.Places.{length-sector}
-use Rattle.sector_ring.specs.Area.{next, is_closed_at}
+use Rattle.ring_laws.specs.Area.{next, is_closed_at}
 use Rattle.nvs_store.specs.declared.scan.Redo.TheVariants.{Nothing, CollectAgain}
 use Rattle.nvs_store.specs.Geometry.{slot_size}
 use Rattle.nvs_store.specs.Scans.{reading}

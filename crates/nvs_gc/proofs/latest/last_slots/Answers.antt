@@ -1,8 +1,8 @@
 use Rattle.std.proofs.Common.{◌≡◌, ℕ, ◌+◌, ◌-◌, ◌<◌, List, [], length, sym, arith}
 use Rattle.flash_sim.specs.Device.{Device}
 use Rattle.flash_map.specs.Area.{unit_of, sectors_of}
-use Rattle.sector_ring.specs.Area.{open_sector}
-use Rattle.sector_ring.proofs.Stays.{open_within}
+use Rattle.ring_laws.specs.Area.{open_sector}
+use Rattle.ring_laws.proofs.Stays.{open_within}
 use Rattle.nvs_store.specs.Scans.{reading}
 use Rattle.nvs_store.proofs.Appending.{open_is}
 use Rattle.nvs_store.proofs.FoundLemmas.{among}

@@ -4,7 +4,7 @@ use Rattle.flash_sim.specs.Device.{Device}
 use Rattle.flash_map.specs.declared.area.Geometry.{Geometry}
 use Rattle.flash_map.specs.Area.{unit_of, sector_at, sectors_of}
 use Rattle.flash_map.specs.Units.{IsUnit}
-use Rattle.sector_ring.specs.Area.{counts_at}
+use Rattle.ring_laws.specs.Area.{counts_at}
 use Rattle.nvs_store.specs.declared.scan.Found.{Found}
 use Rattle.nvs_store.specs.Sector.{entries}
 use Rattle.nvs_store.specs.Scans.{reading, found_at, counted_in}

@@ -1,11 +1,11 @@
-use Rattle.std.proofs.Common.{ℕ, List, ap, subst, sym, ◌∙◌, arith}
+use Rattle.std.proofs.Common.{ℕ, List, All, ap, subst, sym, ◌∙◌, arith}
 use Rattle.flash_sim.specs.Device.{Device}
 use Rattle.flash_map.specs.declared.area.Geometry.{Geometry}
 use Rattle.flash_map.specs.Area.{unit_of}
 use Rattle.flash_map.specs.Units.{IsUnit}
 use Rattle.nvs_store.specs.Sector.{entries}
 use Rattle.nvs_store.proofs.Views.{unit_is}
-use Rattle.nvs_gc.specs.Ends.{HasNoneBetween}
+use Rattle.nvs_gc.specs.Ends.{IsNarrow, HasNoneBetween}
 use Rattle.nvs_gc.proofs.reading.next_in.Goals as goal
 
 pub least_of-requires-clause-unit : goal.least_of-requires-clause-unit
@@ -24,3 +24,9 @@ returns-clause-none_before g c =
     let d : Device = g.F.Flash.device c.args.flash.now in
     subst (HasNoneBetween c.args.first c.least_of.result)
     (ap (λ (x : Geometry). entries x.unit c.sector_view.result.now) c.geometry-unit.ensures ∙ ap (λ (b : List ℕ). entries (unit_of d c.args.area.now) b) c.sector_view.ensures.bytes) c.least_of.ensures.none_before
+
+pub returns-clause-narrow : goal.returns-clause-narrow
+returns-clause-narrow g c =
+    let d : Device = g.F.Flash.device c.args.flash.now in
+    subst (All IsNarrow)
+    (ap (λ (x : Geometry). entries x.unit c.sector_view.result.now) c.geometry-unit.ensures ∙ ap (λ (b : List ℕ). entries (unit_of d c.args.area.now) b) c.sector_view.ensures.bytes) c.least_of.ensures.narrow

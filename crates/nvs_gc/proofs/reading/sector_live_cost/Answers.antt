@@ -3,7 +3,7 @@ use Rattle.flash_sim.specs.Device.{Device}
 use Rattle.flash_map.specs.declared.area.Geometry.{Geometry}
 use Rattle.flash_map.specs.Area.{unit_of, sectors_of}
 use Rattle.flash_map.specs.Units.{IsUnit}
-use Rattle.sector_ring.specs.Rounds.{copies_cost}
+use Rattle.pair_laws.specs.Rounds.{copies_cost}
 use Rattle.nvs_store.specs.Geometry.{cost}
 use Rattle.nvs_store.specs.Sector.{used_slots}
 use Rattle.nvs_store.specs.Scans.{all_found}

@@ -1,6 +1,6 @@
 use Rattle.std.proofs.Common.{◌≡◌, ℕ, ◌+◌, ◌-◌, length, sym, ap, ◌∙◌, arith}
-use Rattle.slot_list.proofs.SlotLemmas.{factor_le}
-use Rattle.sector_ring.specs.Rounds.{copies_cost}
+use Rattle.ring_laws.proofs.SlotLemmas.{factor_le}
+use Rattle.pair_laws.specs.Rounds.{copies_cost}
 use Rattle.nvs_store.specs.Geometry.{slot_size, cost}
 use Rattle.nvs_store.specs.Sector.{used_slots}
 use Rattle.nvs_store.proofs.Lookups.{used_inside}

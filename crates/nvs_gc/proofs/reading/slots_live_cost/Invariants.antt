@@ -1,6 +1,6 @@
 use Rattle.std.proofs.Common.{◌≡◌, ℕ, ◌-◌, ◌*◌, ◌^◌, ◌≤◌, List}
 use Rattle.flash_map.specs.Area.{sector_at}
-use Rattle.sector_ring.specs.Rounds.{copies_cost}
+use Rattle.pair_laws.specs.Rounds.{copies_cost}
 use Rattle.nvs_store.specs.Geometry.{cost}
 use Rattle.nvs_store.specs.Scans.{all_found}
 use Rattle.nvs_gc.specs.Collecting.{live_to}

@@ -11,9 +11,9 @@ use Rattle.flash_map.specs.Units.{IsUnit, padded, padded_bytes}
 use Rattle.flash_map.proofs.PieceLemmas.{on_err}
 use Rattle.flash_map.proofs.Places.{length-sector}
 use Rattle.flash_map.proofs.Rounding.{padding}
-use Rattle.sector_ring.specs.Area.{next, is_closed_at, open_sector}
+use Rattle.ring_laws.specs.Area.{next, is_closed_at, open_sector}
 use Rattle.flash_map.specs.Area.{sector_at}
-use Rattle.sector_ring.proofs.Stays.{open_within}
+use Rattle.ring_laws.proofs.Stays.{open_within}
 use Rattle.nvs_store.specs.declared.entry.Entry.{Entry}
 use Rattle.nvs_store.specs.declared.scan.Scan.{Scan}
 use Rattle.nvs_store.specs.Geometry.{slot_size}
@@ -22,7 +22,7 @@ use Rattle.nvs_store.specs.Sector.{low, data_end}
 use Rattle.nvs_store.specs.Scans.{reading, scan_at, scan_of, AddsPairAt, StopsAddingAt}
 use Rattle.nvs_store.proofs.Appending.{open_is, scan_there, fits_there, next_open, list_after, lost_list, undamaged_after, pair_used, stops_used, stops_closed, adds_sound, stops_sound, scan_added}
 use Rattle.nvs_store.proofs.Cuts.{HasRoom-from_fits}
-use Rattle.sector_ring.proofs.AreaReads.{length-sectors}
+use Rattle.ring_laws.proofs.AreaReads.{length-sectors}
 use Rattle.nvs_store.proofs.Putting.{can_data, data_cut, data_most, can_entry_after, pair_image, pair_put, entry_cut, pair_spent, pair_most}
 use Rattle.nvs_store.proofs.Views.{unit_is}
 use Rattle.nvs_store.proofs.Room.{HasRoom, IsNext}

@@ -4,7 +4,7 @@ use Rattle.nvs_store.specs.declared.scan.Found.{Found}
 use Rattle.nvs_store.specs.Sector.{counting_entry, is_wanted, last_placed}
 use Rattle.nvs_store.specs.Scans.{found_at}
 use Rattle.nvs_store.proofs.SlotReads.{slot_size_bounds}
-use Rattle.slot_list.proofs.SlotWalks.{found_here, found_other, found_none}
+use Rattle.ring_laws.proofs.SlotWalks.{found_here, found_other, found_none}
 use Rattle.nvs_store.specs.Geometry.{slot_size}
 use Rattle.nvs_store.proofs.Lookups.{entries_to, used_inside, entries_to_within}
 use Rattle.nvs_store.proofs.sector.find_in.Goals as goal

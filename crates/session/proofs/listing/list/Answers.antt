@@ -4,8 +4,8 @@ use Rattle.std.specs.Option.{option_and_then, option_to_list}
 use Rattle.std.specs.FinMap as map
 use Rattle.flash_sim.specs.Device.{Device}
 use Rattle.flash_map.specs.Area.{unit_of, sector_size, sectors_of}
-use Rattle.slot_list.specs.Items.{value_of}
-use Rattle.slot_list.proofs.ItemLemmas.{get-items_of}
+use Rattle.pair_laws.specs.Items.{value_of}
+use Rattle.pair_laws.proofs.ItemLemmas.{get-items_of}
 use Rattle.nvs_store.specs.declared.scan.Found.{Found}
 use Rattle.nvs_store.specs.Scans.{found_bytes, last_found, list_of, IsInArea}
 use Rattle.nvs_store.proofs.FoundLemmas.{found-value}

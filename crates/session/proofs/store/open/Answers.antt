@@ -17,8 +17,8 @@ returns-in-Err-PowerLost-clause-done g c =
     let area = c.args.area.now in
     let which : c.in-Err-PowerLost.field-0 ≡ PowerLost = rw c.in-Err-PowerLost.is at c.in-Err-PowerLost.field-0-is in
     let end : c.mount-end.result ≡ Err PowerLost = c.in-Err-PowerLost.is ∙ ap (λ (fault : MountFault). Err fault) which in
-    let touched = subst (λ (r : Result Nvs MountFault). Touches (c.copy_of.result ∷ []) old new (faults.mount_lost r)) end c.mount-end.ensures.touches in
-    let ended = subst (λ (r : Result Nvs MountFault). MountEnds old new c.copy_of.result r) end c.mount-end.ensures.ends in
-    let touches = subst (λ (a : Area). Touches (a ∷ []) old new true) c.copy_of.ensures touched in
-    let ends = subst (λ (a : Area). MountEnds old new a (Err PowerLost)) c.copy_of.ensures ended in
+    let touched = subst (λ (r : Result Nvs MountFault). Touches (c.copy.result ∷ []) old new (faults.mount_lost r)) end c.mount-end.ensures.touches in
+    let ended = subst (λ (r : Result Nvs MountFault). MountEnds old new c.copy.result r) end c.mount-end.ensures.ends in
+    let touches = subst (λ (a : Area). Touches (a ∷ []) old new true) c.copy.ensures touched in
+    let ends = subst (λ (a : Area). MountEnds old new a (Err PowerLost)) c.copy.ensures ended in
     rw (c.spent.ensures, c.spent-before.ensures) (mount_lost area old new c.requires.on ends.1.items touches)

@@ -2,6 +2,7 @@ use Rattle.std.proofs.Common.{◌≡◌, ℕ, ◌≤◌, ◌∷◌, [], List, le
 use Rattle.std.specs.Prelude.{Result}
 use Rattle.flash_map.specs.declared.faults.WriteFault.{WriteFault}
 use Rattle.flash_map.specs.declared.faults.WriteFault.TheVariants.{NoSpace, TooLong, PowerLost}
+use Rattle.flash_map.specs.Area.{value_limit}
 use Rattle.flash_map.specs.Touches.{Touches}
 use Rattle.flash_map.specs.Faults.{write_lost}
 use Rattle.nvs_gc.specs.Ends.{WriteEnds, Writes, FindsNoSpace, StopsWriting}
@@ -15,7 +16,7 @@ unreachable-requires g c =
     let which : c.in-Err-TooLong.field-0 ≡ TooLong = rw c.in-Err-TooLong.is at c.in-Err-TooLong.field-0-is in
     let end : c.write-end.result ≡ Err TooLong = c.in-Err-TooLong.is ∙ ap (λ (fault : WriteFault). Err fault) which in
     let ends = subst (λ (r : Result (Unit {0}) WriteFault). WriteEnds old new c.args.nvs.now c.args.id c.as_slice.result.now r) end c.write-end.ensures.ends in
-    let few : length c.as_slice.result.now ≤ 256 = subst (λ (bytes : List ℕ). length bytes ≤ 256) (sym c.as_slice.ensures) c.requires.line.2 in
+    let few : length c.as_slice.result.now ≤ value_limit c.args.nvs.now.area = subst (λ (bytes : List ℕ). length bytes ≤ value_limit c.args.nvs.now.area) (sym c.as_slice.ensures) c.requires.line.2 in
     ends.0 (is_short old c.args.nvs.now.area (length c.as_slice.result.now) c.requires.stands.area few)
 
 pub returns-in-Ok-clause-done : goal.returns-in-Ok-clause-done

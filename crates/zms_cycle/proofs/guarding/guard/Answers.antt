@@ -3,7 +3,7 @@ use Rattle.std.proofs.lemmas.Result.{on_ok_weaker}
 use Rattle.std.proofs.lemmas.Bool.{cond-true, cond-false}
 use Rattle.flash_map.specs.Area.{sector_bytes}
 use Rattle.flash_map.proofs.SpendingBounds.{between_none}
-use Rattle.slot_list.proofs.SlotLemmas.{bytes-slot_at}
+use Rattle.ring_laws.proofs.SlotLemmas.{bytes-slot_at}
 use Rattle.zms_cycle.specs.Sector.{slot_of, is_valid_under}
 use Rattle.zms_cycle.specs.Changes.{with_slot}
 use Rattle.zms_cycle.proofs.AreaFacts.{size_is}

@@ -1,8 +1,7 @@
 use Rattle.std.proofs.Common.{◌-◌, ◌≤◌, ◌∷◌, [], false}
-use Rattle.flash_map.specs.Area.{sector_bytes}
+use Rattle.flash_map.specs.Area.{sector_bytes, OthersStay}
 use Rattle.flash_map.specs.Spending.{SpendsBetween}
 use Rattle.flash_map.specs.Touches.{Touches}
-use Rattle.zms_cycle.specs.Areas.{OthersStay}
 use Rattle.zms_cycle.specs.Changes.{IsFilled, KeepsList}
 use Rattle.zms_cycle.proofs.marking.fill_slots.Given as goal
 

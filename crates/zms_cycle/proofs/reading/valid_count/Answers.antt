@@ -1,5 +1,5 @@
 use Rattle.std.proofs.Common.{◌≡◌, ℕ, ◌+◌, false, Some, sym, subst, ◌∙◌, arith}
-use Rattle.slot_list.proofs.SlotCounts.{used_count_is}
+use Rattle.ring_laws.proofs.SlotCounts.{used_count_is}
 use Rattle.zms_cycle.specs.Sector.{slot_of, is_valid}
 use Rattle.zms_cycle.proofs.reading.valid_count.Goals as goal
 

@@ -10,7 +10,7 @@ use Rattle.zms_cycle.proofs.tests.copy_first.Goals as goal
 
 pub put_entry-requires-clause-room : goal.put_entry-requires-clause-room
 put_entry-requires-clause-room g c =
-    let zms : IsZmsSector (g.F.Flash.device c.args.flash.now) c.args.area.now 0 = record { lawful = c.requires.lawful; role = c.requires.role; has_sector = let second = c.requires.has_sector in omega arith } in
+    let zms : IsZmsSector (g.F.Flash.device c.args.flash.now) c.args.area.now 0 = record { lawful = c.requires.lawful; role = c.requires.role; rewritable = c.requires.rewritable; has_sector = let second = c.requires.has_sector in omega arith } in
     let still = still_zms (g.F.Flash.device c.args.flash.now) (g.F.Flash.device c.empty_sector.new.flash) c.args.area.now 0 c.in_ok-empty_sector.ensures.touches.banks zms in
     let size = size_is (g.F.Flash.device c.empty_sector.new.flash) c.args.area.now 0 still (g.met.F.Flash.is_lawful c.empty_sector.new.flash) in
     let least = still.lawful.at_least in
@@ -22,7 +22,7 @@ put_entry-requires-clause-room g c =
 
 pub copy_entry-requires-clause-some : goal.copy_entry-requires-clause-some
 copy_entry-requires-clause-some g c =
-    let zms : IsZmsSector (g.F.Flash.device c.args.flash.now) c.args.area.now 0 = record { lawful = c.requires.lawful; role = c.requires.role; has_sector = let second = c.requires.has_sector in omega arith } in
+    let zms : IsZmsSector (g.F.Flash.device c.args.flash.now) c.args.area.now 0 = record { lawful = c.requires.lawful; role = c.requires.role; rewritable = c.requires.rewritable; has_sector = let second = c.requires.has_sector in omega arith } in
     let still = still_zms (g.F.Flash.device c.args.flash.now) (g.F.Flash.device c.empty_sector.new.flash) c.args.area.now 0 c.in_ok-empty_sector.ensures.touches.banks zms in
     let size = size_is (g.F.Flash.device c.empty_sector.new.flash) c.args.area.now 0 still (g.met.F.Flash.is_lawful c.empty_sector.new.flash) in
     let least = still.lawful.at_least in
@@ -33,7 +33,7 @@ copy_entry-requires-clause-some g c =
 
 pub copy_entry-requires-clause-room : goal.copy_entry-requires-clause-room
 copy_entry-requires-clause-room g c =
-    let zms : IsZmsSector (g.F.Flash.device c.args.flash.now) c.args.area.now 0 = record { lawful = c.requires.lawful; role = c.requires.role; has_sector = let second = c.requires.has_sector in omega arith } in
+    let zms : IsZmsSector (g.F.Flash.device c.args.flash.now) c.args.area.now 0 = record { lawful = c.requires.lawful; role = c.requires.role; rewritable = c.requires.rewritable; has_sector = let second = c.requires.has_sector in omega arith } in
     let still = still_zms (g.F.Flash.device c.args.flash.now) (g.F.Flash.device c.empty_sector.new.flash) c.args.area.now 0 c.in_ok-empty_sector.ensures.touches.banks zms in
     let size = size_is (g.F.Flash.device c.empty_sector.new.flash) c.args.area.now 0 still (g.met.F.Flash.is_lawful c.empty_sector.new.flash) in
     let least = still.lawful.at_least in

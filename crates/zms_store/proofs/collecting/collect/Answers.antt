@@ -2,21 +2,38 @@ use Rattle.std.proofs.Common.{◌≡◌, ℕ, ◌<◌, ◌≤◌, Bool, true, []
 use Rattle.std.proofs.lemmas.Result.{on_ok_weaker, on_err_weaker}
 use Rattle.flash_sim.specs.Device.{Device}
 use Rattle.flash_map.specs.declared.area.Area.{Area}
-use Rattle.flash_map.specs.Area.{sector_at, sectors_of}
+use Rattle.flash_map.specs.Area.{sector_at, sectors_of, ChangesOnly}
 use Rattle.flash_map.specs.Touches.{Touches}
 use Rattle.flash_map.proofs.SpendingBounds.{between_then, between_within}
 use Rattle.flash_map.proofs.Touches.{then}
-use Rattle.sector_ring.specs.Area.{next}
+use Rattle.ring_laws.specs.Area.{next}
+use Rattle.zms_cycle.specs.Areas.{IsZmsSector}
+use Rattle.zms_cycle.proofs.AreaFacts.{still_zms}
+use Rattle.zms_store.specs.Standing.{IsZmsArea}
 use Rattle.zms_cycle.specs.Changes.{Empties, StopsEmptying}
 use Rattle.zms_cycle.specs.Sector.{is_closed}
 use Rattle.zms_store.specs.Area.{is_unused}
-use Rattle.zms_store.specs.Collecting.{ChangesOnly}
 use Rattle.zms_store.proofs.Areas.{keeps-on, stopped-keeps, empties_unused, victim_cut, collected_at, collects-keeps}
 use Rattle.zms_store.proofs.CollectSteps.{has_begun, begin_cut, start_form, start_next, start_none, start_copied, copy_cut, copied_all, mark_room, mark_cut}
 use Rattle.zms_store.proofs.CopyLoop.{either, err_flag, next_within}
 use Rattle.zms_store.proofs.MountLemmas.{length-sectors, next_there}
 use Rattle.zms_store.proofs.PlacedReads.{size_there, large_there}
 use Rattle.zms_store.proofs.collecting.collect.Goals as goal
+
+-- a sector of the area after calls that left the banks
+there : (a d : Device) (area : Area) (sector : ℕ) → d.banks ≡ a.banks → IsZmsArea a.banks area → sector < area.sectors → IsZmsSector d area sector
+there a d area sector banks is lt = still_zms a d area sector banks (record { lawful = is.lawful; role = is.role; rewritable = is.rewritable; has_sector = lt })
+
+pub put_done-requires-clause-zms : goal.put_done-requires-clause-zms
+put_done-requires-clause-zms g c =
+    let ring = c.requires.collecting.ring in
+    there (g.F.Flash.device c.args.flash.now) (g.F.Flash.device c.copy_live.new.flash) c.args.area.now c.args.current (c.in_ok-copy_live.ensures.touches.banks ∙ c.in_ok-begin_blank.ensures.touches.banks) c.requires.area
+    (omega (arith, length-sectors (g.F.Flash.device c.args.flash.now) c.args.area.now, ring.within))
+
+pub empty_sector-requires : goal.empty_sector-requires
+empty_sector-requires g c =
+    there (g.F.Flash.device c.args.flash.now) (g.F.Flash.device c.put_done.new.flash) c.args.area.now c.next-victim.result (c.in_ok-put_done.ensures.touches.banks ∙ c.in_ok-copy_live.ensures.touches.banks ∙ c.in_ok-begin_blank.ensures.touches.banks) c.requires.area
+    c.next-victim.ensures.within
 
 pub next-victim-requires : goal.next-victim-requires
 next-victim-requires g c =

@@ -33,7 +33,7 @@ returns-then-not-marks_at-clause-spends g c =
     between_within c.collect.ensures.spends 0 _ (omega arith) (omega arith)
 
 pub empty_sector-requires : goal.empty_sector-requires
-empty_sector-requires g c = record { lawful = c.requires.area.lawful; role = c.requires.area.role; has_sector = omega (arith, length-sectors (g.F.Flash.device c.args.flash.now) c.args.area.now, c.requires.collecting.ring.within) }
+empty_sector-requires g c = record { lawful = c.requires.area.lawful; role = c.requires.area.role; rewritable = c.requires.area.rewritable; has_sector = omega (arith, length-sectors (g.F.Flash.device c.args.flash.now) c.args.area.now, c.requires.collecting.ring.within) }
 
 pub returns-in_err-empty_sector-clause-items : goal.returns-in_err-empty_sector-clause-items
 returns-in_err-empty_sector-clause-items g c =

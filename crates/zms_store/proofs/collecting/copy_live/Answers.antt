@@ -4,7 +4,7 @@ use Rattle.flash_map.specs.declared.area.Area.{Area}
 use Rattle.flash_map.specs.Area.{sector_at, sectors_of}
 use Rattle.flash_map.specs.Spending.{SpendsBetween}
 use Rattle.flash_map.proofs.PieceLemmas.{on_err}
-use Rattle.sector_ring.specs.Area.{next}
+use Rattle.ring_laws.specs.Area.{next}
 use Rattle.zms_cycle.specs.Sector.{valid_slots, is_sound, free}
 use Rattle.zms_store.specs.declared.sector.Marks.{Marks}
 use Rattle.zms_store.specs.Collecting.{live_in, CopiesOne, cost_of}

@@ -7,10 +7,10 @@ use Rattle.zms_store.proofs.CopyLoop.{either, copies_slot, slot_cost, twice}
 use Rattle.zms_store.proofs.collecting.copy_slot.Goals as goal
 
 pub copy_entry-requires-clause-zms : goal.copy_entry-requires-clause-zms
-copy_entry-requires-clause-zms g c = record { lawful = c.requires.area.lawful; role = c.requires.area.role; has_sector = c.requires.place }
+copy_entry-requires-clause-zms g c = record { lawful = c.requires.area.lawful; role = c.requires.area.role; rewritable = c.requires.area.rewritable; has_sector = c.requires.place }
 
 pub copy_entry-requires-clause-from_zms : goal.copy_entry-requires-clause-from_zms
-copy_entry-requires-clause-from_zms g c = record { lawful = c.requires.area.lawful; role = c.requires.area.role; has_sector = c.requires.inside }
+copy_entry-requires-clause-from_zms g c = record { lawful = c.requires.area.lawful; role = c.requires.area.role; rewritable = c.requires.area.rewritable; has_sector = c.requires.inside }
 
 pub returns-in-Some-clause-copies : goal.returns-in-Some-clause-copies
 returns-in-Some-clause-copies g c =

@@ -2,15 +2,14 @@ use Rattle.std.proofs.Common.{◌≡◌, ℕ, ◌<◌, length, refl, sym, subst,
 use Rattle.std.proofs.lemmas.Result.{on_ok_weaker, on_err_weaker}
 use Rattle.flash_sim.specs.Device.{Device}
 use Rattle.flash_map.specs.declared.area.Area.{Area}
-use Rattle.flash_map.specs.Area.{sector_at, sectors_of}
+use Rattle.flash_map.specs.Area.{sector_at, sectors_of, ChangesOnly}
 use Rattle.flash_map.proofs.PieceLemmas.{on_err}
 use Rattle.flash_map.proofs.SpendingBounds.{between_within}
-use Rattle.sector_ring.specs.Area.{next, open_sector}
-use Rattle.sector_ring.proofs.Stays.{open_within}
+use Rattle.ring_laws.specs.Area.{next, open_sector}
+use Rattle.ring_laws.proofs.Stays.{open_within}
 use Rattle.zms_cycle.specs.Changes.{Empties, StopsEmptying}
 use Rattle.zms_store.specs.declared.sector.Redo.{Redo}
 use Rattle.zms_store.specs.Area.{reading}
-use Rattle.zms_store.specs.Collecting.{ChangesOnly}
 use Rattle.zms_store.specs.Spending.{redo_units, Redoes, StopsRedoing}
 use Rattle.zms_store.proofs.Areas.{keeps-on}
 use Rattle.zms_store.proofs.CollectSteps.{form_here, rest_from, collecting_from, collected_from, redo-at_rest, redo-collecting, not_again, not_next, next_not_again, victim_emptied, victim_stays}

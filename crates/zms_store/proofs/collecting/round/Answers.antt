@@ -7,10 +7,10 @@ use Rattle.flash_map.specs.Area.{sector_at, sector_size, sectors_of}
 use Rattle.flash_map.specs.Spending.{SpendsBetween}
 use Rattle.flash_map.proofs.PieceLemmas.{on_err}
 use Rattle.flash_map.proofs.SpendingBounds.{between_then, between_within}
-use Rattle.sector_ring.specs.Area.{next}
-use Rattle.sector_ring.specs.Forms.{AtRest, Collecting}
-use Rattle.sector_ring.proofs.RingSteps.{reads}
-use Rattle.sector_ring.proofs.Rings.{open-not_closed}
+use Rattle.ring_laws.specs.Area.{next}
+use Rattle.ring_laws.specs.Forms.{AtRest, Collecting}
+use Rattle.ring_laws.proofs.RingSteps.{reads}
+use Rattle.ring_laws.proofs.Rings.{open-not_closed}
 use Rattle.zms_store.specs.declared.sector.Redo.{Redo}
 use Rattle.zms_store.specs.declared.sector.Redo.TheVariants.{Nothing}
 use Rattle.zms_store.specs.Area.{reading, redo_of}
@@ -35,7 +35,7 @@ close-requires-clause-zms g c =
     let within : place < area.sectors = omega (arith, form.ring.within) in
     let own = large_there a area (g.met.F.Flash.is_lawful c.args.flash.now) c.requires.area place within in
     let wide : 48 ≤ length (sector_at (sectors_of a area) place) = omega arith in
-    record { lawful = c.requires.area.lawful; role = c.requires.area.role; has_sector = within }
+    record { lawful = c.requires.area.lawful; role = c.requires.area.role; rewritable = c.requires.area.rewritable; has_sector = within }
 
 pub close-requires-clause-used : goal.close-requires-clause-used
 close-requires-clause-used g c =

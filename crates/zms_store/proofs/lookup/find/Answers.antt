@@ -2,9 +2,9 @@ use Rattle.std.proofs.Common.{◌≡◌, ◌<◌, ℕ, List, Option, length, sym
 use Rattle.std.specs.Option.{option_and_then}
 use Rattle.flash_sim.specs.Device.{Device}
 use Rattle.flash_map.specs.Area.{sectors_of}
-use Rattle.slot_list.specs.Items.{value_of}
-use Rattle.sector_ring.specs.Area.{open_sector}
-use Rattle.sector_ring.proofs.Stays.{open_within}
+use Rattle.pair_laws.specs.Items.{value_of}
+use Rattle.ring_laws.specs.Area.{open_sector}
+use Rattle.ring_laws.proofs.Stays.{open_within}
 use Rattle.zms_store.specs.declared.sector.Placed.{Placed}
 use Rattle.zms_store.specs.Area.{reading, placed_bytes}
 use Rattle.zms_store.proofs.PlacedLemmas.{found-value, newest-decides, older-decides}

@@ -4,7 +4,7 @@ use Rattle.flash_sim.specs.Device.{Device}
 use Rattle.flash_map.specs.Area.{sectors_of}
 use Rattle.zms_store.specs.declared.sector.Placed.{Placed}
 use Rattle.zms_store.specs.Area.{last_of}
-use Rattle.live_items.proofs.LastLemmas.{none_by}
+use Rattle.ring_laws.proofs.LastLemmas.{none_by}
 use Rattle.zms_store.proofs.PlacedLemmas.{among, last-step, last-suffix}
 use Rattle.zms_store.proofs.lookup.find_among.Goals as goal
 

@@ -1,7 +1,7 @@
 use Rattle.std.proofs.Common.{ℕ, List, true, false, refl, sym, ap, ◌∙◌}
 use Rattle.flash_sim.specs.Device.{Device}
 use Rattle.flash_map.specs.Area.{sectors_of}
-use Rattle.sector_ring.specs.Area.{previous, is_closed_at}
+use Rattle.ring_laws.specs.Area.{previous, is_closed_at}
 use Rattle.zms_store.specs.declared.sector.Marks.{Marks}
 use Rattle.zms_store.specs.Area.{reading}
 use Rattle.zms_store.proofs.MountLemmas.{previous_there, opening_is}

@@ -2,7 +2,7 @@ use Rattle.std.proofs.Common.{ℕ, List, true, false, eqb, refl, sym, ap, ◌∙
 use Rattle.std.proofs.lemmas.Bool.{eq-eqb, ne_eqb}
 use Rattle.flash_sim.specs.Device.{Device}
 use Rattle.flash_map.specs.Area.{sectors_of, sector_at}
-use Rattle.sector_ring.specs.Area.{previous, is_closed_at}
+use Rattle.ring_laws.specs.Area.{previous, is_closed_at}
 use Rattle.zms_store.specs.declared.sector.Marks.{Marks}
 use Rattle.zms_store.specs.Area.{reading, is_begun}
 use Rattle.zms_store.proofs.MountLemmas.{previous_there, second_is}

@@ -1,7 +1,7 @@
 use Rattle.std.proofs.Common.{◌≡◌, ℕ, ◌+◌, ◌-◌, List, length, sym, ap, ◌∙◌, arith}
 use Rattle.flash_sim.specs.Device.{Device}
 use Rattle.flash_map.specs.Area.{sector_at, sectors_of}
-use Rattle.sector_ring.specs.Rounds.{copies_cost}
+use Rattle.pair_laws.specs.Rounds.{copies_cost}
 use Rattle.zms_cycle.specs.Sector.{cost, valid_slots}
 use Rattle.zms_store.specs.declared.sector.Marks.{Marks}
 use Rattle.zms_store.specs.Collecting.{live_in, live_to, cost_of}

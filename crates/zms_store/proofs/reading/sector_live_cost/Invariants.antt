@@ -1,6 +1,6 @@
 use Rattle.std.proofs.Common.{◌≡◌, ◌-◌, ◌*◌, ◌^◌, ◌≤◌}
 use Rattle.flash_map.specs.Area.{sectors_of}
-use Rattle.sector_ring.specs.Rounds.{copies_cost}
+use Rattle.pair_laws.specs.Rounds.{copies_cost}
 use Rattle.zms_cycle.specs.Sector.{cost}
 use Rattle.zms_store.specs.Collecting.{live_to}
 use Rattle.zms_store.proofs.reading.sector_live_cost.Given as goal

@@ -4,7 +4,7 @@ use Rattle.std.specs.List.{last_or}
 use Rattle.flash_sim.specs.Device.{Device}
 use Rattle.flash_map.specs.Area.{sectors_of}
 use Rattle.zms_store.specs.declared.sector.Placed.{Placed}
-use Rattle.live_items.proofs.LastLemmas.{none_by}
+use Rattle.ring_laws.proofs.LastLemmas.{none_by}
 use Rattle.zms_store.proofs.PlacedLemmas.{among}
 use Rattle.zms_store.proofs.WalkLemmas.{newest-step, newest-suffix}
 use Rattle.zms_store.proofs.walking.newest_among.Goals as goal

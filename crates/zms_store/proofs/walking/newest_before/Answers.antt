@@ -2,7 +2,7 @@ use Rattle.std.proofs.Common.{◌≡◌, ◌+◌, ◌-◌, ℕ, List, None, leng
 use Rattle.std.specs.List.{flat_map, last_or, range_with_len}
 use Rattle.flash_sim.specs.Device.{Device}
 use Rattle.flash_map.specs.Area.{sectors_of}
-use Rattle.sector_ring.proofs.RoundAt.{before-round}
+use Rattle.ring_laws.proofs.RoundAt.{before-round}
 use Rattle.zms_store.specs.declared.sector.Placed.{Placed}
 use Rattle.zms_store.specs.Area.{counted_in}
 use Rattle.zms_store.proofs.MountLemmas.{length-sectors}

@@ -2,7 +2,7 @@ use Rattle.std.proofs.Common.{ℕ, List, length, sym, ◌∙◌}
 use Rattle.std.specs.List.{flat_map}
 use Rattle.flash_sim.specs.Device.{Device}
 use Rattle.flash_map.specs.Area.{sectors_of}
-use Rattle.sector_ring.specs.Walks.{places_before}
+use Rattle.ring_laws.specs.RoundParts.{places_before}
 use Rattle.zms_store.specs.declared.sector.Placed.{Placed}
 use Rattle.zms_store.specs.Area.{counted_in}
 use Rattle.zms_store.specs.Walk.{counted_within}

@@ -2,8 +2,8 @@ use Rattle.std.proofs.Common.{◌≡◌, ℕ, ◌-◌, ◌<◌, ◌≤◌, List,
 use Rattle.flash_sim.specs.Device.{Device}
 use Rattle.flash_map.specs.Area.{sectors_of, sector_at}
 use Rattle.flash_map.proofs.Places.{length-sector}
-use Rattle.sector_ring.specs.Area.{open_sector}
-use Rattle.sector_ring.proofs.Stays.{open_within}
+use Rattle.ring_laws.specs.Area.{open_sector}
+use Rattle.ring_laws.proofs.Stays.{open_within}
 use Rattle.zms_store.specs.Area.{reading, all_placed}
 use Rattle.zms_store.specs.Walk.{IsNextOlder}
 use Rattle.zms_store.proofs.MountLemmas.{length-sectors}

@@ -1,7 +1,8 @@
-use Rattle.std.proofs.Common.{◌≡◌, ℕ, List, None, Some, sym, ap, ◌∙◌}
+use Rattle.std.proofs.Common.{◌≡◌, None, Some, sym, ◌∙◌}
+use Rattle.flash_map.specs.Area.{value_limit}
 use Rattle.flash_sim.specs.Device.{Device}
 use Rattle.flash_map.specs.declared.area.Area.{Area}
-use Rattle.settings_list.specs.Last.{last_value}
+use Rattle.settings_laws.specs.Last.{last_value}
 use Rattle.backend_fcb.specs.Standing.{bodies_on}
 use Rattle.backend_fcb.proofs.Ends.{stored-yes, stored-not, stored-nowhere}
 use Rattle.backend_fcb.proofs.backend.FcbBackend.holds.Goals as goal
@@ -10,19 +11,19 @@ pub returns-in-Some-clause-yes_it : goal.returns-in-Some-clause-yes_it
 returns-in-Some-clause-yes_it g c same =
     let d : Device = g.F.Flash.device c.args.flash.now in
     let area : Area = c.args.self.now.ring.area in
-    let last : last_value c.args.name.now (bodies_on d area) ≡ Some c.in-Some.stored.now = ap (λ (n : List ℕ). last_value n (bodies_on d area)) (sym c.bytes.ensures.value) ∙ sym c.in-Some.ensures in
+    let last : last_value (value_limit c.args.self.now.ring.area) c.args.name.now (bodies_on d area) ≡ Some c.in-Some.stored.now = sym c.in-Some.ensures in
     stored-yes d area c.args.name.now c.args.value.now c.in-Some.stored.now c.requires.some last (sym c.eq.ensures ∙ same)
 
 pub returns-in-Some-clause-not_it : goal.returns-in-Some-clause-not_it
 returns-in-Some-clause-not_it g c apart =
     let d : Device = g.F.Flash.device c.args.flash.now in
     let area : Area = c.args.self.now.ring.area in
-    let last : last_value c.args.name.now (bodies_on d area) ≡ Some c.in-Some.stored.now = ap (λ (n : List ℕ). last_value n (bodies_on d area)) (sym c.bytes.ensures.value) ∙ sym c.in-Some.ensures in
+    let last : last_value (value_limit c.args.self.now.ring.area) c.args.name.now (bodies_on d area) ≡ Some c.in-Some.stored.now = sym c.in-Some.ensures in
     stored-not d area c.args.name.now c.args.value.now c.in-Some.stored.now last (sym c.eq.ensures ∙ apart)
 
 pub returns-in-None-clause-not_it : goal.returns-in-None-clause-not_it
 returns-in-None-clause-not_it g c apart =
     let d : Device = g.F.Flash.device c.args.flash.now in
     let area : Area = c.args.self.now.ring.area in
-    let last : last_value c.args.name.now (bodies_on d area) ≡ None = ap (λ (n : List ℕ). last_value n (bodies_on d area)) (sym c.bytes.ensures.value) ∙ sym c.in-None.ensures in
+    let last : last_value (value_limit c.args.self.now.ring.area) c.args.name.now (bodies_on d area) ≡ None = sym c.in-None.ensures in
     stored-nowhere d area c.args.name.now c.args.value.now last

@@ -1,17 +1,21 @@
-use Rattle.std.proofs.Common.{◌≡◌, ℕ, ◌+◌, ◌*◌, ◌/◌, [], List, length, not, ap, ◌∙◌, arith}
+use Rattle.std.proofs.Common.{subst, ◌≡◌, ℕ, ◌+◌, ◌*◌, [], List, length, Err, not, ap, ◌∙◌, arith}
 use Rattle.std.specs.FinMap as finite
 use Rattle.flash_sim.specs.Device.{Device}
 use Rattle.flash_map.specs.declared.area.Area.{Area}
-use Rattle.flash_map.specs.Area.{unit_of, sector_size}
-use Rattle.flash_map.proofs.SpendingLemmas.{most_weaker}
+use Rattle.flash_map.specs.Area.{value_limit, unit_of, geometry_of}
+use Rattle.flash_map.proofs.SpendingLemmas.{spends_none, most_weaker}
 use Rattle.fcb_ring.specs.declared.ring.Ring.{Ring}
+use Rattle.fcb_ring.specs.declared.writing.AppendFault.TheVariants.{PowerLost}
+use Rattle.backend_api.proofs.MapLemmas.{remove-absent}
 use Rattle.backend_api.specs.Room.{most_units}
-use Rattle.backend_fcb.specs.Changing.{HasNoPlace, collect_units}
-use Rattle.settings_list.specs.Numbers.{put_cost}
-use Rattle.settings_list.specs.Settings.{body_of, setting_of, with_setting}
+use Rattle.backend_api.specs.Commands.Command.{Del}
+use Rattle.backend_fcb.specs.Changing.{HasNoPlace, PutEnds, SpendsCost, SpendsUpToCost, collect_units}
+use Rattle.settings_laws.specs.Numbers.{put_cost}
+use Rattle.settings_laws.specs.Settings.{body_of, setting_of, with_setting}
 use Rattle.backend_fcb.specs.Standing.{settings_on}
-use Rattle.settings_list.proofs.BodyLemmas.{length-body_of}
-use Rattle.backend_fcb.proofs.Ends.{stands-ready, deletes-same, deletes-one, delete-fits, two-rounds, absent-yes, absent-not, delete-cost}
+use Rattle.settings_laws.proofs.BodyLemmas.{length-body_of}
+use Rattle.backend_fcb.proofs.Ends.{stands-ready, ready-stands, ready-undamaged, deletes-same, deletes-one, delete-fits, two-rounds, absent-yes, absent-not, delete-cost, takes-value}
+use Rattle.backend_fcb.proofs.Tearing.{stops-at}
 use Rattle.backend_fcb.proofs.backend.FcbBackendBackend.delete.Goals as goal
 
 pub returns-then-is_none-clause-ends : goal.returns-then-is_none-clause-ends
@@ -27,7 +31,7 @@ put-requires-clause-no_put g c =
     let d : Device = g.F.Flash.device c.args.flash.now in
     let area : Area = c.args.self.now.ring.area in
     let body : c.as_slice.result.now ≡ body_of c.args.name.now [] = c.as_slice.ensures.value ∙ c.body_of-body.ensures.items in
-    λ into. ap (put_cost (unit_of d area)) body ∙ delete-cost (unit_of d area) c.args.name.now c.body_of-body.ensures.name
+    λ into. ap (put_cost (value_limit c.args.self.now.ring.area) (unit_of d area)) body ∙ delete-cost (value_limit c.args.self.now.ring.area) (unit_of d area) c.args.name.now c.body_of-body.ensures.name
 
 pub returns-in-Ok-clause-ends : goal.returns-in-Ok-clause-ends
 returns-in-Ok-clause-ends g c =
@@ -39,7 +43,7 @@ returns-in-Ok-clause-ends g c =
     let body : c.as_slice.result.now ≡ body_of c.args.name.now [] = c.as_slice.ensures.value ∙ c.body_of-body.ensures.items in
     let few = two-rounds d ring c.requires.lawful.several in
     let ends = c.in-Ok.ensures.ends in
-    deletes-one d e area name c.body_of-body.ensures.name (absent-not (λ b. b.now) c.get.result (finite.get (settings_on d area) name) c.get.ensures (c.is_none.ensures ∙ ap not c.if-is_none.false)) (ends.1 ∙ ap (λ (b : List ℕ). with_setting (settings_on d area) (setting_of b)) body) ends.2
+    deletes-one d e area name c.body_of-body.ensures.name (absent-not (λ b. b.now) c.get.result (finite.get (settings_on d area) name) c.get.ensures (c.is_none.ensures ∙ ap not c.if-is_none.false)) (ends.1 ∙ ap (λ (b : List ℕ). with_setting (settings_on d area) (setting_of (value_limit c.args.self.now.ring.area) b)) body) ends.3
 
 pub returns-in-Ok-clause-at_most : goal.returns-in-Ok-clause-at_most
 returns-in-Ok-clause-at_most g c =
@@ -50,7 +54,7 @@ returns-in-Ok-clause-at_most g c =
     let e : Device = g.F.Flash.device c.put.new.flash in
     let body : c.as_slice.result.now ≡ body_of c.args.name.now [] = c.as_slice.ensures.value ∙ c.body_of-body.ensures.items in
     let few = two-rounds d ring c.requires.lawful.several in
-    most_weaker d e ((1 + 1) * collect_units d ring) (most_units area.sectors (sector_size d area / unit_of d area)) few c.in-Ok.ensures.at_most
+    most_weaker d e ((1 + 1) * collect_units d ring) (most_units (geometry_of d area)) few c.in-Ok.ensures.at_most
 
 pub returns-in-Err-PowerLost-clause-at_most : goal.returns-in-Err-PowerLost-clause-at_most
 returns-in-Err-PowerLost-clause-at_most g c =
@@ -61,7 +65,7 @@ returns-in-Err-PowerLost-clause-at_most g c =
     let e : Device = g.F.Flash.device c.put.new.flash in
     let body : c.as_slice.result.now ≡ body_of c.args.name.now [] = c.as_slice.ensures.value ∙ c.body_of-body.ensures.items in
     let few = two-rounds d ring c.requires.lawful.several in
-    most_weaker d e ((1 + 1) * collect_units d ring) (most_units area.sectors (sector_size d area / unit_of d area)) few c.in-Err-PowerLost.ensures.at_most
+    most_weaker d e ((1 + 1) * collect_units d ring) (most_units (geometry_of d area)) few c.in-Err-PowerLost.ensures.at_most
 
 pub unreachable-requires : goal.unreachable-requires
 unreachable-requires g c =
@@ -86,3 +90,59 @@ unreachable-requires-in-Err-Full g c =
     let full : HasNoPlace d e ring c.put.new.ring (length c.as_slice.result.now) 0 1 = rw c.in-Err-Full.field-0-is at c.in-Err-Full.ensures.ends in
     delete-fits d e ring c.put.new.ring (length c.as_slice.result.now) (g.met.F.Flash.is_lawful c.args.flash.now) (stands-ready d c.args.self.now c.requires.lawful c.requires.stands) c.in-Err-Full.ensures.touches.banks c.in-Err-Full.ensures.area
     (omega (arith, ap length body, length-body_of name [], c.body_of-body.ensures.name.short)) full
+
+pub returns-in-Ok-clause-sound : goal.returns-in-Ok-clause-sound
+returns-in-Ok-clause-sound g c =
+    ready-undamaged (g.F.Flash.device c.put.new.flash) c.put.new.ring c.args.self.now.ring.area c.in-Ok.ensures.area c.in-Ok.ensures.ends.0
+
+pub returns-in-Ok-clause-stands : goal.returns-in-Ok-clause-stands
+returns-in-Ok-clause-stands g c =
+    λ up. ready-stands (g.F.Flash.device c.put.new.flash) c.put.new.ring c.args.self.now.ring.area c.in-Ok.ensures.area c.requires.stands.role c.in-Ok.ensures.ends.0
+
+pub returns-in-Err-PowerLost-clause-sound : goal.returns-in-Err-PowerLost-clause-sound
+returns-in-Err-PowerLost-clause-sound g c =
+    let d : Device = g.F.Flash.device c.args.flash.now in
+    let e : Device = g.F.Flash.device c.put.new.flash in
+    let ends : PutEnds {T = Unit {0}} d e c.args.self.now.ring c.put.new.ring c.as_slice.result.now 0 1 (Err PowerLost) = rw c.in-Err-PowerLost.field-0-is at c.in-Err-PowerLost.ensures.ends in
+    ends.0.undamaged
+
+pub returns-in-Err-PowerLost-clause-cut : goal.returns-in-Err-PowerLost-clause-cut
+returns-in-Err-PowerLost-clause-cut g c on lost =
+    let d : Device = g.F.Flash.device c.args.flash.now in
+    let e : Device = g.F.Flash.device c.put.new.flash in
+    let area : Area = c.args.self.now.ring.area in
+    let name : List ℕ = c.args.name.now in
+    let body : c.as_slice.result.now ≡ body_of c.args.name.now [] = c.as_slice.ensures.value ∙ c.body_of-body.ensures.items in
+    let ends : PutEnds {T = Unit {0}} d e c.args.self.now.ring c.put.new.ring c.as_slice.result.now 0 1 (Err PowerLost) = rw c.in-Err-PowerLost.field-0-is at c.in-Err-PowerLost.ensures.ends in
+    stops-at d e area c.as_slice.result.now (Del name) body (takes-value (value_limit c.args.self.now.ring.area) (settings_on d area) name c.body_of-body.ensures.name) (ends.0.stops on)
+
+pub returns-then-is_none-clause-exact : goal.returns-then-is_none-clause-exact
+returns-then-is_none-clause-exact g c changes =
+    let d : Device = g.F.Flash.device c.args.flash.now in
+    absurd (changes (remove-absent (settings_on d c.args.self.now.ring.area) c.args.name.now (absent-yes (λ b. b.now) c.get.result (finite.get (settings_on d c.args.self.now.ring.area) c.args.name.now) c.get.ensures (c.is_none.ensures ∙ ap not c.if-is_none.true))))
+
+pub returns-in-Ok-clause-exact : goal.returns-in-Ok-clause-exact
+returns-in-Ok-clause-exact g c changes =
+    let d : Device = g.F.Flash.device c.args.flash.now in
+    let e : Device = g.F.Flash.device c.put.new.flash in
+    let ring : Ring = c.args.self.now.ring in
+    let body : c.as_slice.result.now ≡ body_of c.args.name.now [] = c.as_slice.ensures.value ∙ c.body_of-body.ensures.items in
+    subst (λ (b : List ℕ). SpendsCost d e ring b 0) body c.in-Ok.ensures.ends.2
+
+pub returns-in-Err-PowerLost-clause-no_more : goal.returns-in-Err-PowerLost-clause-no_more
+returns-in-Err-PowerLost-clause-no_more g c =
+    let d : Device = g.F.Flash.device c.args.flash.now in
+    let e : Device = g.F.Flash.device c.put.new.flash in
+    let ring : Ring = c.args.self.now.ring in
+    let body : c.as_slice.result.now ≡ body_of c.args.name.now [] = c.as_slice.ensures.value ∙ c.body_of-body.ensures.items in
+    let ends : PutEnds {T = Unit {0}} d e ring c.put.new.ring c.as_slice.result.now 0 1 (Err PowerLost) = rw c.in-Err-PowerLost.field-0-is at c.in-Err-PowerLost.ensures.ends in
+    subst (λ (b : List ℕ). SpendsUpToCost d e ring b 0) body ends.1
+
+pub returns-then-is_none-clause-few : goal.returns-then-is_none-clause-few
+returns-then-is_none-clause-few g c = (0, omega arith, spends_none (g.F.Flash.device c.args.flash.now))
+
+pub returns-in-Ok-clause-few : goal.returns-in-Ok-clause-few
+returns-in-Ok-clause-few g c = c.in-Ok.ensures.at_most
+
+pub returns-in-Err-PowerLost-clause-few : goal.returns-in-Err-PowerLost-clause-few
+returns-in-Err-PowerLost-clause-few g c = c.in-Err-PowerLost.ensures.at_most

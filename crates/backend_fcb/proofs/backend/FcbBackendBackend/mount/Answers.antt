@@ -1,19 +1,18 @@
-use Rattle.std.proofs.Common.{◌≡◌, ◌/◌, None, sym, ap, subst, ◌∙◌}
+use Rattle.std.proofs.Common.{◌≡◌, None, sym, ap, subst, ◌∙◌, arith}
 use Rattle.flash_sim.specs.Device.{Device}
 use Rattle.flash_map.specs.declared.area.Area.{Area}
 use Rattle.flash_map.specs.declared.area.Geometry.{Geometry}
-use Rattle.flash_map.specs.Area.{unit_of, sector_size, sectors_of}
+use Rattle.flash_map.specs.Area.{value_limit, unit_of, sectors_of}
+use Rattle.flash_map.specs.Spending.{Spends, SpendsAtMost}
 use Rattle.fcb_ring.specs.Standing.{KeepsEntries}
 use Rattle.fcb_ring.proofs.AppendLemmas.{unit-after}
 use Rattle.fcb_ring.specs.Rings.{first_damage}
-use Rattle.fcb_ring.specs.Standing.{states_on, erases_due}
-use Rattle.settings_list.specs.Numbers.{reserve}
-use Rattle.flash_map.proofs.SpendingLemmas.{most_weaker}
-use Rattle.backend_api.specs.Room.{most_units}
+use Rattle.fcb_ring.specs.Standing.{states_on, erases_due, erases_on}
+use Rattle.settings_laws.specs.Numbers.{reserve}
 use Rattle.std.specs.Option.{option_map}
 use Rattle.backend_fcb.specs.Reading.{first_overfull}
 use Rattle.backend_fcb.specs.Standing.{IsReady, damage_on}
-use Rattle.backend_fcb.proofs.Ends.{ring-area, ready-stands, damage-none, overfull-not, due-few}
+use Rattle.backend_fcb.proofs.Ends.{ring-area, ready-stands, damage-none, overfull-not}
 use Rattle.backend_fcb.proofs.PutsCosts.{overfull_at, undamaged-kept}
 use Rattle.backend_fcb.proofs.backend.FcbBackendBackend.mount.Goals as goal
 
@@ -49,7 +48,7 @@ returns-in-Ok-finish-clause-stands g c =
     let did = c.in-Ok-finish.ensures in
     let kept : KeepsEntries d e area = subst (λ (x : Area). KeepsEntries d e x) same did.list in
     let first : first_damage (states_on d area) ≡ None = c.in-Ok.ensures.damaged in
-    let costs = overfull-not d area (sym c.in_default.is ∙ c.first_overfull.ensures ∙ ap (λ (x : Area). option_map overfull_at (first_overfull (unit_of d x) (sectors_of d x))) same) in
+    let costs = overfull-not d area (sym c.in_default.is ∙ c.first_overfull.ensures ∙ ap (λ (x : Area). option_map overfull_at (first_overfull (value_limit x) (unit_of d x) (sectors_of d x))) same) in
     let none : damage_on d area ≡ None = damage-none d area first costs in
     let undamaged = undamaged-kept d e area (g.met.F.Flash.is_lawful c.args.flash.now) (g.met.F.Flash.is_lawful c.finish.new.flash) ring did.touches.banks kept none in
     let unit : c.geometry-unit.result.unit ≡ unit_of d area = ap (λ (x : Geometry). x.unit) c.geometry-unit.ensures in
@@ -62,14 +61,30 @@ returns-in-Ok-finish-clause-stands g c =
     } in
     ready-stands e c.finish.new.self area new-area c.requires.serves ready
 
-pub returns-in-Ok-finish-clause-at_most : goal.returns-in-Ok-finish-clause-at_most
-returns-in-Ok-finish-clause-at_most g c =
+pub returns-in-Ok-finish-clause-rests : goal.returns-in-Ok-finish-clause-rests
+returns-in-Ok-finish-clause-rests g c rests =
     let d : Device = g.F.Flash.device c.args.flash.now in
-    let area : Area = c.args.area in
-    (erases_due (states_on d c.in-Ok.ring.area), due-few d area c.in-Ok.ring.area c.requires.lawful c.in-Ok.ensures.ring.0, c.in-Ok-finish.ensures.units)
+    c.in-Ok-finish.ensures.idle (ap (λ (x : Area). erases_due (states_on d x)) c.in-Ok.ensures.ring.0 ∙ rests)
 
-pub returns-in-Err-finish-clause-at_most : goal.returns-in-Err-finish-clause-at_most
-returns-in-Err-finish-clause-at_most g c =
+pub returns-in-Err-finish-clause-rests : goal.returns-in-Err-finish-clause-rests
+returns-in-Err-finish-clause-rests g c rests =
     let d : Device = g.F.Flash.device c.args.flash.now in
-    let area : Area = c.args.area in
-    most_weaker d (g.F.Flash.device c.finish.new.flash) (erases_due (states_on d c.in-Ok.ring.area)) (most_units area.sectors (sector_size d area / unit_of d area)) (due-few d area c.in-Ok.ring.area c.requires.lawful c.in-Ok.ensures.ring.0) c.in-Err-finish.ensures.bound
+    c.in-Err-finish.ensures.idle (ap (λ (x : Area). erases_due (states_on d x)) c.in-Ok.ensures.ring.0 ∙ rests)
+
+pub returns-in-Ok-finish-clause-exact : goal.returns-in-Ok-finish-clause-exact
+returns-in-Ok-finish-clause-exact g c =
+    let d : Device = g.F.Flash.device c.args.flash.now in
+    let e : Device = g.F.Flash.device c.finish.new.flash in
+    subst (λ (x : Area). Spends d e (erases_on d x)) c.in-Ok.ensures.ring.0 c.in-Ok-finish.ensures.units
+
+pub returns-in-Ok-finish-clause-few : goal.returns-in-Ok-finish-clause-few
+returns-in-Ok-finish-clause-few g c =
+    let d : Device = g.F.Flash.device c.args.flash.now in
+    let e : Device = g.F.Flash.device c.finish.new.flash in
+    (erases_on d c.args.area, omega arith, subst (λ (x : Area). Spends d e (erases_on d x)) c.in-Ok.ensures.ring.0 c.in-Ok-finish.ensures.units)
+
+pub returns-in-Err-finish-clause-few : goal.returns-in-Err-finish-clause-few
+returns-in-Err-finish-clause-few g c =
+    let d : Device = g.F.Flash.device c.args.flash.now in
+    let e : Device = g.F.Flash.device c.finish.new.flash in
+    subst (λ (x : Area). SpendsAtMost d e (erases_on d x)) c.in-Ok.ensures.ring.0 c.in-Err-finish.ensures.bound

@@ -1,21 +1,26 @@
-use Rattle.std.proofs.Common.{◌≡◌, ℕ, ◌+◌, ◌-◌, ◌*◌, ◌/◌, List, length, ap, subst, ◌∙◌, arith}
+use Rattle.std.proofs.Common.{◌≡◌, ℕ, ◌+◌, ◌-◌, ◌*◌, List, length, Err, ap, subst, ◌∙◌, arith}
 use Rattle.std.specs.FinMap.{entries}
 use Rattle.std.specs.List.{sum_by}
 use Rattle.flash_sim.specs.Device.{Device}
 use Rattle.flash_map.specs.declared.area.Area.{Area}
 use Rattle.flash_map.specs.declared.area.Geometry.{Geometry}
-use Rattle.flash_map.specs.Area.{unit_of, sector_size}
-use Rattle.flash_map.proofs.SpendingLemmas.{most_weaker}
+use Rattle.flash_map.specs.Area.{value_limit, unit_of, sector_size, geometry_of}
+use Rattle.flash_map.specs.Spending.{SpendsAtMost}
+use Rattle.flash_map.proofs.SpendingLemmas.{spends_none, most_weaker}
 use Rattle.fcb_ring.specs.declared.ring.Ring.{Ring}
 use Rattle.fcb_ring.specs.Writing.{record_cost}
+use Rattle.fcb_ring.specs.declared.writing.AppendFault.TheVariants.{PowerLost}
 use Rattle.fcb_ring.proofs.AppendLemmas.{unit-after}
+use Rattle.backend_api.proofs.MapLemmas.{insert-stored}
 use Rattle.backend_api.specs.Room.{most_units}
-use Rattle.backend_fcb.specs.Changing.{HasNoPlace, collect_units}
-use Rattle.settings_list.specs.Numbers.{pair_cost}
-use Rattle.settings_list.specs.Settings.{body_of, setting_of, with_setting}
+use Rattle.backend_api.specs.Commands.Command.{Put}
+use Rattle.backend_fcb.specs.Changing.{HasNoPlace, PutEnds, SpendsCost, SpendsUpToCost, collect_units}
+use Rattle.settings_laws.specs.Numbers.{pair_cost}
+use Rattle.settings_laws.specs.Settings.{body_of, setting_of, with_setting}
 use Rattle.backend_fcb.specs.Standing.{settings_on}
-use Rattle.settings_list.proofs.BodyLemmas.{length-body_of}
-use Rattle.backend_fcb.proofs.Ends.{stands-ready, ready-stands, sets-same, sets-new, finds-no_space, few-rounds}
+use Rattle.settings_laws.proofs.BodyLemmas.{length-body_of}
+use Rattle.backend_fcb.proofs.Ends.{stands-ready, ready-stands, ready-undamaged, sets-same, sets-new, finds-no_space, few-rounds, puts-value}
+use Rattle.backend_fcb.proofs.Tearing.{stops-at}
 use Rattle.backend_fcb.proofs.backend.FcbBackendBackend.set.Goals as goal
 
 pub returns-then-holds-clause-ends : goal.returns-then-holds-clause-ends
@@ -40,7 +45,7 @@ returns-in-Ok-clause-ends g c =
     let sectors : c.geometry-geometry.result.sectors ≡ area.sectors = ap (λ (x : Geometry). x.sectors) c.geometry-geometry.ensures ∙ ap (λ (x : Area). x.sectors) c.area.ensures in
     let few = few-rounds d ring (c.geometry-geometry.result.sectors - 1) (omega (arith, c.requires.lawful.several)) in
     let ends = c.in-Ok.ensures.ends in
-    sets-new d e area name value (unit_of d area) (sector_size d area) c.body_of-body.ensures.name c.requires.some c.requires.short other (ends.1 ∙ ap (λ (b : List ℕ). with_setting (settings_on d area) (setting_of b)) body) ends.2
+    sets-new d e area name value (unit_of d area) (sector_size d area) c.body_of-body.ensures.name c.requires.some c.requires.short other (ends.1 ∙ ap (λ (b : List ℕ). with_setting (settings_on d area) (setting_of (value_limit c.args.self.now.ring.area) b)) body) ends.3
 
 pub returns-in-Ok-clause-at_most : goal.returns-in-Ok-clause-at_most
 returns-in-Ok-clause-at_most g c =
@@ -54,7 +59,7 @@ returns-in-Ok-clause-at_most g c =
     let other = c.holds.ensures.not_it c.if-holds.false in
     let sectors : c.geometry-geometry.result.sectors ≡ area.sectors = ap (λ (x : Geometry). x.sectors) c.geometry-geometry.ensures ∙ ap (λ (x : Area). x.sectors) c.area.ensures in
     let few = few-rounds d ring (c.geometry-geometry.result.sectors - 1) (omega (arith, c.requires.lawful.several)) in
-    most_weaker d e ((c.geometry-geometry.result.sectors - 1 + 1) * collect_units d ring) (most_units area.sectors (sector_size d area / unit_of d area)) few c.in-Ok.ensures.at_most
+    most_weaker d e ((c.geometry-geometry.result.sectors - 1 + 1) * collect_units d ring) (most_units (geometry_of d area)) few c.in-Ok.ensures.at_most
 
 pub returns-in-Err-PowerLost-clause-at_most : goal.returns-in-Err-PowerLost-clause-at_most
 returns-in-Err-PowerLost-clause-at_most g c =
@@ -68,7 +73,7 @@ returns-in-Err-PowerLost-clause-at_most g c =
     let other = c.holds.ensures.not_it c.if-holds.false in
     let sectors : c.geometry-geometry.result.sectors ≡ area.sectors = ap (λ (x : Geometry). x.sectors) c.geometry-geometry.ensures ∙ ap (λ (x : Area). x.sectors) c.area.ensures in
     let few = few-rounds d ring (c.geometry-geometry.result.sectors - 1) (omega (arith, c.requires.lawful.several)) in
-    most_weaker d e ((c.geometry-geometry.result.sectors - 1 + 1) * collect_units d ring) (most_units area.sectors (sector_size d area / unit_of d area)) few c.in-Err-PowerLost.ensures.at_most
+    most_weaker d e ((c.geometry-geometry.result.sectors - 1 + 1) * collect_units d ring) (most_units (geometry_of d area)) few c.in-Err-PowerLost.ensures.at_most
 
 pub unreachable-requires : goal.unreachable-requires
 unreachable-requires g c =
@@ -118,7 +123,7 @@ returns-in-Err-Full-clause-at_most g c =
     let other = c.holds.ensures.not_it c.if-holds.false in
     let sectors : c.geometry-geometry.result.sectors ≡ area.sectors = ap (λ (x : Geometry). x.sectors) c.geometry-geometry.ensures ∙ ap (λ (x : Area). x.sectors) c.area.ensures in
     let few = few-rounds d ring (c.geometry-geometry.result.sectors - 1) (omega (arith, c.requires.lawful.several)) in
-    most_weaker d e ((c.geometry-geometry.result.sectors - 1 + 1) * collect_units d ring) (most_units area.sectors (sector_size d area / unit_of d area)) few c.in-Err-Full.ensures.at_most
+    most_weaker d e ((c.geometry-geometry.result.sectors - 1 + 1) * collect_units d ring) (most_units (geometry_of d area)) few c.in-Err-Full.ensures.at_most
 
 pub returns-in-Err-Full-clause-stands : goal.returns-in-Err-Full-clause-stands
 returns-in-Err-Full-clause-stands g c =
@@ -135,3 +140,86 @@ returns-in-Err-Full-clause-stands g c =
     let full : HasNoPlace d e ring c.put.new.ring (length c.as_slice.result.now) ring.reserve (c.geometry-geometry.result.sectors - 1) = rw c.in-Err-Full.field-0-is at c.in-Err-Full.ensures.ends in
     let is-full : HasNoPlace d e ring c.put.new.ring (length (body_of c.args.name.now c.args.value.now)) ring.reserve (c.geometry-geometry.result.sectors - 1) = subst (λ (b : List ℕ). HasNoPlace d e ring c.put.new.ring (length b) ring.reserve (c.geometry-geometry.result.sectors - 1)) body full in
     λ up. ready-stands e c.put.new.ring area c.in-Err-Full.ensures.area c.requires.stands.role full.ready
+
+pub returns-in-Ok-clause-sound : goal.returns-in-Ok-clause-sound
+returns-in-Ok-clause-sound g c =
+    ready-undamaged (g.F.Flash.device c.put.new.flash) c.put.new.ring c.args.self.now.ring.area c.in-Ok.ensures.area c.in-Ok.ensures.ends.0
+
+pub returns-in-Ok-clause-stands : goal.returns-in-Ok-clause-stands
+returns-in-Ok-clause-stands g c =
+    λ up. ready-stands (g.F.Flash.device c.put.new.flash) c.put.new.ring c.args.self.now.ring.area c.in-Ok.ensures.area c.requires.stands.role c.in-Ok.ensures.ends.0
+
+pub returns-in-Err-Full-clause-sound : goal.returns-in-Err-Full-clause-sound
+returns-in-Err-Full-clause-sound g c =
+    let d : Device = g.F.Flash.device c.args.flash.now in
+    let e : Device = g.F.Flash.device c.put.new.flash in
+    let ring : Ring = c.args.self.now.ring in
+    let full : HasNoPlace d e ring c.put.new.ring (length c.as_slice.result.now) ring.reserve (c.geometry-geometry.result.sectors - 1) = rw c.in-Err-Full.field-0-is at c.in-Err-Full.ensures.ends in
+    ready-undamaged e c.put.new.ring ring.area c.in-Err-Full.ensures.area full.ready
+
+pub returns-in-Err-PowerLost-clause-sound : goal.returns-in-Err-PowerLost-clause-sound
+returns-in-Err-PowerLost-clause-sound g c =
+    let d : Device = g.F.Flash.device c.args.flash.now in
+    let e : Device = g.F.Flash.device c.put.new.flash in
+    let ends : PutEnds {T = Unit {0}} d e c.args.self.now.ring c.put.new.ring c.as_slice.result.now c.args.self.now.ring.reserve (c.geometry-geometry.result.sectors - 1) (Err PowerLost) = rw c.in-Err-PowerLost.field-0-is at c.in-Err-PowerLost.ensures.ends in
+    ends.0.undamaged
+
+pub returns-in-Err-PowerLost-clause-cut : goal.returns-in-Err-PowerLost-clause-cut
+returns-in-Err-PowerLost-clause-cut g c on lost =
+    let d : Device = g.F.Flash.device c.args.flash.now in
+    let e : Device = g.F.Flash.device c.put.new.flash in
+    let area : Area = c.args.self.now.ring.area in
+    let name : List ℕ = c.args.name.now in
+    let value : List ℕ = c.args.value.now in
+    let body : c.as_slice.result.now ≡ body_of c.args.name.now c.args.value.now = c.as_slice.ensures.value ∙ c.body_of-body.ensures.items in
+    let ends : PutEnds {T = Unit {0}} d e c.args.self.now.ring c.put.new.ring c.as_slice.result.now c.args.self.now.ring.reserve (c.geometry-geometry.result.sectors - 1) (Err PowerLost) = rw c.in-Err-PowerLost.field-0-is at c.in-Err-PowerLost.ensures.ends in
+    stops-at d e area c.as_slice.result.now (Put name value) body (puts-value (value_limit c.args.self.now.ring.area) (settings_on d area) name value c.body_of-body.ensures.name c.requires.some c.requires.short) (ends.0.stops on)
+
+pub returns-then-holds-clause-exact : goal.returns-then-holds-clause-exact
+returns-then-holds-clause-exact g c changes =
+    let d : Device = g.F.Flash.device c.args.flash.now in
+    absurd (changes (insert-stored (settings_on d c.args.self.now.ring.area) c.args.name.now c.args.value.now (c.holds.ensures.yes_it c.if-holds.true)))
+
+pub returns-in-Ok-clause-exact : goal.returns-in-Ok-clause-exact
+returns-in-Ok-clause-exact g c changes =
+    let d : Device = g.F.Flash.device c.args.flash.now in
+    let e : Device = g.F.Flash.device c.put.new.flash in
+    let ring : Ring = c.args.self.now.ring in
+    let body : c.as_slice.result.now ≡ body_of c.args.name.now c.args.value.now = c.as_slice.ensures.value ∙ c.body_of-body.ensures.items in
+    subst (λ (b : List ℕ). SpendsCost d e ring b ring.reserve) body c.in-Ok.ensures.ends.2
+
+pub returns-in-Err-PowerLost-clause-no_more : goal.returns-in-Err-PowerLost-clause-no_more
+returns-in-Err-PowerLost-clause-no_more g c lost =
+    let d : Device = g.F.Flash.device c.args.flash.now in
+    let e : Device = g.F.Flash.device c.put.new.flash in
+    let ring : Ring = c.args.self.now.ring in
+    let body : c.as_slice.result.now ≡ body_of c.args.name.now c.args.value.now = c.as_slice.ensures.value ∙ c.body_of-body.ensures.items in
+    let ends : PutEnds {T = Unit {0}} d e ring c.put.new.ring c.as_slice.result.now ring.reserve (c.geometry-geometry.result.sectors - 1) (Err PowerLost) = rw c.in-Err-PowerLost.field-0-is at c.in-Err-PowerLost.ensures.ends in
+    subst (λ (b : List ℕ). SpendsUpToCost d e ring b ring.reserve) body ends.1
+
+pub returns-then-holds-clause-few : goal.returns-then-holds-clause-few
+returns-then-holds-clause-few g c = (0, omega arith, spends_none (g.F.Flash.device c.args.flash.now))
+
+pub returns-in-Ok-clause-few : goal.returns-in-Ok-clause-few
+returns-in-Ok-clause-few g c =
+    let d : Device = g.F.Flash.device c.args.flash.now in
+    let ring : Ring = c.args.self.now.ring in
+    let e : Device = g.F.Flash.device c.put.new.flash in
+    let sectors : c.geometry-geometry.result.sectors ≡ ring.area.sectors = ap (λ (x : Geometry). x.sectors) c.geometry-geometry.ensures ∙ ap (λ (x : Area). x.sectors) c.area.ensures in
+    subst (λ (n : ℕ). SpendsAtMost d e ((n - 1 + 1) * collect_units d ring)) sectors c.in-Ok.ensures.at_most
+
+pub returns-in-Err-PowerLost-clause-few : goal.returns-in-Err-PowerLost-clause-few
+returns-in-Err-PowerLost-clause-few g c =
+    let d : Device = g.F.Flash.device c.args.flash.now in
+    let ring : Ring = c.args.self.now.ring in
+    let e : Device = g.F.Flash.device c.put.new.flash in
+    let sectors : c.geometry-geometry.result.sectors ≡ ring.area.sectors = ap (λ (x : Geometry). x.sectors) c.geometry-geometry.ensures ∙ ap (λ (x : Area). x.sectors) c.area.ensures in
+    subst (λ (n : ℕ). SpendsAtMost d e ((n - 1 + 1) * collect_units d ring)) sectors c.in-Err-PowerLost.ensures.at_most
+
+pub returns-in-Err-Full-clause-few : goal.returns-in-Err-Full-clause-few
+returns-in-Err-Full-clause-few g c =
+    let d : Device = g.F.Flash.device c.args.flash.now in
+    let ring : Ring = c.args.self.now.ring in
+    let e : Device = g.F.Flash.device c.put.new.flash in
+    let sectors : c.geometry-geometry.result.sectors ≡ ring.area.sectors = ap (λ (x : Geometry). x.sectors) c.geometry-geometry.ensures ∙ ap (λ (x : Area). x.sectors) c.area.ensures in
+    subst (λ (n : ℕ). SpendsAtMost d e ((n - 1 + 1) * collect_units d ring)) sectors c.in-Err-Full.ensures.at_most

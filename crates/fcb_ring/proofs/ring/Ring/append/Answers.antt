@@ -1,12 +1,14 @@
-use Rattle.std.proofs.Common.{◌≡◌, ℕ, true, false, not, length, ap, sym, subst, ◌∙◌, arith}
+use Rattle.std.proofs.Common.{◌≡◌, ℕ, ◌+◌, true, false, not, length, ap, sym, subst, ◌∙◌, arith}
 use Rattle.std.proofs.lemmas.Bool.{or_left, or_right, not_from_false}
 use Rattle.flash_sim.specs.Device.{Device}
 use Rattle.flash_map.specs.declared.area.Geometry.{Geometry}
-use Rattle.flash_map.specs.Area.{unit_of, sector_size}
+use Rattle.flash_map.specs.Area.{unit_of, sector_size, OthersStay}
 use Rattle.flash_map.specs.Spending.{Spends, SpendsAtMost}
+use Rattle.flash_map.specs.Units.{padded}
 use Rattle.flash_map.proofs.Rounding.{padding}
 use Rattle.fcb_ring.specs.declared.ring.Ring.{Ring}
-use Rattle.fcb_ring.specs.Changing.{kept_room, is_too_long, has_room, is_scratch_left, newest_place, next_place, KeepsOthers, EndsWithRecord, AddsRecord, CutAppend}
+use Rattle.fcb_ring.specs.Changing.{kept_room, is_too_long, has_room, is_scratch_left, newest_place, next_place, EndsWithRecord, AddsRecord, CutAppend}
+use Rattle.fcb_ring.specs.Writing.{record_cost}
 use Rattle.fcb_ring.proofs.AreaLemmas.{has_size}
 use Rattle.fcb_ring.proofs.AppendLemmas.{adds-here, ready-used, more-free, units-here, place-here, place-next, units-next, goes-here}
 use Rattle.fcb_ring.proofs.ring.Ring.append.Goals as goal
@@ -108,7 +110,7 @@ returns-in-Ok-clause-others g c =
     let kept : ℕ = kept_room ring c.args.into_reserve in
     let room : has_room unit size ring kept len ≡ true =
     sym (c.has_room.ensures ∙ ap (λ (x : Geometry). has_room x.unit x.sector ring c.kept_room-kept.result len) c.geometry-geometry.ensures ∙ ap (λ (k : ℕ). has_room unit size ring k len) c.kept_room-kept.ensures) ∙ c.if-has_room.true in
-    subst (λ (p : ℕ). KeepsOthers d (g.F.Flash.device c.put_record.new.flash) ring.area p) (place-here (has_room unit size ring kept len) (newest_place ring) (next_place ring) room) c.in-Ok.ensures.others
+    subst (λ (p : ℕ). OthersStay d (g.F.Flash.device c.put_record.new.flash) ring.area p) (place-here (has_room unit size ring kept len) (newest_place ring) (next_place ring) room) c.in-Ok.ensures.others
 
 pub returns-in-Err-clause-others : goal.returns-in-Err-clause-others
 returns-in-Err-clause-others g c =
@@ -120,7 +122,7 @@ returns-in-Err-clause-others g c =
     let kept : ℕ = kept_room ring c.args.into_reserve in
     let room : has_room unit size ring kept len ≡ true =
     sym (c.has_room.ensures ∙ ap (λ (x : Geometry). has_room x.unit x.sector ring c.kept_room-kept.result len) c.geometry-geometry.ensures ∙ ap (λ (k : ℕ). has_room unit size ring k len) c.kept_room-kept.ensures) ∙ c.if-has_room.true in
-    subst (λ (p : ℕ). KeepsOthers d (g.F.Flash.device c.put_record.new.flash) ring.area p) (place-here (has_room unit size ring kept len) (newest_place ring) (next_place ring) room) c.in-Err.ensures.others
+    subst (λ (p : ℕ). OthersStay d (g.F.Flash.device c.put_record.new.flash) ring.area p) (place-here (has_room unit size ring kept len) (newest_place ring) (next_place ring) room) c.in-Err.ensures.others
 
 pub returns-in-Ok-put_in_next-clause-others : goal.returns-in-Ok-put_in_next-clause-others
 returns-in-Ok-put_in_next-clause-others g c =
@@ -132,7 +134,7 @@ returns-in-Ok-put_in_next-clause-others g c =
     let kept : ℕ = kept_room ring c.args.into_reserve in
     let room : has_room unit size ring kept len ≡ false =
     sym (c.has_room.ensures ∙ ap (λ (x : Geometry). has_room x.unit x.sector ring c.kept_room-kept.result len) c.geometry-geometry.ensures ∙ ap (λ (k : ℕ). has_room unit size ring k len) c.kept_room-kept.ensures) ∙ c.if-has_room.false in
-    subst (λ (p : ℕ). KeepsOthers d (g.F.Flash.device c.put_in_next.new.flash) ring.area p) (place-next (has_room unit size ring kept len) (newest_place ring) (next_place ring) room) c.in-Ok-put_in_next.ensures.others
+    subst (λ (p : ℕ). OthersStay d (g.F.Flash.device c.put_in_next.new.flash) ring.area p) (place-next (has_room unit size ring kept len) (newest_place ring) (next_place ring) room) c.in-Ok-put_in_next.ensures.others
 
 pub returns-in-Err-put_in_next-clause-others : goal.returns-in-Err-put_in_next-clause-others
 returns-in-Err-put_in_next-clause-others g c =
@@ -144,7 +146,7 @@ returns-in-Err-put_in_next-clause-others g c =
     let kept : ℕ = kept_room ring c.args.into_reserve in
     let room : has_room unit size ring kept len ≡ false =
     sym (c.has_room.ensures ∙ ap (λ (x : Geometry). has_room x.unit x.sector ring c.kept_room-kept.result len) c.geometry-geometry.ensures ∙ ap (λ (k : ℕ). has_room unit size ring k len) c.kept_room-kept.ensures) ∙ c.if-has_room.false in
-    subst (λ (p : ℕ). KeepsOthers d (g.F.Flash.device c.put_in_next.new.flash) ring.area p) (place-next (has_room unit size ring kept len) (newest_place ring) (next_place ring) room) c.in-Err-put_in_next.ensures.others
+    subst (λ (p : ℕ). OthersStay d (g.F.Flash.device c.put_in_next.new.flash) ring.area p) (place-next (has_room unit size ring kept len) (newest_place ring) (next_place ring) room) c.in-Err-put_in_next.ensures.others
 
 pub returns-in-Ok-clause-written : goal.returns-in-Ok-clause-written
 returns-in-Ok-clause-written g c =
@@ -169,3 +171,27 @@ returns-in-Ok-put_in_next-clause-written g c =
     let room : has_room unit size ring kept len ≡ false =
     sym (c.has_room.ensures ∙ ap (λ (x : Geometry). has_room x.unit x.sector ring c.kept_room-kept.result len) c.geometry-geometry.ensures ∙ ap (λ (k : ℕ). has_room unit size ring k len) c.kept_room-kept.ensures) ∙ c.if-has_room.false in
     subst (λ (p : ℕ). EndsWithRecord (g.F.Flash.device c.put_in_next.new.flash) c.put_in_next.new.self p c.args.body.now) (place-next (has_room unit size ring kept len) (newest_place ring) (next_place ring) room) c.in-Ok-put_in_next.ensures.ends_with
+
+pub returns-in-Ok-clause-end : goal.returns-in-Ok-clause-end
+returns-in-Ok-clause-end g c =
+    let d : Device = g.F.Flash.device c.args.flash.now in
+    let ring : Ring = c.args.self.now in
+    let unit : ℕ = unit_of d ring.area in
+    let size : ℕ = sector_size d ring.area in
+    let len : ℕ = length c.args.body.now in
+    let kept : ℕ = kept_room ring c.args.into_reserve in
+    let room : has_room unit size ring kept len ≡ true =
+    sym (c.has_room.ensures ∙ ap (λ (x : Geometry). has_room x.unit x.sector ring c.kept_room-kept.result len) c.geometry-geometry.ensures ∙ ap (λ (k : ℕ). has_room unit size ring k len) c.kept_room-kept.ensures) ∙ c.if-has_room.true in
+    c.in-Ok.ensures.end ∙ ap (λ (n : ℕ). n + record_cost unit len) (place-here (has_room unit size ring kept len) ring.end (padded unit 8) room)
+
+pub returns-in-Ok-put_in_next-clause-end : goal.returns-in-Ok-put_in_next-clause-end
+returns-in-Ok-put_in_next-clause-end g c =
+    let d : Device = g.F.Flash.device c.args.flash.now in
+    let ring : Ring = c.args.self.now in
+    let unit : ℕ = unit_of d ring.area in
+    let size : ℕ = sector_size d ring.area in
+    let len : ℕ = length c.args.body.now in
+    let kept : ℕ = kept_room ring c.args.into_reserve in
+    let room : has_room unit size ring kept len ≡ false =
+    sym (c.has_room.ensures ∙ ap (λ (x : Geometry). has_room x.unit x.sector ring c.kept_room-kept.result len) c.geometry-geometry.ensures ∙ ap (λ (k : ℕ). has_room unit size ring k len) c.kept_room-kept.ensures) ∙ c.if-has_room.false in
+    c.in-Ok-put_in_next.ensures.end ∙ ap (λ (n : ℕ). n + record_cost unit len) (place-next (has_room unit size ring kept len) ring.end (padded unit 8) room)

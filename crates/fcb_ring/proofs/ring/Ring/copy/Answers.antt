@@ -2,13 +2,14 @@ use Rattle.std.proofs.Common.{◌≡◌, ◌≤◌, ◌+◌, ◌/◌, ◌++◌, 
 use Rattle.std.proofs.lemmas.Bool.{eq-eqb}
 use Rattle.std.proofs.lemmas.List.{append-nil}
 use Rattle.flash_sim.specs.Device.{Device}
+use Rattle.flash_sim.specs.declared.flash.TheConstants.{PROGRAM_LIMIT}
 use Rattle.flash_map.specs.Area.{unit_of, sector_size, sectors_of, Writes}
 use Rattle.flash_map.specs.Spending.{Spends, SpendsAtMost}
 use Rattle.flash_map.proofs.PieceLemmas.{on_err}
 use Rattle.flash_map.proofs.Rounding.{padding}
 use Rattle.fcb_ring.specs.declared.record.RecordAt.{RecordAt}
 use Rattle.fcb_ring.specs.declared.ring.Ring.{Ring}
-use Rattle.fcb_ring.specs.Changing.{newest_place, IsRecordLoss, sector_list}
+use Rattle.fcb_ring.specs.Changing.{newest_place, IsRecordLoss, sector_list, body_at}
 use Rattle.fcb_ring.specs.Entries.{HasEntries}
 use Rattle.fcb_ring.specs.Standing.{is_finished, entries_on}
 use Rattle.fcb_ring.specs.Writing.{record_image, record_cost}
@@ -35,7 +36,7 @@ pub put_record-requires-clause-short : goal.put_record-requires-clause-short
 put_record-requires-clause-short g c =
     let d : Device = g.F.Flash.device c.args.flash.now in
     let long : length c.as_slice.result.now ≡ c.args.r.now.len = ap length c.as_slice.ensures.value ∙ c.body_of-body.ensures.len in
-    subst (λ (n : ℕ). record_cost (unit_of d c.args.self.now.area) n ≤ 400) (sym long) c.requires.short
+    subst (λ (n : ℕ). record_cost (unit_of d c.args.self.now.area) n ≤ PROGRAM_LIMIT) (sym long) c.requires.short
 
 pub put_record-requires-clause-fits : goal.put_record-requires-clause-fits
 put_record-requires-clause-fits g c =
@@ -43,67 +44,52 @@ put_record-requires-clause-fits g c =
     let long : length c.as_slice.result.now ≡ c.args.r.now.len = ap length c.as_slice.ensures.value ∙ c.body_of-body.ensures.len in
     subst (λ (n : ℕ). c.args.self.now.end + record_cost (unit_of d c.args.self.now.area) n ≤ sector_size d c.args.self.now.area) (sym long) c.requires.fits
 
-pub returns-in_err-put_record-clause-list : goal.returns-in_err-put_record-clause-list
-returns-in_err-put_record-clause-list g c =
+pub returns-clause-copied : goal.returns-clause-copied
+returns-clause-copied g c =
     let d : Device = g.F.Flash.device c.args.flash.now in
-    c.in_err-put_record.ensures.uncounted (collecting-used d c.args.self.now c.requires.stands c.requires.collecting)
-
-pub returns-in_err-put_record-clause-bound : goal.returns-in_err-put_record-clause-bound
-returns-in_err-put_record-clause-bound g c =
-    let d : Device = g.F.Flash.device c.args.flash.now in
-    let long : length c.as_slice.result.now ≡ c.args.r.now.len = ap length c.as_slice.ensures.value ∙ c.body_of-body.ensures.len in
-    on_err c.from_residual.result
-    (subst (λ (n : ℕ). SpendsAtMost d (g.F.Flash.device c.put_record.new.flash) (record_cost (unit_of d c.args.self.now.area) n / unit_of d c.args.self.now.area)) long c.in_err-put_record.ensures.bound)
-
-pub returns-clause-list : goal.returns-clause-list
-returns-clause-list g c =
-    let d : Device = g.F.Flash.device c.args.flash.now in
-    let ring : Ring = c.args.self.now in
     let new : Device = g.F.Flash.device c.put_record.new.flash in
-    let puts = c.in_ok-put_record.ensures.puts in
+    let ring : Ring = c.args.self.now in
     let body : List ℕ = c.as_slice.result.now in
-    let none : entries_on d ring.area ++ cond (eqb ring.used ring.area.sectors) [] ((puts.at, body) ∷ []) ≡ entries_on d ring.area =
-    ap (λ (b : Bool). entries_on d ring.area ++ cond b [] ((puts.at, body) ∷ [])) (eq-eqb ring.used ring.area.sectors (collecting-used d ring c.requires.stands c.requires.collecting)) ∙ append-nil (entries_on d ring.area) in
-    subst (λ (l : List (RecordAt × List ℕ)). HasEntries (unit_of new ring.area) (sectors_of new ring.area) l) none puts.list
-
-pub returns-clause-end : goal.returns-clause-end
-returns-clause-end g c =
-    let d : Device = g.F.Flash.device c.args.flash.now in
-    let ring : Ring = c.args.self.now in
     let long : length c.as_slice.result.now ≡ c.args.r.now.len = ap length c.as_slice.ensures.value ∙ c.body_of-body.ensures.len in
-    c.in_ok-put_record.ensures.end ∙ ap (λ (n : ℕ). ring.end + record_cost (unit_of d ring.area) n) long
+    let bytes : c.as_slice.result.now ≡ body_at d ring.area c.args.r.now = c.as_slice.ensures.value ∙ c.body_of-body.ensures.bytes in
+    let did = c.in_ok-put_record.ensures in
+    let none : entries_on d ring.area ++ cond (eqb ring.used ring.area.sectors) [] ((did.puts.at, body) ∷ []) ≡ entries_on d ring.area =
+    ap (λ (b : Bool). entries_on d ring.area ++ cond b [] ((did.puts.at, body) ∷ [])) (eq-eqb ring.used ring.area.sectors (collecting-used d ring c.requires.stands c.requires.collecting)) ∙ append-nil (entries_on d ring.area) in
+    record {
+      banks = did.touches.banks;
+      list = subst (λ (l : List (RecordAt × List ℕ)). HasEntries (unit_of new ring.area) (sectors_of new ring.area) l) none did.puts.list;
+      others = did.others;
+      area = did.area;
+      reserve = did.reserve;
+      stands = did.stands;
+      stage = did.stage ∙ c.requires.collecting;
+      oldest = did.oldest;
+      used = did.used;
+      end = did.end ∙ ap (λ (n : ℕ). ring.end + record_cost (unit_of d ring.area) n) long;
+      written = subst (λ (b : List ℕ). Writes d new ring.area (newest_place ring) ring.end (record_image (unit_of d ring.area) b)) bytes did.written;
+      copies = (did.puts.at, did.puts.sector, did.puts.here ∙ ap (λ (b : List ℕ). sector_list d ring.area (newest_place ring) ++ (did.puts.at, b) ∷ []) bytes);
+      units = subst (λ (n : ℕ). Spends d new (record_cost (unit_of d ring.area) n / unit_of d ring.area)) long did.units;
+    }
 
-pub returns-clause-copies : goal.returns-clause-copies
-returns-clause-copies g c =
+pub returns-in_err-put_record-clause-stopped : goal.returns-in_err-put_record-clause-stopped
+returns-in_err-put_record-clause-stopped g c =
     let d : Device = g.F.Flash.device c.args.flash.now in
-    let ring : Ring = c.args.self.now in
-    let puts = c.in_ok-put_record.ensures.puts in
-    (puts.at, puts.sector, puts.here ∙ ap (λ (b : List ℕ). sector_list d ring.area (newest_place ring) ++ (puts.at, b) ∷ []) (c.as_slice.ensures.value ∙ c.body_of-body.ensures.bytes))
-
-pub returns-clause-units : goal.returns-clause-units
-returns-clause-units g c =
-    let d : Device = g.F.Flash.device c.args.flash.now in
-    let ring : Ring = c.args.self.now in
-    let long : length c.as_slice.result.now ≡ c.args.r.now.len = ap length c.as_slice.ensures.value ∙ c.body_of-body.ensures.len in
-    subst (λ (n : ℕ). Spends d (g.F.Flash.device c.put_record.new.flash) (record_cost (unit_of d c.args.self.now.area) n / unit_of d c.args.self.now.area)) long c.in_ok-put_record.ensures.units
-
-pub returns-clause-written : goal.returns-clause-written
-returns-clause-written g c =
-    let d : Device = g.F.Flash.device c.args.flash.now in
-    let ring : Ring = c.args.self.now in
-    subst (λ (b : List ℕ). Writes d (g.F.Flash.device c.put_record.new.flash) ring.area (newest_place ring) ring.end (record_image (unit_of d ring.area) b)) (c.as_slice.ensures.value ∙ c.body_of-body.ensures.bytes) c.in_ok-put_record.ensures.written
-
-pub returns-in_err-put_record-clause-full : goal.returns-in_err-put_record-clause-full
-returns-in_err-put_record-clause-full g c =
-    let d : Device = g.F.Flash.device c.args.flash.now in
-    on_err c.from_residual.result (c.in_err-put_record.ensures.full (collecting-used d c.args.self.now c.requires.stands c.requires.collecting))
-
-pub returns-in_err-put_record-clause-lost : goal.returns-in_err-put_record-clause-lost
-returns-in_err-put_record-clause-lost g c =
-    let d : Device = g.F.Flash.device c.args.flash.now in
-    let ring : Ring = c.args.self.now in
     let new : Device = g.F.Flash.device c.put_record.new.flash in
-    on_err c.from_residual.result
-    (λ (is_on : d.is_on ≡ true).
-    let at = c.in_err-put_record.ensures.lost is_on in
-    (at.0, subst (λ (b : List ℕ). IsRecordLoss new ring.area (newest_place ring) ring.end b at.0) (c.as_slice.ensures.value ∙ c.body_of-body.ensures.bytes) at.1))
+    let ring : Ring = c.args.self.now in
+    let long : length c.as_slice.result.now ≡ c.args.r.now.len = ap length c.as_slice.ensures.value ∙ c.body_of-body.ensures.len in
+    let bytes : c.as_slice.result.now ≡ body_at d ring.area c.args.r.now = c.as_slice.ensures.value ∙ c.body_of-body.ensures.bytes in
+    let full = collecting-used d ring c.requires.stands c.requires.collecting in
+    let did = c.in_err-put_record.ensures in
+    on_err c.from_residual.result (record {
+      banks = did.touches.banks;
+      list = did.uncounted full;
+      others = did.others;
+      area = did.area;
+      reserve = did.reserve;
+      down = did.down;
+      full = did.full full;
+      lost = λ (is_on : d.is_on ≡ true).
+          let at = did.lost is_on in
+          (at.0, subst (λ (b : List ℕ). IsRecordLoss new ring.area (newest_place ring) ring.end b at.0) bytes at.1);
+      bound = subst (λ (n : ℕ). SpendsAtMost d new (record_cost (unit_of d ring.area) n / unit_of d ring.area)) long did.bound;
+    })

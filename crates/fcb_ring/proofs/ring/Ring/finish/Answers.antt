@@ -1,4 +1,4 @@
-use Rattle.std.proofs.Common.{◌∙◌, ℕ, List, length, cond, sym, ap, subst, arith}
+use Rattle.std.proofs.Common.{◌∙◌, ℕ, List, length, cond, inl, inr, refl, sym, ap, subst, arith}
 use Rattle.std.specs.Prelude.{count_by}
 use Rattle.flash_sim.specs.Device.{counted}
 use Rattle.flash_map.specs.Area.{unit_of, sector_size, sectors_of}
@@ -8,8 +8,11 @@ use Rattle.fcb_ring.specs.declared.ring.Stage.TheVariants.{Ready}
 use Rattle.fcb_ring.specs.Entries.{HasEntries}
 use Rattle.fcb_ring.specs.Standing.{Stands, entries_on, states_on, erases_due}
 use Rattle.fcb_ring.proofs.AreaLemmas.{has_size, count-sectors, area_after}
-use Rattle.fcb_ring.proofs.MountLemmas.{on_err, spends_then, mends_all}
-use Rattle.fcb_ring.proofs.FinishLemmas.{with_unit, after_erases, place-within, mended-has, finished, mounted-is, due-is}
+use Rattle.flash_map.proofs.FormatLemmas.{on_err, spends_then}
+use Rattle.fcb_ring.proofs.MountLemmas.{mends_all, not-due}
+use Rattle.fcb_ring.proofs.CollectLemmas.{erase-lost}
+use Rattle.fcb_ring.proofs.FinishLemmas.{with_unit, after_erases, place-within, mended-has, finished, mounted-is, due-is, newest-place}
+use Rattle.fcb_ring.specs.Rings.{turned}
 use Rattle.fcb_ring.proofs.ring.Ring.finish.Goals as goal
 
 pub place-newest-requires-clause-oldest : goal.place-newest-requires-clause-oldest
@@ -106,4 +109,38 @@ pub returns-in_err-erase_if-clause-part : goal.returns-in_err-erase_if-clause-pa
 returns-in_err-erase_if-clause-part g c =
     let a = g.F.Flash.device c.args.flash.now in
     let ring = c.args.self.now in
-    on_err c.from_residual-in_err-erase_if.result (length (sectors_of a ring.area), c.in_err-erase_if.ensures.same ∙ c.in_ok-erase_torn.ensures.mended ∙ sym (mends_all (sectors_of a ring.area) (length (sectors_of a ring.area)) (omega arith)))
+    let full = sym c.is_uncounted-is_full.ensures ∙ c.in_err-erase_if.ensures.due in
+    let newest = newest-place (unit_of a ring.area) (sector_size a ring.area) (sectors_of a ring.area) (has_size a ring.area (g.met.F.Flash.is_lawful c.args.flash.now) c.requires.stands.area) ring c.requires.stands.sectors c.requires.not_finished full in
+    on_err c.from_residual-in_err-erase_if.result (record {
+      done = ring.area.sectors;
+      sectors = c.in_err-erase_if.ensures.same ∙ c.in_ok-erase_torn.ensures.mended ∙ sym (mends_all (sectors_of a ring.area) ring.area.sectors (omega (arith, count-sectors a ring.area)));
+      place = c.place-newest.result;
+      which = inr (refl, c.place-newest.ensures.value ∙ sym (newest ∙ ap (λ (n : ℕ). turned n ring.oldest ring.used) (count-sectors a ring.area)));
+      lost = λ on. erase-lost (g.F.Flash.device c.erase_torn.new.flash) (g.F.Flash.device c.erase_if.new.flash) ring.area c.place-newest.result c.in_err-erase_if.ensures.touches.banks c.in_err-erase_if.ensures.lost (c.in_ok-erase_torn.ensures.touches.ends.on ∙ on);
+    })
+
+pub returns-in_err-erase_torn-clause-part : goal.returns-in_err-erase_torn-clause-part
+returns-in_err-erase_torn-clause-part g c =
+    let part = c.in_err-erase_torn.ensures.part in
+    on_err c.from_residual.result (record { done = part.0; sectors = part.1; place = part.0; which = inl refl; lost = part.2 })
+
+pub returns-in_err-erase_torn-clause-idle : goal.returns-in_err-erase_torn-clause-idle
+returns-in_err-erase_torn-clause-idle g c none =
+    let a = g.F.Flash.device c.args.flash.now in
+    let ring = c.args.self.now in
+    let due = due-is (unit_of a ring.area) (sector_size a ring.area) (sectors_of a ring.area) (has_size a ring.area (g.met.F.Flash.is_lawful c.args.flash.now) c.requires.stands.area) ring c.requires.stands.sectors c.requires.not_finished c.is_uncounted-is_full.result c.is_uncounted-is_full.ensures in
+    c.in_err-erase_torn.ensures.idle (omega arith)
+
+pub returns-in_err-erase_if-clause-idle : goal.returns-in_err-erase_if-clause-idle
+returns-in_err-erase_if-clause-idle g c none =
+    let a = g.F.Flash.device c.args.flash.now in
+    let ring = c.args.self.now in
+    let due = due-is (unit_of a ring.area) (sector_size a ring.area) (sectors_of a ring.area) (has_size a ring.area (g.met.F.Flash.is_lawful c.args.flash.now) c.requires.stands.area) ring c.requires.stands.sectors c.requires.not_finished c.is_uncounted-is_full.result c.is_uncounted-is_full.ensures in
+    c.in_err-erase_if.ensures.idle (not-due c.is_uncounted-is_full.result (count_by is_torn (sectors_of a ring.area)) (sym due ∙ none)) ∙ c.in_ok-erase_torn.ensures.idle (omega arith)
+
+pub returns-clause-idle : goal.returns-clause-idle
+returns-clause-idle g c none =
+    let a = g.F.Flash.device c.args.flash.now in
+    let ring = c.args.self.now in
+    let due = due-is (unit_of a ring.area) (sector_size a ring.area) (sectors_of a ring.area) (has_size a ring.area (g.met.F.Flash.is_lawful c.args.flash.now) c.requires.stands.area) ring c.requires.stands.sectors c.requires.not_finished c.is_uncounted-is_full.result c.is_uncounted-is_full.ensures in
+    c.in_ok-erase_if.ensures.idle (not-due c.is_uncounted-is_full.result (count_by is_torn (sectors_of a ring.area)) (sym due ∙ none)) ∙ c.in_ok-erase_torn.ensures.idle (omega arith)

@@ -1,14 +1,16 @@
-use Rattle.std.proofs.Common.{◌≡◌, ◌∙◌, ℕ, List, Option, length, find, sym, ap, subst}
+use Rattle.std.proofs.Common.{◌≡◌, ◌∙◌, ℕ, List, Option, length, refl, sym, ap, subst}
 use Rattle.std.specs.Option.{option_map}
 use Rattle.flash_map.specs.declared.area.Geometry.{Geometry}
-use Rattle.flash_map.specs.Area.{unit_of, sectors_of}
+use Rattle.flash_sim.specs.Device.{Device}
+use Rattle.flash_map.specs.declared.area.Area.{Area}
+use Rattle.flash_map.specs.Area.{unit_of, sector_bytes}
+use Rattle.fcb_ring.specs.Changing.{begins_with}
 use Rattle.fcb_ring.specs.declared.record.Record.{Record}
-use Rattle.fcb_ring.specs.Records.{record_at, walk}
+use Rattle.fcb_ring.specs.Records.{record_at, walk, first_passing}
 use Rattle.fcb_ring.specs.Entries.{placed}
-use Rattle.flash_map.specs.Area.{sector_at}
 use Rattle.fcb_ring.specs.SectorStates.{IsSector}
 use Rattle.fcb_ring.proofs.AreaLemmas.{has_size, sector_is}
-use Rattle.fcb_ring.proofs.NextLemmas.{first-passing}
+use Rattle.fcb_ring.proofs.NextLemmas.{first-with}
 use Rattle.fcb_ring.proofs.ring.Ring.next_in.Goals as goal
 
 pub next_checked-requires-clause-sector : goal.next_checked-requires-clause-sector
@@ -19,22 +21,24 @@ next_checked-requires-clause-sector g c =
 
 pub returns-in-Some : goal.returns-in-Some
 returns-in-Some g c =
-    let unit = unit_of (g.F.Flash.device c.args.flash.now) c.args.self.now.area in
-    let sector = sector_at (sectors_of (g.F.Flash.device c.args.flash.now) c.args.self.now.area) c.args.place in
-    let view = c.sector_view-sector.result.now in
-    let found : c.next_checked.result ≡ find (λ r. r.checks) (walk (record_at (unit_of (g.F.Flash.device c.args.flash.now) c.args.self.now.area) (sector_at (sectors_of (g.F.Flash.device c.args.flash.now) c.args.self.now.area) c.args.place)) (length (sector_at (sectors_of (g.F.Flash.device c.args.flash.now) c.args.self.now.area) c.args.place)) c.args.from) =
+    let d : Device = g.F.Flash.device c.args.flash.now in
+    let area : Area = c.args.self.now.area in
+    let view : List ℕ = c.sector_view-sector.result.now in
+    let found : c.next_checked.result ≡ first_passing (unit_of d area) (sector_bytes d area c.args.place) c.args.front.now c.args.from =
     c.next_checked.ensures
-    ∙ ap (λ (geometry : Geometry). find (λ r. r.checks) (walk (record_at geometry.unit view) (length view) c.args.from)) c.geometry-unit.ensures
-    ∙ ap (λ (l : List ℕ). find (λ r. r.checks) (walk (record_at unit l) (length l) c.args.from)) c.sector_view-sector.ensures.bytes in
-    sym (first-passing (placed c.args.place) (λ r. r.checks) (walk (record_at unit sector) (length sector) c.args.from) ∙ ap (λ (o : Option Record). option_map (placed c.args.place) o) (sym found ∙ c.in-Some.is))
+    ∙ ap (λ (geometry : Geometry). first_passing geometry.unit view c.args.front.now c.args.from) c.geometry-unit.ensures
+    ∙ ap (λ (l : List ℕ). first_passing (unit_of d area) l c.args.front.now c.args.from) c.sector_view-sector.ensures.bytes in
+    sym (first-with (sector_bytes d area c.args.place) c.args.front.now c.args.place (begins_with d area c.args.front.now) (λ r. refl) (walk (record_at (unit_of d area) (sector_bytes d area c.args.place)) (length (sector_bytes d area c.args.place)) c.args.from)
+    ∙ ap (λ (o : Option Record). option_map (placed c.args.place) o) (sym found ∙ c.in-Some.is))
 
 pub returns-in-None : goal.returns-in-None
 returns-in-None g c =
-    let unit = unit_of (g.F.Flash.device c.args.flash.now) c.args.self.now.area in
-    let sector = sector_at (sectors_of (g.F.Flash.device c.args.flash.now) c.args.self.now.area) c.args.place in
-    let view = c.sector_view-sector.result.now in
-    let found : c.next_checked.result ≡ find (λ r. r.checks) (walk (record_at (unit_of (g.F.Flash.device c.args.flash.now) c.args.self.now.area) (sector_at (sectors_of (g.F.Flash.device c.args.flash.now) c.args.self.now.area) c.args.place)) (length (sector_at (sectors_of (g.F.Flash.device c.args.flash.now) c.args.self.now.area) c.args.place)) c.args.from) =
+    let d : Device = g.F.Flash.device c.args.flash.now in
+    let area : Area = c.args.self.now.area in
+    let view : List ℕ = c.sector_view-sector.result.now in
+    let found : c.next_checked.result ≡ first_passing (unit_of d area) (sector_bytes d area c.args.place) c.args.front.now c.args.from =
     c.next_checked.ensures
-    ∙ ap (λ (geometry : Geometry). find (λ r. r.checks) (walk (record_at geometry.unit view) (length view) c.args.from)) c.geometry-unit.ensures
-    ∙ ap (λ (l : List ℕ). find (λ r. r.checks) (walk (record_at unit l) (length l) c.args.from)) c.sector_view-sector.ensures.bytes in
-    sym (first-passing (placed c.args.place) (λ r. r.checks) (walk (record_at unit sector) (length sector) c.args.from) ∙ ap (λ (o : Option Record). option_map (placed c.args.place) o) (sym found ∙ c.in-None.is))
+    ∙ ap (λ (geometry : Geometry). first_passing geometry.unit view c.args.front.now c.args.from) c.geometry-unit.ensures
+    ∙ ap (λ (l : List ℕ). first_passing (unit_of d area) l c.args.front.now c.args.from) c.sector_view-sector.ensures.bytes in
+    sym (first-with (sector_bytes d area c.args.place) c.args.front.now c.args.place (begins_with d area c.args.front.now) (λ r. refl) (walk (record_at (unit_of d area) (sector_bytes d area c.args.place)) (length (sector_bytes d area c.args.place)) c.args.from)
+    ∙ ap (λ (o : Option Record). option_map (placed c.args.place) o) (sym found ∙ c.in-None.is))

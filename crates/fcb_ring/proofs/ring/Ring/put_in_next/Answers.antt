@@ -1,5 +1,6 @@
 use Rattle.std.proofs.Common.{◌≡◌, ◌≤◌, ◌+◌, ℕ, true, false, length, inl, ◌∷◌, [], ap, sym, subst, ◌∙◌, arith}
 use Rattle.flash_sim.specs.Device.{Device}
+use Rattle.flash_sim.specs.declared.flash.TheConstants.{PROGRAM_LIMIT}
 use Rattle.flash_map.specs.Area.{unit_of, sector_size}
 use Rattle.flash_map.specs.Touches.{Touches}
 use Rattle.flash_map.specs.declared.area.Area.{Area}
@@ -24,7 +25,7 @@ put_record-requires-clause-short g c =
     let b : Device = g.F.Flash.device c.open_next.new.flash in
     let r : Ring = c.open_next.new.self in
     let unit : unit_of b r.area ≡ unit_of a c.args.self.now.area = unit-after a b c.args.self.now.area r.area c.in_ok-open_next.ensures.touches.banks c.in_ok-open_next.ensures.area in
-    subst (λ (u : ℕ). record_cost u (length c.args.body.now) ≤ 400) (sym unit) c.requires.short
+    subst (λ (u : ℕ). record_cost u (length c.args.body.now) ≤ PROGRAM_LIMIT) (sym unit) c.requires.short
 
 pub put_record-requires-clause-fits : goal.put_record-requires-clause-fits
 put_record-requires-clause-fits g c =
@@ -38,7 +39,7 @@ put_record-requires-clause-fits g c =
     subst (λ (u : ℕ). r.end + record_cost u (length c.args.body.now) ≤ sector_size b r.area) (sym unit) fits
 
 pub returns-in_err-open_next-clause-cut : goal.returns-in_err-open_next-clause-cut
-returns-in_err-open_next-clause-cut g c = on_err c.from_residual.result (inl (c.in_err-open_next.ensures.list, c.in_err-open_next.ensures.lost))
+returns-in_err-open_next-clause-cut g c = on_err c.from_residual.result (inl (record { list = c.in_err-open_next.ensures.list; loss = c.in_err-open_next.ensures.lost }))
 
 pub returns-in_err-open_next-clause-down : goal.returns-in_err-open_next-clause-down
 returns-in_err-open_next-clause-down g c =
@@ -127,3 +128,12 @@ returns-clause-ends_with g c =
     let d : Device = g.F.Flash.device c.put_record.new.flash in
     let ok = c.in_ok-open_next.ensures in
     subst (λ (p : ℕ). EndsWithRecord d c.put_record.new.self p c.args.body.now) (opened-place c.args.self.now c.open_next.new.self ok.area ok.oldest ok.used) c.in_ok-put_record.ensures.ends_with
+
+pub returns-clause-end : goal.returns-clause-end
+returns-clause-end g c =
+    let a : Device = g.F.Flash.device c.args.flash.now in
+    let b : Device = g.F.Flash.device c.open_next.new.flash in
+    let len : ℕ = length c.args.body.now in
+    let ok = c.in_ok-open_next.ensures in
+    let unit : unit_of b c.open_next.new.self.area ≡ unit_of a c.args.self.now.area = unit-after a b c.args.self.now.area c.open_next.new.self.area ok.touches.banks ok.area in
+    c.in_ok-put_record.ensures.end ∙ ap (λ (u : ℕ). c.open_next.new.self.end + record_cost u len) unit ∙ ap (λ (n : ℕ). n + record_cost (unit_of a c.args.self.now.area) len) ok.end

@@ -2,7 +2,7 @@ use Rattle.std.proofs.Common.{◌≡◌, ◌+◌, ◌∙◌, Some, List, ℕ, sy
 use Rattle.std.specs.Prelude.{slice_range}
 use Rattle.flash_map.specs.Area.{sectors_of, sector_at}
 use Rattle.flash_map.proofs.Places.{length-sector}
-use Rattle.slot_list.proofs.ItemLemmas.{get-items_of}
+use Rattle.pair_laws.proofs.ItemLemmas.{get-items_of}
 use Rattle.nvs_gc.specs.Standing.{list_on}
 use Rattle.nvs_gc.proofs.Standings.{value_none, value_some}
 use Rattle.nvs_gc.proofs.nvs.Nvs.get.Goals as goal

@@ -4,7 +4,7 @@ use Rattle.std.specs.List.{range_with_len}
 use Rattle.std.proofs.lemmas.List.Sums.{sum_by_push}
 use Rattle.flash_sim.specs.Device.{Device}
 use Rattle.flash_map.specs.Area.{unit_of, sectors_of}
-use Rattle.sector_ring.proofs.Places.{range-append, range_one}
+use Rattle.ring_laws.proofs.Places.{range-append, range_one}
 use Rattle.nvs_store.proofs.MountLemmas.{length-sectors}
 use Rattle.nvs_gc.specs.declared.nvs.Nvs.{Nvs}
 use Rattle.nvs_gc.proofs.LiveSum.{cost_at, all_costs}

@@ -6,7 +6,7 @@ use Rattle.flash_map.specs.Area.{unit_of, sectors_of}
 use Rattle.flash_map.specs.Touches.{Touches}
 use Rattle.flash_map.proofs.PieceLemmas.{on_err}
 use Rattle.flash_map.proofs.SpendingLemmas.{most_weaker}
-use Rattle.sector_ring.proofs.Parts.{parts-count}
+use Rattle.ring_laws.proofs.Parts.{parts-count}
 use Rattle.nvs_store.specs.Scans.{reading, fits}
 use Rattle.nvs_store.proofs.MountLemmas.{length-sectors}
 use Rattle.nvs_gc.specs.declared.nvs.Nvs.{Nvs}

@@ -8,6 +8,7 @@ invariant-loop-next g l = record {
   no_more : l.next ≤ 2 ^ 16;
   from : l.next < 2 ^ 16 → l.first ≤ l.next;
   none_before : (k : ℕ) → l.first ≤ k → k < l.next → map.get (items_on (g.F.Flash.device l.flash) l.self.area) k ≡ None;
+  none_above : (k : ℕ) → 2 ^ 16 ≤ k → map.get (items_on (g.F.Flash.device l.flash) l.self.area) k ≡ None;
 }
 
 abbrev pub decreases-loop-next : goal.decreases-loop-next

@@ -1,6 +1,6 @@
 use Rattle.std.proofs.Common.{List, ℕ, Some, sym, ap, ◌∙◌}
 use Rattle.std.specs.Option.{option_map}
-use Rattle.slot_list.proofs.ItemLemmas.{get-items_of}
+use Rattle.pair_laws.proofs.ItemLemmas.{get-items_of}
 use Rattle.zms_store.specs.Standing.{list_on}
 use Rattle.zms_store.proofs.PlacedReads.{placed_within, placed_sound, value_none, value_some}
 use Rattle.zms_store.proofs.store.Zms.get.Goals as goal

@@ -4,7 +4,7 @@ use Rattle.std.specs.List.{range_with_len}
 use Rattle.std.proofs.lemmas.List.Sums.{sum_by_push}
 use Rattle.flash_sim.specs.Device.{Device}
 use Rattle.flash_map.specs.Area.{sectors_of}
-use Rattle.sector_ring.proofs.Places.{range-append, range_one}
+use Rattle.ring_laws.proofs.Places.{range-append, range_one}
 use Rattle.zms_store.specs.declared.store.Zms.{Zms}
 use Rattle.zms_store.proofs.LiveSum.{cost_at, all_costs}
 use Rattle.zms_store.proofs.MountLemmas.{length-sectors}

@@ -3,7 +3,7 @@ use Rattle.std.proofs.Math.Nat.{mul-le-mul_left}
 use Rattle.flash_sim.specs.Device.{Device}
 use Rattle.flash_map.specs.Area.{sector_size, sectors_of}
 use Rattle.flash_map.proofs.SpendingBounds.{between_within}
-use Rattle.sector_ring.proofs.Parts.{parts-count}
+use Rattle.ring_laws.proofs.Parts.{parts-count}
 use Rattle.zms_store.specs.declared.store.Zms.{Zms}
 use Rattle.zms_store.specs.Area.{reading}
 use Rattle.zms_store.proofs.MountLemmas.{length-sectors}

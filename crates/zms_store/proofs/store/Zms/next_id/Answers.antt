@@ -4,10 +4,10 @@ use Rattle.flash_map.specs.Area.{sector_at, sectors_of}
 use Rattle.std.proofs.lemmas.Bool.{cases_lt}
 use Rattle.zms_cycle.specs.Sector.{pairs}
 use Rattle.zms_store.specs.declared.store.Zms.{Zms}
-use Rattle.live_items.specs.NextIds.{IsLeastOf}
+use Rattle.ring_laws.specs.NextIds.{IsLeastOf}
 use Rattle.zms_store.specs.Standing.{items_on}
 use Rattle.zms_store.proofs.MountLemmas.{length-sectors}
-use Rattle.live_items.proofs.NextIds.{least_kept}
+use Rattle.ring_laws.proofs.NextIds.{least_kept}
 use Rattle.zms_store.proofs.NextIds.{next_is}
 use Rattle.zms_store.proofs.StandLemmas.{current_within}
 use Rattle.zms_store.proofs.store.Zms.next_id.Goals as goal

@@ -2,7 +2,7 @@ use Rattle.std.proofs.Common.{ℕ, ◌<◌}
 use Rattle.std.specs.Prelude.{IfSome}
 use Rattle.flash_map.specs.Area.{sector_at, sectors_of}
 use Rattle.zms_cycle.specs.Sector.{pairs}
-use Rattle.live_items.specs.NextIds.{Follows, IsLeastOf}
+use Rattle.ring_laws.specs.NextIds.{Follows, IsLeastOf}
 use Rattle.zms_store.specs.Standing.{items_on}
 use Rattle.zms_store.proofs.store.Zms.next_id.Given as goal
 

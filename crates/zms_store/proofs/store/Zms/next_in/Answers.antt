@@ -4,9 +4,9 @@ use Rattle.zms_cycle.specs.declared.reading.Found.{Found}
 use Rattle.zms_cycle.specs.Sector.{pair_of, pairs, valid_slots}
 use Rattle.zms_cycle.proofs.Scanning.{entries_to}
 use Rattle.zms_store.specs.declared.sector.Marks.{Marks}
-use Rattle.live_items.specs.NextIds.{IsLeastOf}
+use Rattle.ring_laws.specs.NextIds.{IsLeastOf}
 use Rattle.zms_store.specs.Standing.{items_on}
-use Rattle.live_items.proofs.NextIds.{at_most_self, kept_then}
+use Rattle.ring_laws.proofs.NextIds.{at_most_self, kept_then}
 use Rattle.zms_store.proofs.NextIds.{least_start, least_step}
 use Rattle.zms_store.proofs.Sectors.{entries_all, few_slots, read_room}
 use Rattle.zms_store.proofs.store.Zms.next_in.Goals as goal

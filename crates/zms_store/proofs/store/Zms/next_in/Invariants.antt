@@ -2,7 +2,7 @@ use Rattle.std.proofs.Common.{◌-◌, map}
 use Rattle.std.specs.Prelude.{IfSome}
 use Rattle.zms_cycle.specs.Sector.{pair_of}
 use Rattle.zms_cycle.proofs.Scanning.{entries_to}
-use Rattle.live_items.specs.NextIds.{Follows, IsAtMost, IsLeastOf}
+use Rattle.ring_laws.specs.NextIds.{Follows, IsAtMost, IsLeastOf}
 use Rattle.zms_store.specs.Standing.{items_on}
 use Rattle.zms_store.proofs.store.Zms.next_in.Given as goal
 

@@ -58,7 +58,7 @@ put_entry-requires-clause-zms g c =
     let wide : 48 ≤ length (sector_at (sectors_of a zms.area) zms.current) = omega arith in
     let d : Device = g.F.Flash.device c.begin_blank.new.flash in
     let there = still_area a d zms.area c.in_ok-begin_blank.ensures.touches.banks on.area in
-    record { lawful = there.lawful; role = there.role; has_sector = current-inside a zms on }
+    record { lawful = there.lawful; role = there.role; rewritable = there.rewritable; has_sector = current-inside a zms on }
 
 pub put_entry-requires-clause-used : goal.put_entry-requires-clause-used
 put_entry-requires-clause-used g c =

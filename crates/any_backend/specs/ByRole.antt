@@ -1,0 +1,109 @@
+-- What is said of an area, by its role, which says which store it is for. No store is for a selector.
+use Rattle.std.specs.Prelude.{◌≡◌, ⊤, ℕ, Bool, false, List, Option, None}
+use Rattle.std.specs.FinMap.{empty}
+use Rattle.flash_sim.specs.declared.flash.Kind.{Kind}
+use Rattle.flash_sim.specs.declared.flash.Kind.TheVariants.{Rewritable}
+use Rattle.flash_sim.specs.declared.flash.Loss.{Loss}
+use Rattle.flash_map.specs.Area.{value_limit}
+use Rattle.flash_map.specs.declared.area.Area.{Area}
+use Rattle.flash_map.specs.declared.area.Geometry.{Geometry}
+use Rattle.flash_map.specs.declared.area.Role.{Role}
+use Rattle.flash_map.specs.declared.area.Role.TheVariants.{Nvs, Zms, Fcb, Sel}
+use Rattle.flash_map.specs.declared.faults.Damaged.{Damaged}
+use Rattle.fcb_ring.specs.Chance.{chance}
+use Rattle.fcb_ring.specs.Entries.{states}
+use Rattle.fcb_ring.specs.Standing.{erases_due}
+use Rattle.backend_api.specs.Commands.{Command}
+use Rattle.backend_api.specs.Map.{Map}
+use Rattle.backend_api.specs.Room.{Room}
+use Rattle.settings_laws.specs.Numbers.{room}
+use Rattle.item_store.specs.NvsStore.{nvs_damage, nvs_items, nvs_price, nvs_cap}
+use Rattle.item_store.specs.ZmsStore.{zms_damage, zms_price, zms_cap}
+use Rattle.backend_nvs.specs.Numbers.{settings_of as nvs_settings, nvs_room}
+use Rattle.backend_nvs.specs.Standing.{Rests as NvsRests}
+use Rattle.backend_zms.specs.Numbers.{zms_room}
+use Rattle.backend_zms.specs.Standing.{settings_of as zms_settings, Rests as ZmsRests}
+use Rattle.backend_fcb.specs.Reading.{damage_of, settings_in}
+use Rattle.backend_fcb.specs.Tearing.{body_for, Tears}
+
+-- ZMS is for banks whose units can be programmed again
+abbrev pub serves_as : Role → Kind → Type 0
+serves_as Nvs kind = ⊤
+serves_as Zms kind = kind ≡ Rewritable
+serves_as Fcb kind = ⊤
+serves_as Sel kind = ⊥
+
+abbrev pub damage_as : Role → Area → Geometry → List (List ℕ) → Option Damaged
+damage_as Nvs area geometry sectors = nvs_damage area geometry sectors
+damage_as Zms area geometry sectors = zms_damage area geometry sectors
+damage_as Fcb area geometry sectors = damage_of (value_limit area) geometry.unit sectors
+damage_as Sel area geometry sectors = None
+
+abbrev pub contents_as : Role → Area → Geometry → List (List ℕ) → Map
+contents_as Nvs area geometry sectors = nvs_settings area (nvs_items area geometry sectors)
+contents_as Zms area geometry sectors = zms_settings area geometry sectors
+contents_as Fcb area geometry sectors = settings_in (value_limit area) geometry.unit sectors
+contents_as Sel area geometry sectors = empty
+
+-- nothing costs anything where nothing is stored
+abbrev pub no_room : Room
+no_room = record {
+  cap = 0;
+  cost = λ settings. 0;
+  need = λ settings name value. 0;
+  largest = λ settings name value. 0;
+  too_many = λ settings name. false;
+}
+
+abbrev pub room_as : Role → Geometry → Room
+room_as Nvs geometry = nvs_room nvs_price nvs_cap geometry
+room_as Zms geometry = zms_room zms_price zms_cap geometry
+room_as Fcb geometry = room geometry.unit geometry.sector
+room_as Sel geometry = no_room
+
+abbrev pub rests_as : Role → Area → Geometry → List (List ℕ) → Type 0
+rests_as Nvs area geometry sectors = NvsRests area geometry sectors
+rests_as Zms area geometry sectors = ZmsRests area geometry sectors
+rests_as Fcb area geometry sectors = erases_due (states geometry.unit sectors) ≡ 0
+rests_as Sel area geometry sectors = ⊥
+
+abbrev pub chance_as : Role → Area → Geometry → List (List ℕ) → Loss → Bool
+chance_as Nvs area geometry sectors loss = false
+chance_as Zms area geometry sectors loss = false
+chance_as Fcb area geometry sectors loss = chance area geometry sectors loss
+chance_as Sel area geometry sectors loss = false
+
+abbrev pub tears_as : Role → Area → Geometry → Command → ℕ → Map → Map → Type 0
+tears_as Nvs area geometry command done before after = ⊥
+tears_as Zms area geometry command done before after = ⊥
+tears_as Fcb area geometry command done before after = Tears (value_limit area) geometry.unit (body_for command) done before after
+tears_as Sel area geometry command done before after = ⊥
+
+-- ---- by the role of the area
+
+-- a store is for its role, and works on such a bank
+abbrev pub any_serves : Area → Geometry → Type 0
+any_serves area geometry = serves_as area.role geometry.kind
+
+-- the damage that the sectors show
+abbrev pub any_damage : Area → Geometry → List (List ℕ) → Option Damaged
+any_damage area geometry sectors = damage_as area.role area geometry sectors
+
+-- the settings that they read as
+abbrev pub any_contents : Area → Geometry → List (List ℕ) → Map
+any_contents area geometry sectors = contents_as area.role area geometry sectors
+
+abbrev pub any_room : Area → Geometry → Room
+any_room area geometry = room_as area.role geometry
+
+-- a mount would have nothing to do
+abbrev pub any_rests : Area → Geometry → List (List ℕ) → Type 0
+any_rests area geometry sectors = rests_as area.role area geometry sectors
+
+-- whether the units that were put before a loss spell another record
+abbrev pub any_chance : Area → Geometry → List (List ℕ) → Loss → Bool
+any_chance area geometry sectors loss = chance_as area.role area geometry sectors loss
+
+-- which settings they then leave
+abbrev pub any_tears : Area → Geometry → Command → ℕ → Map → Map → Type 0
+any_tears area geometry command done before after = tears_as area.role area geometry command done before after

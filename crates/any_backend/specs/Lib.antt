@@ -1,0 +1,3 @@
+pub mod ByRole
+pub mod Laws
+pub mod Standing

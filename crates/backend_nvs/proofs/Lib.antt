@@ -1,0 +1,3 @@
+pub mod CountSteps
+pub mod FormatSteps
+pub mod TestBanks

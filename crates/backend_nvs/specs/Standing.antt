@@ -1,0 +1,40 @@
+-- When the backend stands, and what its area reads as.
+use Rattle.std.specs.Prelude.{◌≡◌, ℕ, List, None}
+use Rattle.std.proofs.Common.{arith}
+use Rattle.flash_sim.specs.Bank.{IsLawful}
+use Rattle.flash_sim.specs.Device.{Device}
+use Rattle.flash_map.specs.Area.{value_limit, geometry_of, sectors_of}
+use Rattle.flash_map.specs.On.{on}
+use Rattle.flash_map.specs.Lawful.{IsLawfulFor}
+use Rattle.flash_map.specs.declared.area.Area.{Area}
+use Rattle.flash_map.specs.declared.area.Geometry.{Geometry}
+use Rattle.flash_map.specs.declared.area.Role.TheVariants.{Nvs as NvsRole}
+use Rattle.backend_api.specs.Map.{IsSettings}
+use Rattle.item_pairs.specs.Pairs.{HasNoStrays}
+use Rattle.item_pairs.proofs.LawfulLemmas.{settings-lawful}
+use Rattle.item_store.specs.NvsStore.{nvs_damage, nvs_items, nvs_rests, NvsStands, nvs-rested}
+use Rattle.backend_nvs.specs.declared.backend.NvsBackend.{NvsBackend}
+use Rattle.backend_nvs.specs.Numbers.{numbers_in, nvs-numbers, settings_of}
+
+-- the store stands, and each item belongs to a setting or is the count
+pub record Stands (backend : NvsBackend) (geometry : Geometry) (sectors : List (List ℕ)) : Type 0 where
+  pub store : NvsStands backend.store geometry sectors
+  pub clean : HasNoStrays (numbers_in backend.store.area) (nvs_items backend.store.area geometry sectors)
+
+-- a mount would have nothing to do
+pub record Rests (area : Area) (geometry : Geometry) (sectors : List (List ℕ)) : Type 0 where
+  pub store : nvs_rests area geometry sectors
+  pub clean : HasNoStrays (numbers_in area) (nvs_items area geometry sectors)
+
+pub stands-rest : (backend : NvsBackend) (geometry : Geometry) (sectors : List (List ℕ)) → Stands backend geometry sectors → Rests backend.store.area geometry sectors
+stands-rest backend geometry sectors stands = record { store = nvs-rested backend.store geometry sectors stands.store; clean = stands.clean }
+
+-- lawful names and values throughout, and fewer than 2^32
+pub reads_settings : (d : Device) (area : Area) → IsLawful d.banks d.bytes → IsLawfulFor d.banks area → area.role ≡ NvsRole → on nvs_damage d area ≡ None
+    → IsSettings (value_limit area) (settings_of area (on nvs_items d area))
+reads_settings d area lawful for role undamaged = settings-lawful (numbers_in area) (nvs-numbers (value_limit area)) (omega arith) (on nvs_items d area)
+
+-- the backend stands on this device
+pub record StandsOn (d : Device) (backend : NvsBackend) : Type 0 where
+  pub lawful : IsLawfulFor d.banks backend.store.area
+  pub stands : Stands backend (geometry_of d backend.store.area) (sectors_of d backend.store.area)

@@ -1,0 +1,13 @@
+//! Settings over the store of items of an NVS area: the count of names, the names by their numbers, and their values.
+#![tactic(auto)]
+
+mod backend;
+mod kept;
+mod lookup;
+mod names;
+mod numbers;
+mod putting;
+#[cfg(test)]
+mod tests;
+
+pub use backend::NvsBackend;

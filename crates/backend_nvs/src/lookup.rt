@@ -1,0 +1,113 @@
+// Looking names up.
+ghost use Rattle.std.specs.Prelude.{◌≡◌, ◌+◌, ◌<◌, ◌≤◌};
+ghost use Rattle.std.specs.Bool.{MatchBool};
+ghost use Rattle.flash_map.specs.Lawful.{IsLawfulFor};
+ghost use Rattle.flash_map.specs.On.{on, StandsOn};
+ghost use Rattle.item_pairs.specs.Pairs.{count_in, pair_at, HasName, IsPlaceOf};
+ghost use Rattle.pair_store.specs.Looking.{HasIds};
+ghost use Rattle.backend_nvs.specs.Numbers.{number_of, numbers_in, IsFreePlace};
+
+use flash_sim::{Flash, Steps};
+use item_store::ItemStore;
+use pair_store::{is_at, is_free};
+use setting_name::Name;
+use std::sync::ledger::Ledger;
+
+// The item that may hold the count of names.
+pub(crate) const COUNT: u32 = 0x8000;
+// The id of the first name.
+pub(crate) const FIRST: u32 = 0x8001;
+// From the id of a name to that of its value.
+pub(crate) const STEP: u32 = 0x4000;
+// The most names.
+pub(crate) const LIMIT: u32 = 511;
+// Each id of the store is below it.
+pub(crate) const TOP: u32 = 0xFFFF;
+
+// The number in an item that holds a count; 0 in another one.
+fn number_of(bytes: &[u8]) -> u32
+    ensures { result ≡ number_of bytes.now }
+{
+    if bytes.len() == 2 {
+        (u32::from(bytes[0]) + 256 * u32::from(bytes[1])).min(LIMIT)
+    } else {
+        0
+    }
+}
+
+// How many names the count allows.
+pub(crate) fn read_count<S: ItemStore, F: Flash, L: Ledger>(
+    store: &S,
+    flash: &F,
+    steps: &mut Steps<L>,
+) -> u32
+    requires ids { HasIds TOP S.is_id }
+    requires lawful { IsLawfulFor (F.device flash.now).banks (S.mounted_on store.now) }
+    requires stands { StandsOn S.mounted_on S.stands (F.device flash.now) store.now }
+    ensures count { let area = S.mounted_on store.now in result ≡ count_in (numbers_in area) (on S.contents (F.device flash.now) area) }
+    ensures few { result ≤ LIMIT }
+{
+    match store.get(flash, COUNT, steps) {
+        Some(bytes) => number_of(bytes),
+        None => 0,
+    }
+}
+
+// Whether the name stands at this id with a value.
+fn is_here<S: ItemStore, F: Flash, L: Ledger>(
+    store: &S,
+    flash: &F,
+    name: &Name,
+    place: u32,
+    steps: &mut Steps<L>,
+) -> bool
+    requires ids { HasIds TOP S.is_id }
+    requires lawful { IsLawfulFor (F.device flash.now).banks (S.mounted_on store.now) }
+    requires stands { StandsOn S.mounted_on S.stands (F.device flash.now) store.now }
+    requires low { place < FIRST + LIMIT }
+    ensures { let area = S.mounted_on store.now in let items = on S.contents (F.device flash.now) area in
+        MatchBool result (HasName (pair_at (numbers_in area) items place) name.now) (¬ HasName (pair_at (numbers_in area) items place) name.now) }
+{
+    is_at(store, flash, name, place, place + STEP, steps)
+}
+
+// Where the name stands that counts.
+pub(crate) fn place_of<S: ItemStore, F: Flash, L: Ledger>(
+    store: &S,
+    flash: &F,
+    name: &Name,
+    steps: &mut Steps<L>,
+) -> Option<u32>
+    requires ids { HasIds TOP S.is_id }
+    requires lawful { IsLawfulFor (F.device flash.now).banks (S.mounted_on store.now) }
+    requires stands { StandsOn S.mounted_on S.stands (F.device flash.now) store.now }
+    ensures { let area = S.mounted_on store.now in IsPlaceOf (numbers_in area) (on S.contents (F.device flash.now) area) name.now result }
+{
+    let count = read_count(store, flash, steps);
+    for place in FIRST..FIRST + count {
+        if is_here(store, flash, name, place, steps) {
+            return Some(place);
+        }
+    }
+    None
+}
+
+// The least place with neither, of those that the count allows.
+pub(crate) fn free_place<S: ItemStore, F: Flash, L: Ledger>(
+    store: &S,
+    flash: &F,
+    steps: &mut Steps<L>,
+) -> Option<u32>
+    requires ids { HasIds TOP S.is_id }
+    requires lawful { IsLawfulFor (F.device flash.now).banks (S.mounted_on store.now) }
+    requires stands { StandsOn S.mounted_on S.stands (F.device flash.now) store.now }
+    ensures { let area = S.mounted_on store.now in IsFreePlace (numbers_in area) (on S.contents (F.device flash.now) area) result }
+{
+    let count = read_count(store, flash, steps);
+    for place in FIRST..FIRST + count {
+        if is_free(store, flash, place, place + STEP, steps) {
+            return Some(place);
+        }
+    }
+    None
+}

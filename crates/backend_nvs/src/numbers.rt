@@ -1,0 +1,68 @@
+// At which ids the settings of an NVS area stand.
+ghost use Rattle.backend_nvs.specs.Numbers.{numbers_in, nvs_counted, too_many, nvs-numbers, nvs-within, nvs-counts, nvs-stored, nvs-top};
+ghost use Rattle.std.proofs.Common.{refl};
+ghost use Rattle.flash_map.specs.Area.{value_limit};
+ghost use Rattle.backend_nvs.specs.declared.lookup.TheConstants.{TOP};
+
+use crate::lookup::STEP;
+use crate::{kept, lookup, putting};
+use flash_sim::{Flash, Steps};
+use item_store::ItemStore;
+use pair_store::Numbers;
+use setting_name::Name;
+use std::sync::ledger::Ledger;
+
+// The count at 0x8000, the names behind it, and each value 0x4000 above its name.
+pub(crate) struct NvsNumbers;
+
+impl Numbers for NvsNumbers {
+    ghost numbers = { λ area. numbers_in area };
+
+    ghost top = { TOP };
+
+    ghost counted = { λ price. nvs_counted price };
+
+    ghost too_many = { λ settings name. too_many settings name };
+
+    ghost is_numbering = { λ area. nvs-numbers (value_limit area) };
+
+    ghost within = { λ area count. nvs-within count };
+
+    ghost top_small = { nvs-top };
+
+    ghost longest = { λ area. refl };
+
+    ghost count_cost = { λ area price. nvs-counts (value_limit area) price };
+
+    ghost stored_few = { λ settings name stored. nvs-stored settings name stored };
+
+    fn step() -> u32 {
+        STEP
+    }
+
+    fn place_of<S: ItemStore, F: Flash, L: Ledger>(
+        store: &S,
+        flash: &F,
+        name: &Name,
+        steps: &mut Steps<L>,
+    ) -> Option<u32> {
+        lookup::place_of(store, flash, name, steps)
+    }
+
+    fn is_kept<S: ItemStore, F: Flash, L: Ledger>(
+        store: &S,
+        flash: &F,
+        id: u32,
+        steps: &mut Steps<L>,
+    ) -> bool {
+        kept::is_kept(store, flash, id, steps)
+    }
+
+    fn settings_cost<S: ItemStore, F: Flash, L: Ledger>(
+        store: &S,
+        flash: &F,
+        steps: &mut Steps<L>,
+    ) -> u64 {
+        putting::settings_cost(store, flash, steps)
+    }
+}

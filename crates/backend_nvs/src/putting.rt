@@ -1,0 +1,175 @@
+// Giving names values.
+ghost use Rattle.std.specs.Prelude.{◌≡◌, ◌+◌, ◌<◌, ◌≤◌, ◌↔◌, ◌∷◌, [], IsTrue, true, false, None, length};
+ghost use Rattle.setting_name.specs.Name.{IsName};
+ghost use Rattle.flash_map.specs.Area.{geometry_of, value_limit};
+ghost use Rattle.flash_map.specs.Lawful.{IsLawfulFor};
+ghost use Rattle.flash_map.specs.On.{on, StandsOn};
+ghost use Rattle.flash_map.specs.Spending.{SpendsAtMost};
+ghost use Rattle.flash_map.specs.Touches.{Touches};
+ghost use Rattle.backend_api.specs.Ends.{set_lost, SetEnds};
+ghost use Rattle.backend_api.specs.Room.{most_units};
+ghost use Rattle.item_pairs.specs.Pairs.{count_in, HasNoStrays, IsPlaceOf};
+ghost use Rattle.pair_store.specs.Looking.{HasIds};
+ghost use Rattle.pair_store.specs.Putting.{IsPut, Fits};
+ghost use Rattle.backend_nvs.specs.Numbers.{number_of, numbers_in, settings_of, nvs_room};
+ghost use Rattle.backend_nvs.specs.declared.lookup.TheConstants.{TOP};
+
+use crate::lookup::{COUNT, FIRST, LIMIT, STEP, free_place, place_of, read_count};
+use crate::numbers::NvsNumbers;
+use backend_api::SetFault;
+use flash_map::WriteFault;
+use flash_sim::{Flash, Steps};
+use item_store::ItemStore;
+use pair_store::{change_value, price_of_pair, put_new, refused};
+use setting_name::Name;
+use std::sync::ledger::Ledger;
+
+// What all settings cost by the numbers of room, which count the count also where there is none.
+pub(crate) fn settings_cost<S: ItemStore, F: Flash, L: Ledger>(
+    store: &S,
+    flash: &F,
+    steps: &mut Steps<L>,
+) -> u64
+    requires ids { HasIds TOP S.is_id }
+    requires lawful { IsLawfulFor (F.device flash.now).banks (S.mounted_on store.now) }
+    requires stands { StandsOn S.mounted_on S.stands (F.device flash.now) store.now }
+    requires clean { let area = S.mounted_on store.now in HasNoStrays (numbers_in area) (on S.contents (F.device flash.now) area) }
+    ensures { let d = F.device flash.now in let area = S.mounted_on store.now in let g = geometry_of d area in
+        result ≡ (nvs_room S.price S.cap g).cost (settings_of area (on S.contents d area)) }
+{
+    match store.get(flash, COUNT, steps) {
+        Some(_) => store.live_cost(flash, steps),
+        None => store.price_of(flash, 2),
+    }
+}
+
+// The bytes of a count.
+fn bytes_of_count(count: u32) -> [u8; 2]
+    requires few { count ≤ LIMIT }
+    ensures two { length result ≡ 2 }
+    ensures counts { number_of result ≡ count }
+{
+    [(count % 256) as u8, (count / 256) as u8]
+}
+
+// Whether the count allows no more names.
+fn is_full(count: u32) -> bool
+    ensures { IsTrue result ↔ (count ≡ LIMIT) }
+{
+    count == LIMIT
+}
+
+// Raises the count, and puts the new name behind all others.
+fn add_name<S: ItemStore, F: Flash, L: Ledger>(
+    store: &mut S,
+    flash: &mut F,
+    count: u32,
+    name: &Name,
+    value: &[u8],
+    need: u64,
+    steps: &mut Steps<L>,
+) -> Result<(), SetFault>
+    requires ids { HasIds TOP S.is_id }
+    requires lawful { IsLawfulFor (F.device flash.old).banks (S.mounted_on store.old) }
+    requires stands { StandsOn S.mounted_on S.stands (F.device flash.old) store.old }
+    requires clean { let area = S.mounted_on store.old in HasNoStrays (numbers_in area) (on S.contents (F.device flash.old) area) }
+    requires fits { let g = geometry_of (F.device flash.old) (S.mounted_on store.old) in Fits (value_limit (S.mounted_on store.old)) (S.price g) (S.cap g) }
+    requires some { 0 < length value.now }
+    requires short { length value.now ≤ value_limit (S.mounted_on store.old) }
+    requires named { IsName name.now }
+    requires needs { let g = geometry_of (F.device flash.old) (S.mounted_on store.old) in need ≡ S.price g (length value.now) + S.price g (length name.now) }
+    requires absent { let area = S.mounted_on store.old in IsPlaceOf (numbers_in area) (on S.contents (F.device flash.old) area) name.now None }
+    requires counted { let area = S.mounted_on store.old in count ≡ count_in (numbers_in area) (on S.contents (F.device flash.old) area) }
+    requires few { count < LIMIT }
+
+    ensures touches { Touches (S.mounted_on store.old ∷ []) (F.device flash.old) (F.device flash.new) (set_lost result) }
+    ensures area { S.mounted_on store.new ≡ S.mounted_on store.old }
+    ensures ends { let area = S.mounted_on store.old in let d = F.device flash.old in let e = F.device flash.new in let g = geometry_of d area in
+        SetEnds (nvs_room S.price S.cap g) area.sectors d e (settings_of area (on S.contents d area)) (settings_of area (on S.contents e area)) name.now value.now result }
+    ensures at_most { let d = F.device flash.old in SpendsAtMost d (F.device flash.new) (most_units (geometry_of d (S.mounted_on store.old))) }
+    ensures sound { on S.damage (F.device flash.new) (S.mounted_on store.old) ≡ None }
+    ensures cut { let area = S.mounted_on store.old in set_lost result ≡ true → IsPut (settings_of area (on S.contents (F.device flash.old) area)) (settings_of area (on S.contents (F.device flash.new) area)) name.now value.now }
+    ensures stands { set_lost result ≡ false → StandsOn S.mounted_on S.stands (F.device flash.new) store.new }
+    ensures clean { let area = S.mounted_on store.old in set_lost result ≡ false → HasNoStrays (numbers_in area) (on S.contents (F.device flash.new) area) }
+    ensures down { set_lost result ≡ true → S.runs store.new ≡ false }
+{
+    let bytes = bytes_of_count(count + 1);
+    match store.write(flash, COUNT, &bytes, steps) {
+        Ok(()) => put_new::<NvsNumbers, S, F, L>(
+            store,
+            flash,
+            FIRST + count,
+            FIRST + count + STEP,
+            name,
+            value,
+            need,
+            steps,
+        ),
+        Err(WriteFault::PowerLost) => Err(SetFault::PowerLost),
+        Err(WriteFault::NoSpace { .. }) => Err(refused::<NvsNumbers, S, F, L>(
+            store, flash, need, steps,
+        )),
+        Err(WriteFault::TooLong) => Err(refused::<NvsNumbers, S, F, L>(store, flash, need, steps)),
+    }
+}
+
+// Gives a name a value.
+pub(crate) fn set_value<S: ItemStore, F: Flash, L: Ledger>(
+    store: &mut S,
+    flash: &mut F,
+    name: &Name,
+    value: &[u8],
+    steps: &mut Steps<L>,
+) -> Result<(), SetFault>
+    requires ids { HasIds TOP S.is_id }
+    requires lawful { IsLawfulFor (F.device flash.old).banks (S.mounted_on store.old) }
+    requires stands { StandsOn S.mounted_on S.stands (F.device flash.old) store.old }
+    requires clean { let area = S.mounted_on store.old in HasNoStrays (numbers_in area) (on S.contents (F.device flash.old) area) }
+    requires fits { let g = geometry_of (F.device flash.old) (S.mounted_on store.old) in Fits (value_limit (S.mounted_on store.old)) (S.price g) (S.cap g) }
+    requires some { 0 < length value.now }
+    requires short { length value.now ≤ value_limit (S.mounted_on store.old) }
+
+    ensures touches { Touches (S.mounted_on store.old ∷ []) (F.device flash.old) (F.device flash.new) (set_lost result) }
+    ensures area { S.mounted_on store.new ≡ S.mounted_on store.old }
+    ensures ends { let area = S.mounted_on store.old in let d = F.device flash.old in let e = F.device flash.new in let g = geometry_of d area in
+        SetEnds (nvs_room S.price S.cap g) area.sectors d e (settings_of area (on S.contents d area)) (settings_of area (on S.contents e area)) name.now value.now result }
+    ensures at_most { let d = F.device flash.old in SpendsAtMost d (F.device flash.new) (most_units (geometry_of d (S.mounted_on store.old))) }
+    ensures sound { on S.damage (F.device flash.new) (S.mounted_on store.old) ≡ None }
+    ensures cut { let area = S.mounted_on store.old in set_lost result ≡ true → IsPut (settings_of area (on S.contents (F.device flash.old) area)) (settings_of area (on S.contents (F.device flash.new) area)) name.now value.now }
+    ensures stands { set_lost result ≡ false → StandsOn S.mounted_on S.stands (F.device flash.new) store.new }
+    ensures clean { let area = S.mounted_on store.old in set_lost result ≡ false → HasNoStrays (numbers_in area) (on S.contents (F.device flash.new) area) }
+    ensures down { set_lost result ≡ true → S.runs store.new ≡ false }
+{
+    let need = price_of_pair(store, flash, name, value);
+    match place_of(store, flash, name, steps) {
+        Some(place) => change_value::<NvsNumbers, S, F, L>(
+            store,
+            flash,
+            place,
+            place + STEP,
+            name,
+            value,
+            steps,
+        ),
+        None => match free_place(store, flash, steps) {
+            Some(free) => put_new::<NvsNumbers, S, F, L>(
+                store,
+                flash,
+                free,
+                free + STEP,
+                name,
+                value,
+                need,
+                steps,
+            ),
+            None => {
+                let count = read_count(store, flash, steps);
+                if is_full(count) {
+                    Err(SetFault::TooManyNames)
+                } else {
+                    add_name(store, flash, count, name, value, need, steps)
+                }
+            }
+        },
+    }
+}

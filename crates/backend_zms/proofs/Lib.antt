@@ -1,0 +1,4 @@
+pub mod BackendSteps
+pub mod GroupLemmas
+pub mod HomeSteps
+pub mod Vectors

@@ -1,0 +1,13 @@
+use Rattle.std.proofs.Common.{ℕ, ◌<◌, ◌≤◌}
+use Rattle.flash_map.specs.On.{on}
+use Rattle.item_pairs.specs.Homes.{IsBare}
+use Rattle.backend_zms.specs.Numbers.{numbers_in}
+use Rattle.backend_zms.proofs.numbers.free_place.Given as goal
+
+abbrev pub invariant-loop-place : goal.invariant-loop-place
+invariant-loop-place g l =
+    let area = g.S.ItemStore.mounted_on l.store in
+    record {
+      within : l.place ≤ l.place-end;
+      none : (k : ℕ) → l.start ≤ k → k < l.place → ¬ IsBare (numbers_in area) (on g.S.ItemStore.contents (g.F.Flash.device l.flash) area) k;
+    }

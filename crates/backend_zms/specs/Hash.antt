@@ -1,0 +1,15 @@
+-- The ids that a name may have, by its hash.
+use Rattle.std.specs.Prelude.{ℕ, ◌+◌, ◌*◌, ◌%◌, ◌^◌, List, fold, bit_and, bit_xor}
+use Rattle.backend_zms.specs.declared.hash.TheConstants.{BASIS, PRIME, GROUP_BITS, FIRST}
+
+-- FNV-1a of 32 bits
+abbrev pub fnv : List ℕ → ℕ
+fnv bytes = fold (λ hash byte. (bit_xor hash byte * PRIME) % 2 ^ 32) BASIS bytes
+
+-- the group of a name
+unfoldable pub group_of : List ℕ → ℕ
+group_of name = bit_and (fnv name) GROUP_BITS
+
+-- the first id of its group
+abbrev pub first_of : List ℕ → ℕ
+first_of name = FIRST + group_of name

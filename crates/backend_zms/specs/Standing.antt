@@ -1,0 +1,51 @@
+-- When a backend stands on its area.
+use Rattle.std.specs.Prelude.{◌≡◌, ℕ, List, None}
+use Rattle.flash_sim.specs.Bank.{IsLawful}
+use Rattle.flash_sim.specs.Device.{Device}
+use Rattle.flash_sim.specs.declared.flash.Kind.TheVariants.{Rewritable}
+use Rattle.flash_map.specs.declared.area.Area.{Area}
+use Rattle.flash_map.specs.declared.area.Geometry.{Geometry}
+use Rattle.flash_map.specs.declared.area.Role.TheVariants.{Zms as ZmsRole}
+use Rattle.flash_map.specs.Area.{geometry_of, sectors_of, value_limit}
+use Rattle.flash_map.specs.Lawful.{IsLawfulFor}
+use Rattle.flash_map.specs.On.{on}
+use Rattle.backend_api.specs.Map.{Map, IsSettings}
+use Rattle.item_pairs.specs.Pairs.{settings_in, HasNoStrays}
+use Rattle.item_pairs.proofs.LawfulLemmas.{settings-lawful}
+use Rattle.item_store.specs.ZmsStore.{zms_damage, zms_items, zms_rests, ZmsStands, zms-rested}
+use Rattle.backend_zms.specs.declared.backend.ZmsBackend.{ZmsBackend}
+use Rattle.backend_zms.specs.Numbers.{numbers_in, zms-numbers, step-small}
+
+-- a ZMS area on a bank whose units can be programmed again
+abbrev pub IsServed : Area → Geometry → Type 0
+IsServed area geometry = (area.role ≡ ZmsRole) × (geometry.kind ≡ Rewritable)
+
+-- the settings that its sectors read as
+abbrev pub settings_of : Area → Geometry → List (List ℕ) → Map
+settings_of area geometry sectors = settings_in (numbers_in area) (zms_items area geometry sectors)
+
+-- no item belongs to no setting
+abbrev pub IsClean : Area → Geometry → List (List ℕ) → Type 0
+IsClean area geometry sectors = HasNoStrays (numbers_in area) (zms_items area geometry sectors)
+
+-- no loss of power left anything undone
+pub record Rests (area : Area) (geometry : Geometry) (sectors : List (List ℕ)) : Type 0 where
+  pub store : zms_rests area geometry sectors
+  pub clean : IsClean area geometry sectors
+
+pub record Stands (backend : ZmsBackend) (geometry : Geometry) (sectors : List (List ℕ)) : Type 0 where
+  pub store : ZmsStands backend.store geometry sectors
+  pub clean : IsClean backend.store.area geometry sectors
+
+pub stands-rest : (backend : ZmsBackend) (geometry : Geometry) (sectors : List (List ℕ)) → Stands backend geometry sectors → Rests backend.store.area geometry sectors
+stands-rest backend geometry sectors stands = record { store = zms-rested backend.store geometry sectors stands.store; clean = stands.clean }
+
+-- lawful names and values throughout, and fewer than 2^32
+pub reads_settings : (d : Device) (area : Area) → IsLawful d.banks d.bytes → IsLawfulFor d.banks area → IsServed area (geometry_of d area) → on zms_damage d area ≡ None
+    → IsSettings (value_limit area) (on settings_of d area)
+reads_settings d area lawful for serves undamaged = settings-lawful (numbers_in area) (zms-numbers (value_limit area)) step-small (zms_items area (geometry_of d area) (sectors_of d area))
+
+-- the backend stands on a lawful area
+pub record IsReady (d : Device) (backend : ZmsBackend) : Type 0 where
+  pub lawful : IsLawfulFor d.banks backend.store.area
+  pub stands : Stands backend (geometry_of d backend.store.area) (sectors_of d backend.store.area)

@@ -1,0 +1,125 @@
+// The backend over ZMS.
+ghost use Rattle.std.specs.Prelude.{◌≡◌, false};
+ghost use Rattle.item_store.specs.ZmsStore.{zms_damage, zms_price, zms_cap};
+ghost use Rattle.backend_zms.specs.Numbers.{zms_room};
+ghost use Rattle.backend_zms.specs.Standing.{IsServed, settings_of, Rests, Stands, stands-rest, reads_settings};
+
+use crate::numbers::ZmsNumbers;
+use crate::putting::set_value;
+use backend_api::{Backend, SetFault};
+use flash_map::{Area, MountFault, area_format};
+use flash_sim::{Flash, Loss, PowerLost, Steps};
+use item_store::ItemStore;
+use pair_store::{delete_name, mount_store, next_name, value_of};
+use setting_name::Name;
+use std::alloc::Global;
+use std::sync::ledger::Ledger;
+use zms_store::Zms;
+
+/// A store of settings on a ZMS area. Each setting is two items, its name and its value.
+#[derive(Debug, Drop)]
+pub struct ZmsBackend {
+    store: Zms,
+}
+
+impl Backend for ZmsBackend {
+    ghost serves = { λ area geometry. IsServed area geometry };
+
+    ghost damage = { λ area geometry sectors. zms_damage area geometry sectors };
+
+    ghost contents = { λ area geometry sectors. settings_of area geometry sectors };
+
+    ghost room = { λ area geometry. zms_room zms_price zms_cap geometry };
+
+    ghost rests = { λ area geometry sectors. Rests area geometry sectors };
+
+    ghost chance = { λ area geometry sectors loss. false };
+
+    ghost tears = { λ area geometry command done before after. ⊥ };
+
+    ghost mounted_on = { λ backend. backend.store.area };
+
+    ghost stands = { λ backend geometry sectors. Stands backend geometry sectors };
+
+    ghost runs = { λ backend. backend.store.up };
+
+    ghost stands_up = { λ backend geometry sectors stands. stands.store.up };
+
+    ghost stands_serves = { λ backend geometry sectors stands. (stands.store.role, stands.store.rewritable) };
+
+    ghost stands_reads = { λ backend geometry sectors stands. stands.store.undamaged };
+
+    ghost stands_rests = { λ backend geometry sectors stands. stands-rest backend geometry sectors stands };
+
+    ghost reads_settings = { reads_settings };
+
+    fn mount<F: Flash, L: Ledger>(
+        alloc: Global,
+        flash: &mut F,
+        area: Area,
+        steps: &mut Steps<L>,
+    ) -> Result<ZmsBackend, MountFault> {
+        match mount_store::<ZmsNumbers, Zms, F, L>(alloc, flash, area, steps) {
+            Ok(store) => Ok(ZmsBackend { store }),
+            Err(fault) => Err(fault),
+        }
+    }
+
+    fn get<'a, F: Flash, L: Ledger>(
+        &self,
+        flash: &'a F,
+        name: &Name,
+        steps: &mut Steps<L>,
+    ) -> Option<&'a [u8]> {
+        value_of::<ZmsNumbers, Zms, F, L>(&self.store, flash, name, steps)
+    }
+
+    fn set<F: Flash, L: Ledger>(
+        &mut self,
+        flash: &mut F,
+        name: &Name,
+        value: &[u8],
+        steps: &mut Steps<L>,
+    ) -> Result<(), SetFault> {
+        set_value(&mut self.store, flash, name, value, steps)
+    }
+
+    fn delete<F: Flash, L: Ledger>(
+        &mut self,
+        flash: &mut F,
+        name: &Name,
+        steps: &mut Steps<L>,
+    ) -> Result<(), PowerLost> {
+        delete_name::<ZmsNumbers, Zms, F, L>(&mut self.store, flash, name, steps)
+    }
+
+    fn next_name<F: Flash, L: Ledger>(
+        &self,
+        flash: &F,
+        after: Option<&Name>,
+        steps: &mut Steps<L>,
+    ) -> Option<Name> {
+        next_name::<ZmsNumbers, Zms, F, L>(&self.store, flash, after, steps)
+    }
+
+    fn format<F: Flash, L: Ledger>(
+        flash: &mut F,
+        area: &Area,
+        steps: &mut Steps<L>,
+    ) -> Result<(), PowerLost> {
+        area_format(flash, area, steps)
+    }
+
+    fn chance<F: Flash, L: Ledger>(
+        _flash: &F,
+        _area: &Area,
+        _loss: &Loss,
+        _steps: &mut Steps<L>,
+    ) -> bool {
+        false
+    }
+
+    fn is_up(&self) -> bool {
+        ItemStore::is_up(&self.store)
+    }
+}

@@ -1,0 +1,145 @@
+// The numbering of settings by the hash of the name.
+ghost use Rattle.std.specs.Prelude.{◌≡◌, ◌+◌, ◌<◌, ◌≤◌, ℕ, List, true, false, IfSome};
+ghost use Rattle.std.proofs.Common.{refl, lit<};
+ghost use Rattle.flash_map.specs.Area.{value_limit};
+ghost use Rattle.flash_map.specs.Lawful.{IsLawfulFor};
+ghost use Rattle.flash_map.specs.On.{on, StandsOn};
+ghost use Rattle.item_pairs.specs.Homes.{IsFreeHome};
+ghost use Rattle.item_pairs.specs.Pairs.{IsAt, IsPlaceOf};
+ghost use Rattle.pair_store.specs.Looking.{HasIds};
+ghost use Rattle.backend_zms.specs.declared.hash.TheConstants.{GROUP_BITS};
+ghost use Rattle.backend_zms.specs.Numbers.{numbers_in, top, too_many, zms-numbers, zms-within, no-count, stored-one};
+
+use crate::hash::{FIRST, GROUP_SIZE, STEP, first_of};
+use flash_sim::{Flash, Steps};
+use item_store::ItemStore;
+use pair_store::{Numbers, is_at, is_free, name_in};
+use setting_name::Name;
+use std::sync::ledger::Ledger;
+
+/// Each name at an id of its hash's group.
+pub struct ZmsNumbers;
+
+impl Numbers for ZmsNumbers {
+    ghost numbers = { λ area. numbers_in area };
+
+    ghost top = { top };
+
+    ghost counted = { λ price. 0 };
+
+    ghost too_many = { λ settings name. too_many settings name };
+
+    ghost is_numbering = { λ area. zms-numbers (value_limit area) };
+
+    ghost within = { λ area count. zms-within };
+
+    ghost top_small = { lit< tt };
+
+    ghost longest = { λ area. refl };
+
+    ghost count_cost = { λ area price count counts. no-count price count counts };
+
+    ghost stored_few = { λ settings name has. stored-one settings name has };
+
+    fn step() -> u32 {
+        STEP
+    }
+
+    fn place_of<S: ItemStore, F: Flash, L: Ledger>(
+        store: &S,
+        flash: &F,
+        name: &Name,
+        steps: &mut Steps<L>,
+    ) -> Option<u32> {
+        place_of(store, flash, name, steps)
+    }
+
+    fn is_kept<S: ItemStore, F: Flash, L: Ledger>(
+        store: &S,
+        flash: &F,
+        id: u32,
+        steps: &mut Steps<L>,
+    ) -> bool {
+        let place = if id < FIRST + STEP { id } else { id - STEP };
+        stands_at(store, flash, place, steps)
+    }
+
+    fn settings_cost<S: ItemStore, F: Flash, L: Ledger>(
+        store: &S,
+        flash: &F,
+        steps: &mut Steps<L>,
+    ) -> u64 {
+        store.live_cost(flash, steps)
+    }
+}
+
+// Where the name stands that counts, if it has a value: at the least id of its group.
+pub(crate) fn place_of<S: ItemStore, F: Flash, L: Ledger>(
+    store: &S,
+    flash: &F,
+    name: &Name,
+    steps: &mut Steps<L>,
+) -> Option<u32>
+    requires ids { HasIds top S.is_id }
+    requires lawful { IsLawfulFor (F.device flash.now).banks (S.mounted_on store.now) }
+    requires stands { StandsOn S.mounted_on S.stands (F.device flash.now) store.now }
+    ensures place { let area = S.mounted_on store.now in
+        IsPlaceOf (numbers_in area) (on S.contents (F.device flash.now) area) name.now result }
+    ensures below { IfSome result (λ place. place < FIRST + GROUP_BITS + GROUP_SIZE) }
+{
+    let first = first_of(name.bytes());
+    for place in first..first + GROUP_SIZE {
+        if is_at(store, flash, name, place, place + STEP, steps) {
+            return Some(place);
+        }
+    }
+    None
+}
+
+// Whether the name in this item is that of a setting that counts.
+fn stands_at<S: ItemStore, F: Flash, L: Ledger>(
+    store: &S,
+    flash: &F,
+    id: u32,
+    steps: &mut Steps<L>,
+) -> bool
+    requires ids { HasIds top S.is_id }
+    requires lawful { IsLawfulFor (F.device flash.now).banks (S.mounted_on store.now) }
+    requires stands { StandsOn S.mounted_on S.stands (F.device flash.now) store.now }
+    requires known { id < top }
+    ensures yes_it { let area = S.mounted_on store.now in let items = on S.contents (F.device flash.now) area in
+        result ≡ true → (name : List ℕ) × IsAt (numbers_in area) items name id }
+    ensures not_it { let area = S.mounted_on store.now in let items = on S.contents (F.device flash.now) area in
+        result ≡ false → (name : List ℕ) → ¬ IsAt (numbers_in area) items name id }
+{
+    match name_in(store, flash, id, steps) {
+        Some(name) => match place_of(store, flash, &name, steps) {
+            Some(found) => found == id,
+            None => false,
+        },
+        None => false,
+    }
+}
+
+// The least id of the name's group that is free, and its value's.
+pub(crate) fn free_place<S: ItemStore, F: Flash, L: Ledger>(
+    store: &S,
+    flash: &F,
+    name: &Name,
+    steps: &mut Steps<L>,
+) -> Option<u32>
+    requires ids { HasIds top S.is_id }
+    requires lawful { IsLawfulFor (F.device flash.now).banks (S.mounted_on store.now) }
+    requires stands { StandsOn S.mounted_on S.stands (F.device flash.now) store.now }
+    ensures place { let area = S.mounted_on store.now in
+        IsFreeHome (numbers_in area) (on S.contents (F.device flash.now) area) name.now result }
+    ensures below { IfSome result (λ place. place < FIRST + GROUP_BITS + GROUP_SIZE) }
+{
+    let start = first_of(name.bytes());
+    for place in start..start + GROUP_SIZE {
+        if is_free(store, flash, place, place + STEP, steps) {
+            return Some(place);
+        }
+    }
+    None
+}

@@ -1,0 +1,4 @@
+pub mod BestLemmas
+pub mod LongestLemmas
+pub mod PairLemmas
+pub mod RegistryLemmas

@@ -1,0 +1,4 @@
+pub mod Best
+pub mod Held
+pub mod Pairs
+pub mod Registry

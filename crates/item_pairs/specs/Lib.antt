@@ -1,0 +1,5 @@
+pub mod Cost
+pub mod Homes
+pub mod Numbering
+pub mod PairRoom
+pub mod Pairs

@@ -1,0 +1,4 @@
+pub mod ItemsCost
+pub mod MostUnits
+pub mod NvsSteps
+pub mod ZmsSteps

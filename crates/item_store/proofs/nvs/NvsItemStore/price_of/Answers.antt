@@ -1,0 +1,11 @@
+use Rattle.std.proofs.Common.{◌+◌, ◌≤◌, arith}
+use Rattle.flash_map.specs.Area.{value_limit}
+use Rattle.item_store.specs.Limits.{limit-small}
+use Rattle.item_store.proofs.nvs.NvsItemStore.price_of.Goals as goal
+
+pub returns-clause-small : goal.returns-clause-small
+returns-clause-small g c =
+    let most : value_limit c.args.self.now.area ≤ 2048 = limit-small c.args.self.now.area in
+    let cost : c.cost.result ≤ c.args.length + 31 = c.cost.ensures.at_most in
+    let short : c.args.length ≤ value_limit c.args.self.now.area = c.requires.short in
+    omega arith

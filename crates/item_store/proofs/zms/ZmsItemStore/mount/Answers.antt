@@ -1,0 +1,5 @@
+use Rattle.item_store.proofs.ZmsSteps.{zms-idle}
+use Rattle.item_store.proofs.zms.ZmsItemStore.mount.Goals as goal
+
+pub returns-clause-rests : goal.returns-clause-rests
+returns-clause-rests g c = λ none. zms-idle (g.F.Flash.device c.args.flash.now) (g.F.Flash.device c.mount.new.flash) c.args.area c.mount.result c.mount.ensures.ends none

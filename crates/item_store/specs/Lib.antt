@@ -1,0 +1,5 @@
+pub mod Blank
+pub mod Ends
+pub mod Limits
+pub mod NvsStore
+pub mod ZmsStore

@@ -1,0 +1,119 @@
+// The store over NVS.
+ghost use Rattle.std.specs.Prelude.{◌≡◌, ◌<◌};
+ghost use Rattle.flash_map.specs.declared.area.Role.TheVariants.{Nvs as NvsRole};
+ghost use Rattle.item_store.specs.Blank.{nvs-undamaged, nvs-empty};
+ghost use Rattle.item_store.specs.NvsStore.{nvs_damage, nvs_items, nvs_rests, nvs_price, nvs_cap, NvsStands, nvs-rested, nvs-fits};
+
+use crate::store::ItemStore;
+use flash_map::{Area, MountFault, WriteFault, geometry};
+use flash_sim::{Flash, PowerLost, Steps};
+use nvs_gc::Nvs;
+use nvs_store::cost;
+use std::alloc::Global;
+use std::sync::ledger::Ledger;
+
+impl ItemStore for Nvs {
+    ghost serves = { λ area geometry. area.role ≡ NvsRole };
+
+    ghost damage = { λ area geometry sectors. nvs_damage area geometry sectors };
+
+    ghost contents = { λ area geometry sectors. nvs_items area geometry sectors };
+
+    ghost rests = { λ area geometry sectors. nvs_rests area geometry sectors };
+
+    ghost price = { λ geometry. nvs_price geometry };
+
+    ghost cap = { λ geometry. nvs_cap geometry };
+
+    ghost is_id = { λ id. id < 0xFFFF };
+
+    ghost mounted_on = { λ store. store.area };
+
+    ghost stands = { λ store geometry sectors. NvsStands store geometry sectors };
+
+    ghost runs = { λ store. store.up };
+
+    ghost stands_up = { λ store geometry sectors stands. stands.up };
+
+    ghost stands_serves = { λ store geometry sectors stands. stands.role };
+
+    ghost stands_reads = { λ store geometry sectors stands. stands.undamaged };
+
+    ghost stands_rests = { λ store geometry sectors stands. nvs-rested store geometry sectors stands };
+
+    ghost fits = { λ d area length lawful serves short. nvs-fits d area length lawful serves short };
+
+    ghost blank_reads = { λ area geometry sectors size several long. nvs-undamaged sectors size several geometry.unit };
+
+    ghost blank_empty = { λ area geometry sectors size several long. nvs-empty sectors size several geometry.unit };
+
+    fn mount<F: Flash, L: Ledger>(
+        alloc: Global,
+        flash: &mut F,
+        area: Area,
+        steps: &mut Steps<L>,
+    ) -> Result<Nvs, MountFault> {
+        Nvs::mount(alloc, flash, area, steps)
+    }
+
+    fn get<'a, F: Flash, L: Ledger>(
+        &self,
+        flash: &'a F,
+        id: u32,
+        steps: &mut Steps<L>,
+    ) -> Option<&'a [u8]> {
+        Nvs::get(self, flash, id as u16, steps)
+    }
+
+    fn write<F: Flash, L: Ledger>(
+        &mut self,
+        flash: &mut F,
+        id: u32,
+        bytes: &[u8],
+        steps: &mut Steps<L>,
+    ) -> Result<(), WriteFault> {
+        Nvs::write(self, flash, id as u16, bytes, steps)
+    }
+
+    fn delete<F: Flash, L: Ledger>(
+        &mut self,
+        flash: &mut F,
+        id: u32,
+        steps: &mut Steps<L>,
+    ) -> Result<(), PowerLost> {
+        Nvs::delete(self, flash, id as u16, steps)
+    }
+
+    fn next_id<F: Flash, L: Ledger>(
+        &self,
+        flash: &F,
+        after: Option<u32>,
+        steps: &mut Steps<L>,
+    ) -> Option<u32> {
+        let after = match after {
+            Some(id) => Some(id.min(0xFFFF) as u16),
+            None => None,
+        };
+        match Nvs::next_id(self, flash, after, steps) {
+            Some(next) => Some(u32::from(next)),
+            None => None,
+        }
+    }
+
+    fn live_cost<F: Flash, L: Ledger>(&self, flash: &F, steps: &mut Steps<L>) -> u64 {
+        Nvs::live_cost(self, flash, steps)
+    }
+
+    fn price_of<F: Flash>(&self, flash: &F, length: u32) -> u64 {
+        let own = geometry(flash, Nvs::area(self));
+        cost(own.unit, length)
+    }
+
+    fn area(&self) -> &Area {
+        Nvs::area(self)
+    }
+
+    fn is_up(&self) -> bool {
+        Nvs::is_up(self)
+    }
+}

@@ -1,4 +1,0 @@
-pub mod Entries
-pub mod Live
-pub mod NextIds
-pub mod Walk

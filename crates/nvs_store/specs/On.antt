@@ -1,0 +1,123 @@
+-- What is said of an NVS area on a device: its scan, damage and list, and what steps make of it.
+use Rattle.std.specs.Prelude.{◌≡◌, ℕ, ◌/◌, Bool, true, List, [], ◌∷◌, ◌++◌, Option, None, IsTrue}
+use Rattle.flash_sim.specs.Device.{Device}
+use Rattle.flash_map.specs.declared.area.Area.{Area}
+use Rattle.flash_map.specs.declared.faults.Damaged.{Damaged}
+use Rattle.flash_map.specs.Area.{unit_of, sector_size, sectors_of, sector_bytes}
+use Rattle.flash_map.specs.Units.{is_erased}
+use Rattle.pair_laws.specs.Items.{Items, items_of}
+use Rattle.ring_laws.specs.Area.{is_closed_at, counts_at, open_sector}
+use Rattle.nvs_store.specs.declared.scan.Found.{Found}
+use Rattle.nvs_store.specs.declared.scan.Redo.{Redo}
+use Rattle.nvs_store.specs.declared.scan.Scan.{Scan}
+use Rattle.nvs_store.specs.Geometry.{slot_size, cost, capacity}
+use Rattle.nvs_store.specs.Sector.{is_sound}
+use Rattle.nvs_store.specs.Scans.{reading, scan_of, redo_of, fits, damage_of, list_of, all_found, counted_in, last_found, found_bytes, AddsPairAt, StopsAddingAt, MarksDoneAt, StopsMarkingAt, ClosesAt}
+
+-- ---- reading
+
+abbrev pub scan_on : Device → Area → Scan
+scan_on d area = scan_of (unit_of d area) (sectors_of d area)
+
+abbrev pub damage_on : Device → Area → Option Damaged
+damage_on d area = damage_of (unit_of d area) (sectors_of d area)
+
+abbrev pub IsUndamaged : Device → Area → Type 0
+IsUndamaged d area = damage_on d area ≡ None
+
+-- the pairs of the area, from the oldest to the newest
+abbrev pub list_on : Device → Area → List (ℕ × List ℕ)
+list_on d area = list_of (unit_of d area) (sectors_of d area)
+
+-- the map of ids to bytes that the area holds
+abbrev pub items_on : Device → Area → Items
+items_on d area = items_of (list_on d area)
+
+-- the entries of the list, with their places
+abbrev pub found_on : Device → Area → List Found
+found_on d area = all_found (unit_of d area) (sectors_of d area)
+
+-- the last entry of an id, a delete too
+abbrev pub last_found_on : Device → Area → ℕ → Option Found
+last_found_on d area id = last_found (unit_of d area) (sectors_of d area) id
+
+-- the data of an entry
+abbrev pub bytes_on : Device → Area → Found → List ℕ
+bytes_on d area found = found_bytes (sectors_of d area) found
+
+abbrev pub open_on : Device → Area → ℕ
+open_on d area = open_sector (reading (unit_of d area)) (sectors_of d area)
+
+abbrev pub is_closed_on : Device → Area → ℕ → Bool
+is_closed_on d area place = is_closed_at (reading (unit_of d area)) (sectors_of d area) place
+
+abbrev pub is_blank_on : Device → Area → ℕ → Bool
+is_blank_on d area place = is_erased (sector_bytes d area place)
+
+-- whether a sector counts, with this one open
+abbrev pub counts_on : Device → Area → ℕ → ℕ → Bool
+counts_on d area current place = counts_at (reading (unit_of d area)) (sectors_of d area) current place
+
+-- the entries of a sector, where it counts with this one open
+abbrev pub counted_on : Device → Area → ℕ → ℕ → List Found
+counted_on d area current place = counted_in (unit_of d area) (sectors_of d area) current place
+
+-- what a mount has to do with this sector open
+abbrev pub redo_on : Device → Area → ℕ → Redo
+redo_on d area place = redo_of (unit_of d area) (sectors_of d area) place
+
+-- ---- room and units
+
+-- what data of this length and its entry take up, in bytes
+abbrev pub cost_on : Device → Area → ℕ → ℕ
+cost_on d area len = cost (unit_of d area) len
+
+-- what a sector has for data and entries, in bytes
+abbrev pub capacity_on : Device → Area → ℕ
+capacity_on d area = capacity (unit_of d area) (sector_size d area)
+
+-- data of this length fits the sector that was scanned
+abbrev pub FitsOn : Device → Area → Scan → ℕ → Type 0
+FitsOn d area scan len = IsTrue (fits (unit_of d area) scan len)
+
+-- the units of data of this length and its entry
+abbrev pub entry_units : Device → Area → ℕ → ℕ
+entry_units d area len = cost_on d area len / unit_of d area
+
+-- the units of a slot
+abbrev pub slot_units : Device → Area → ℕ
+slot_units d area = slot_size (unit_of d area) / unit_of d area
+
+-- ---- what a step leaves
+
+-- the list is as before
+abbrev pub KeepsListOn : Device → Device → Area → Type 0
+KeepsListOn old new area = list_of (unit_of old area) (sectors_of new area) ≡ list_on old area
+
+-- the list has this pair more, as its newest
+abbrev pub AppendsOn : Device → Device → Area → ℕ → List ℕ → Type 0
+AppendsOn old new area id bytes = list_of (unit_of old area) (sectors_of new area) ≡ list_on old area ++ (id, bytes) ∷ []
+
+-- a sector that was sound is so
+abbrev pub StaysSoundOn : Device → Device → Area → ℕ → Type 0
+StaysSoundOn old new area place =
+    is_sound (unit_of old area) (sector_bytes old area place) ≡ true → is_sound (unit_of old area) (sector_bytes new area place) ≡ true
+
+-- an area that was not damaged is not
+abbrev pub StaysUndamaged : Device → Device → Area → Type 0
+StaysUndamaged old new area = IsUndamaged old area → damage_of (unit_of old area) (sectors_of new area) ≡ None
+
+abbrev pub AddsPairOn : Device → Device → Area → ℕ → ℕ → List ℕ → Type 0
+AddsPairOn old new area place id bytes = AddsPairAt (unit_of old area) (sectors_of old area) (sectors_of new area) place id bytes
+
+abbrev pub StopsAddingOn : Device → Device → Area → ℕ → ℕ → List ℕ → Type 0
+StopsAddingOn old new area place id bytes = StopsAddingAt (unit_of old area) (sectors_of old area) (sectors_of new area) place id bytes
+
+abbrev pub MarksDoneOn : Device → Device → Area → ℕ → Type 0
+MarksDoneOn old new area place = MarksDoneAt (unit_of old area) (sectors_of old area) (sectors_of new area) place
+
+abbrev pub StopsMarkingOn : Device → Device → Area → ℕ → Type 0
+StopsMarkingOn old new area place = StopsMarkingAt (unit_of old area) (sectors_of old area) (sectors_of new area) place
+
+abbrev pub ClosesOn : Device → Device → Area → ℕ → Type 0
+ClosesOn old new area place = ClosesAt (unit_of old area) (sectors_of old area) (sectors_of new area) place

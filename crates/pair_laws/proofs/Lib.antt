@@ -1,0 +1,5 @@
+pub mod ItemLemmas
+pub mod LivePairs
+pub mod NoRoom
+pub mod Pairs
+pub mod RoundLemmas

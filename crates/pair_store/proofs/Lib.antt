@@ -1,0 +1,14 @@
+pub mod ChangeSteps
+pub mod EmptySteps
+pub mod FormatSteps
+pub mod ItemSteps
+pub mod LookupSteps
+pub mod NewSteps
+pub mod NextSteps
+pub mod OtherSteps
+pub mod PutSteps
+pub mod SetSteps
+pub mod SpendSteps
+pub mod StopSteps
+pub mod StraySteps
+pub mod WalkSteps

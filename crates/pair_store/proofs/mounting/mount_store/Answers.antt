@@ -1,0 +1,72 @@
+use Rattle.std.proofs.Common.{◌≡◌, ◌∷◌, [], true, refl, sym, ap, subst, ◌∙◌}
+use Rattle.std.specs.FinMap.{get}
+use Rattle.flash_sim.specs.Device.{Device}
+use Rattle.flash_map.specs.declared.area.Area.{Area}
+use Rattle.flash_map.specs.Touches.{Touches}
+use Rattle.flash_map.proofs.Touches.{then}
+use Rattle.flash_map.specs.On.{on}
+use Rattle.pair_laws.specs.Items.{Items}
+use Rattle.pair_store.specs.Strays.{KeepsEach}
+use Rattle.item_pairs.specs.Pairs.{HasNoStrays}
+use Rattle.pair_store.proofs.mounting.mount_store.Goals as goal
+
+pub returns-in-Ok-remove_strays-clause-kept : goal.returns-in-Ok-remove_strays-clause-kept
+returns-in-Ok-remove_strays-clause-kept g c = λ none.
+    let d : Device = g.F.Flash.device c.args.flash.now in
+    let e : Device = g.F.Flash.device c.mount.new.flash in
+    let f : Device = g.F.Flash.device c.remove_strays.new.flash in
+    let own : Area = c.args.area in
+    let on_it : g.S.ItemStore.mounted_on c.in-Ok.store ≡ own = c.in-Ok.ensures.on in
+    let keeps : on g.S.ItemStore.contents e own ≡ on g.S.ItemStore.contents d own = c.in-Ok.ensures.keeps none in
+    subst (λ (m : Items). KeepsEach (g.N.Numbers.numbers own) m (on g.S.ItemStore.contents f own)) keeps
+    (subst (λ (x : Area). KeepsEach (g.N.Numbers.numbers x) (on g.S.ItemStore.contents e x) (on g.S.ItemStore.contents f x)) on_it c.remove_strays.ensures.kept)
+
+pub returns-in-Err-remove_strays-clause-kept : goal.returns-in-Err-remove_strays-clause-kept
+returns-in-Err-remove_strays-clause-kept g c = λ none.
+    let d : Device = g.F.Flash.device c.args.flash.now in
+    let e : Device = g.F.Flash.device c.mount.new.flash in
+    let f : Device = g.F.Flash.device c.remove_strays.new.flash in
+    let own : Area = c.args.area in
+    let on_it : g.S.ItemStore.mounted_on c.in-Ok.store ≡ own = c.in-Ok.ensures.on in
+    let keeps : on g.S.ItemStore.contents e own ≡ on g.S.ItemStore.contents d own = c.in-Ok.ensures.keeps none in
+    subst (λ (m : Items). KeepsEach (g.N.Numbers.numbers own) m (on g.S.ItemStore.contents f own)) keeps
+    (subst (λ (x : Area). KeepsEach (g.N.Numbers.numbers x) (on g.S.ItemStore.contents e x) (on g.S.ItemStore.contents f x)) on_it c.remove_strays.ensures.kept)
+
+pub returns-in-Ok-remove_strays-clause-rests : goal.returns-in-Ok-remove_strays-clause-rests
+returns-in-Ok-remove_strays-clause-rests g c = λ rest none.
+    let d : Device = g.F.Flash.device c.args.flash.now in
+    let e : Device = g.F.Flash.device c.mount.new.flash in
+    let own : Area = c.args.area in
+    let on_it : g.S.ItemStore.mounted_on c.in-Ok.store ≡ own = c.in-Ok.ensures.on in
+    let idle : e ≡ d = c.in-Ok.ensures.rests rest in
+    c.remove_strays.ensures.rests (subst (λ (x : Area). HasNoStrays (g.N.Numbers.numbers x) (on g.S.ItemStore.contents e x)) (sym on_it) (subst (λ (y : Device). HasNoStrays (g.N.Numbers.numbers own) (on g.S.ItemStore.contents y own)) (sym idle) none)) ∙ idle
+
+pub returns-in-Ok-remove_strays-clause-clean : goal.returns-in-Ok-remove_strays-clause-clean
+returns-in-Ok-remove_strays-clause-clean g c =
+    let d : Device = g.F.Flash.device c.args.flash.now in
+    let e : Device = g.F.Flash.device c.mount.new.flash in
+    let own : Area = c.args.area in
+    let on_it : g.S.ItemStore.mounted_on c.in-Ok.store ≡ own = c.in-Ok.ensures.on in
+    let f : Device = g.F.Flash.device c.remove_strays.new.flash in
+    subst (λ (x : Area). HasNoStrays (g.N.Numbers.numbers x) (on g.S.ItemStore.contents f x)) on_it (c.in-Ok-remove_strays.ensures.clean refl)
+
+pub returns-in-Err-remove_strays-clause-touches : goal.returns-in-Err-remove_strays-clause-touches
+returns-in-Err-remove_strays-clause-touches g c =
+    let d : Device = g.F.Flash.device c.args.flash.now in
+    let e : Device = g.F.Flash.device c.mount.new.flash in
+    let own : Area = c.args.area in
+    let on_it : g.S.ItemStore.mounted_on c.in-Ok.store ≡ own = c.in-Ok.ensures.on in
+    let f : Device = g.F.Flash.device c.remove_strays.new.flash in
+    then c.in-Ok.ensures.touches (subst (λ (x : Area). Touches (x ∷ []) e f true) on_it c.in-Err-remove_strays.ensures.touches)
+
+pub returns-in-Err-remove_strays-clause-rests : goal.returns-in-Err-remove_strays-clause-rests
+returns-in-Err-remove_strays-clause-rests g c = λ rest none.
+    let d : Device = g.F.Flash.device c.args.flash.now in
+    let e : Device = g.F.Flash.device c.mount.new.flash in
+    let own : Area = c.args.area in
+    let on_it : g.S.ItemStore.mounted_on c.in-Ok.store ≡ own = c.in-Ok.ensures.on in
+    let idle : e ≡ d = c.in-Ok.ensures.rests rest in
+    c.remove_strays.ensures.rests (subst (λ (x : Area). HasNoStrays (g.N.Numbers.numbers x) (on g.S.ItemStore.contents e x)) (sym on_it) (subst (λ (y : Device). HasNoStrays (g.N.Numbers.numbers own) (on g.S.ItemStore.contents y own)) (sym idle) none)) ∙ idle
+
+pub returns-in-Err-clause-kept : goal.returns-in-Err-clause-kept
+returns-in-Err-clause-kept g c = λ none id is. ap (λ (m : Items). get m id) (c.in-Err.ensures.keeps none)

@@ -1,0 +1,28 @@
+use Rattle.std.proofs.Common.{◌≡◌, ◌<◌, ◌∷◌, [], false, None}
+use Rattle.std.specs.Prelude.{IfSome}
+use Rattle.flash_map.specs.Touches.{Touches}
+use Rattle.flash_map.specs.On.{on, StandsOn}
+use Rattle.item_pairs.specs.Pairs.{settings_in, HasNoStrays}
+use Rattle.pair_store.specs.Strays.{HasNoneBefore, ids_left}
+use Rattle.pair_store.proofs.StraySteps.{StaysEach}
+use Rattle.pair_store.proofs.strays.remove_strays.Given as goal
+
+abbrev pub invariant-loop-at : goal.invariant-loop-at
+invariant-loop-at g l =
+    let a = g.F.Flash.device l.initial.flash in
+    let b = g.F.Flash.device l.flash in
+    let own = g.S.ItemStore.mounted_on l.initial.store in
+    record {
+      touches : Touches (own ∷ []) a b false;
+      area : g.S.ItemStore.mounted_on l.store ≡ own;
+      stands : StandsOn g.S.ItemStore.mounted_on g.S.ItemStore.stands b l.store;
+      sound : on g.S.ItemStore.damage b own ≡ None;
+      keeps : settings_in (g.N.Numbers.numbers own) (on g.S.ItemStore.contents b own) ≡ settings_in (g.N.Numbers.numbers own) (on g.S.ItemStore.contents a own);
+      kept : StaysEach (g.N.Numbers.numbers own) (on g.S.ItemStore.contents a own) (on g.S.ItemStore.contents b own);
+      same : HasNoStrays (g.N.Numbers.numbers own) (on g.S.ItemStore.contents a own) → b ≡ a;
+      so_far : HasNoneBefore (g.N.Numbers.numbers own) (on g.S.ItemStore.contents b own) l.at;
+      known : IfSome l.at (λ id. id < g.N.Numbers.top);
+    }
+
+abbrev pub decreases-loop-at : goal.decreases-loop-at
+decreases-loop-at g l = ids_left l.at

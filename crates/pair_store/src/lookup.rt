@@ -1,0 +1,100 @@
+// Looking at two items as a name and its value.
+ghost use Rattle.std.specs.Prelude.{◌≡◌, ◌+◌, ◌<◌, ◌≤◌, true, false, Some, option_map};
+ghost use Rattle.std.specs.Bool.{MatchBool};
+ghost use Rattle.std.specs.FinMap as finite;
+ghost use Rattle.setting_name.specs.Name.{IsName};
+ghost use Rattle.flash_map.specs.Area.{value_limit};
+ghost use Rattle.flash_map.specs.Lawful.{IsLawfulFor};
+ghost use Rattle.flash_map.specs.On.{on, StandsOn};
+ghost use Rattle.item_pairs.specs.Pairs.{settings_in};
+ghost use Rattle.pair_store.specs.Ends.{IsFree};
+ghost use Rattle.pair_store.specs.Looking.{is_value, HasIds, StandsHere};
+
+use crate::numbers::Numbers;
+use flash_sim::{Flash, Steps};
+use item_store::ItemStore;
+use setting_name::Name;
+use std::sync::ledger::Ledger;
+
+/// Whether the item is this name, which is lawful.
+pub fn is_named(found: Option<&[u8]>, name: &Name) -> bool
+    ensures yes_it { result ≡ true → option_map (λ bytes. bytes.now) found.entry ≡ Some name.now }
+    ensures not_it { result ≡ false → option_map (λ bytes. bytes.now) found.entry ≡ Some name.now → ⊥ }
+    ensures name { IsName name.now }
+{
+    let own = name.bytes();
+    match found {
+        Some(bytes) => bytes == own,
+        None => false,
+    }
+}
+
+/// Whether the item may be a value of at most so many bytes.
+pub fn is_value(found: Option<&[u8]>, longest: u32) -> bool
+    ensures { result ≡ is_value longest (option_map (λ bytes. bytes.now) found.entry) }
+{
+    match found {
+        Some(bytes) => !bytes.is_empty() && bytes.len() <= longest as usize,
+        None => false,
+    }
+}
+
+/// Whether one item is the name and the other a value. It looks at the value only where the name is there.
+pub fn is_at<S: ItemStore, F: Flash, L: Ledger>(
+    store: &S,
+    flash: &F,
+    name: &Name,
+    first: u32,
+    second: u32,
+    steps: &mut Steps<L>,
+) -> bool
+    requires lawful { IsLawfulFor (F.device flash.now).banks (S.mounted_on store.now) }
+    requires stands { StandsOn S.mounted_on S.stands (F.device flash.now) store.now }
+    requires first { S.is_id first }
+    requires second { S.is_id second }
+    ensures yes_it { let area = S.mounted_on store.now in result ≡ true → StandsHere (value_limit area) (on S.contents (F.device flash.now) area) first second name.now }
+    ensures not_it { let area = S.mounted_on store.now in result ≡ false → ¬ StandsHere (value_limit area) (on S.contents (F.device flash.now) area) first second name.now }
+    ensures name { IsName name.now }
+{
+    let longest = store.area().value_limit();
+    if !is_named(store.get(flash, first, steps), name) {
+        return false;
+    }
+    is_value(store.get(flash, second, steps), longest)
+}
+
+/// Whether neither of two items is there.
+pub fn is_free<S: ItemStore, F: Flash, L: Ledger>(
+    store: &S,
+    flash: &F,
+    first: u32,
+    second: u32,
+    steps: &mut Steps<L>,
+) -> bool
+    requires lawful { IsLawfulFor (F.device flash.now).banks (S.mounted_on store.now) }
+    requires stands { StandsOn S.mounted_on S.stands (F.device flash.now) store.now }
+    requires first { S.is_id first }
+    requires second { S.is_id second }
+    ensures { let items = on S.contents (F.device flash.now) (S.mounted_on store.now) in MatchBool result (IsFree items first second) (¬ IsFree items first second) }
+{
+    if store.get(flash, first, steps).is_some() {
+        return false;
+    }
+    store.get(flash, second, steps).is_none()
+}
+
+/// The value of a name; none where it has no value.
+pub fn value_of<'a, N: Numbers, S: ItemStore, F: Flash, L: Ledger>(
+    store: &S,
+    flash: &'a F,
+    name: &Name,
+    steps: &mut Steps<L>,
+) -> Option<&'a [u8]>
+    requires ids { HasIds N.top S.is_id }
+    requires lawful { IsLawfulFor (F.device flash.now).banks (S.mounted_on store.now) }
+    requires stands { StandsOn S.mounted_on S.stands (F.device flash.now) store.now }
+    ensures { let area = S.mounted_on store.now in option_map (λ bytes. bytes.now) result ≡ finite.get (settings_in (N.numbers area) (on S.contents (F.device flash.now) area)) name.now }
+{
+    let place = N::place_of(store, flash, name, steps)?;
+    store.get(flash, place + N::step(), steps)
+}

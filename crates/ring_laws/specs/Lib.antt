@@ -1,0 +1,11 @@
+pub mod Area
+pub mod Entries
+pub mod Forms
+pub mod Live
+pub mod NextIds
+pub mod Reading
+pub mod RoundParts
+pub mod Rounds
+pub mod Slots
+pub mod Steps
+pub mod Walk

@@ -1,6 +1,0 @@
-pub mod Area
-pub mod Forms
-pub mod Reading
-pub mod Rounds
-pub mod Steps
-pub mod Walks

@@ -1,0 +1,16 @@
+pub mod CarryLemmas
+pub mod CommitLemmas
+pub mod OfferLemmas
+pub mod WalkLemmas
+pub mod SeatLemmas
+pub mod GiveLemmas
+pub mod LoadLemmas
+pub mod SequenceLemmas
+pub mod SaveLemmas
+pub mod ToldLemmas
+pub mod DirectLemmas
+pub mod LawLemmas
+pub mod LawfulLemmas
+pub mod StoredLemmas
+pub mod TestLemmas
+pub mod TestBank

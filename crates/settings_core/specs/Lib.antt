@@ -1,0 +1,10 @@
+pub mod Carrying
+pub mod Committing
+pub mod Deliveries
+pub mod Direct
+pub mod Laws
+pub mod Loading
+pub mod Reading
+pub mod Runtime
+pub mod Saving
+pub mod Told

@@ -1,0 +1,155 @@
+// Loads.
+ghost use Rattle.std.specs.Prelude.{◌≡◌, ℕ, ◌+◌, ◌-◌, ◌^◌, ◌<◌, true, List, [], option_map, unwrap_or};
+ghost use Rattle.std.specs.FinMap as finite;
+ghost use Rattle.flash_map.specs.Lawful.{IsLawfulFor};
+ghost use Rattle.flash_map.specs.On.{on, StandsOn};
+ghost use Rattle.handlers.specs.Registry.{registered};
+ghost use Rattle.settings_core.specs.Loading.{LoadOneEnds, LoadNameEnds, LoadEnds, counted};
+
+use crate::committing::{commit, is_under};
+use crate::offering::{Offered, offer};
+use crate::report::Report;
+use crate::settings::Settings;
+use backend_api::Backend;
+use flash_sim::{Flash, NoMemory, Steps};
+use handlers::Registry;
+use setting_name::Name;
+use std::alloc::Global;
+use std::sync::ledger::Ledger;
+
+/// How many stored values were taken, rejected, and passed for want of a handler.
+#[derive(Clone, Copy, Debug, PartialEq, Eq)]
+pub struct Loaded {
+    pub taken: u32,
+    pub rejected: u32,
+    pub passed: u32,
+}
+
+/// Why a load did not end.
+#[derive(Clone, Copy, Debug, PartialEq, Eq)]
+pub enum LoadFault {
+    /// An earlier call answered that power was lost.
+    Off,
+    NoMemory,
+}
+
+impl<K: Backend> Settings<K> {
+    /// Gives each stored value whose name matches the subtree to the best handler for it, in byte order of the names, and commits.
+    ///
+    /// # Errors
+    /// `Off` exactly where the backend is down; `NoMemory`.
+    pub fn load<F: Flash, L: Ledger, R: Report>(
+        &self,
+        alloc: Global,
+        flash: &F,
+        registry: &mut Registry,
+        subtree: Option<&Name>,
+        report: &mut R,
+        steps: &mut Steps<L>,
+    ) -> Result<Loaded, LoadFault>
+        requires lawful { IsLawfulFor (F.device flash.now).banks (K.mounted_on self.now.backend) }
+        requires stands { K.runs self.now.backend ≡ true → StandsOn K.mounted_on K.stands (F.device flash.now) self.now.backend }
+        ensures { let area = K.mounted_on self.now.backend in let d = F.device flash.now in
+            LoadEnds (K.runs self.now.backend) (registered state registry.old) (registered state registry.new) (R.gives report.old) (R.gives report.new) (option_map (λ name. name.now) subtree.entry)
+            (finite.entries (on K.contents d area)) result }
+    {
+        if !self.backend.is_up() {
+            return Err(LoadFault::Off);
+        }
+        let mut loaded = Loaded {
+            taken: 0,
+            rejected: 0,
+            passed: 0,
+        };
+        let mut after: Option<Name> = None;
+        while let Some(name) = self.backend.next_name(flash, after.as_ref(), steps) {
+            let ended = load_name(
+                alloc,
+                &self.backend,
+                flash,
+                registry,
+                subtree,
+                report,
+                &mut loaded,
+                &name,
+                steps,
+            );
+            match ended {
+                Ok(()) => after = Some(name),
+                Err(_) => return Err(LoadFault::NoMemory),
+            }
+        }
+        commit(registry, subtree);
+        Ok(loaded)
+    }
+}
+
+// Loads one name, if it matches.
+fn load_name<K: Backend, F: Flash, L: Ledger, R: Report>(
+    alloc: Global,
+    backend: &K,
+    flash: &F,
+    registry: &mut Registry,
+    subtree: Option<&Name>,
+    report: &mut R,
+    loaded: &mut Loaded,
+    name: &Name,
+    steps: &mut Steps<L>,
+) -> Result<(), NoMemory>
+    requires lawful { IsLawfulFor (F.device flash.now).banks (K.mounted_on backend.now) }
+    requires stands { StandsOn K.mounted_on K.stands (F.device flash.now) backend.now }
+    requires room { loaded.old.taken + loaded.old.rejected + loaded.old.passed < 2 ^ 32 - 1 }
+    ensures { let area = K.mounted_on backend.now in let d = F.device flash.now in
+        LoadNameEnds (registered state registry.old) (registered state registry.new) (R.gives report.old) (R.gives report.new) (option_map (λ name. name.now) subtree.entry)
+        (name.now, unwrap_or (finite.get (on K.contents d area) name.now) []) loaded.old loaded.new result }
+{
+    if is_under(name, subtree) {
+        let value = stored(backend, flash, name, steps);
+        load_one(alloc, registry, report, loaded, name, value)
+    } else {
+        Ok(())
+    }
+}
+
+pub(crate) fn stored<'a, K: Backend, F: Flash, L: Ledger>(
+    backend: &K,
+    flash: &'a F,
+    name: &Name,
+    steps: &mut Steps<L>,
+) -> &'a [u8]
+    requires lawful { IsLawfulFor (F.device flash.now).banks (K.mounted_on backend.now) }
+    requires stands { StandsOn K.mounted_on K.stands (F.device flash.now) backend.now }
+    ensures { let area = K.mounted_on backend.now in let d = F.device flash.now in result.now ≡ unwrap_or (finite.get (on K.contents d area) name.now) [] }
+{
+    match backend.get(flash, name, steps) {
+        Some(value) => value,
+        None => &[],
+    }
+}
+
+fn load_one<R: Report>(
+    alloc: Global,
+    registry: &mut Registry,
+    report: &mut R,
+    loaded: &mut Loaded,
+    name: &Name,
+    value: &[u8],
+) -> Result<(), NoMemory>
+    requires room { loaded.old.taken + loaded.old.rejected + loaded.old.passed < 2 ^ 32 - 1 }
+    ensures { LoadOneEnds (registered state registry.old) (registered state registry.new) (R.gives report.old) (R.gives report.new) (name.now, value.now) loaded.old loaded.new result }
+{
+    let offered = offer(alloc, registry, report, name, value)?;
+    count(loaded, offered);
+    Ok(())
+}
+
+fn count(loaded: &mut Loaded, offered: Offered)
+    requires room { loaded.old.taken + loaded.old.rejected + loaded.old.passed < 2 ^ 32 - 1 }
+    ensures { loaded.new ≡ counted loaded.old offered }
+{
+    match offered {
+        Offered::Taken => loaded.taken += 1,
+        Offered::Rejected => loaded.rejected += 1,
+        Offered::Passed => loaded.passed += 1,
+    }
+}

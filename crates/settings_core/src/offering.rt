@@ -1,0 +1,78 @@
+// Giving one stored value to its handler.
+ghost use Rattle.std.specs.Prelude.{◌≡◌, ◌<◌, List, [], length, get_or};
+ghost use Rattle.std.specs.Option.{unwrap_or};
+ghost use Rattle.setting_name.specs.Match.{matched_rest};
+ghost use Rattle.handlers.specs.Registry.{registered, nobody};
+ghost use Rattle.settings_core.specs.Deliveries.{DeliverEnds, OfferEnds};
+
+use crate::report::Report;
+use flash_sim::NoMemory;
+use handlers::{Registry, SetRefusal, ValueView};
+use setting_name::Name;
+use std::alloc::Global;
+
+// What became of a stored value.
+#[derive(Clone, Copy, Debug, PartialEq, Eq)]
+pub(crate) enum Offered {
+    Taken,
+    Rejected,
+    // There is no handler for its name.
+    Passed,
+}
+
+// Gives a stored value to the best handler for its name, and tells it.
+pub(crate) fn offer<R: Report>(
+    alloc: Global,
+    registry: &mut Registry,
+    report: &mut R,
+    name: &Name,
+    value: &[u8],
+) -> Result<Offered, NoMemory>
+    ensures { OfferEnds (registered state registry.old) (registered state registry.new) (R.gives report.old) (R.gives report.new) (name.now, value.now) result }
+{
+    let Some(place) = registry.best(name) else {
+        return Ok(Offered::Passed);
+    };
+    let subtree = subtree_at(registry, place);
+    let rest = rest_of(name, &subtree);
+    let taken = deliver_at(alloc, registry, place, rest, value)?;
+    match report.given(alloc, &subtree, rest, ValueView::of(value), taken) {
+        Ok(()) if taken => Ok(Offered::Taken),
+        Ok(()) => Ok(Offered::Rejected),
+        Err(lack) => Err(lack),
+    }
+}
+
+pub(crate) fn subtree_at(registry: &Registry, place: usize) -> Name
+    requires { place < length (registered state registry.now) }
+    ensures { result ≡ (get_or (registered state registry.now) place nobody).subtree }
+{
+    match registry.subtree(place) {
+        Some(subtree) => subtree.copy(),
+        None => unreachable!(),
+    }
+}
+
+pub(crate) fn rest_of<'a>(name: &'a Name, subtree: &Name) -> &'a [u8]
+    ensures { result.now ≡ unwrap_or (matched_rest name.now subtree.now) [] }
+{
+    Name::matches(name, subtree).unwrap_or(&[])
+}
+
+// Whether the handler took the value.
+pub(crate) fn deliver_at(
+    alloc: Global,
+    registry: &mut Registry,
+    place: usize,
+    rest: &[u8],
+    value: &[u8],
+) -> Result<bool, NoMemory>
+    requires { place < length (registered state registry.old) }
+    ensures { DeliverEnds (registered state registry.old) (registered state registry.new) (record { place = place; rest = rest.now; value = value.now }) result }
+{
+    match registry.set_at(alloc, place, rest, ValueView::of(value)) {
+        Ok(()) => Ok(true),
+        Err(SetRefusal::Rejected) => Ok(false),
+        Err(SetRefusal::NoMemory) => Err(NoMemory),
+    }
+}

@@ -1,0 +1,27 @@
+// What is told of a load.
+ghost use Rattle.std.specs.Prelude.{◌≡◌, List, [], ◌∷◌, Option, OnOk, OnErr};
+ghost use Rattle.settings_core.specs.Deliveries.{Give};
+ghost use Rattle.settings_core.specs.Told.{told_more};
+
+use flash_sim::NoMemory;
+use handlers::ValueView;
+use setting_name::Name;
+use std::alloc::Global;
+
+/// Is told each value that a load gives to a handler.
+pub trait Report {
+    /// What it was told, in order, where it says so.
+    ghost gives: { Self → Option (List Give) };
+
+    /// A value was given to the handler of the subtree.
+    fn given(
+        &mut self,
+        alloc: Global,
+        subtree: &Name,
+        rest: &[u8],
+        value: ValueView<'_>,
+        taken: bool,
+    ) -> Result<(), NoMemory>
+        ensures ok { OnOk result (gives self.new ≡ told_more (gives self.old) (record { subtree = subtree.now; rest = rest.now; value = value.entry.bytes.now; taken = taken } ∷ [])) }
+        ensures err { OnErr result (gives self.new ≡ gives self.old) };
+}

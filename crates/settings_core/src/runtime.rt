@@ -1,0 +1,63 @@
+// Setting and getting values of handlers at run time.
+ghost use Rattle.std.specs.Prelude.{◌≡◌};
+ghost use Rattle.handlers.specs.Registry.{registered};
+ghost use Rattle.settings_core.specs.Runtime.{RuntimeSetEnds, RuntimeGetEnds};
+
+use crate::offering::{deliver_at, rest_of, subtree_at};
+use crate::saving::handler_at;
+use handlers::Registry;
+use setting_name::Name;
+use std::alloc::Global;
+
+/// Why a value was not given to a handler.
+#[derive(Clone, Copy, Debug, PartialEq, Eq)]
+pub enum RuntimeFault {
+    /// No subtree matches the name.
+    NoHandler,
+    /// The handler does not accept the value.
+    Rejected,
+    NoMemory,
+}
+
+/// No subtree matches the name.
+#[derive(Clone, Copy, Debug, PartialEq, Eq)]
+pub struct NoHandler;
+
+/// Gives a value to the best handler for the name. Nothing is stored or committed.
+///
+/// # Errors
+/// `NoHandler` exactly where no subtree matches the name; `Rejected` exactly where the handler does not accept the value;
+/// `NoMemory` only where it does. Nothing changes then.
+pub fn runtime_set(
+    alloc: Global,
+    registry: &mut Registry,
+    name: &Name,
+    value: &[u8],
+) -> Result<(), RuntimeFault>
+    ensures { RuntimeSetEnds (registered state registry.old) (registered state registry.new) name.now value.now result }
+{
+    let Some(place) = registry.best(name) else {
+        return Err(RuntimeFault::NoHandler);
+    };
+    let subtree = subtree_at(registry, place);
+    let rest = rest_of(name, &subtree);
+    match deliver_at(alloc, registry, place, rest, value) {
+        Ok(true) => Ok(()),
+        Ok(false) => Err(RuntimeFault::Rejected),
+        Err(_) => Err(RuntimeFault::NoMemory),
+    }
+}
+
+/// What the best handler for the name holds for it.
+///
+/// # Errors
+/// `NoHandler` exactly where no subtree matches the name.
+pub fn runtime_get<'a>(registry: &'a Registry, name: &Name) -> Result<Option<&'a [u8]>, NoHandler>
+    ensures { RuntimeGetEnds (registered state registry.now) name.now result }
+{
+    let Some(place) = registry.best(name) else {
+        return Err(NoHandler);
+    };
+    let subtree = subtree_at(registry, place);
+    Ok(handler_at(registry, place).get(rest_of(name, &subtree)))
+}

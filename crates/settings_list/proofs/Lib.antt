@@ -1,9 +1,0 @@
-pub mod BodyLemmas
-pub mod Coded
-pub mod CopyCost
-pub mod FrontLemmas
-pub mod LastLemmas
-pub mod LiveLemmas
-pub mod NextLemmas
-pub mod NoRoom
-pub mod SeekLemmas

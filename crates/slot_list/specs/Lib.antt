@@ -1,3 +1,0 @@
-pub mod Items
-pub mod Live
-pub mod Slots

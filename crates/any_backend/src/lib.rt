@@ -6,6 +6,3 @@ mod tearing;
 
 pub use backend::AnyBackend;
 pub use tearing::chance;
-
-#[cfg(test)]
-mod tests;

@@ -71,7 +71,7 @@ pub trait Backend: Drop {
     /// Whether no call of the state answered that power was lost.
     ghost runs: { Self → Bool };
 
-    /// Mounts a backend on an area. The map stays, also where power is lost. It takes all its memory before its first unit.
+    /// Mounts a backend on an area. The map stays, also where power is lost.
     ///
     /// # Errors
     /// `Damaged` exactly where the area reads as no map, and then nothing was programmed; `PowerLost`; `NoMemory`, and then

@@ -1,20 +1,20 @@
 -- Copying the live records of the oldest sector, one step at a time.
-use Rattle.std.proofs.Common.{◌≡◌, ◌≢◌, ℕ, ◌+◌, ◌-◌, ◌*◌, ◌/◌, ◌<◌, ◌≤◌, min, Bool, true, false, cond, eqb, not, List, [], ◌∷◌, ◌++◌, length, Option, Some, None, refl, sym, ap, subst, ◌∙◌, arith}
-use Rattle.std.specs.Prelude.{slice_range, Contains}
-use Rattle.std.specs.List.{range_with_len, flat_map, slice_get, sum_by}
-use Rattle.std.proofs.lemmas.List.{append-nil, length-drop, length-take-le}
-use Rattle.std.proofs.Common.{append_assoc}
-use Rattle.std.proofs.lemmas.List.Elements.{All-head, All-tail, All-push}
+use Rattle.std.proofs.Common.{◌≡◌, ◌≢◌, ℕ, ◌+◌, ◌-◌, ◌*◌, ◌/◌, ◌<◌, ◌≤◌, min, Bool, true, false, cond, eqb, List, [], ◌∷◌, ◌++◌, length, take, drop, get_or, suc, Option, Some, None, refl, sym, ap, subst, ◌∙◌, arith}
+use Rattle.std.specs.Prelude.{Contains}
+use Rattle.std.specs.List.{range_with_len, flat_map, sum_by, All}
+use Rattle.std.proofs.lemmas.List.{append-nil, map-append, take-append-drop, take_more, length-map, get_or-map}
+use Rattle.std.proofs.Common.{append_assoc, drop-cons}
+use Rattle.std.proofs.lemmas.List.Elements.{All-head, All-tail, All-append, All-weaker}
 use Rattle.std.proofs.lemmas.List.Sums.{sum_by-append, sum_by-cons}
-use Rattle.std.specs.Option.{option_eq}
-use Rattle.std.proofs.lemmas.Bool.{both_ways, ne_eqb, eq-eqb, eqb-true, not-true, not-false}
+use Rattle.std.specs.Option.{ForSome}
+use Rattle.std.proofs.lemmas.Bool.{both_ways, ne_eqb, eq-eqb, eqb-true}
 use Rattle.std.proofs.Math.Nat.{div-mul-le_self, mul-le-mul_right}
 use Rattle.flash_sim.specs.Bank.{IsLawful}
 use Rattle.flash_sim.specs.Device.{Device}
 use Rattle.flash_sim.specs.declared.flash.TheConstants.{PROGRAM_LIMIT}
-use Rattle.flash_map.specs.Area.{OthersStay, value_limit, unit_of, sector_size, sectors_of, sector_at, sector_bytes}
+use Rattle.flash_map.specs.Area.{OthersStay, value_limit, unit_of, sector_size, sectors_of, sector_bytes}
 use Rattle.flash_map.specs.declared.area.Area.{Area}
-use Rattle.flash_map.specs.Spending.{Spends, SpendsAtMost}
+use Rattle.flash_map.specs.Spending.{SpendsAtMost}
 use Rattle.flash_map.specs.Touches.{Touches}
 use Rattle.flash_map.specs.Units.{padded}
 use Rattle.flash_map.proofs.Rounding.{padding}
@@ -23,52 +23,40 @@ use Rattle.flash_map.proofs.Touches.{then, untouched}
 use Rattle.fcb_ring.specs.declared.record.RecordAt.{RecordAt}
 use Rattle.fcb_ring.specs.declared.ring.Ring.{Ring}
 use Rattle.fcb_ring.specs.declared.ring.Stage.TheVariants.{Collecting}
-use Rattle.fcb_ring.specs.Changing.{newest_place, sector_list, CopiesRecord}
+use Rattle.fcb_ring.specs.Chance.{HasNoChance}
+use Rattle.fcb_ring.specs.Changing.{newest_place, sector_list, body_at, CopiedRecord, StopsCopyingRecord}
 use Rattle.fcb_ring.specs.Entries.{bodies}
 use Rattle.fcb_ring.specs.Rings.{turned}
-use Rattle.fcb_ring.specs.Standing.{StandsOn as RingStandsOn, IsNext, KeepsEntries, entries_on, record_places, uncounted, is_up}
+use Rattle.fcb_ring.specs.Standing.{StandsOn as RingStandsOn, IsNext, IsListed, KeepsEntries, entries_on, record_places, is_up}
 use Rattle.fcb_ring.specs.Writing.{record_cost}
 use Rattle.fcb_ring.proofs.AppendLemmas.{unit-after, size-after}
 use Rattle.fcb_ring.proofs.AreaLemmas.{has_size, count-sectors}
 use Rattle.fcb_ring.proofs.CollectLemmas.{collecting-used}
-use Rattle.fcb_ring.proofs.NextLemmas.{body_is}
 use Rattle.fcb_ring.proofs.OthersLemmas.{others_then, others_same}
-use Rattle.fcb_ring.proofs.ReadLemmas.{there, stands-has}
-use Rattle.backend_fcb.specs.Changing.{Copies, StopsCopying, FitsIfLive, CopiesIfLive, CopiesLive}
+use Rattle.fcb_ring.proofs.ReadLemmas.{stands-has}
+use Rattle.backend_fcb.specs.Changing.{Copies, StopsCopying, CopiesLive}
+use Rattle.backend_fcb.specs.Gathering.{is_within, AreWithin, AreKeptWithin, AreShort, IsKept, bodies_at, Gathers, GathersFrom}
+use Rattle.backend_fcb.specs.declared.gathering.Kept.{Kept}
 use Rattle.settings_laws.specs.Live.{is_live_by, is_live, live_bodies}
 use Rattle.settings_laws.specs.Numbers.{cap, put_cost}
 use Rattle.backend_fcb.specs.Reading.{puts_cost}
 use Rattle.settings_laws.specs.Rounds.{bodies_cost}
 use Rattle.settings_laws.specs.Settings.{setting_of, longest}
 use Rattle.backend_fcb.specs.Standing.{damage_on}
-use Rattle.backend_fcb.specs.Walking.{TellsLive}
 use Rattle.settings_laws.proofs.BodyLemmas.{setting-says}
-use Rattle.settings_laws.proofs.CopyCost.{put-live, copies_cost-le}
+use Rattle.settings_laws.proofs.CopyCost.{copies_cost-le}
+use Rattle.backend_fcb.proofs.BodyAt.{listed-len, same-body}
+use Rattle.backend_fcb.proofs.GatherSteps.{IsAtPart, part-start, part-step}
 use Rattle.backend_fcb.proofs.Limits.{limit-most, one-program}
-use Rattle.backend_fcb.proofs.CostSteps.{live-one}
 use Rattle.settings_laws.proofs.LiveLemmas.{copies-none, copies-split}
 use Rattle.backend_fcb.proofs.PutsCosts.{costs-at, costs-on, puts-append, puts-all}
 use Rattle.backend_fcb.proofs.RingLists.{oldest-first, rest-not, within, part_at, collecting-none}
 use Rattle.backend_fcb.proofs.SectorLists.{AreOf, AreNotOf, bodies-append, append-same, entries-of}
-use Rattle.backend_fcb.proofs.WalkLemmas.{Entry, IsAt, start, step, first-of, none-of, at-length, listed, split}
+use Rattle.backend_fcb.proofs.TableLaws.{live-all}
+use Rattle.backend_fcb.proofs.Tearing.{lost-then, copy-lost}
+use Rattle.backend_fcb.proofs.WalkLemmas.{Entry}
 
 -- ---- one record
-
--- the body of a record has the bytes that its place says
-pub body-len : (d : Device) (ring : Ring) → IsLawful d.banks d.bytes → RingStandsOn d ring → (done later : List Entry) (r : RecordAt) (body : List ℕ) → entries_on d ring.area ≡ done ++ (r, body) ∷ later
-    → (body ≡ slice_range (sector_bytes d ring.area r.sector) r.body (r.body + r.len)) × (length body ≡ r.len)
-body-len d ring lawful on done later r body are =
-    let unit = unit_of d ring.area in
-    let sectors = sectors_of d ring.area in
-    let has = has_size d ring.area lawful on.area in
-    let at : slice_get (entries_on d ring.area) (length done) ≡ Some (r, body) = ap (λ (l : List Entry). slice_get l (length done)) are ∙ at-length done (r, body) later in
-    let is : body ≡ slice_range (sector_at (sectors_of d ring.area) r.sector) r.body (r.body + r.len) = body_is (unit_of d ring.area) (sectors_of d ring.area) ring.oldest (ring.used + uncounted ring.stage) on.sectors.form (length done) (r, body) at in
-    let here = there (unit_of d ring.area) (sector_size d ring.area) (sectors_of d ring.area) has ring on.sectors ring.area.sectors (sym (count-sectors d ring.area)) r (listed (entries_on d ring.area) done r body later are) in
-    let size : length (sector_at (sectors_of d ring.area) r.sector) ≡ sector_size d ring.area = has.each r.sector (omega (arith, here.sector, count-sectors d ring.area)) in
-    let e : r.body + r.len - r.body ≡ r.len = omega arith in
-    let long : length (slice_range (sector_at (sectors_of d ring.area) r.sector) r.body (r.body + r.len)) ≡ r.len + r.body - r.body =
-    length-take-le (r.body + r.len - r.body) _ (omega (arith, length-drop r.body (sector_at (sectors_of d ring.area) r.sector), here.fits)) ∙ omega arith in
-    (is, ap length is ∙ long ∙ omega arith)
 
 -- a live record says a setting, so it is not long
 live-short : (limit : ℕ) (setting : Option (List ℕ × List ℕ)) (later : List (List ℕ)) → is_live_by limit setting later ≡ true → (name : List ℕ) × (value : List ℕ) × (setting ≡ Some (name, value))
@@ -78,62 +66,29 @@ live-short limit (Some (name, value)) later live = (name, value, refl)
 pub live-most : (limit : ℕ) (body : List ℕ) (later : List (List ℕ)) → is_live limit body later ≡ true → length body ≤ longest limit
 live-most limit body later live = let s = live-short limit (setting_of limit body) later live in (setting-says limit body s.0 s.1 s.2).most
 
-pub copy-short : (d : Device) (ring : Ring) → IsLawful d.banks d.bytes → RingStandsOn d ring → (r : RecordAt) → Contains (record_places (entries_on d ring.area)) r → TellsLive (value_limit ring.area) (entries_on d ring.area) r true → record_cost (unit_of d ring.area) r.len ≤ PROGRAM_LIMIT
-copy-short d ring lawful on r contained tells =
-    let s = split (entries_on d ring.area) r contained in
-    let most = live-most (value_limit ring.area) s.1 (bodies s.2) (sym (tells s.0 s.2 s.1 s.3)) in
-    let len = (body-len d ring lawful on s.0 s.2 r s.1 s.3).1 in
+-- what is copied fits one program
+pub copy-short : (d : Device) (ring : Ring) → IsLawful d.banks d.bytes → RingStandsOn d ring → (r : RecordAt) → IsListed d ring.area r → length (body_at d ring.area r) ≤ longest (value_limit ring.area) → record_cost (unit_of d ring.area) r.len ≤ PROGRAM_LIMIT
+copy-short d ring lawful on r contained short =
+    let len = listed-len d ring lawful on r contained in
     one-program (unit_of d ring.area) (value_limit ring.area) r.len (has_size d ring.area lawful on.area).is_unit (limit-most ring.area) (omega arith)
 
-pub copy-fits : (d : Device) (ring : Ring) → IsLawful d.banks d.bytes → RingStandsOn d ring → (r : RecordAt) → Contains (record_places (entries_on d ring.area)) r → TellsLive (value_limit ring.area) (entries_on d ring.area) r true → FitsIfLive d ring r
-    → ring.end + record_cost (unit_of d ring.area) r.len ≤ sector_size d ring.area
-copy-fits d ring lawful on r contained tells fits =
-    let s = split (entries_on d ring.area) r contained in
-    let len = (body-len d ring lawful on s.0 s.2 r s.1 s.3).1 in
-    subst (λ (n : ℕ). ring.end + record_cost (unit_of d ring.area) n ≤ sector_size d ring.area) len (fits s.0 s.2 s.1 s.3 (sym (tells s.0 s.2 s.1 s.3)))
-
-live-alone : (limit : ℕ) (body : List ℕ) (later : List (List ℕ)) → is_live limit body later ≡ true → live_bodies limit (body ∷ []) later ≡ body ∷ []
-live-alone limit body later live = live-one limit body later ∙ ap (λ (b : Bool). cond b (body ∷ []) []) live
-
-dead-alone : (limit : ℕ) (body : List ℕ) (later : List (List ℕ)) → is_live limit body later ≡ false → live_bodies limit (body ∷ []) later ≡ []
-dead-alone limit body later dead = live-one limit body later ∙ ap (λ (b : Bool). cond b (body ∷ []) []) dead
-
-pub copied : (old new : Device) (before after : Ring) → IsLawful old.banks old.bytes → RingStandsOn old before → (r : RecordAt) → TellsLive (value_limit before.area) (entries_on old before.area) r true → RingStandsOn new after → after.stage ≡ Collecting → after.oldest ≡ before.oldest → after.used ≡ before.used
-    → after.end ≡ before.end + record_cost (unit_of old before.area) r.len → CopiesRecord old new before r → Spends old new (record_cost (unit_of old before.area) r.len / unit_of old before.area) → CopiesIfLive old new before after r
-copied old new before after lawful on r tells stands stage oldest used end copies spent done later body are =
-    let live = sym (tells done later body are) in
-    let b = body-len old before lawful on done later r body are in
-    let alone : body ∷ [] ≡ live_bodies (value_limit before.area) (body ∷ []) (bodies later) = sym (live-alone (value_limit before.area) body (bodies later) live) in
-    let one : Copies old new before after (body ∷ []) = record {
-      stands = stands;
-      stage = stage;
-      oldest = oldest;
-      used = used;
-      scratch =
-          ap bodies copies.2 ∙ bodies-append (sector_list old before.area (newest_place before)) ((copies.0, slice_range (sector_bytes old before.area r.sector) r.body (r.body + r.len)) ∷ [])
-          ∙ ap (λ (x : List ℕ). bodies (sector_list old before.area (newest_place before)) ++ x ∷ []) (sym b.0);
-      end = end ∙ ap (λ (n : ℕ). before.end + record_cost (unit_of old before.area) n) (sym b.1) ∙ ap (λ (n : ℕ). before.end + n) (sym (sum_by-cons (λ (x : List ℕ). record_cost (unit_of old before.area) (length x)) body [] ∙ omega arith));
+pub copied : (old new : Device) (before after : Ring) → IsLawful old.banks old.bytes → RingStandsOn old before → (r : RecordAt) → IsListed old before.area r → CopiedRecord old new before after r → Copies old new before after (body_at old before.area r ∷ [])
+copied old new before after lawful on r contained did =
+    let len : length (body_at old before.area r) ≡ r.len = listed-len old before lawful on r contained in
+    let end : after.end ≡ before.end + record_cost (unit_of old before.area) r.len = did.end in
+    record {
+      stands = did.stands;
+      stage = did.stage;
+      oldest = did.oldest;
+      used = did.used;
+      scratch = ap bodies did.copies.2 ∙ bodies-append (sector_list old before.area (newest_place before)) ((did.copies.0, body_at old before.area r) ∷ []);
+      end =
+          did.end ∙ ap (λ (n : ℕ). before.end + record_cost (unit_of old before.area) n) (sym len)
+          ∙ ap (λ (n : ℕ). before.end + n) (sym (sum_by-cons (λ (x : List ℕ). record_cost (unit_of old before.area) (length x)) (body_at old before.area r) [] ∙ omega arith));
       units = record_cost (unit_of old before.area) r.len / unit_of old before.area;
-      spent = spent;
+      spent = did.units;
       bound = omega (arith, end, div-mul-le_self (record_cost (unit_of old before.area) r.len) (unit_of old before.area));
-    } in
-    subst (Copies old new before after) alone one
-
-pub not-copied : (d : Device) (ring : Ring) → RingStandsOn d ring → ring.stage ≡ Collecting → (r : RecordAt) → TellsLive (value_limit ring.area) (entries_on d ring.area) r false → CopiesIfLive d d ring ring r
-not-copied d ring on stage r tells done later body are =
-    let none : [] ≡ live_bodies (value_limit ring.area) (body ∷ []) (bodies later) = sym (dead-alone (value_limit ring.area) body (bodies later) (sym (tells done later body are))) in
-    let nothing : Copies d d ring ring [] = record {
-      stands = on;
-      stage = stage;
-      oldest = refl;
-      used = refl;
-      scratch = sym (append-nil (bodies (sector_list d ring.area (newest_place ring))));
-      end = omega arith;
-      units = 0;
-      spent = spends_none d;
-      bound = omega arith;
-    } in
-    subst (Copies d d ring ring) none nothing
+    }
 
 pub stopped : (old new : Device) (before after : Ring) → is_up after.stage ≡ false → (cost : ℕ) → SpendsAtMost old new (cost / unit_of old before.area) → before.end + cost ≤ sector_size old before.area → StopsCopying old new before after
 stopped old new before after down cost (units, le, spent) fits =
@@ -147,18 +102,14 @@ kept-same d ring lawful on = stands-has (unit_of d ring.area) (sector_size d rin
 pub keeps-then : (a b c : Device) (area : Area) → KeepsEntries a b area → KeepsEntries b c area → KeepsEntries a c area
 keeps-then a b c area first second = record { undamaged = second.undamaged; are = second.are ∙ first.are }
 
-pub copying-stands : (d e : Device) (now after : Ring) (r : RecordAt) → Contains (record_places (entries_on d now.area)) r → CopiesIfLive d e now after r → RingStandsOn e after
-copying-stands d e now after r contained copies =
-    let s = split (entries_on d now.area) r contained in
-    (copies s.0 s.2 s.1 s.3).stands
-
 -- ---- all of them
 
 -- so much of the list was gone through, all of the oldest sector, and its live records were copied
 pub record IsCopying (a d : Device) (before now : Ring) (place : Option RecordAt) : Type 0 where
   pub done : List Entry
   pub later : List Entry
-  pub at : IsAt (entries_on a before.area) place done later
+  pub at : IsAtPart (Some before.oldest) (entries_on a before.area) place done later
+  pub listed : ForSome place (IsListed a before.area)
   pub of : AreOf before.oldest done
   pub touches : Touches (before.area ∷ []) a d false
   pub list : KeepsEntries a d before.area
@@ -167,11 +118,12 @@ pub record IsCopying (a d : Device) (before now : Ring) (place : Option RecordAt
   pub reserve : now.reserve ≡ before.reserve
   pub copies : Copies a d before now (live_bodies (value_limit before.area) (bodies done) (bodies later))
 
-pub copying-start : (a : Device) (ring : Ring) → IsLawful a.banks a.bytes → RingStandsOn a ring → ring.stage ≡ Collecting → (next : Option RecordAt) → IsNext (entries_on a ring.area) None next → IsCopying a a ring ring next
-copying-start a ring lawful on stage next is = record {
+pub copying-start : (a : Device) (ring : Ring) → IsLawful a.banks a.bytes → RingStandsOn a ring → ring.stage ≡ Collecting → (next : Option RecordAt) → IsNext (entries_on a ring.area) None next → ForSome next (IsListed a ring.area) → IsCopying a a ring ring next
+copying-start a ring lawful on stage next is listed = record {
   done = [];
   later = entries_on a ring.area;
-  at = start (entries_on a ring.area) next is;
+  at = part-start (Some ring.oldest) (entries_on a ring.area) next is;
+  listed = listed;
   of = none-of-all ring.oldest;
   touches = untouched (ring.area ∷ []) a;
   list = kept-same a ring lawful on;
@@ -198,11 +150,19 @@ copying-start a ring lawful on stage next is = record {
 pub copying-list : (a d : Device) (before now : Ring) (place : Option RecordAt) → IsCopying a d before now place → entries_on d now.area ≡ entries_on a before.area
 copying-list a d before now place so_far = ap (λ (x : Area). entries_on d x) so_far.area ∙ so_far.list.are
 
-pub copying-listed : (a d : Device) (before now : Ring) (r : RecordAt) → IsCopying a d before now (Some r) → Contains (record_places (entries_on d now.area)) r
-copying-listed a d before now r so_far =
-    let f = first-of so_far.later r so_far.at.here in
-    subst (λ (l : List Entry). Contains (record_places l) r) (sym (copying-list a d before now (Some r) so_far))
-    (listed (entries_on a before.area) so_far.done r f.0 f.1 (so_far.at.are ∙ ap (λ (l : List Entry). so_far.done ++ l) f.2))
+-- records of a part that is one sector are of that sector
+passed-of : (place : ℕ) (passed : List Entry) → AreWithin (Some place) passed → AreOf place passed
+passed-of place passed within = All-weaker (λ (entry : Entry). is_within (Some place) entry.0 ≡ true) (λ (entry : Entry). entry.0.sector ≡ place) (λ entry e. eqb-true entry.0.sector place e) passed within
+
+-- what was copied, and what is gathered then
+gathered-copies : (a d : Device) (before now : Ring) (r : RecordAt) → (so_far : IsCopying a d before now (Some r)) → (found : List Kept) (next : Option RecordAt) → (g : Gathers d now.area (Some before.oldest) so_far.later found next)
+    → live_bodies (value_limit before.area) (bodies so_far.done) (bodies so_far.later) ++ bodies_at d now.area found ≡ live_bodies (value_limit before.area) (bodies (so_far.done ++ g.passed)) (bodies g.rest)
+gathered-copies a d before now r so_far found next g =
+    let found-are : bodies_at d now.area found ≡ live_bodies (value_limit before.area) (bodies g.passed) (bodies g.rest) =
+    g.live ∙ ap (λ (x : Area). live_bodies (value_limit x) (bodies g.passed) (bodies g.rest)) so_far.area in
+    ap (λ (l : List (List ℕ)). live_bodies (value_limit before.area) (bodies so_far.done) (bodies so_far.later) ++ l) found-are
+    ∙ ap (λ (l : List (List ℕ)). live_bodies (value_limit before.area) (bodies so_far.done) l ++ live_bodies (value_limit before.area) (bodies g.passed) (bodies g.rest)) (ap bodies g.are ∙ bodies-append g.passed g.rest)
+    ∙ sym (ap (λ (l : List (List ℕ)). live_bodies (value_limit before.area) l (bodies g.rest)) (bodies-append so_far.done g.passed) ∙ copies-split (value_limit before.area) (bodies so_far.done) (bodies g.passed) (bodies g.rest))
 
 prefix-puts : (limit unit : ℕ) (list xs ys : List Entry) (place : ℕ) → list ≡ xs ++ ys → AreOf place xs → sum_by (put_cost limit unit) (bodies xs) ≤ puts_cost limit unit list place
 prefix-puts limit unit list xs ys place are of =
@@ -217,33 +177,38 @@ cap-room d ring lawful on =
     let pad = padding (unit_of d ring.area) has.is_unit in
     omega (arith, has.at_least, pad.no_more 8)
 
--- what is copied, and the record, are of the values of the oldest sector, which fit one
-pub copying-fits : (a d : Device) (before now : Ring) (r : RecordAt) → IsLawful a.banks a.bytes → RingStandsOn a before → before.stage ≡ Collecting → damage_on a before.area ≡ None → before.end ≡ padded (unit_of a before.area) 8
-    → IsLawful d.banks d.bytes → IsCopying a d before now (Some r) → r.sector ≡ now.oldest → FitsIfLive d now r
-copying-fits a d before now r lawful on stage undamaged start-end lawful-d so_far of done later body are live =
-    let unit = unit_of a before.area in
-    let f = first-of so_far.later r so_far.at.here in
-    let list : entries_on a before.area ≡ so_far.done ++ (r, f.0) ∷ f.1 = so_far.at.are ∙ ap (λ (l : List Entry). so_far.done ++ l) f.2 in
-    let split-list : entries_on a before.area ≡ (so_far.done ++ (r, f.0) ∷ []) ++ f.1 = list ∙ sym (append_assoc so_far.done ((r, f.0) ∷ []) f.1) in
-    let here : r.sector ≡ before.oldest = of ∙ so_far.copies.oldest in
-    let all : AreOf before.oldest (so_far.done ++ (r, f.0) ∷ []) = All-push (λ (entry : Entry). entry.0.sector ≡ before.oldest) so_far.done (r, f.0) so_far.of here in
-    let most = prefix-puts (value_limit before.area) (unit_of a before.area) (entries_on a before.area) (so_far.done ++ (r, f.0) ∷ []) f.1 before.oldest split-list all in
-    let fit = costs-at (value_limit before.area) (unit_of a before.area) (sector_size a before.area) (entries_on a before.area) before.area.sectors (costs-on a before.area lawful on.area undamaged) before.oldest (within a before on (collecting-none before stage)) in
-    let sum : sum_by (put_cost (value_limit before.area) (unit_of a before.area)) (bodies (so_far.done ++ (r, f.0) ∷ [])) ≡ sum_by (put_cost (value_limit before.area) (unit_of a before.area)) (bodies so_far.done) + put_cost (value_limit before.area) (unit_of a before.area) f.0 =
-    ap (sum_by (put_cost (value_limit before.area) (unit_of a before.area))) (bodies-append so_far.done ((r, f.0) ∷ [])) ∙ sum_by-append (put_cost (value_limit before.area) (unit_of a before.area)) (bodies so_far.done) (f.0 ∷ [])
-    ∙ ap (λ (n : ℕ). sum_by (put_cost (value_limit before.area) (unit_of a before.area)) (bodies so_far.done) + n) (sum_by-cons (put_cost (value_limit before.area) (unit_of a before.area)) f.0 [] ∙ omega arith) in
-    let copies = copies_cost-le (value_limit before.area) (unit_of a before.area) (bodies so_far.done) (bodies so_far.later) in
-    -- both bodies are what stands at the record's place
-    let on-now = so_far.copies.stands in
-    let one : body ≡ slice_range (sector_bytes d now.area r.sector) r.body (r.body + r.len) = (body-len d now lawful-d on-now done later r body are).0 in
-    let two : f.0 ≡ slice_range (sector_bytes d now.area r.sector) r.body (r.body + r.len) = (body-len d now lawful-d on-now so_far.done f.1 r f.0 (copying-list a d before now (Some r) so_far ∙ list)).0 in
+-- what the walk gathers from where the copying is
+pub gathered : (a d : Device) (before now : Ring) (r : RecordAt) → (so_far : IsCopying a d before now (Some r)) → (part : Option ℕ) → part ≡ Some before.oldest → (found : List Kept) (next : Option RecordAt) → GathersFrom d now.area part (Some r) found next
+    → Gathers d now.area (Some before.oldest) so_far.later found next
+gathered a d before now r so_far part is found next gathers =
+    subst (λ (o : Option ℕ). Gathers d now.area o so_far.later found next) is (gathers so_far.done so_far.later (copying-list a d before now (Some r) so_far ∙ so_far.at.are) (so_far.at.here r refl))
+
+-- is not long
+pub gathered-short : (d : Device) (area : Area) (part : Option ℕ) (later : List Entry) (found : List Kept) (next : Option RecordAt) → Gathers d area part later found next → AreShort d area found
+gathered-short d area part later found next g =
+    subst (All (λ (body : List ℕ). length body ≤ longest (value_limit area))) (sym g.live)
+    (live-all (λ (body : List ℕ). length body ≤ longest (value_limit area)) (value_limit area) (bodies g.passed) (bodies g.rest) (λ body behind live. live-most (value_limit area) body behind live))
+
+-- what is copied and what is gathered are of the values of the oldest sector, which fit one
+pub gathered-fits : (a d : Device) (before now : Ring) (r : RecordAt) → IsLawful a.banks a.bytes → RingStandsOn a before → before.stage ≡ Collecting → damage_on a before.area ≡ None → before.end ≡ padded (unit_of a before.area) 8
+    → (so_far : IsCopying a d before now (Some r)) → (found : List Kept) (next : Option RecordAt) → Gathers d now.area (Some before.oldest) so_far.later found next
+    → now.end + bodies_cost (unit_of d now.area) (bodies_at d now.area found) ≤ sector_size d now.area
+gathered-fits a d before now r lawful on stage undamaged start-end so_far found next g =
+    let limit : ℕ = value_limit before.area in
     let unit-same : unit_of d now.area ≡ unit_of a before.area = unit-after a d before.area now.area so_far.touches.banks so_far.area in
     let size-same : sector_size d now.area ≡ sector_size a before.area = size-after a d before.area now.area so_far.touches.banks so_far.area in
-    let cost : put_cost (value_limit before.area) (unit_of a before.area) f.0 ≡ record_cost (unit_of a before.area) (length body) = ap (put_cost (value_limit before.area) (unit_of a before.area)) (two ∙ sym one) ∙ put-live (value_limit before.area) (unit_of a before.area) body (bodies later) (subst (λ (x : Area). is_live (value_limit x) body (bodies later) ≡ true) so_far.area live) in
+    let parts = gathered-copies a d before now r so_far found next g in
+    let list : entries_on a before.area ≡ (so_far.done ++ g.passed) ++ g.rest = so_far.at.are ∙ ap (λ (l : List Entry). so_far.done ++ l) g.are ∙ sym (append_assoc so_far.done g.passed g.rest) in
+    let all : AreOf before.oldest (so_far.done ++ g.passed) = All-append (λ (entry : Entry). entry.0.sector ≡ before.oldest) so_far.done g.passed so_far.of (passed-of before.oldest g.passed g.within) in
+    let most = prefix-puts (value_limit before.area) (unit_of a before.area) (entries_on a before.area) (so_far.done ++ g.passed) g.rest before.oldest list all in
+    let fit = costs-at (value_limit before.area) (unit_of a before.area) (sector_size a before.area) (entries_on a before.area) before.area.sectors (costs-on a before.area lawful on.area undamaged) before.oldest (within a before on (collecting-none before stage)) in
+    let copies = copies_cost-le (value_limit before.area) (unit_of a before.area) (bodies (so_far.done ++ g.passed)) (bodies g.rest) in
+    let sum : bodies_cost (unit_of a before.area) (live_bodies (value_limit before.area) (bodies so_far.done) (bodies so_far.later)) + bodies_cost (unit_of a before.area) (bodies_at d now.area found) ≡ bodies_cost (unit_of a before.area) (live_bodies (value_limit before.area) (bodies (so_far.done ++ g.passed)) (bodies g.rest)) =
+    sym (sum_by-append (λ (x : List ℕ). record_cost (unit_of a before.area) (length x)) (live_bodies (value_limit before.area) (bodies so_far.done) (bodies so_far.later)) (bodies_at d now.area found)) ∙ ap (bodies_cost (unit_of a before.area)) parts in
     let end = so_far.copies.end in
     let room : padded (unit_of a before.area) 8 + cap (unit_of a before.area) (sector_size a before.area) ≤ sector_size a before.area = cap-room a before lawful on in
-    let fits : now.end + record_cost (unit_of a before.area) (length body) ≤ sector_size d now.area = omega arith in
-    subst (λ (u : ℕ). now.end + record_cost u (length body) ≤ sector_size d now.area) (sym unit-same) fits
+    let fits : now.end + bodies_cost (unit_of a before.area) (bodies_at d now.area found) ≤ sector_size d now.area = omega arith in
+    subst (λ (u : ℕ). now.end + bodies_cost u (bodies_at d now.area found) ≤ sector_size d now.area) (sym unit-same) fits
 
 newest-same : (before now : Ring) → now.area ≡ before.area → now.oldest ≡ before.oldest → now.used ≡ before.used → newest_place now ≡ newest_place before
 newest-same before now area oldest used = ap (λ (x : Area). turned x.sectors now.oldest (now.used - 1)) area ∙ ap (λ (o : ℕ). turned before.area.sectors o (now.used - 1)) oldest ∙ ap (λ (n : ℕ). turned before.area.sectors before.oldest (n - 1)) used
@@ -295,28 +260,22 @@ module _ (a d e : Device) (before now after : Ring) (r : RecordAt) (so_far : IsC
   pub copying-touches : (lost : Bool) → Touches (now.area ∷ []) d e lost → Touches (before.area ∷ []) a e lost
   copying-touches lost touches = then so_far.touches (subst (λ (x : Area). Touches (x ∷ []) d e lost) so_far.area touches)
 
-  pub copying-step : r.sector ≡ now.oldest → Touches (now.area ∷ []) d e false → after.area ≡ now.area → after.reserve ≡ now.reserve → CopiesIfLive d e now after r → (next : Option RecordAt) → IsNext (entries_on e after.area) (Some r) next → IsCopying a e before after next
-  copying-step of touches area reserve copies next is =
-      let f = first-of so_far.later r so_far.at.here in
-      let are : entries_on a before.area ≡ so_far.done ++ (r, f.0) ∷ f.1 = so_far.at.are ∙ ap (λ (l : List Entry). so_far.done ++ l) f.2 in
-      let now-are : entries_on d now.area ≡ so_far.done ++ (r, f.0) ∷ f.1 = copying-list a d before now (Some r) so_far ∙ are in
-      let list : entries_on e after.area ≡ entries_on a before.area = ap (λ (x : Area). entries_on e x) (area ∙ so_far.area) ∙ copying-kept.are in
-      let second : Copies d e now after (live_bodies (value_limit before.area) (f.0 ∷ []) (bodies f.1)) =
-      subst (λ (x : Area). Copies d e now after (live_bodies (value_limit x) (f.0 ∷ []) (bodies f.1))) so_far.area (copies so_far.done f.1 f.0 now-are) in
-      let first : Copies a d before now (live_bodies (value_limit before.area) (bodies so_far.done) (f.0 ∷ bodies f.1)) = subst (λ (l : List Entry). Copies a d before now (live_bodies (value_limit before.area) (bodies so_far.done) (bodies l))) f.2 so_far.copies in
-      let both : live_bodies (value_limit before.area) (bodies so_far.done) (f.0 ∷ bodies f.1) ++ live_bodies (value_limit before.area) (f.0 ∷ []) (bodies f.1) ≡ live_bodies (value_limit before.area) (bodies (so_far.done ++ (r, f.0) ∷ [])) (bodies f.1) =
-      sym (ap (λ (l : List (List ℕ)). live_bodies (value_limit before.area) l (bodies f.1)) (bodies-append so_far.done ((r, f.0) ∷ [])) ∙ copies-split (value_limit before.area) (bodies so_far.done) (f.0 ∷ []) (bodies f.1)) in
+  pub copying-step : Touches (now.area ∷ []) d e false → after.area ≡ now.area → after.reserve ≡ now.reserve → (found : List Kept) (next : Option RecordAt) → Gathers d now.area (Some before.oldest) so_far.later found next → ForSome next (IsListed d now.area) → Copies d e now after (bodies_at d now.area found)
+      → IsCopying a e before after next
+  copying-step touches area reserve found next g listed copies =
       record {
-        done = so_far.done ++ (r, f.0) ∷ [];
-        later = f.1;
-        at = step (entries_on a before.area) r so_far.done f.0 f.1 next are (subst (λ (l : List Entry). IsNext l (Some r) next) list is);
-        of = All-push (λ (entry : Entry). entry.0.sector ≡ before.oldest) so_far.done (r, f.0) so_far.of (of ∙ so_far.copies.oldest);
+        done = so_far.done ++ g.passed;
+        later = g.rest;
+        at = part-step d now.area (Some before.oldest) (entries_on a before.area) r so_far.done so_far.later found next so_far.at g;
+        listed = λ q same. subst (λ (l : List Entry). Contains (record_places l) q) (copying-list a d before now (Some r) so_far) (listed q same);
+        of = All-append (λ (entry : Entry). entry.0.sector ≡ before.oldest) so_far.done g.passed so_far.of (passed-of before.oldest g.passed g.within);
         touches = copying-touches false touches;
         list = copying-kept;
         others = copying-others;
         area = area ∙ so_far.area;
         reserve = reserve ∙ so_far.reserve;
-        copies = subst (Copies a e before after) both (copies-then a d e before now after (live_bodies (value_limit before.area) (bodies so_far.done) (f.0 ∷ bodies f.1)) (live_bodies (value_limit before.area) (f.0 ∷ []) (bodies f.1)) so_far.touches.banks so_far.area first second);
+        copies = subst (Copies a e before after) (gathered-copies a d before now r so_far found next g)
+            (copies-then a d e before now after (live_bodies (value_limit before.area) (bodies so_far.done) (bodies so_far.later)) (bodies_at d now.area found) so_far.touches.banks so_far.area so_far.copies copies);
       }
 
 -- ---- the end of the oldest sector
@@ -351,17 +310,9 @@ copying-end a d before now place on stage so_far stops rest are =
     (subst (λ (l : List Entry). Copies a d before now (live_bodies (value_limit before.area) (bodies l) (bodies (flat_map (part_at a before) (range_with_len 1 (min before.used (before.area.sectors - 1) - 1)))))) (sym same.0)
     (subst (λ (l : List Entry). Copies a d before now (live_bodies (value_limit before.area) (bodies so_far.done) (bodies l))) (sym same.1) so_far.copies))
 
--- no record is left, or the next one is of another sector
-pub stops-none : (a d : Device) (before now : Ring) (so_far : IsCopying a d before now None) → (x : Entry) (l : List Entry) → so_far.later ≡ x ∷ l → x.0.sector ≢ before.oldest
-stops-none a d before now so_far x l is = absurd (clash (none-of so_far.later so_far.at.here) is)
-  where
-    clash : {later : List Entry} {x : Entry} {l : List Entry} → later ≡ [] → later ≡ x ∷ l → ⊥
-    clash e f = cc
-
-pub stops-other : (a d : Device) (before now : Ring) (r : RecordAt) (so_far : IsCopying a d before now (Some r)) → r.sector ≢ before.oldest → (x : Entry) (l : List Entry) → so_far.later ≡ x ∷ l → x.0.sector ≢ before.oldest
-stops-other a d before now r so_far apart x l is same =
-    let here : Some r ≡ Some x.0 = so_far.at.here ∙ ap (λ (later : List Entry). slice_get (record_places later) 0) is in
-    apart (ap (λ (q : RecordAt). q.sector) (some-same r x.0 here) ∙ same)
+-- no record of the sector is left
+pub part-none : (a d : Device) (before now : Ring) (so_far : IsCopying a d before now None) → (x : Entry) (l : List Entry) → so_far.later ≡ x ∷ l → x.0.sector ≢ before.oldest
+part-none a d before now so_far x l is same = both_ways (eqb x.0.sector before.oldest) (so_far.at.stops refl x l is) (eq-eqb x.0.sector before.oldest same)
 
 -- ---- whether a record is of the oldest sector
 
@@ -370,11 +321,111 @@ oldest-some a ring on stage o is =
     let all = collecting-used a ring on stage in
     is ∙ ap (λ (b : Bool). cond b None (Some ring.oldest)) (ne_eqb ring.used 0 (λ (e : ring.used ≡ 0). omega (arith, on.area.lawful.several)))
 
-test-is : (s place : ℕ) (o : Option ℕ) (t : Bool) → o ≡ Some place → t ≡ not (option_eq eqb (Some s) o) → t ≡ not (eqb s place)
-test-is s place o t some is = is ∙ ap (λ (x : Option ℕ). not (option_eq eqb (Some s) x)) some
+-- ---- a table of them
 
-pub is-other : (s place : ℕ) (o : Option ℕ) (t : Bool) → o ≡ Some place → t ≡ not (option_eq eqb (Some s) o) → t ≡ true → s ≢ place
-is-other s place o t some is yes-it same = both_ways (eqb s place) (not-true (eqb s place) (sym (test-is s place o t some is) ∙ yes-it)) (eq-eqb s place same)
+-- so many of a table were copied
+pub record CopiesTable (a d : Device) (before now : Ring) (copied : List Kept) : Type 0 where
+  pub touches : Touches (before.area ∷ []) a d false
+  pub list : KeepsEntries a d before.area
+  pub others : OthersStay a d before.area (newest_place before)
+  pub area : now.area ≡ before.area
+  pub reserve : now.reserve ≡ before.reserve
+  pub copies : Copies a d before now (bodies_at a before.area copied)
 
-pub is-oldest : (s place : ℕ) (o : Option ℕ) (t : Bool) → o ≡ Some place → t ≡ not (option_eq eqb (Some s) o) → t ≡ false → s ≡ place
-is-oldest s place o t some is no-it = eqb-true s place (not-false (eqb s place) (sym (test-is s place o t some is) ∙ no-it))
+pub table-start : (a : Device) (ring : Ring) → IsLawful a.banks a.bytes → RingStandsOn a ring → ring.stage ≡ Collecting → CopiesTable a a ring ring []
+table-start a ring lawful on stage = record {
+  touches = untouched (ring.area ∷ []) a;
+  list = kept-same a ring lawful on;
+  others = others_same a a ring.area (newest_place ring) refl;
+  area = refl;
+  reserve = refl;
+  copies = record {
+    stands = on;
+    stage = stage;
+    oldest = refl;
+    used = refl;
+    scratch = sym (append-nil (bodies (sector_list a ring.area (newest_place ring))));
+    end = omega arith;
+    units = 0;
+    spent = spends_none a;
+    bound = omega arith;
+  };
+}
+
+module _ (a d : Device) (before now : Ring) (table : List Kept) (k : ℕ) (so_far : CopiesTable a d before now (take k table)) (lawful : IsLawful a.banks a.bytes) (lawful-now : IsLawful d.banks d.bytes) (on : RingStandsOn a before) (d0 : Kept) (lt : k < length table)
+    (all : All (IsKept a before.area) table) where
+  table-list : entries_on d now.area ≡ entries_on a before.area
+  table-list = ap (λ (x : Area). entries_on d x) so_far.area ∙ so_far.list.are
+
+  listed-first : IsListed a before.area (get_or table k d0).at
+  listed-first = (all k d0 lt).listed
+
+  pub table-listed : IsListed d now.area (get_or table k d0).at
+  table-listed = subst (λ (l : List Entry). Contains (record_places l) (get_or table k d0).at) (sym table-list) listed-first
+
+  table-body : body_at d now.area (get_or table k d0).at ≡ body_at a before.area (get_or table k d0).at
+  table-body = same-body a d before now lawful lawful-now on so_far.copies.stands table-list (get_or table k d0).at listed-first
+
+  pub table-oldest : AreKeptWithin (Some before.oldest) table → (get_or table k d0).at.sector ≡ now.oldest
+  table-oldest inside = eqb-true (get_or table k d0).at.sector before.oldest (inside k d0 lt) ∙ sym so_far.copies.oldest
+
+  body-of-table : get_or (bodies_at a before.area table) k [] ≡ body_at a before.area (get_or table k d0).at
+  body-of-table = get_or-map (λ (x : Kept). body_at a before.area x.at) table k d0 [] lt
+
+  pub table-short : AreShort a before.area table → record_cost (unit_of d now.area) (get_or table k d0).at.len ≤ PROGRAM_LIMIT
+  table-short short =
+      let long : length (bodies_at a before.area table) ≡ length table = length-map table (λ (x : Kept). body_at a before.area x.at) in
+      let one : length (get_or (bodies_at a before.area table) k []) ≤ longest (value_limit before.area) = short k [] (omega arith) in
+      let two : length (body_at d now.area (get_or table k d0).at) ≡ length (get_or (bodies_at a before.area table) k []) = ap length (table-body ∙ sym body-of-table) in
+      let limit : longest (value_limit now.area) ≡ longest (value_limit before.area) = ap (λ (x : Area). longest (value_limit x)) so_far.area in
+      copy-short d now lawful-now so_far.copies.stands (get_or table k d0).at table-listed (omega arith)
+
+  sum-split : (unit : ℕ) → bodies_cost unit (bodies_at a before.area table) ≡ bodies_cost unit (bodies_at a before.area (take k table)) + (record_cost unit (length (body_at a before.area (get_or table k d0).at)) + bodies_cost unit (bodies_at a before.area (drop (suc k) table)))
+  sum-split unit =
+      let f : Kept → List ℕ = λ x. body_at a before.area x.at in
+      let cost : List ℕ → ℕ = λ x. record_cost unit (length x) in
+      ap (λ (l : List Kept). bodies_cost unit (bodies_at a before.area l)) (sym (take-append-drop k table) ∙ ap (λ (l : List Kept). take k table ++ l) (drop-cons table k d0 lt))
+      ∙ ap (bodies_cost unit) (map-append f (take k table) (get_or table k d0 ∷ drop (suc k) table))
+      ∙ sum_by-append cost (bodies_at a before.area (take k table)) (f (get_or table k d0) ∷ bodies_at a before.area (drop (suc k) table))
+      ∙ ap (λ (n : ℕ). bodies_cost unit (bodies_at a before.area (take k table)) + n) (sum_by-cons cost (f (get_or table k d0)) (bodies_at a before.area (drop (suc k) table)))
+
+  pub table-fits : before.end + bodies_cost (unit_of a before.area) (bodies_at a before.area table) ≤ sector_size a before.area → now.end + record_cost (unit_of d now.area) (get_or table k d0).at.len ≤ sector_size d now.area
+  table-fits fits =
+      let unit-same : unit_of d now.area ≡ unit_of a before.area = unit-after a d before.area now.area so_far.touches.banks so_far.area in
+      let size-same : sector_size d now.area ≡ sector_size a before.area = size-after a d before.area now.area so_far.touches.banks so_far.area in
+      let len : length (body_at a before.area (get_or table k d0).at) ≡ (get_or table k d0).at.len = listed-len a before lawful on (get_or table k d0).at listed-first in
+      let cost : record_cost (unit_of a before.area) (length (body_at a before.area (get_or table k d0).at)) ≡ record_cost (unit_of d now.area) (get_or table k d0).at.len = ap (record_cost (unit_of a before.area)) len ∙ ap (λ (u : ℕ). record_cost u (get_or table k d0).at.len) (sym unit-same) in
+      let sum = sum-split (unit_of a before.area) in
+      let end = so_far.copies.end in
+      omega arith
+
+  pub table-step : (e : Device) (after : Ring) → Touches (now.area ∷ []) d e false → CopiedRecord d e now after (get_or table k d0).at → CopiesTable a e before after (take (k + 1) table)
+  table-step e after touches did =
+      let newest : newest_place now ≡ newest_place before = newest-same before now so_far.area so_far.copies.oldest so_far.copies.used in
+      let one : Copies d e now after (body_at a before.area (get_or table k d0).at ∷ []) = subst (λ (b : List ℕ). Copies d e now after (b ∷ [])) table-body (copied d e now after lawful-now so_far.copies.stands (get_or table k d0).at table-listed did) in
+      let more : bodies_at a before.area (take (k + 1) table) ≡ bodies_at a before.area (take k table) ++ body_at a before.area (get_or table k d0).at ∷ [] =
+      ap (bodies_at a before.area) (take_more table k d0 lt) ∙ map-append (λ (x : Kept). body_at a before.area x.at) (take k table) (get_or table k d0 ∷ []) in
+      record {
+        touches = then so_far.touches (subst (λ (x : Area). Touches (x ∷ []) d e false) so_far.area touches);
+        list = keeps-then a d e before.area so_far.list (subst (λ (x : Area). KeepsEntries d e x) so_far.area did.list);
+        others = others_then a d e before.area (newest_place before) so_far.others (subst (λ (p : ℕ). OthersStay d e before.area p) newest (subst (λ (x : Area). OthersStay d e x (newest_place now)) so_far.area did.others));
+        area = did.area ∙ so_far.area;
+        reserve = did.reserve ∙ so_far.reserve;
+        copies = subst (Copies a e before after) (sym more) (copies-then a d e before now after (bodies_at a before.area (take k table)) (body_at a before.area (get_or table k d0).at ∷ []) so_far.touches.banks so_far.area so_far.copies one);
+      }
+
+  pub table-stops : (e : Device) (after : Ring) → before.end + bodies_cost (unit_of a before.area) (bodies_at a before.area table) ≤ sector_size a before.area → StopsCopyingRecord d e now after (get_or table k d0).at → StopsCopying a e before after
+  table-stops e after fits did =
+      stops-then a d e before now after (bodies_at a before.area (take k table)) so_far.touches.banks so_far.area so_far.copies
+      (stopped d e now after did.down (record_cost (unit_of d now.area) (get_or table k d0).at.len) did.bound (table-fits fits))
+
+  pub table-kept : (e : Device) (after : Ring) → KeepsEntries d e now.area → KeepsEntries a e before.area
+  table-kept e after kept = keeps-then a d e before.area so_far.list (subst (λ (x : Area). KeepsEntries d e x) so_far.area kept)
+
+  pub table-others : (e : Device) (after : Ring) → OthersStay d e now.area (newest_place now) → OthersStay a e before.area (newest_place before)
+  table-others e after others =
+      let newest : newest_place now ≡ newest_place before = newest-same before now so_far.area so_far.copies.oldest so_far.copies.used in
+      others_then a d e before.area (newest_place before) so_far.others (subst (λ (p : ℕ). OthersStay d e before.area p) newest (subst (λ (x : Area). OthersStay d e x (newest_place now)) so_far.area others))
+
+  pub table-lost : (e : Device) (after : Ring) → StopsCopyingRecord d e now after (get_or table k d0).at → a.is_on ≡ true → HasNoChance e before.area
+  table-lost e after did = lost-then a d e before.area now.area so_far.touches so_far.area (copy-lost d e now.area now (body_at d now.area (get_or table k d0).at) did.full did.lost)

@@ -1,13 +1,15 @@
 -- Loops that add up what records cost, one step at a time.
-use Rattle.std.proofs.Common.{◌≡◌, ℕ, suc, ◌+◌, ◌*◌, ◌<◌, ◌≤◌, Bool, true, cond, List, [], ◌∷◌, ◌++◌, length, get_or, set, replicate, Option, Some, None, inl, inr, refl, sym, ap, subst, ◌∙◌, arith}
-use Rattle.std.specs.Prelude.{Contains}
-use Rattle.std.proofs.lemmas.Bool.{cases_Bool, cases_eq}
+use Rattle.std.proofs.Common.{◌≡◌, ℕ, suc, ◌+◌, ◌*◌, ◌<◌, ◌≤◌, Bool, true, false, cond, List, [], ◌∷◌, ◌++◌, length, get_or, set, replicate, Option, Some, None, inl, inr, refl, sym, ap, subst, ◌∙◌, append_assoc, append-nil, arith}
+use Rattle.std.specs.Prelude.{Contains, sum_by}
+use Rattle.std.proofs.lemmas.Bool.{cases_Bool, cases_eq, false≢true}
 use Rattle.std.proofs.lemmas.List.{length-append, length-set, length-replicate, get_or-replicate, get_or-set_same, get_or-set_other, length-map}
 use Rattle.std.proofs.lemmas.List.Sums.{sum_by-cons, sum_by-append}
 use Rattle.flash_sim.specs.Bank.{IsLawful}
 use Rattle.flash_sim.specs.Device.{Device}
 use Rattle.flash_sim.specs.declared.flash.TheConstants.{PROGRAM_LIMIT}
-use Rattle.flash_map.specs.Area.{unit_of, sector_size, sectors_of}
+use Rattle.flash_map.specs.Area.{value_limit, unit_of, sector_size, sectors_of}
+use Rattle.flash_map.specs.declared.area.Area.{Area}
+use Rattle.fcb_ring.specs.Changing.{body_at}
 use Rattle.fcb_ring.specs.declared.record.RecordAt.{RecordAt}
 use Rattle.fcb_ring.specs.declared.ring.Ring.{Ring}
 use Rattle.fcb_ring.specs.Entries.{bodies}
@@ -17,73 +19,103 @@ use Rattle.fcb_ring.proofs.AreaLemmas.{has_size, count-sectors}
 use Rattle.fcb_ring.proofs.FewLemmas.{few-on}
 use Rattle.fcb_ring.proofs.ReadLemmas.{there}
 use Rattle.settings_laws.specs.Live.{is_live, live_bodies}
+use Rattle.backend_fcb.specs.Gathering.{bodies_at, Gathers, GathersFrom}
+use Rattle.backend_fcb.specs.declared.gathering.Kept.{Kept}
 use Rattle.settings_laws.specs.Numbers.{put_cost}
 use Rattle.backend_fcb.specs.Reading.{puts_cost}
 use Rattle.settings_laws.specs.Rounds.{bodies_cost}
-use Rattle.backend_fcb.specs.Walking.{TellsCost, TellsLive}
 use Rattle.settings_laws.proofs.CopyCost.{put-live}
 use Rattle.settings_laws.proofs.LiveLemmas.{copies-none, copies-split}
+use Rattle.backend_fcb.proofs.GatherSteps.{IsAtPart, part-start, part-step}
 use Rattle.backend_fcb.proofs.LookupSteps.{Reads}
+use Rattle.backend_fcb.proofs.TableLaws.{live-few, live-cons}
 use Rattle.backend_fcb.proofs.PutsCosts.{puts-append, puts-here, puts-there}
 use Rattle.backend_fcb.proofs.SectorLists.{bodies-append}
-use Rattle.backend_fcb.proofs.WalkLemmas.{Entry, IsAt, start, step, first-of, body-is, none-of, all-done}
+use Rattle.backend_fcb.proofs.WalkLemmas.{Entry, IsAt, start, step, first-of, body-is, all-done}
 
--- ---- what a live record costs
+-- ---- what live records cost
 
-pub live-one : (limit : ℕ) (body : List ℕ) (others : List (List ℕ)) → live_bodies limit (body ∷ []) others ≡ cond (is_live limit body others) (body ∷ []) []
-unfolding live_bodies
-live-one limit body others = refl
-
-one-cost : (limit unit : ℕ) (body : List ℕ) (later : List (List ℕ)) → bodies_cost unit (live_bodies limit (body ∷ []) later) ≡ cond (is_live limit body later) (put_cost limit unit body) 0
-one-cost limit unit body later = ap (bodies_cost unit) (live-one limit body later) ∙ (elim (cases_Bool (is_live limit body later)) [
-  | inl live ↦
-      ap (λ (b : Bool). bodies_cost unit (cond b (body ∷ []) [])) live ∙ sum_by-cons (λ (x : List ℕ). record_cost unit (length x)) body []
-      ∙ (let e = put-live limit unit body later live in omega arith) ∙ sym (ap (λ (b : Bool). cond b (put_cost limit unit body) 0) live)
-  | inr other ↦ ap (λ (b : Bool). bodies_cost unit (cond b (body ∷ []) [])) other ∙ sym (ap (λ (b : Bool). cond b (put_cost limit unit body) 0) other)
-])
+-- they cost what puts of their bodies do
+puts-live : (limit unit : ℕ) (passed later : List (List ℕ)) → sum_by (put_cost limit unit) (live_bodies limit passed later) ≡ bodies_cost unit (live_bodies limit passed later)
+puts-live limit unit [] later = ap (sum_by (put_cost limit unit)) (copies-none limit later) ∙ sym (ap (bodies_cost unit) (copies-none limit later))
+puts-live limit unit (body ∷ rest) later =
+    let ih = puts-live limit unit rest later in
+    elim (cases_Bool (is_live limit body (rest ++ later))) [
+      | inl live ↦
+          let front : live_bodies limit (body ∷ rest) later ≡ body ∷ live_bodies limit rest later = live-cons limit body rest later ∙ ap (λ (t : Bool). cond t (body ∷ live_bodies limit rest later) (live_bodies limit rest later)) live in
+          let one = put-live limit unit body (rest ++ later) live in
+          let puts = sum_by-cons (put_cost limit unit) body (live_bodies limit rest later) in
+          let costs = sum_by-cons (λ (x : List ℕ). record_cost unit (length x)) body (live_bodies limit rest later) in
+          let left = ap (sum_by (put_cost limit unit)) front in
+          let right = ap (bodies_cost unit) front in
+          omega arith
+      | inr dead ↦
+          let front : live_bodies limit (body ∷ rest) later ≡ live_bodies limit rest later = live-cons limit body rest later ∙ ap (λ (t : Bool). cond t (body ∷ live_bodies limit rest later) (live_bodies limit rest later)) dead in
+          ap (sum_by (put_cost limit unit)) front ∙ ih ∙ sym (ap (bodies_cost unit) front)
+    ]
 
 -- ---- the sum over all
 
 pub record Sums (limit unit : ℕ) (list : List Entry) (place : Option RecordAt) (total : ℕ) : Type 0 where
   pub done : List Entry
   pub later : List Entry
-  pub at : IsAt list place done later
+  pub at : IsAtPart None list place done later
   pub says : total ≡ bodies_cost unit (live_bodies limit (bodies done) (bodies later))
   pub small : total ≤ PROGRAM_LIMIT * length done
 
 pub sums-start : (limit unit : ℕ) (list : List Entry) (next : Option RecordAt) → IsNext list None next → Sums limit unit list next 0
-sums-start limit unit list next is = record { done = []; later = list; at = start list next is; says = sym (ap (bodies_cost unit) (copies-none limit (bodies list))); small = omega arith }
+sums-start limit unit list next is = record { done = []; later = list; at = part-start None list next is; says = sym (ap (bodies_cost unit) (copies-none limit (bodies list))); small = omega arith }
 
-pub sums-few : (limit unit : ℕ) (list : List Entry) (r : RecordAt) (total : ℕ) → Sums limit unit list (Some r) total → total + PROGRAM_LIMIT ≤ PROGRAM_LIMIT * length list
-sums-few limit unit list r total so_far =
-    let f = first-of so_far.later r so_far.at.here in
-    let n : length list ≡ length so_far.done + suc (length f.1) = ap length (so_far.at.are ∙ ap (λ (l : List Entry). so_far.done ++ l) f.2) ∙ length-append so_far.done ((r, f.0) ∷ f.1) in
-    omega (arith, so_far.small)
+module _ (d : Device) (area : Area) (r : RecordAt) (total : ℕ) (so_far : Sums (value_limit area) (unit_of d area) (entries_on d area) (Some r) total) (found : List Kept) (next : Option RecordAt) (gathers : GathersFrom d area None (Some r) found next) (answer : ℕ)
+    (small : answer ≤ PROGRAM_LIMIT * length found) where
+  gathered : Gathers d area None so_far.later found next
+  gathered = gathers so_far.done so_far.later so_far.at.are (so_far.at.here r refl)
 
-pub sums-step : (limit unit : ℕ) (list : List Entry) (r : RecordAt) (total : ℕ) → Sums limit unit list (Some r) total → (answer : ℕ) → TellsCost limit unit list r answer → answer ≤ PROGRAM_LIMIT → (next : Option RecordAt) → IsNext list (Some r) next → Sums limit unit list next (total + answer)
-sums-step limit unit list r total so_far answer tells most next is =
-    let f = first-of so_far.later r so_far.at.here in
-    let are : list ≡ so_far.done ++ (r, f.0) ∷ f.1 = so_far.at.are ∙ ap (λ (l : List Entry). so_far.done ++ l) f.2 in
-    let cost : answer ≡ bodies_cost unit (live_bodies limit (f.0 ∷ []) (bodies f.1)) = tells so_far.done f.1 f.0 are ∙ sym (one-cost limit unit f.0 (bodies f.1)) in
-    let before : total ≡ bodies_cost unit (live_bodies limit (bodies so_far.done) (f.0 ∷ bodies f.1)) = so_far.says ∙ ap (λ (l : List Entry). bodies_cost unit (live_bodies limit (bodies so_far.done) (bodies l))) f.2 in
-    let both : bodies_cost unit (live_bodies limit (bodies (so_far.done ++ (r, f.0) ∷ [])) (bodies f.1)) ≡ bodies_cost unit (live_bodies limit (bodies so_far.done) (f.0 ∷ bodies f.1)) + bodies_cost unit (live_bodies limit (f.0 ∷ []) (bodies f.1)) =
-    ap (λ (l : List (List ℕ)). bodies_cost unit (live_bodies limit l (bodies f.1))) (bodies-append so_far.done ((r, f.0) ∷ []))
-    ∙ ap (bodies_cost unit) (copies-split limit (bodies so_far.done) (f.0 ∷ []) (bodies f.1))
-    ∙ sum_by-append (λ (x : List ℕ). record_cost unit (length x)) (live_bodies limit (bodies so_far.done) (f.0 ∷ bodies f.1)) (live_bodies limit (f.0 ∷ []) (bodies f.1)) in
-    let n : length (so_far.done ++ (r, f.0) ∷ []) ≡ length so_far.done + 1 = length-append so_far.done ((r, f.0) ∷ []) in
-    record {
-      done = so_far.done ++ (r, f.0) ∷ [];
-      later = f.1;
-      at = step list r so_far.done f.0 f.1 next are is;
-      says = omega arith;
-      small = omega (arith, so_far.small);
-    }
+  more : total + answer ≤ PROGRAM_LIMIT * length (so_far.done ++ gathered.passed)
+  more =
+      let few = live-few (value_limit area) (bodies gathered.passed) (bodies gathered.rest) in
+      let one : length (bodies_at d area found) ≡ length found = length-map found (λ (kept : Kept). body_at d area kept.at) in
+      let two : length (bodies gathered.passed) ≡ length gathered.passed = length-map gathered.passed (λ (entry : Entry). entry.1) in
+      let three : length (bodies_at d area found) ≡ length (live_bodies (value_limit area) (bodies gathered.passed) (bodies gathered.rest)) = ap length gathered.live in
+      let long : length (so_far.done ++ gathered.passed) ≡ length so_far.done + length gathered.passed = length-append so_far.done gathered.passed in
+      omega (arith, so_far.small)
+
+  pub sums-few : total + answer ≤ PROGRAM_LIMIT * length (entries_on d area)
+  sums-few =
+      let whole : entries_on d area ≡ (so_far.done ++ gathered.passed) ++ gathered.rest = so_far.at.are ∙ ap (λ (l : List Entry). so_far.done ++ l) gathered.are ∙ sym (append_assoc so_far.done gathered.passed gathered.rest) in
+      let n : length (entries_on d area) ≡ length (so_far.done ++ gathered.passed) + length gathered.rest = ap length whole ∙ length-append (so_far.done ++ gathered.passed) gathered.rest in
+      omega (arith, more)
+
+  pub sums-step : answer ≡ sum_by (put_cost (value_limit area) (unit_of d area)) (bodies_at d area found) → Sums (value_limit area) (unit_of d area) (entries_on d area) next (total + answer)
+  sums-step cost =
+      let limit : ℕ = value_limit area in
+      let unit : ℕ = unit_of d area in
+      let now : List (List ℕ) = live_bodies (value_limit area) (bodies gathered.passed) (bodies gathered.rest) in
+      let price : answer ≡ bodies_cost (unit_of d area) (live_bodies (value_limit area) (bodies gathered.passed) (bodies gathered.rest)) =
+      cost ∙ ap (sum_by (put_cost (value_limit area) (unit_of d area))) gathered.live ∙ puts-live (value_limit area) (unit_of d area) (bodies gathered.passed) (bodies gathered.rest) in
+      let before : total ≡ bodies_cost (unit_of d area) (live_bodies (value_limit area) (bodies so_far.done) (bodies gathered.passed ++ bodies gathered.rest)) =
+      so_far.says ∙ ap (λ (l : List (List ℕ)). bodies_cost (unit_of d area) (live_bodies (value_limit area) (bodies so_far.done) l)) (ap bodies gathered.are ∙ bodies-append gathered.passed gathered.rest) in
+      let both : bodies_cost (unit_of d area) (live_bodies (value_limit area) (bodies (so_far.done ++ gathered.passed)) (bodies gathered.rest)) ≡ bodies_cost (unit_of d area) (live_bodies (value_limit area) (bodies so_far.done) (bodies gathered.passed ++ bodies gathered.rest)) + bodies_cost (unit_of d area) (live_bodies (value_limit area) (bodies gathered.passed) (bodies gathered.rest)) =
+      ap (λ (l : List (List ℕ)). bodies_cost (unit_of d area) (live_bodies (value_limit area) l (bodies gathered.rest))) (bodies-append so_far.done gathered.passed)
+      ∙ ap (bodies_cost (unit_of d area)) (copies-split (value_limit area) (bodies so_far.done) (bodies gathered.passed) (bodies gathered.rest))
+      ∙ sum_by-append (λ (x : List ℕ). record_cost (unit_of d area) (length x)) (live_bodies (value_limit area) (bodies so_far.done) (bodies gathered.passed ++ bodies gathered.rest)) (live_bodies (value_limit area) (bodies gathered.passed) (bodies gathered.rest)) in
+      record {
+        done = so_far.done ++ gathered.passed;
+        later = gathered.rest;
+        at = part-step d area None (entries_on d area) r so_far.done so_far.later found next so_far.at gathered;
+        says = omega arith;
+        small = more;
+      }
 
 pub sums-end : (limit unit : ℕ) (list : List Entry) (total : ℕ) → Sums limit unit list None total → total ≡ bodies_cost unit (live_bodies limit (bodies list) [])
 sums-end limit unit list total so_far =
-    let all : list ≡ so_far.done = all-done list so_far.done so_far.later so_far.at in
-    let none : so_far.later ≡ [] = none-of so_far.later so_far.at.here in
+    let none : so_far.later ≡ [] = nothing so_far.later (so_far.at.stops refl) in
+    let all : list ≡ so_far.done = so_far.at.are ∙ ap (λ (l : List Entry). so_far.done ++ l) none ∙ append-nil so_far.done in
     so_far.says ∙ ap (λ (l : List Entry). bodies_cost unit (live_bodies limit (bodies so_far.done) (bodies l))) none ∙ ap (λ (l : List Entry). bodies_cost unit (live_bodies limit (bodies l) [])) (sym all)
+  where
+    nothing : (later : List Entry) → ((x : Entry) (rest : List Entry) → later ≡ x ∷ rest → true ≡ false) → later ≡ []
+    nothing [] stops = refl
+    nothing (x ∷ rest) stops = absurd (false≢true (sym (stops x rest refl)))
 
 -- ---- the sums by sectors
 
@@ -161,13 +193,6 @@ pub few-records : (d : Device) (ring : Ring) → IsLawful d.banks d.bytes → St
 few-records d ring lawful on =
     let few = few-on d ring.area lawful on.area in
     omega (arith, length-map (entries_on d ring.area) (λ (entry : Entry). entry.1))
-
--- ---- one record
-
-pub cost-live : (limit unit : ℕ) (list : List Entry) (r : RecordAt) (bytes : List ℕ) → Reads list r bytes → TellsLive limit list r true → (answer : ℕ) → answer ≡ put_cost limit unit bytes → TellsCost limit unit list r answer
-cost-live limit unit list r bytes reads live answer cost done later body are =
-    let same : bytes ≡ body = body-is list done r body later bytes are reads in
-    cost ∙ ap (put_cost limit unit) same ∙ ap (λ (b : Bool). cond b (put_cost limit unit body) 0) (live done later body are)
 
 -- a record stands in a sector of the area
 pub sector-few : (d : Device) (ring : Ring) → IsLawful d.banks d.bytes → StandsOn d ring → (r : RecordAt) → Contains (record_places (entries_on d ring.area)) r → r.sector < 64

@@ -1,5 +1,5 @@
 -- Records that do not begin with a name and `=` are of other names.
-use Rattle.std.proofs.Common.{◌≡◌, ℕ, Bool, true, false, cond, ◌&&◌, ◌||◌, inl, inr, List, [], ◌∷◌, ◌++◌, Option, Some, None, refl, sym, ap, ◌∙◌, append_assoc}
+use Rattle.std.proofs.Common.{◌≡◌, ℕ, Bool, true, false, cond, ◌&&◌, inl, inr, List, [], ◌∷◌, ◌++◌, Option, Some, None, refl, sym, ap, ◌∙◌, append_assoc}
 use Rattle.std.specs.Prelude.{nat_eq}
 use Rattle.std.specs.List.{starts_with}
 use Rattle.std.specs.Str.{bytes_eq}
@@ -8,7 +8,7 @@ use Rattle.std.proofs.lemmas.List.{append-nil}
 use Rattle.std.proofs.lemmas.Slice.Eq.{bytes_eq-Decides}
 use Rattle.fcb_ring.specs.Entries.{bodies}
 use Rattle.settings_laws.specs.Last.{last_value}
-use Rattle.settings_laws.specs.Live.{has_name, names}
+use Rattle.settings_laws.specs.Live.{has_name}
 use Rattle.settings_laws.specs.Settings.{setting_of, body_of}
 use Rattle.settings_laws.proofs.BodyLemmas.{setting-says}
 use Rattle.settings_laws.proofs.LastLemmas.{found_by, last_value-push}
@@ -21,7 +21,7 @@ starts-so : (name value : List ℕ) → starts_with nat_eq (body_of name value) 
 starts-so [] value = refl
 starts-so (byte ∷ name) value = ap (λ (b : Bool). b && starts_with nat_eq (body_of name value) (body_of name [])) (eq-eqb byte byte refl) ∙ starts-so name value
 
-other-name : (limit : ℕ) (name body : List ℕ) → starts_with nat_eq body (body_of name []) ≡ false → has_name name (setting_of limit body) ≡ false
+pub other-name : (limit : ℕ) (name body : List ℕ) → starts_with nat_eq body (body_of name []) ≡ false → has_name name (setting_of limit body) ≡ false
 other-name limit name body other = by (setting_of limit body) refl
   where
     by : (s : Option (List ℕ × List ℕ)) → setting_of limit body ≡ s → has_name name s ≡ false
@@ -47,8 +47,3 @@ skip-last limit name done (entry ∷ rest) (other, none) =
     ∙ ap (last_value limit name) (bodies-append done (entry ∷ []))
     ∙ last_value-push limit name (bodies done) entry.1
     ∙ found-same name (last_value limit name (bodies done)) (setting_of limit entry.1) (other-name limit name entry.1 other)
-
--- and none of them is of the name
-pub skip-names : (limit : ℕ) (name : List ℕ) (skipped : List Entry) → NoneBegins (body_of name []) skipped → names limit name (bodies skipped) ≡ false
-skip-names limit name [] none = refl
-skip-names limit name (entry ∷ rest) (other, none) = ap (λ (b : Bool). b || names limit name (bodies rest)) (other-name limit name entry.1 other) ∙ skip-names limit name rest none

@@ -62,7 +62,7 @@ drop-behind (x ∷ done) e rest =
     let more : length (x ∷ done) + 1 ≡ suc (length done + 1) = omega arith in
     ap (λ (n : ℕ). drop n (x ∷ done ++ e ∷ rest)) more ∙ drop-behind done e rest
 
-pub behind-with : (list : List Entry) (front : List ℕ) (done : List Entry) (r : RecordAt) (body : List ℕ) (rest : List Entry) (next : Option RecordAt) → list ≡ done ++ (r, body) ∷ rest → IsNextWith list front (Some r) next → next ≡ first_with front rest
+behind-with : (list : List Entry) (front : List ℕ) (done : List Entry) (r : RecordAt) (body : List ℕ) (rest : List Entry) (next : Option RecordAt) → list ≡ done ++ (r, body) ∷ rest → IsNextWith list front (Some r) next → next ≡ first_with front rest
 behind-with list front done r body rest next are is =
     is (length done) (ap (λ (l : List Entry). slice_get (record_places l) (length done)) are ∙ place-of done r body rest)
     ∙ ap (first_with front) (ap (drop (length done + 1)) are ∙ drop-behind done (r, body) rest)

@@ -1,4 +1,5 @@
 pub mod Blank
+pub mod BodyAt
 pub mod BodyOf
 pub mod Collected
 pub mod CopySteps
@@ -6,6 +7,7 @@ pub mod CostSteps
 pub mod Ends
 pub mod FrontNames
 pub mod FrontWalk
+pub mod GatherSteps
 pub mod Limits
 pub mod LookupSteps
 pub mod NameSteps
@@ -14,6 +16,7 @@ pub mod PutsCosts
 pub mod PutSteps
 pub mod RingLists
 pub mod SectorLists
+pub mod TableLaws
 pub mod TestBanks
 pub mod TryLemmas
 pub mod WalkLemmas

@@ -196,6 +196,12 @@ split-at [] i r e = absurd (none-some r e)
 split-at ((q, body) ∷ list) zero r e = ([], body, list, ap (λ (x : RecordAt). (x, body) ∷ list) (some-same q r e))
 split-at (entry ∷ list) (suc i) r e = let ih = split-at list i r e in (entry ∷ ih.0, ih.1, ih.2, ap (λ (l : List Entry). entry ∷ l) ih.3)
 
+-- and one at a place of it behind so many
+pub split-long : (list : List Entry) (i : ℕ) (r : RecordAt) → slice_get (record_places list) i ≡ Some r → (done : List Entry) × (body : List ℕ) × (rest : List Entry) × (list ≡ done ++ (r, body) ∷ rest) × (length done ≡ i)
+split-long [] i r e = absurd (none-some r e)
+split-long ((q, body) ∷ list) zero r e = ([], body, list, ap (λ (x : RecordAt). (x, body) ∷ list) (some-same q r e), refl)
+split-long (entry ∷ list) (suc i) r e = let ih = split-long list i r e in (entry ∷ ih.0, ih.1, ih.2, ap (λ (l : List Entry). entry ∷ l) ih.3, ap suc ih.4)
+
 -- a record of the list stands between others
 pub split : (list : List Entry) (r : RecordAt) → Contains (record_places list) r → (done : List Entry) × (body : List ℕ) × (rest : List Entry) × (list ≡ done ++ (r, body) ∷ rest)
 split list r contained = let at = contained_at (record_places list) r contained in split-at list at.0 r at.1

@@ -16,7 +16,7 @@ use Rattle.fcb_ring.specs.declared.ring.Stage.TheVariants.{Collecting}
 use Rattle.fcb_ring.specs.declared.writing.AppendFault.{AppendFault}
 use Rattle.fcb_ring.specs.declared.writing.AppendFault.TheVariants.{Full, TooLong, PowerLost}
 use Rattle.backend_api.specs.Ends.{SpendsSome}
-use Rattle.settings_laws.specs.Live.{is_live, live_bodies}
+use Rattle.settings_laws.specs.Live.{live_bodies}
 use Rattle.settings_laws.specs.Numbers.{cap}
 use Rattle.pair_laws.specs.Rounds.{joined}
 use Rattle.settings_laws.specs.Rounds.{bodies_cost, FindsNoRoom}
@@ -47,17 +47,7 @@ pub record StopsCopying (old new : Device) (before after : Ring) : Type 0 where
   pub spent : Spends old new units
   pub bound : units * unit_of old before.area + before.end ≤ sector_size old before.area
 
--- a record that is the last of its name and has a value fits behind the copies
-abbrev pub FitsIfLive : Device → Ring → RecordAt → Type 0
-FitsIfLive d ring r =
-    (done later : List (RecordAt × List ℕ)) (body : List ℕ) → entries_on d ring.area ≡ done ++ (r, body) ∷ later → is_live (value_limit ring.area) body (bodies later) ≡ true → ring.end + record_cost (unit_of d ring.area) (length body) ≤ sector_size d ring.area
-
--- the record is copied, if it is the last of its name and has a value
-abbrev pub CopiesIfLive : Device → Device → Ring → Ring → RecordAt → Type 0
-CopiesIfLive old new before after r =
-    (done later : List (RecordAt × List ℕ)) (body : List ℕ) → entries_on old before.area ≡ done ++ (r, body) ∷ later → Copies old new before after (live_bodies (value_limit before.area) (body ∷ []) (bodies later))
-
--- all such records of the oldest sector are copied
+-- the records of the oldest sector that are the last of their name and have a value are copied
 abbrev pub CopiesLive : Device → Device → Ring → Ring → Type 0
 CopiesLive old new before after =
     (rest : List (RecordAt × List ℕ)) → entries_on old before.area ≡ sector_list old before.area before.oldest ++ rest → Copies old new before after (live_bodies (value_limit before.area) (bodies (sector_list old before.area before.oldest)) (bodies rest))

@@ -1,4 +1,5 @@
 pub mod Changing
+pub mod Gathering
 pub mod Exact
 pub mod Laws
 pub mod Members

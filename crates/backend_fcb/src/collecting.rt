@@ -1,50 +1,56 @@
 // Collecting the oldest sector.
-ghost use Rattle.std.specs.Prelude.{◌≡◌, ◌∷◌, [], true, false, is_err, None, Contains, OnOk, OnErr};
-ghost use Rattle.flash_map.specs.Area.{unit_of, OthersStay};
+ghost use Rattle.std.specs.Prelude.{◌≡◌, ◌+◌, ◌≤◌, ◌∷◌, [], true, false, is_err, Some, None, All, OnOk, OnErr};
+ghost use Rattle.flash_map.specs.Area.{unit_of, sector_size, OthersStay};
 ghost use Rattle.flash_map.specs.Spending.{SpendsAtMost};
 ghost use Rattle.flash_map.specs.Touches.{Touches};
 ghost use Rattle.flash_map.specs.Units.{padded};
 ghost use Rattle.fcb_ring.specs.Chance.{HasNoChance};
 ghost use Rattle.fcb_ring.specs.Changing.{is_scratch_left, newest_place, sector_list};
-ghost use Rattle.fcb_ring.specs.Standing.{StandsOn as RingStandsOn, entries_on, record_places, KeepsEntries, is_up};
-ghost use Rattle.backend_fcb.specs.Changing.{CopiesIfLive, CopiesLive, Collects, FitsIfLive, StopsCopying, collect_units};
+ghost use Rattle.fcb_ring.specs.Standing.{StandsOn as RingStandsOn, KeepsEntries, is_up};
+ghost use Rattle.settings_laws.specs.Rounds.{bodies_cost};
+ghost use Rattle.backend_fcb.specs.Changing.{Copies, CopiesLive, Collects, StopsCopying, collect_units};
+ghost use Rattle.backend_fcb.specs.Gathering.{AreKeptWithin, AreShort, IsKept, bodies_at};
 ghost use Rattle.backend_fcb.specs.Standing.{damage_on, settings_on, IsReady};
 
-use crate::lookup::is_live;
-use fcb_ring::{RecordAt, Ring, Stage};
+use crate::gathering::{Kept, Table, gather_live};
+use fcb_ring::{Ring, Stage};
 use flash_sim::{Flash, PowerLost, Steps};
 use std::sync::ledger::Ledger;
 
-// Copies a record of the oldest sector, if it is the last of its name and has a value.
-fn copy_if_live<F: Flash, L: Ledger>(
+// Copies the records of a table, in order.
+#[tactic(auto, using(flash_map::proofs::Touches::then))]
+fn copy_all<F: Flash, L: Ledger>(
     ring: &mut Ring,
     flash: &mut F,
-    entry: RecordAt,
+    live: &[Kept],
     steps: &mut Steps<L>,
 ) -> Result<(), PowerLost>
     requires stands { RingStandsOn (F.device flash.old) ring.old }
     requires collecting { ring.old.stage ≡ Stage.Collecting }
-    requires listed { Contains (record_places (entries_on (F.device flash.old) ring.old.area)) entry }
-    requires of_oldest { entry.sector ≡ ring.old.oldest }
-    requires fits { FitsIfLive (F.device flash.old) ring.old entry }
+    requires kept { All (IsKept (F.device flash.old) ring.old.area) live.now }
+    requires of_oldest { AreKeptWithin (Some ring.old.oldest) live.now }
+    requires short { AreShort (F.device flash.old) ring.old.area live.now }
+    requires fits { let d = F.device flash.old in
+        ring.old.end + bodies_cost (unit_of d ring.old.area) (bodies_at d ring.old.area live.now) ≤ sector_size d ring.old.area }
 
     ensures touches { Touches (ring.old.area ∷ []) (F.device flash.old) (F.device flash.new) (is_err result) }
     ensures list { KeepsEntries (F.device flash.old) (F.device flash.new) ring.old.area }
     ensures others { OthersStay (F.device flash.old) (F.device flash.new) ring.old.area (newest_place ring.old) }
     ensures area { ring.new.area ≡ ring.old.area }
     ensures reserve { ring.new.reserve ≡ ring.old.reserve }
-    ensures copies { OnOk result (CopiesIfLive (F.device flash.old) (F.device flash.new) ring.old ring.new entry) }
+    ensures copies { let d = F.device flash.old in
+        OnOk result (Copies d (F.device flash.new) ring.old ring.new (bodies_at d ring.old.area live.now)) }
     ensures stops { OnErr result (StopsCopying (F.device flash.old) (F.device flash.new) ring.old ring.new) }
     ensures lost { OnErr result ((F.device flash.old).is_on ≡ true → HasNoChance (F.device flash.new) ring.old.area) }
 {
-    if !is_live(ring, flash, entry, steps) {
-        return Ok(());
+    for kept in live {
+        ring.copy(flash, &kept.at, steps)?;
     }
-    ring.copy(flash, &entry, steps)?;
     Ok(())
 }
 
-// Copies each record of the oldest sector that is the last of its name and has a value.
+// Copies each record of the oldest sector that is the last of its name and has a value. For each table that these fill,
+// it goes once over what is left of the list.
 #[tactic(auto, using(flash_map::proofs::Touches::then))]
 fn copy_live<F: Flash, L: Ledger>(
     ring: &mut Ring,
@@ -67,13 +73,11 @@ fn copy_live<F: Flash, L: Ledger>(
     ensures lost { OnErr result ((F.device flash.old).is_on ≡ true → HasNoChance (F.device flash.new) ring.old.area) }
 {
     let oldest = ring.oldest();
+    let mut table = Table::new();
     let mut at = ring.next(flash, None, steps);
-    while let Some(entry) = at {
-        if Some(entry.sector) != oldest {
-            return Ok(());
-        }
-        copy_if_live(ring, flash, entry, steps)?;
-        at = ring.next(flash, Some(entry), steps);
+    while let Some(from) = at {
+        at = gather_live(ring, flash, &mut table, Some(from), oldest, steps);
+        copy_all(ring, flash, table.as_slice(), steps)?;
     }
     Ok(())
 }

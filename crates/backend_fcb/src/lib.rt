@@ -4,6 +4,7 @@
 
 mod backend;
 mod collecting;
+mod gathering;
 mod lookup;
 mod mounting;
 mod names;
@@ -11,8 +12,3 @@ mod record;
 mod writing;
 
 pub use backend::FcbBackend;
-
-#[cfg(test)]
-mod loss_tests;
-#[cfg(test)]
-mod tests;

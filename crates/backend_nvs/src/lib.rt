@@ -7,7 +7,5 @@ mod lookup;
 mod names;
 mod numbers;
 mod putting;
-#[cfg(test)]
-mod tests;
 
 pub use backend::NvsBackend;

@@ -8,6 +8,3 @@ mod numbers;
 mod putting;
 
 pub use backend::ZmsBackend;
-
-#[cfg(test)]
-mod tests;

@@ -58,8 +58,8 @@ impl Ring {
         copy_of(self.body(flash, r, steps))
     }
 
-    /// Puts a record of the oldest sector anew behind the copies in the scratch sector, by one program. It counts once
-    /// the collection ends. The list stays, also where power is lost.
+    /// Puts a record of the oldest sector anew behind the copies in the scratch sector. It counts once the collection
+    /// ends. The list stays, also where power is lost.
     ///
     /// # Errors
     /// `PowerLost`. The ring is then down.

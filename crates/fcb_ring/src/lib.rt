@@ -20,6 +20,3 @@ pub use ring::{Ring, Stage};
 pub use sector::SectorState;
 pub use tearing::{chance, chance_of_a_record};
 pub use writing::AppendFault;
-
-#[cfg(test)]
-mod tests;

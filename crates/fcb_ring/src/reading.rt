@@ -43,8 +43,7 @@ impl Ring {
         self.next_with(flash, after, &[], steps)
     }
 
-    /// The next of these records whose body begins with the given bytes. The CRC of no other is computed, so a walk over
-    /// records that are of no account reads their lengths and first bytes alone.
+    /// The next of these records whose body begins with the given bytes.
     pub fn next_with<F: Flash, L: Ledger>(
         &self,
         flash: &F,

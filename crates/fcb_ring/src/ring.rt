@@ -160,8 +160,8 @@ impl Ring {
 }
 
 impl Ring {
-    /// Carries out the erases of mounting: each sector with a torn header, in rising order, and then the newest
-    /// where no sector is free. The list stays, also where power is lost.
+    /// Carries out the erases of mounting: of each sector with a torn header, and of the newest where no sector is free.
+    /// The list stays, also where power is lost.
     ///
     /// # Errors
     /// `PowerLost`. The ring is then down.

@@ -20,7 +20,7 @@ use flash_sim::{Flash, PowerLost};
 pub enum AppendFault {
     /// No sector but the scratch one is free.
     Full,
-    /// No sector could hold the record.
+    /// The body is empty, or no sector could hold the record.
     TooLong,
     /// Power was off, or was lost in the call.
     PowerLost,
@@ -194,8 +194,8 @@ impl Ring {
         Ok(())
     }
 
-    /// Adds a record with this body at the end of the list, by one program. It goes into the newest sector, where it fits
-    /// there and leaves `reserve` bytes (none where it goes `into_reserve`), or else into the next, which is opened.
+    /// Adds a record with this body at the end of the list. It goes into the newest sector, where it fits there and leaves
+    /// `reserve` bytes (none where it goes `into_reserve`), or else into the next, which is opened.
     ///
     /// # Errors
     /// `TooLong` where the body is empty or no sector could hold the record; `Full`

@@ -153,13 +153,24 @@ module _ (a b : Device) (area : Area) (lawful : IsLawful a.banks a.bytes) (is_ar
 clash : false ≡ true → ⊥
 clash p = search rules
 
--- Power that was lost in a call behind others was lost in a call of so many bytes.
-pub loses_within : (most : ℕ) (a b new : Device) (areas : List Area) (at : At) (bytes : List ℕ) → Touches areas a b false → FailsToProgram b new at bytes → length bytes ≤ most → LosesWithin most a new
-loses_within most a b new areas at bytes touches fails short on =
+-- Power that was lost in a call was lost in a call of its bytes.
+pub loses_one : (most : ℕ) (old new : Device) (at : At) (bytes : List ℕ) → FailsToProgram old new at bytes → length bytes ≤ most → LosesWithin most old new
+loses_one most old new at bytes fails short on =
     elim fails [
-      | inl off ↦ absurd (clash (sym off.off ∙ touches.ends.on ∙ on))
+      | inl off ↦ absurd (clash (sym off.off ∙ on))
       | inr (done, few, cut) ↦ (record { at = at; want = record { items = bytes }; done = done }, ap (λ (d : Device). d.last_loss) cut.is, short)
     ]
+
+-- So too where other calls went before.
+pub within_then : (most : ℕ) (a b new : Device) (areas : List Area) → Touches areas a b false → LosesWithin most b new → LosesWithin most a new
+within_then most a b new areas touches within on = within (touches.ends.on ∙ on)
+
+pub loses_within : (most : ℕ) (a b new : Device) (areas : List Area) (at : At) (bytes : List ℕ) → Touches areas a b false → FailsToProgram b new at bytes → length bytes ≤ most → LosesWithin most a new
+loses_within most a b new areas at bytes touches fails short = within_then most a b new areas touches (loses_one most b new at bytes fails short)
+
+-- At most so many are at most more.
+pub within_most : (few most : ℕ) (old new : Device) → few ≤ most → LosesWithin few old new → LosesWithin most old new
+within_most few most old new less within on = let lost = within on in (lost.0, lost.1, omega (arith, lost.2, less))
 
 pub unit-most : (unit : ℕ) → IsUnit unit → unit ≤ 16
 unit-most unit (inl four) = omega (arith, four)

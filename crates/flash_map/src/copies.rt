@@ -20,8 +20,8 @@ pub struct Source {
     pub len: u32,
 }
 
-// The most bytes of one piece. Every unit divides it.
-const COPY_PIECE: u32 = 32;
+/// The most bytes of one call of `copy_padded`. Every unit divides it.
+pub const COPY_PIECE: u32 = 32;
 
 // Some bytes of a sector, at most a piece, with FF behind them.
 fn piece_of<F: Flash, L: Ledger>(
@@ -43,7 +43,7 @@ fn piece_of<F: Flash, L: Ledger>(
 }
 
 /// Programs a range of another sector's bytes, with FF behind them up to whole units, upward and in pieces of at most
-/// 32 bytes through a buffer of its own. Each piece is one step.
+/// `COPY_PIECE` bytes through a buffer of its own.
 ///
 /// # Errors
 /// Where power was off, nothing changed. Where it was lost in the call, fewer than all units were put, the lowest first.

@@ -16,6 +16,3 @@ pub use laws::{lawful_use, one_reading, one_spec_reading};
 pub use reading::read_image;
 pub use spec::read_spec;
 pub use writing::write_image;
-
-#[cfg(test)]
-mod tests;

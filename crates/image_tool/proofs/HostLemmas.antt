@@ -8,12 +8,13 @@ use Rattle.flash_map.specs.declared.area.Area.{Area}
 use Rattle.flash_map.specs.declared.area.TheConstants.{VALUE_LIMIT, LONG_VALUE_LIMIT}
 use Rattle.zs_host.specs.Outside.{Outside, failed}
 use Rattle.zs_host.specs.Host.{PrintsPart}
-use Rattle.script_lines.specs.declared.line.Line.{Line}
-use Rattle.script_lines.specs.declared.line.Line.TheVariants.{Set, Get, Delete, Cut, Uncut, Mount}
+use Rattle.item_lines.specs.declared.line.Line.{Line}
+use Rattle.item_lines.specs.declared.line.Line.TheVariants.{Set, Get, Delete, Cut, Uncut, Mount}
 use Rattle.text_parts.specs.Parts.{parts}
-use Rattle.script_lines.specs.Line.{Spells}
-use Rattle.script_lines.specs.Script.{SpellsAll, told, IsScript}
-use Rattle.session.specs.LineDone.{AreLawfulFor, IsLawfulLine}
+use Rattle.item_lines.specs.Line.{Spells}
+use Rattle.script_lines.specs.Script.{told}
+use Rattle.item_lines.specs.Script.{SpellsAll, IsScript}
+use Rattle.item_session.specs.LineDone.{AreLawfulFor, IsLawfulLine}
 use Rattle.image_tool.specs.Reading.{Fails}
 
 pub fails_by : (old new : Outside) → new.faults ≡ (failed old).faults → Fails old new

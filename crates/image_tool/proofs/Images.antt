@@ -11,17 +11,17 @@ use Rattle.flash_map.specs.Touches.{IsIn, IsInSome}
 use Rattle.flash_map.specs.declared.area.Area.{Area}
 use Rattle.flash_map.specs.declared.area.Role.TheVariants.{Nvs}
 use Rattle.flash_map.specs.declared.faults.Damaged.{Damaged}
-use Rattle.script_lines.specs.declared.answer.Answer.{Answer}
-use Rattle.script_lines.specs.declared.line.Line.{Line}
+use Rattle.item_lines.specs.declared.answer.Answer.{Answer}
+use Rattle.item_lines.specs.declared.line.Line.{Line}
 use Rattle.image_file.specs.Format.{Plain, plain_area, version_of}
 use Rattle.image_file.specs.Lawful.{IsImage, area_at}
 use Rattle.image_file.specs.Reading.{IsImageFile}
 use Rattle.image_file.proofs.ServingLemmas.{may_be_served}
 use Rattle.nvs_store.specs.Scans.{damage_of}
-use Rattle.session.specs.Contents.{items_in}
+use Rattle.item_session.specs.Contents.{items_in}
 use Rattle.nvs_gc.specs.Standing.{IsNvsArea}
-use Rattle.session.specs.LineDone.{EndsSafely, Runs}
-use Rattle.session.specs.Standing as session
+use Rattle.item_session.specs.LineDone.{EndsSafely, Runs}
+use Rattle.item_session.specs.Standing as session
 use Rattle.image_tool.specs.Outcomes.{IsUndamaged, IsAtRest}
 use Rattle.image_tool.specs.Served.{area_bank, area_items, area_sectors, first_area, held, left, IsLoaded, IsServedImage}
 

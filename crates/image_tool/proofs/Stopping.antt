@@ -4,9 +4,9 @@ use Rattle.std.specs.Prelude.{Result}
 use Rattle.flash_sim.specs.Device.{Device}
 use Rattle.flash_map.specs.declared.area.Area.{Area}
 use Rattle.zs_host.specs.Outside.{Outside}
-use Rattle.script_lines.specs.declared.line.Line.{Line}
+use Rattle.item_lines.specs.declared.line.Line.{Line}
 use Rattle.image_file.specs.Format.{Plain}
-use Rattle.session.specs.LineDone.{EndsSafely}
+use Rattle.item_session.specs.LineDone.{EndsSafely}
 use Rattle.image_tool.specs.declared.stops.Stop.{Stop}
 use Rattle.image_tool.specs.declared.stops.Stop.TheVariants.{Refused, HostFailed, NoMemory}
 use Rattle.image_tool.specs.Outcomes.{Opens}

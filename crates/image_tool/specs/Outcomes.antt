@@ -5,10 +5,10 @@ use Rattle.hex.specs.Hex.{encode_lower}
 use Rattle.flash_sim.specs.Device.{Device}
 use Rattle.flash_map.specs.declared.area.Area.{Area}
 use Rattle.zs_host.specs.Outside.{Outside, written, printed_more}
-use Rattle.script_lines.specs.declared.line.Line.{Line}
-use Rattle.script_lines.specs.declared.line.Line.TheVariants.{Mount}
-use Rattle.script_lines.specs.declared.answer.Answer.{Answer}
-use Rattle.script_lines.specs.Answer.{text_of}
+use Rattle.item_lines.specs.declared.line.Line.{Line}
+use Rattle.item_lines.specs.declared.line.Line.TheVariants.{Mount}
+use Rattle.item_lines.specs.declared.answer.Answer.{Answer}
+use Rattle.item_lines.specs.Answer.{text_of}
 use Rattle.image_file.specs.Format.{Plain}
 use Rattle.image_file.specs.Reading.{IsImageFile}
 use Rattle.image_file.specs.Spec.{IsSpec}
@@ -16,9 +16,9 @@ use Rattle.command_words.specs.declared.commands.Command.{Command}
 use Rattle.command_words.specs.declared.commands.Command.TheVariants.{Build, Run, Dump}
 use Rattle.nvs_store.specs.declared.scan.Redo.TheVariants.{Nothing}
 use Rattle.nvs_store.specs.Scans.{damage_of, scan_of}
-use Rattle.session.specs.declared.listing.Item.{Item}
-use Rattle.session.specs.Listing.{listed}
-use Rattle.session.specs.LineDone.{EndsSafely, Runs}
+use Rattle.item_session.specs.declared.listing.Item.{Item}
+use Rattle.item_session.specs.Listing.{listed}
+use Rattle.item_session.specs.LineDone.{EndsSafely, Runs}
 use Rattle.image_tool.specs.declared.outcome.OutFile.{OutFile}
 use Rattle.image_tool.specs.Reading.{HasImage, HasScript}
 use Rattle.image_tool.specs.Served.{IsServedImage, first_area, area_bank, area_sectors, area_items, left, begun}

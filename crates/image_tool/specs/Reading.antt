@@ -2,10 +2,10 @@
 use Rattle.std.specs.Prelude.{◌≡◌, ◌⊎◌, ⊤, ℕ, ◌-◌, ◌^◌, ◌<◌, ◌≤◌, Result, Ok, Err, List, length}
 use Rattle.zs_host.specs.Outside.{Outside, HasFile, LacksFile}
 use Rattle.zs_host.specs.Host.{HasLongFile}
-use Rattle.script_lines.specs.declared.line.Line.{Line}
-use Rattle.script_lines.specs.declared.script.LineWhy.{LineWhy}
-use Rattle.script_lines.specs.declared.script.LineWhy.TheVariants as line_why
-use Rattle.script_lines.specs.Script.{IsScript, IsBadLine}
+use Rattle.item_lines.specs.declared.line.Line.{Line}
+use Rattle.item_lines.specs.declared.script.LineWhy.{LineWhy}
+use Rattle.item_lines.specs.declared.script.LineWhy.TheVariants as line_why
+use Rattle.item_lines.specs.Script.{IsScript, IsBadLine}
 use Rattle.image_file.specs.declared.image.ImageWhy.{ImageWhy}
 use Rattle.image_file.specs.declared.image.ImageWhy.TheVariants as image_why
 use Rattle.image_file.specs.Format.{Plain}

@@ -5,9 +5,9 @@ use Rattle.flash_sim.specs.Device.{Device}
 use Rattle.flash_map.specs.declared.faults.Why.{Why}
 use Rattle.flash_map.specs.declared.faults.Why.TheVariants as why
 use Rattle.zs_host.specs.Outside.{Outside}
-use Rattle.script_lines.specs.declared.line.Line.{Line}
-use Rattle.script_lines.specs.declared.script.LineWhy.{LineWhy}
-use Rattle.script_lines.specs.declared.script.LineWhy.TheVariants as line_why
+use Rattle.item_lines.specs.declared.line.Line.{Line}
+use Rattle.item_lines.specs.declared.script.LineWhy.{LineWhy}
+use Rattle.item_lines.specs.declared.script.LineWhy.TheVariants as line_why
 use Rattle.image_file.specs.declared.image.ImageWhy.{ImageWhy}
 use Rattle.image_file.specs.declared.image.ImageWhy.TheVariants as image_why
 use Rattle.image_file.specs.Format.{Plain}

@@ -9,7 +9,7 @@ use Rattle.flash_map.specs.declared.area.Role.TheVariants.{Nvs}
 use Rattle.image_file.specs.Format.{Plain, plain_area, version_of}
 use Rattle.image_file.specs.Lawful.{area_at}
 use Rattle.pair_laws.specs.Items.{Items}
-use Rattle.session.specs.Contents.{items_in}
+use Rattle.item_session.specs.Contents.{items_in}
 
 -- the bank on which an area of the image stands
 abbrev pub area_bank : Plain → Area → Bank

@@ -2,11 +2,11 @@
 use Rattle.std.specs.Prelude.{◌≡◌, ◌⊎◌, ℕ, List}
 use Rattle.flash_sim.specs.Device.{Device}
 use Rattle.zs_host.specs.Outside.{Outside}
-use Rattle.script_lines.specs.declared.line.Line.{Line}
+use Rattle.item_lines.specs.declared.line.Line.{Line}
 use Rattle.image_file.specs.Format.{Plain}
 use Rattle.command_words.specs.declared.commands.Command.{Command}
 use Rattle.command_words.specs.declared.commands.Command.TheVariants.{Build, Run, Dump}
-use Rattle.session.specs.LineDone.{EndsSafely}
+use Rattle.item_session.specs.LineDone.{EndsSafely}
 use Rattle.image_tool.specs.Outcomes.{Opens}
 use Rattle.image_tool.specs.Reading.{HasScript}
 use Rattle.image_tool.specs.Served.{first_area, begun}

@@ -12,7 +12,7 @@ use crate::serving::{load_image, open_image};
 use crate::stops::{Refusal, Stop};
 use flash_map::FlashMap;
 use flash_sim::Bench;
-use session::{SessionFault, list_items};
+use item_session::{SessionFault, list_items};
 use std::alloc::Global;
 use zs_host::Host;
 

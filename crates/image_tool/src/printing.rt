@@ -10,8 +10,8 @@ use arrayvec::ArrayString;
 use flash_map::{Damaged, Why};
 use flash_sim::NoMemory;
 use image_file::ImageWhy;
-use script_lines::{Answer, LineWhy, answer_text};
-use session::Item;
+use item_lines::{Answer, LineWhy, answer_text};
+use item_session::Item;
 use std::alloc::{AllocError, Global};
 
 /// The texts of all answers.

@@ -2,14 +2,14 @@
 ghost use Rattle.std.specs.Prelude.{◌≡◌};
 ghost use Rattle.flash_map.specs.declared.area.Area.{Area as area};
 ghost use Rattle.image_file.specs.Format.{plain};
-ghost use Rattle.session.specs.LineDone.{AreLawfulFor};
+ghost use Rattle.item_session.specs.LineDone.{AreLawfulFor};
 ghost use Rattle.image_tool.specs.declared.stops.Refusal.TheVariants.{BadFile, BadScript};
 ghost use Rattle.image_tool.specs.declared.stops.Stop.TheVariants.{Refused};
 ghost use Rattle.image_tool.specs.Reading.{ReadsOr, HasImage, LacksImage, HasScript, LacksScript};
 
 use crate::stops::{Refusal, Stop};
 use image_file::{Image, ImageFault, ImageWhy, read_image};
-use script_lines::{Line, LineWhy, ScriptFault, read_script};
+use item_lines::{Line, LineWhy, ScriptFault, read_script};
 use std::alloc::Global;
 use zs_host::{Host, HostFault};
 

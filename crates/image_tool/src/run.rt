@@ -1,7 +1,7 @@
 // The command `run`.
 ghost use Rattle.std.specs.Prelude.{◌≡◌, true};
 ghost use Rattle.image_file.specs.Lawful.{IsImage};
-ghost use Rattle.session.specs.LineDone.{AreLawfulFor, EndsSafely};
+ghost use Rattle.item_session.specs.LineDone.{AreLawfulFor, EndsSafely};
 ghost use Rattle.image_tool.specs.Outcomes.{LeavesImage, RunsScript, file_of};
 ghost use Rattle.image_tool.specs.Reading.{MakesOr, OnRefused, OnStopped, ReadsOr};
 ghost use Rattle.image_tool.specs.Refusals.{IsDamaged, RunCauses};
@@ -15,8 +15,8 @@ use crate::serving::{image_left, load_image, open_image};
 use crate::stops::{Refusal, Stop};
 use flash_map::FlashMap;
 use flash_sim::Bench;
-use script_lines::Line;
-use session::{Answers, SessionFault, run_lines};
+use item_lines::Line;
+use item_session::{Answers, SessionFault, run_lines};
 use std::alloc::Global;
 use zs_host::Host;
 

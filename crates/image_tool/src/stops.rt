@@ -8,7 +8,7 @@ use arrayvec::ArrayString;
 use flash_map::Damaged;
 use flash_sim::NoMemory;
 use image_file::ImageWhy;
-use script_lines::LineWhy;
+use item_lines::LineWhy;
 
 /// What is wrong with the words of a command, or with the files that they name.
 #[derive(Clone, Copy, Debug, PartialEq, Eq)]

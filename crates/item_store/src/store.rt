@@ -56,7 +56,8 @@ pub trait ItemStore: Drop {
     /// Mounts a store on an area. The items stay, also where power is lost.
     ///
     /// # Errors
-    /// `Damaged` exactly where the area shows damage, and then nothing was programmed; `PowerLost`.
+    /// `Damaged` exactly where the area shows damage, and then nothing was programmed; `PowerLost`; `NoMemory`, and then
+    /// nothing was programmed either.
     fn mount<F: Flash, L: Ledger>(
         alloc: Global,
         flash: &mut F,

@@ -9,6 +9,3 @@ mod reading;
 mod writing;
 
 pub use nvs::Nvs;
-
-#[cfg(test)]
-mod tests;

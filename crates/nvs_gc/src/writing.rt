@@ -184,7 +184,7 @@ impl Nvs {
     }
 
     /// Deletes an item. Where the id has none, as the reserved id FFFF never has, nothing is programmed. It always finds
-    /// room, after one collection at most.
+    /// room.
     ///
     /// # Errors
     /// `PowerLost`: the items are as before, or without this one, and the store is down.

@@ -3,7 +3,9 @@ ghost use Rattle.std.specs.Prelude.{◌≡◌, ◌⊎◌, ◌+◌, ◌/◌, ◌*
 ghost use Rattle.flash_map.specs.declared.area.Role.TheVariants.{Nvs};
 ghost use Rattle.flash_map.specs.Area.{unit_of, sector_size, sectors_of, sector_bytes};
 ghost use Rattle.flash_map.specs.Lawful.{IsLawfulFor};
+ghost use Rattle.flash_map.specs.Pieces.{LosesWithin};
 ghost use Rattle.flash_map.specs.Spending.{Spends, SpendsAtMost};
+ghost use Rattle.flash_map.specs.declared.pieces.TheConstants.{PIECE};
 ghost use Rattle.flash_map.specs.Touches.{Touches};
 ghost use Rattle.nvs_store.specs.declared.scan.Redo.TheVariants.{Nothing};
 ghost use Rattle.nvs_store.specs.Geometry.{slot_size, cost};
@@ -19,8 +21,8 @@ use flash_map::{Area, Source, copy_padded, geometry, padded, program_padded};
 use flash_sim::{Flash, PowerLost, Steps};
 use std::sync::ledger::Ledger;
 
-/// Appends a pair to the list: the data is programmed, padded to the unit with FF, and then its entry, in the next slot.
-/// No bytes are a delete.
+/// Appends a pair to the list: the data is programmed, padded to the unit with FF and in calls of at most `PIECE` bytes,
+/// and then its entry, in the next slot. No bytes are a delete.
 ///
 /// # Errors
 /// `PowerLost`: the list is as before, or with the pair. No more room is used up than the pair takes, and the scan may
@@ -55,6 +57,7 @@ pub fn append<F: Flash>(
         OnErr result (StopsAddingOn d (F.device flash.new) area.now scan.old.current id bytes.now) }
     ensures list_lost { let d = F.device flash.old in
         OnErr result (KeepsListOn d (F.device flash.new) area.now ⊎ AppendsOn d (F.device flash.new) area.now id bytes.now) }
+    ensures in_pieces { OnErr result (LosesWithin PIECE (F.device flash.old) (F.device flash.new)) }
     ensures spent_at_most { let d = F.device flash.old in
         OnErr result (SpendsAtMost d (F.device flash.new) (entry_units d area.now (length bytes.now))) }
     ensures sound { StaysSoundOn (F.device flash.old) (F.device flash.new) area.now scan.old.current }
@@ -76,7 +79,7 @@ pub fn append<F: Flash>(
 }
 
 /// Appends the pair of an entry of another sector to the open sector's part of the list: the data is copied, padded to
-/// the unit with FF, and then its entry is programmed, in the next slot.
+/// the unit with FF and in calls of at most `PIECE` bytes, and then its entry is programmed, in the next slot.
 ///
 /// # Errors
 /// `PowerLost`: the open sector's part is as before, or with the pair. No other sector changed. The scan may not be that
@@ -111,6 +114,7 @@ pub fn copy_entry<F: Flash, L: Ledger>(
 
     ensures lost { let d = F.device flash.old in
         OnErr result (StopsAddingOn d (F.device flash.new) area.now scan.old.current from.now.entry.id (bytes_on d area.now from.now)) }
+    ensures in_pieces { OnErr result (LosesWithin PIECE (F.device flash.old) (F.device flash.new)) }
     ensures spent_at_most { let d = F.device flash.old in
         OnErr result (SpendsAtMost d (F.device flash.new) (entry_units d area.now from.now.entry.len)) }
 {

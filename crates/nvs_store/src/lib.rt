@@ -10,8 +10,6 @@ mod places;
 mod scan;
 mod sector;
 mod slots;
-#[cfg(test)]
-mod tests;
 
 pub use calls::{append, copy_entry, put_close, put_done};
 pub use entry::{Entry, SPECIAL_ID, decode_entry, encode_entry};

@@ -8,6 +8,7 @@ pub mod NextSteps
 pub mod OtherSteps
 pub mod PutSteps
 pub mod SetSteps
+pub mod SoFar
 pub mod SpendSteps
 pub mod StopSteps
 pub mod StraySteps

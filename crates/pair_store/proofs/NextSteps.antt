@@ -13,7 +13,8 @@ use Rattle.item_pairs.specs.Numbering.{Numbering}
 use Rattle.item_pairs.specs.Pairs.{count_in, pair_at, settings_in, HasName, IsInside}
 use Rattle.item_pairs.proofs.NameLemmas.{get-nowhere, nowhere-none}
 use Rattle.item_pairs.proofs.PairLemmas.{one-name}
-use Rattle.pair_store.specs.Least.{IsBetween, HasNameBelow, IsLeastTo}
+use Rattle.pair_store.specs.Least.{IsBetween}
+use Rattle.pair_store.proofs.SoFar.{HasNameBelow, IsLeastTo}
 
 and_false : (a b : Bool) → (a && b) ≡ false → a ≡ true → b ≡ false
 and_false true b e is = e

@@ -12,7 +12,8 @@ use Rattle.item_pairs.proofs.CostLemmas.{get-cut, get-cut_other}
 use Rattle.item_pairs.proofs.PairLemmas.{pair-made}
 use Rattle.item_pairs.proofs.StrayLemmas.{stray-removed, kept-stays}
 use Rattle.item_store.specs.Ends.{IsNextId, DeleteEnds}
-use Rattle.pair_store.specs.Strays.{IsPast, HasNoneBefore, KeepsEach, Removes, ids_left}
+use Rattle.pair_store.specs.Strays.{KeepsEach, Removes}
+use Rattle.pair_store.proofs.SoFar.{IsPast, HasNoneBefore, ids_left}
 
 -- ---- which name stands at an id
 

@@ -15,8 +15,8 @@ use Rattle.item_pairs.specs.Numbering.{Numbering, IsNumbering}
 use Rattle.item_pairs.specs.Pairs.{count_in, pair_at, settings_in, HasName, IsInside, IsAt, IsPlaceOf, HasNoStrays}
 use Rattle.item_pairs.proofs.NameLemmas.{get-at, at-value, get-nowhere}
 use Rattle.item_pairs.proofs.StrayLemmas.{kept-place, seek}
-use Rattle.pair_store.specs.Walking.{IsBetweenAt, IsLeastBefore, IsNameIn}
-use Rattle.pair_store.specs.Strays.{IsPast}
+use Rattle.pair_store.specs.Walking.{IsBetweenAt, IsNameIn}
+use Rattle.pair_store.proofs.SoFar.{IsPast, IsLeastBefore}
 use Rattle.pair_store.proofs.LookupSteps.{at-lawful, named-as}
 use Rattle.pair_store.proofs.StraySteps.{named-at}
 

@@ -1,23 +1,9 @@
 -- The removal of items that belong to no setting, in rising order of their ids.
-use Rattle.std.specs.Prelude.{◌≡◌, ◌⊎◌, ℕ, ◌-◌, ◌^◌, ◌<◌, Option, Some, None}
+use Rattle.std.specs.Prelude.{◌≡◌, ◌⊎◌, ℕ, None}
 use Rattle.std.specs.FinMap.{get}
 use Rattle.pair_laws.specs.Items.{Items}
 use Rattle.item_pairs.specs.Numbering.{Numbering}
 use Rattle.item_pairs.specs.Pairs.{IsKept}
-
--- the id was looked at, with this one as the next
-abbrev pub IsPast : Option ℕ → ℕ → Type 0
-IsPast None id = Unit {0}
-IsPast (Some next) id = id < next
-
--- no id that was looked at has a stray
-abbrev pub HasNoneBefore : Numbering → Items → Option ℕ → Type 0
-HasNoneBefore n items next = (id : ℕ) → IsPast next id → (get items id ≡ None) ⊎ IsKept n items id
-
--- how many ids are left
-abbrev pub ids_left : Option ℕ → ℕ
-ids_left None = 0
-ids_left (Some id) = 2 ^ 32 - id
 
 -- each item that is kept has the bytes that it had
 abbrev pub KeepsEach : Numbering → Items → Items → Type 0

@@ -1,14 +1,11 @@
 -- Names of settings in order, one id after the other.
 use Rattle.std.specs.Prelude.{◌≡◌, ℕ, Bool, true, false, ◌&&◌, List, Option, Some, None}
-use Rattle.std.specs.Ordering.{nat_cmp, is_lt}
-use Rattle.std.specs.Cmp.Lexicographic.{slice_cmp}
 use Rattle.setting_name.specs.Name.{IsName}
 use Rattle.pair_laws.specs.Items.{Items}
 use Rattle.backend_api.specs.Least.{is_before}
 use Rattle.backend_api.specs.Map.{is_behind}
 use Rattle.item_pairs.specs.Numbering.{Numbering}
 use Rattle.item_pairs.specs.Pairs.{IsAt}
-use Rattle.pair_store.specs.Strays.{IsPast}
 
 -- the item is this lawful name, or none
 abbrev pub IsNameIn : Option (List ℕ) → Option (List ℕ) → Type 0
@@ -20,9 +17,3 @@ module _ (n : Numbering) (items : Items) (after : Option (List ℕ)) where
   abbrev pub IsBetweenAt : Option (List ℕ) → ℕ → Option (List ℕ) → Type 0
   IsBetweenAt before id None = (name : List ℕ) → IsAt n items name id → (is_behind after name && is_before name before) ≡ false
   IsBetweenAt before id (Some name) = IsAt n items name id × (is_behind after name ≡ true) × (is_before name before ≡ true)
-
-  -- Of the names whose ids were looked at, with this one as the next, the least that is behind the one given.
-  abbrev pub IsLeastBefore : Option ℕ → Option (List ℕ) → Type 0
-  IsLeastBefore next None = (name : List ℕ) (place : ℕ) → IsAt n items name place → IsPast next place → is_behind after name ≡ false
-  IsLeastBefore next (Some least) = ((place : ℕ) × IsAt n items least place) × (is_behind after least ≡ true)
-      × ((name : List ℕ) (place : ℕ) → IsAt n items name place → IsPast next place → is_behind after name ≡ true → is_lt (slice_cmp nat_cmp name least) ≡ false)

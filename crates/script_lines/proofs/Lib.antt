@@ -1,3 +1,14 @@
+pub mod FieldLemmas
+pub mod FormLemmas
+pub mod TableFacts
 pub mod ScriptLemmas
-pub mod LineLemmas
 pub mod ScriptLaws
+pub mod TextLemmas
+pub mod NameTexts
+pub mod PlanLemmas
+pub mod GeneratorLemmas
+pub mod Tokens
+pub mod WordTexts
+pub mod JsonNames
+pub mod Transcripts
+pub mod EachRead

@@ -1,4 +1,9 @@
-pub mod Answer
+pub mod Forms
 pub mod Line
 pub mod Script
+pub mod Command
 pub mod Laws
+pub mod Answer
+pub mod Plan
+pub mod Generator
+pub mod Transcript

@@ -1,50 +1,59 @@
--- Which words a line is.
-use Rattle.std.specs.Prelude.{◌≡◌, ℕ, ◌^◌, ◌<◌, ◌≤◌, ⊤, Result, Ok, List, [], ◌∷◌, length, codes, IfOk, MatchOption, Option}
-use Rattle.std.specs.Fmt.{decimal}
-use Rattle.hex.specs.Hex.{decode_of}
-use Rattle.flash_sim.specs.declared.flash.NoMemory.{NoMemory}
+-- The lines of a script on settings: their table, and what each says.
+use Rattle.std.specs.Prelude.{◌≡◌, ℕ, ◌^◌, ⊤, Option, Some, None, Result, Ok, Err, List, [], ◌∷◌, codes}
+use Rattle.handlers.specs.declared.handler.HandlerKind.{HandlerKind}
+use Rattle.script_lines.specs.declared.line.TheConstants.{UNITS_END}
 use Rattle.script_lines.specs.declared.line.Line.{Line}
-use Rattle.script_lines.specs.declared.line.TheConstants.{ID_END, MOST_VALUE, UNITS_END}
-use Rattle.script_lines.specs.declared.line.Line.TheVariants.{Set, Get, Delete, Cut, Uncut, Mount}
+use Rattle.script_lines.specs.declared.line.Line.TheVariants.{Set, Get, Del, Register, Load, Direct, Save, Commit, RunSet, RunGet, Names, Mount, Cut, Uncut, Migrate}
+use Rattle.script_lines.specs.declared.why.LineFault.{LineFault}
+use Rattle.script_lines.specs.Forms.{Form, Said, Row, form, row, ReadsRow}
+use Rattle.script_lines.specs.Forms.Field.{a_name, a_kind, some_bytes, any_bytes, below}
+use Rattle.script_lines.specs.Forms.Said.{name, kind, bytes, number}
 
--- a word of 1 to 256 bytes in hexadecimal digits of either case
-abbrev pub IsValue : List ℕ → List ℕ → Type 0
-IsValue word value = (decode_of word ≡ Ok value) × (0 < length value) × (length value ≤ MOST_VALUE)
+abbrev pub settings_forms : List Form
+settings_forms =
+    form (codes "set") (a_name ∷ any_bytes ∷ [])
+    ∷ form (codes "get") (a_name ∷ [])
+    ∷ form (codes "del") (a_name ∷ [])
+    ∷ form (codes "register") (a_name ∷ a_kind ∷ [])
+    ∷ form (codes "load") []
+    ∷ form (codes "load") (a_name ∷ [])
+    ∷ form (codes "direct") []
+    ∷ form (codes "direct") (a_name ∷ [])
+    ∷ form (codes "save") []
+    ∷ form (codes "save") (a_name ∷ [])
+    ∷ form (codes "commit") []
+    ∷ form (codes "rset") (a_name ∷ some_bytes ∷ [])
+    ∷ form (codes "rget") (a_name ∷ [])
+    ∷ form (codes "names") []
+    ∷ form (codes "mount") []
+    ∷ form (codes "cut") (below UNITS_END ∷ [])
+    ∷ form (codes "uncut") []
+    ∷ form (codes "migrate") []
+    ∷ []
 
--- Numbers are decimal, without a sign or leading zeros.
-abbrev pub Spells : List (List ℕ) → Line → Type 0
-Spells words (Set id value) = (hex : List ℕ) × (words ≡ codes "set" ∷ decimal id ∷ hex ∷ []) × (id < ID_END) × IsValue hex value
-Spells words (Get id) = (words ≡ codes "get" ∷ decimal id ∷ []) × (id < ID_END)
-Spells words (Delete id) = (words ≡ codes "del" ∷ decimal id ∷ []) × (id < ID_END)
-Spells words (Cut units) = (words ≡ codes "cut" ∷ decimal units ∷ []) × (units < UNITS_END)
-Spells words Uncut = words ≡ codes "uncut" ∷ []
-Spells words Mount = words ≡ codes "mount" ∷ []
+-- one name, or nothing
+abbrev pub one_name : Option (List ℕ) → List Said
+one_name None = []
+one_name (Some text) = name text ∷ []
 
--- no line is these words
-abbrev pub IsNoLine : List (List ℕ) → Type 0
-IsNoLine words = (line : Line) → Spells words line → ⊥
+-- what a line says
+abbrev pub row_of : Line → Row
+row_of (Set text value) = row (codes "set") (name text ∷ bytes value ∷ [])
+row_of (Get text) = row (codes "get") (name text ∷ [])
+row_of (Del text) = row (codes "del") (name text ∷ [])
+row_of (Register subtree k) = row (codes "register") (name subtree ∷ kind k ∷ [])
+row_of (Load subtree) = row (codes "load") (one_name subtree)
+row_of (Direct subtree) = row (codes "direct") (one_name subtree)
+row_of (Save subtree) = row (codes "save") (one_name subtree)
+row_of Commit = row (codes "commit") []
+row_of (RunSet text value) = row (codes "rset") (name text ∷ bytes value ∷ [])
+row_of (RunGet text) = row (codes "rget") (name text ∷ [])
+row_of Names = row (codes "names") []
+row_of Mount = row (codes "mount") []
+row_of (Cut units) = row (codes "cut") (number units ∷ [])
+row_of Uncut = row (codes "uncut") []
+row_of Migrate = row (codes "migrate") []
 
--- What reading a word or a line answers; it answers an error for want of memory alone.
-
-abbrev pub IsNoValue : List ℕ → Type 0
-IsNoValue word = (value : List ℕ) → IsValue word value → ⊥
-
-abbrev pub ReadsLine : List (List ℕ) → Result (Option Line) NoMemory → Type 0
-ReadsLine words read = IfOk read (λ line. MatchOption line (IsNoLine words) (Spells words))
-
--- a line of one word
-abbrev pub IsPlain : Line → Type 0
-IsPlain Uncut = ⊤
-IsPlain Mount = ⊤
-IsPlain (Set id value) = ⊥
-IsPlain (Get id) = ⊥
-IsPlain (Delete id) = ⊥
-IsPlain (Cut units) = ⊥
-
-abbrev pub name_of : Line → List ℕ
-name_of (Set id value) = codes "set"
-name_of (Get id) = codes "get"
-name_of (Delete id) = codes "del"
-name_of (Cut units) = codes "cut"
-name_of Uncut = codes "uncut"
-name_of Mount = codes "mount"
+-- What reading a line answers.
+abbrev pub ReadsLine : ℕ → List (List ℕ) → Result Line LineFault → Type 0
+ReadsLine limit words read = ReadsRow settings_forms row_of limit words read

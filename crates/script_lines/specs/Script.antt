@@ -1,62 +1,71 @@
--- A script: its lines, or its first refused line.
-use Rattle.std.specs.Prelude.{◌≡◌, ◌⊎◌, ℕ, ◌+◌, ◌==◌, ⊤, Bool, true, false, not, Result, Ok, Err, List, [], ◌∷◌, ◌++◌, filter}
+-- A script: its lines, or its first refused line with its cause, for any table of forms.
+use Rattle.std.specs.Prelude.{◌≡◌, ◌⊎◌, ℕ, ◌+◌, ◌==◌, ⊤, Bool, true, false, not, Result, Ok, Err, List, [], ◌∷◌, ◌++◌, filter, map}
 use Rattle.std.specs.Global.{Vec}
 use Rattle.text_parts.specs.Parts.{parts}
-use Rattle.script_lines.specs.Line.{Spells, IsNoLine}
 use Rattle.script_lines.specs.declared.line.Line.{Line}
-use Rattle.script_lines.specs.declared.script.LineWhy.TheVariants.{Unknown, Long}
-use Rattle.script_lines.specs.declared.script.ScriptFault.{ScriptFault}
-use Rattle.script_lines.specs.declared.script.ScriptFault.TheVariants.{BadLine, NoMemory}
+use Rattle.script_lines.specs.declared.why.LineWhy.{LineWhy}
+use Rattle.script_lines.specs.declared.grammar.ScriptFault.{ScriptFault}
+use Rattle.script_lines.specs.declared.grammar.ScriptFault.TheVariants.{BadLine, NoMemory}
+use Rattle.script_lines.specs.Forms.{Form, Row, Spells, Refuses}
+use Rattle.script_lines.specs.Line.{settings_forms, row_of}
 
 -- empty, or begins with `#`
 abbrev pub is_skipped : List ℕ → Bool
 is_skipped [] = true
 is_skipped (c ∷ cs) = c == 35
 
--- each text is the line at its place
-abbrev pub SpellsAll : List (List ℕ) → List Line → Type 0
-SpellsAll [] [] = ⊤
-SpellsAll [] (line ∷ lines) = ⊥
-SpellsAll (text ∷ texts) [] = ⊥
-SpellsAll (text ∷ texts) (line ∷ lines) = Spells (parts 32 text) line × SpellsAll texts lines
-
 -- those that are not skipped
 abbrev pub told : List (List ℕ) → List (List ℕ)
 told texts = filter (λ text. not (is_skipped text)) texts
 
-abbrev pub IsScript : List ℕ → List Line → Type 0
-IsScript bytes lines = SpellsAll (told (parts 10 bytes)) lines
+-- each text is the line at its place
+abbrev pub SpellsAll : List Form → ℕ → List (List ℕ) → List Row → Type 0
+SpellsAll table limit [] [] = ⊤
+SpellsAll table limit [] (row ∷ rows) = ⊥
+SpellsAll table limit (text ∷ texts) [] = ⊥
+SpellsAll table limit (text ∷ texts) (row ∷ rows) =
+    Spells table limit (parts 32 text) row × SpellsAll table limit texts rows
+
+abbrev pub IsScript : List Form → ℕ → List ℕ → List Row → Type 0
+IsScript table limit text rows = SpellsAll table limit (told (parts 10 text)) rows
 
 -- skipped, or a line
-abbrev pub IsFine : List ℕ → Type 0
-IsFine text = (is_skipped text ≡ true) ⊎ ((line : Line) × Spells (parts 32 text) line)
+abbrev pub IsFine : List Form → ℕ → List ℕ → Type 0
+IsFine table limit text = (is_skipped text ≡ true) ⊎ ((row : Row) × Spells table limit (parts 32 text) row)
 
--- not skipped, and no line
-abbrev pub IsRefused : List ℕ → Type 0
-IsRefused text = (is_skipped text ≡ false) × IsNoLine (parts 32 text)
+-- not skipped, and refused for this cause
+abbrev pub IsRefused : List Form → ℕ → List ℕ → LineWhy → Type 0
+IsRefused table limit text why = (is_skipped text ≡ false) × Refuses table limit (parts 32 text) why
 
--- the n-th of the texts is refused, and each before it is fine
-abbrev pub FirstRefused : List (List ℕ) → ℕ → Type 0
-FirstRefused [] n = ⊥
-FirstRefused (text ∷ texts) n = ((n ≡ 1) × IsRefused text) ⊎ (IsFine text × ((k : ℕ) × (n ≡ 1 + k) × FirstRefused texts k))
+-- the n-th of the texts is refused for this cause, and each before it is fine
+abbrev pub FirstRefused : List Form → ℕ → List (List ℕ) → ℕ → LineWhy → Type 0
+FirstRefused table limit [] n why = ⊥
+FirstRefused table limit (text ∷ texts) n why =
+    ((n ≡ 1) × IsRefused table limit text why)
+    ⊎ (IsFine table limit text × ((k : ℕ) × (n ≡ 1 + k) × FirstRefused table limit texts k why))
 
--- the n-th line of the bytes is the first that is refused
-abbrev pub IsBadLine : List ℕ → ℕ → Type 0
-IsBadLine bytes n = FirstRefused (parts 10 bytes) n
+-- the n-th line of the text is the first that is refused, for this cause
+abbrev pub IsBadLine : List Form → ℕ → List ℕ → ℕ → LineWhy → Type 0
+IsBadLine table limit text n why = FirstRefused table limit (parts 10 text) n why
 
--- the lines are those so far, and this one where it is not skipped
-abbrev pub Takes : List ℕ → List Line → List Line → Type 0
-Takes text old new = ((is_skipped text ≡ true) × (new ≡ old)) ⊎ ((is_skipped text ≡ false) × (line : Line) × Spells (parts 32 text) line × (new ≡ old ++ line ∷ []))
+-- the rows are those so far, and that of this text where it is not skipped
+abbrev pub Takes : List Form → ℕ → List ℕ → List Row → List Row → Type 0
+Takes table limit text old new =
+    ((is_skipped text ≡ true) × (new ≡ old))
+    ⊎ ((is_skipped text ≡ false) × (row : Row) × Spells table limit (parts 32 text) row × (new ≡ old ++ row ∷ []))
 
-abbrev pub TakesText : List ℕ → ℕ → List Line → List Line → Result (Unit {0}) ScriptFault → Type 0
-TakesText text number old new (Ok _) = Takes text old new
-TakesText text number old new (Err (BadLine n Unknown)) = (n ≡ number) × IsRefused text
-TakesText text number old new (Err (BadLine n Long)) = ⊥
-TakesText text number old new (Err NoMemory) = ⊤
+-- What reading a script answers, for lines that say rows of a table.
+abbrev pub ReadsLines : {L : Type 0} → List Form → (L → Row) → ℕ → List ℕ → Result (Vec L) ScriptFault → Type 0
+ReadsLines table row limit text (Ok lines) = IsScript table limit text (map row lines.items)
+ReadsLines table row limit text (Err (BadLine n why)) = IsBadLine table limit text n why
+ReadsLines table row limit text (Err NoMemory) = ⊤
 
--- What reading a script answers.
-abbrev pub ReadsScript : List ℕ → Result (Vec Line) ScriptFault → Type 0
-ReadsScript bytes (Ok lines) = IsScript bytes lines.items
-ReadsScript bytes (Err (BadLine n Unknown)) = IsBadLine bytes n
-ReadsScript bytes (Err (BadLine n Long)) = ⊥
-ReadsScript bytes (Err NoMemory) = ⊤
+abbrev pub TakesText : {L : Type 0} → List Form → (L → Row) → ℕ → List ℕ → ℕ → List L → List L
+    → Result (Unit {0}) ScriptFault → Type 0
+TakesText table row limit text number old new (Ok _) = Takes table limit text (map row old) (map row new)
+TakesText table row limit text number old new (Err (BadLine n why)) = (n ≡ number) × IsRefused table limit text why
+TakesText table row limit text number old new (Err NoMemory) = ⊤
+
+-- the same for settings
+abbrev pub ReadsScript : ℕ → List ℕ → Result (Vec Line) ScriptFault → Type 0
+ReadsScript limit text read = ReadsLines settings_forms row_of limit text read

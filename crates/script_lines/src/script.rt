@@ -1,97 +1,54 @@
-// A whole script.
-ghost use Rattle.script_lines.specs.Laws.{OneLine, OneScript, OneRefusal};
-ghost use Rattle.script_lines.specs.Script.{is_skipped, TakesText, ReadsScript};
-ghost use Rattle.std.specs.Prelude.{◌≡◌};
+// A script on settings.
+ghost use Rattle.script_lines.specs.Laws.{OneLine, OneCause, OneScript, OneRefusal, OneMeaning, TableFits, EachIsRead};
+ghost use Rattle.script_lines.specs.Line.{settings_forms};
+ghost use Rattle.script_lines.specs.Script.{ReadsScript};
 
-use crate::line::{Line, read_line};
+use crate::grammar::{ScriptFault, ScriptLine, read_lines};
+use crate::line::Line;
+use crate::reading::read_line;
+use crate::why::LineFault;
 use std::alloc::Global;
-use text_parts::cut_at;
-use thiserror::Error;
 
-/// Why a line is refused.
-#[derive(Clone, Copy, Debug, PartialEq, Eq)]
-pub enum LineWhy {
-    /// It is no line of the grammar.
-    Unknown,
-    /// The script, told as line 0, is longer than its reader takes; `read_script` never says so.
-    Long,
-}
+impl ScriptLine for Line {
+    ghost use Rattle.script_lines.specs.Line.{settings_forms, row_of};
 
-/// What keeps a script from being read.
-#[derive(Clone, Copy, Debug, PartialEq, Eq, Error)]
-pub enum ScriptFault {
-    /// The number of the refused line, from 1, skipped lines counted too.
-    #[error("line {line} is refused")]
-    BadLine { line: u64, why: LineWhy },
-    /// There was not enough memory.
-    #[error("out of memory")]
-    NoMemory,
-}
+    ghost forms = { settings_forms };
 
-fn is_skipped(text: &[u8]) -> bool
-    ensures { result ≡ is_skipped text.now }
-{
-    match text {
-        [] => true,
-        [first, ..] => *first == b'#',
+    ghost says = { row_of };
+
+    fn read(alloc: Global, text: &[u8], limit: usize) -> Result<Line, LineFault> {
+        read_line(alloc, text, limit)
     }
 }
 
-// Takes one text of a script, which is the line of this number.
-fn take_text(
-    alloc: Global,
-    text: &[u8],
-    number: u64,
-    lines: &mut Vec<Line>,
-) -> Result<(), ScriptFault>
-    ensures { TakesText text.now number lines.old.items lines.new.items result }
-{
-    if is_skipped(text) {
-        return Ok(());
-    }
-    match read_line(alloc, text) {
-        Ok(Some(line)) => match lines.push(line) {
-            Ok(()) => Ok(()),
-            Err(_) => Err(ScriptFault::NoMemory),
-        },
-        Ok(None) => Err(ScriptFault::BadLine {
-            line: number,
-            why: LineWhy::Unknown,
-        }),
-        Err(_) => Err(ScriptFault::NoMemory),
-    }
-}
-
-/// The lines of a script.
+/// The lines of a script on settings, read as `read_lines` reads.
 ///
-/// Lines end with LF, which the last may lack. An empty line and one that begins with `#` are skipped, and counted.
-/// A line's words are separated by one space. The lines are `set ID HEX`, `get ID`, `del ID`, `cut N`, `uncut` and
-/// `mount`, where ID is at most 65,534, N is below 2^32, both decimal without a sign or leading zeros, and HEX is 1 to
-/// 256 bytes in digits of either case.
+/// They are `set NAME HEX`, where HEX may be `-` for no bytes, `get NAME`, `del NAME`, `register NAME KIND`, `load`, `direct`
+/// and `save` alone or with a NAME, `rset NAME HEX`, `rget NAME`, `cut N` with N below `UNITS_END`, and `commit`, `names`,
+/// `mount`, `uncut` and `migrate`.
 ///
 /// # Errors
-/// `BadLine` where a line is another one: the first such line, which is refused as `Unknown`. `NoMemory`.
-pub fn read_script(alloc: Global, bytes: &[u8]) -> Result<Vec<Line>, ScriptFault>
-    ensures { ReadsScript bytes.now result }
+/// Those of `read_lines`.
+pub fn read_script(alloc: Global, bytes: &[u8], limit: usize) -> Result<Vec<Line>, ScriptFault>
+    ensures { ReadsScript limit bytes.now result }
 {
-    let mut lines = Vec::new(alloc);
-    let mut rest = Some(bytes);
-    let mut number = 0u64;
-    while let Some(texts) = rest {
-        let (text, after) = cut_at(texts, b'\n');
-        number += 1;
-        match take_text(alloc, text, number, &mut lines) {
-            Ok(()) => rest = after,
-            Err(fault) => return Err(fault),
-        }
-    }
-    Ok(lines)
+    read_lines(alloc, bytes, limit)
 }
 
-/// Words are one line at most. A text is one script at most, and then none of its lines is refused. A text has one
-/// first refused line at most.
+/// By any table, words are one line at most, and then they are not refused; they are refused for one cause at most. A
+/// text is one script at most, and then none of its lines is refused; it has one first refused line at most, with one
+/// cause. No two lines on settings say the same.
 pub fn one_reading()
     ensures line { OneLine }
+    ensures cause { OneCause }
     ensures script { OneScript }
     ensures refusal { OneRefusal }
+    ensures meaning { OneMeaning }
+{}
+
+/// Words are a line or are refused for some cause, by any table whose numbers have at most 64 bits, as that of the lines
+/// on settings is.
+pub fn each_is_read()
+    ensures read { EachIsRead }
+    ensures settings { TableFits settings_forms }
 {}

@@ -1,5 +1,8 @@
-pub mod ItemsCost
-pub mod LastEntries
-pub mod Lines
-pub mod ListingLemmas
-pub mod SoFar
+pub mod AccountLemmas
+pub mod ChangeLemmas
+pub mod FoldLemmas
+pub mod LineLemmas
+pub mod ListLemmas
+pub mod MountLemmas
+pub mod QuietLemmas
+pub mod TellLemmas

@@ -1,4 +1,4 @@
-// The answers of a run.
+// Answers that contracts see as a list.
 ghost use Rattle.std.specs.Prelude.{◌≡◌, List, [], ◌∷◌, ◌++◌, OnOk, OnErr};
 
 use flash_sim::NoMemory;
@@ -6,7 +6,7 @@ use script_lines::Answer;
 use std::alloc::Global;
 use std::marker::Model;
 
-/// Answers, which contracts see as a list.
+/// The answers to lines.
 #[derive(Debug, Drop)]
 pub struct Answers {
     items: Vec<Answer>,
@@ -14,9 +14,9 @@ pub struct Answers {
 
 impl Model for Answers {
     ghost use Rattle.std.specs.Prelude.{List};
-    ghost use Rattle.script_lines.specs.declared.answer.Answer.{Answer as answer};
+    ghost use Rattle.script_lines.specs.declared.answer.Answer.{Answer};
 
-    ghost Value = { List answer };
+    ghost Value = { List Answer };
 
     ghost view = { λ answers. answers.items.items };
 }
@@ -31,7 +31,7 @@ impl Answers {
         }
     }
 
-    /// Puts an answer behind the others.
+    /// Appends an answer.
     ///
     /// # Errors
     /// `NoMemory`, and the list is as before.
@@ -39,8 +39,10 @@ impl Answers {
         ensures ok { OnOk result (self.new ≡ self.old ++ item ∷ []) }
         ensures err { OnErr result (self.new ≡ self.old) }
     {
-        self.items.push(item)?;
-        Ok(())
+        match self.items.push(item) {
+            Ok(()) => Ok(()),
+            Err(_) => Err(NoMemory),
+        }
     }
 
     /// The answers in order.

@@ -12,5 +12,3 @@ pub mod DirectLemmas
 pub mod LawLemmas
 pub mod LawfulLemmas
 pub mod StoredLemmas
-pub mod TestLemmas
-pub mod TestBank

@@ -4,12 +4,15 @@ ghost use Rattle.std.specs.Int.{w32, to_le_bytes};
 ghost use Rattle.flash_sim.specs.Device.{overwritten};
 ghost use Rattle.flash_map.specs.Area.{sector_size, sector_bytes, OthersStay};
 ghost use Rattle.flash_map.specs.Units.{padded, padded_bytes};
+ghost use Rattle.flash_map.specs.Pieces.{LosesWithin};
 ghost use Rattle.flash_map.specs.Spending.{SpendsBetween};
 ghost use Rattle.flash_map.specs.Touches.{Touches};
+ghost use Rattle.flash_map.specs.declared.pieces.TheConstants.{PIECE};
 ghost use Rattle.zms_cycle.specs.Areas.{IsZmsSector, HasSlot};
 ghost use Rattle.zms_cycle.specs.Changes.{guard_units, with_value, HasPart, KeepsList, AddsPair, MarksDone};
 ghost use Rattle.zms_cycle.specs.OnArea.{IsUsedOn, IsSoundOn, FitsOn, free_on, Makes, Adds, entry_units, next_guard};
 ghost use Rattle.zms_cycle.specs.Entries.{value_entry, done_entry};
+ghost use Rattle.zms_cycle.specs.declared.reading.TheConstants.{SLOT};
 ghost use Rattle.zms_cycle.specs.Sector.{cycle_of, valid_slots, data_len, cost, free, is_sound, fits};
 
 use crate::ZEntry;
@@ -80,6 +83,7 @@ pub fn put_bytes<F: Flash>(
     ensures lost { OnErr result (HasPart (sector_bytes (F.device flash.old) area.now sector) (sector_bytes (F.device flash.new) area.now sector) at (padded 16 (length bytes.now))) }
     ensures spends { let units = padded 16 (length bytes.now) / 16 in
         OnOk result (SpendsBetween (F.device flash.old) (F.device flash.new) units units) }
+    ensures in_pieces { OnErr result (LosesWithin PIECE (F.device flash.old) (F.device flash.new)) }
     ensures spends_lost { OnErr result (SpendsBetween (F.device flash.old) (F.device flash.new) 0 (padded 16 (length bytes.now) / 16)) }
 {
     program_padded(flash, area, sector, at, bytes)
@@ -103,6 +107,7 @@ fn put_value<F: Flash>(
     ensures lost { OnErr result (HasPart (sector_bytes (F.device flash.old) area.now sector) (sector_bytes (F.device flash.new) area.now sector) at (data_len (length bytes.now))) }
     ensures spends { let units = data_len (length bytes.now) / 16 in
         OnOk result (SpendsBetween (F.device flash.old) (F.device flash.new) units units) }
+    ensures in_pieces { OnErr result (LosesWithin PIECE (F.device flash.old) (F.device flash.new)) }
     ensures spends_lost { OnErr result (SpendsBetween (F.device flash.old) (F.device flash.new) 0 (data_len (length bytes.now) / 16)) }
 {
     if bytes.len() <= TAIL as usize {
@@ -111,8 +116,8 @@ fn put_value<F: Flash>(
     put_bytes(flash, area, sector, at, bytes)
 }
 
-/// Puts a value, in calls of at most 400 bytes, and then its entry, under which the guard is set first. No bytes are a
-/// delete.
+/// Puts a value, in calls of at most `PIECE` bytes, and then its entry, under which the guard is set first. No bytes are
+/// a delete.
 ///
 /// # Errors
 /// `PowerLost`: the sector's list and marks are as before.
@@ -138,6 +143,7 @@ pub fn put_entry<F: Flash, L: Ledger>(
         OnOk result (SpendsBetween (F.device flash.old) (F.device flash.new) units (units + 1)) }
     ensures guards { let units = entry_units (length bytes.now) + next_guard (F.device flash.old) area.now sector in
         OnOk result (SpendsBetween (F.device flash.old) (F.device flash.new) units units) }
+    ensures in_pieces { OnErr result (LosesWithin PIECE (F.device flash.old) (F.device flash.new)) }
     ensures spends_lost { OnErr result (SpendsBetween (F.device flash.old) (F.device flash.new) 0 (entry_units (length bytes.now) + 1)) }
 {
     let opened = opened_sector(flash, area, sector, steps);
@@ -182,6 +188,7 @@ pub fn put_done<F: Flash, L: Ledger>(
     ensures spends { OnOk result (SpendsBetween (F.device flash.old) (F.device flash.new) 1 2) }
     ensures guards { let units = 1 + next_guard (F.device flash.old) area.now sector in
         OnOk result (SpendsBetween (F.device flash.old) (F.device flash.new) units units) }
+    ensures in_pieces { OnErr result (LosesWithin SLOT (F.device flash.old) (F.device flash.new)) }
     ensures spends_lost { OnErr result (SpendsBetween (F.device flash.old) (F.device flash.new) 0 2) }
 {
     let opened = opened_sector(flash, area, sector, steps);

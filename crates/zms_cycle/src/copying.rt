@@ -3,8 +3,10 @@ ghost use Rattle.std.specs.Prelude.{◌≡◌, ◌≢◌, ◌+◌, ◌*◌, ◌/
 ghost use Rattle.flash_sim.specs.Device.{overwritten};
 ghost use Rattle.flash_map.specs.Area.{sector_size, sector_bytes, OthersStay};
 ghost use Rattle.flash_map.specs.Copies.{source};
+ghost use Rattle.flash_map.specs.Pieces.{LosesWithin};
 ghost use Rattle.flash_map.specs.Spending.{SpendsBetween};
 ghost use Rattle.flash_map.specs.Touches.{Touches};
+ghost use Rattle.flash_map.specs.declared.copies.TheConstants.{COPY_PIECE};
 ghost use Rattle.flash_map.specs.Units.{padded, padded_bytes};
 ghost use Rattle.zms_cycle.specs.Areas.{IsZmsSector, HasSlot};
 ghost use Rattle.zms_cycle.specs.Changes.{guard_units, with_value, HasPart, KeepsList, AddsPair};
@@ -78,6 +80,7 @@ fn copy_bytes<F: Flash, L: Ledger>(
     ensures ok { OnOk result (sector_bytes (F.device flash.new) area.now sector ≡ overwritten (sector_bytes (F.device flash.old) area.now sector) to (padded_bytes 16 (source (F.device flash.old) area.now from))) }
     ensures lost { OnErr result (HasPart (sector_bytes (F.device flash.old) area.now sector) (sector_bytes (F.device flash.new) area.now sector) to (padded 16 from.len)) }
     ensures spends { OnOk result (SpendsBetween (F.device flash.old) (F.device flash.new) (padded 16 from.len / 16) (padded 16 from.len / 16)) }
+    ensures in_pieces { OnErr result (LosesWithin COPY_PIECE (F.device flash.old) (F.device flash.new)) }
     ensures spends_lost { OnErr result (SpendsBetween (F.device flash.old) (F.device flash.new) 0 (padded 16 from.len / 16)) }
 {
     copy_padded(flash, area, from, sector, to, steps)
@@ -105,6 +108,7 @@ fn copy_value<F: Flash, L: Ledger>(
     ensures ok { OnOk result (sector_bytes (F.device flash.new) area.now sector ≡ with_value (sector_bytes (F.device flash.old) area.now sector) to (value_of (sector_bytes (F.device flash.old) area.now from_sector) from.now)) }
     ensures lost { OnErr result (HasPart (sector_bytes (F.device flash.old) area.now sector) (sector_bytes (F.device flash.new) area.now sector) to (data_len from.now.len)) }
     ensures spends { OnOk result (SpendsBetween (F.device flash.old) (F.device flash.new) (data_len from.now.len / 16) (data_len from.now.len / 16)) }
+    ensures in_pieces { OnErr result (LosesWithin COPY_PIECE (F.device flash.old) (F.device flash.new)) }
     ensures spends_lost { OnErr result (SpendsBetween (F.device flash.old) (F.device flash.new) 0 (data_len from.now.len / 16)) }
 {
     if from.len <= TAIL {
@@ -118,8 +122,8 @@ fn copy_value<F: Flash, L: Ledger>(
     copy_bytes(flash, area, sector, to, source, steps)
 }
 
-/// Copies an entry of another sector's list, its value in pieces of at most 32 bytes and then the entry, under which the
-/// guard is set first.
+/// Copies an entry of another sector's list, its value in calls of at most `COPY_PIECE` bytes and then the entry, under
+/// which the guard is set first.
 ///
 /// # Errors
 /// `PowerLost`: the list and marks of the sector that is copied to are as before.
@@ -152,6 +156,7 @@ pub fn copy_entry<F: Flash, L: Ledger>(
     ensures guards { let d = F.device flash.old in
         let units = entry_units (entry_len_on d area.now from_sector from_slot) + next_guard d area.now sector in
         OnOk result (SpendsBetween (F.device flash.old) (F.device flash.new) units units) }
+    ensures in_pieces { OnErr result (LosesWithin COPY_PIECE (F.device flash.old) (F.device flash.new)) }
     ensures spends_lost { let units = entry_units (entry_len_on (F.device flash.old) area.now from_sector from_slot) in
         OnErr result (SpendsBetween (F.device flash.old) (F.device flash.new) 0 (units + 1)) }
 {

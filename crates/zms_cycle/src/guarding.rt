@@ -1,12 +1,14 @@
 // Single units of a sector: the guard, and an entry above its guard.
 ghost use Rattle.std.specs.Prelude.{◌≡◌, ◌⊎◌, ◌+◌, ◌-◌, ◌*◌, ◌<◌, ◌≤◌, ◌∷◌, [], false, length, is_err, OnOk, OnErr, if◌then◌else◌};
 ghost use Rattle.flash_map.specs.Area.{IsLawfulArea, sector_size, sectors_of, sector_bytes, OthersStay};
+ghost use Rattle.flash_map.specs.Pieces.{LosesWithin};
 ghost use Rattle.flash_map.specs.Spending.{SpendsBetween};
 ghost use Rattle.flash_map.specs.Touches.{Touches};
 ghost use Rattle.zms_cycle.specs.Areas.{IsZmsSector, HasSlot};
 ghost use Rattle.zms_cycle.specs.Changes.{with_slot, guarded};
 ghost use Rattle.zms_cycle.specs.Entries.{encoded};
 ghost use Rattle.zms_cycle.specs.Sector.{slot_of, is_valid_under};
+ghost use Rattle.zms_cycle.specs.declared.reading.TheConstants.{SLOT};
 
 use crate::reading::{SLOT, is_of_cycle};
 use crate::{ZEntry, decode_zentry, encode_zentry, fill_unit};
@@ -40,6 +42,7 @@ pub fn put_unit<F: Flash>(
     ensures ok { OnOk result (sector_bytes (F.device flash.new) area.now sector ≡ with_slot (sector_bytes (F.device flash.old) area.now sector) slot bytes.now) }
     ensures lost { OnErr result (sectors_of (F.device flash.new) area.now ≡ sectors_of (F.device flash.old) area.now) }
     ensures spends { OnOk result (SpendsBetween (F.device flash.old) (F.device flash.new) 1 1) }
+    ensures in_pieces { OnErr result (LosesWithin SLOT (F.device flash.old) (F.device flash.new)) }
     ensures spends_lost { OnErr result (SpendsBetween (F.device flash.old) (F.device flash.new) 0 0) }
 {
     let start = slot_start(flash, area, slot);
@@ -68,6 +71,7 @@ pub fn guard<F: Flash, L: Ledger>(
     ensures lost { OnErr result (sectors_of (F.device flash.new) area.now ≡ sectors_of (F.device flash.old) area.now) }
     ensures spends { let units = (if is_valid_under cycle (slot_of (sector_bytes (F.device flash.old) area.now sector) slot) then 1 else 0) in
         OnOk result (SpendsBetween (F.device flash.old) (F.device flash.new) units units) }
+    ensures in_pieces { OnErr result (LosesWithin SLOT (F.device flash.old) (F.device flash.new)) }
     ensures spends_lost { OnErr result (SpendsBetween (F.device flash.old) (F.device flash.new) 0 0) }
     ensures step { steps.new ≡ steps.old + 1 }
 {
@@ -99,6 +103,7 @@ pub fn put_slot<F: Flash, L: Ledger>(
     ensures spends { OnOk result (SpendsBetween (F.device flash.old) (F.device flash.new) 1 2) }
     ensures guards { let units = 1 + (if is_valid_under entry.now.cycle (slot_of (sector_bytes (F.device flash.old) area.now sector) (slot + 1)) then 1 else 0) in
         OnOk result (SpendsBetween (F.device flash.old) (F.device flash.new) units units) }
+    ensures in_pieces { OnErr result (LosesWithin SLOT (F.device flash.old) (F.device flash.new)) }
     ensures spends_lost { OnErr result (SpendsBetween (F.device flash.old) (F.device flash.new) 0 1) }
 {
     guard(flash, area, sector, slot + 1, entry.cycle, steps)?;

@@ -21,6 +21,3 @@ pub use reading::{
     FIRST, Found, SLOT, SectorState, TAIL, TAIL_AT, capacity, cost, data_len, entry_in, offset_of,
     read_sector, state,
 };
-
-#[cfg(test)]
-mod tests;

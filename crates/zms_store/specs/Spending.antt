@@ -50,7 +50,7 @@ has_no_victim sectors place = is_blank_at reading sectors (next sectors (next se
 abbrev pub close_units : List (List ℕ) → ℕ → ℕ
 close_units sectors place = free (sector_at sectors place) / 16 + 1
 
--- a value of this length, its entry, and at most a guard and the emptying of a sector that has no cycle yet
+-- a value of this length and its entry
 abbrev pub entry_units : ℕ → ℕ
 entry_units len = cost len / 16
 

@@ -18,6 +18,3 @@ mod writing;
 pub use laws::parts_of_list;
 pub use sector::Placed;
 pub use store::Zms;
-
-#[cfg(test)]
-mod tests;

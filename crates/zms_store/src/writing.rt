@@ -193,7 +193,7 @@ impl Zms {
     }
 
     /// Deletes an item. Where the id has none, nothing is programmed; the reserved id FFFFFFFF never has one. It always
-    /// finds room, after one collection at most.
+    /// finds room.
     ///
     /// # Errors
     /// `PowerLost`: the items are as before, or without this one, and the store is down.

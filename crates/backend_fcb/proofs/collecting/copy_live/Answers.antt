@@ -1,90 +1,154 @@
-use Rattle.std.proofs.Common.{◌≡◌, ◌<◌, List, Option, Some, None, sym, ap, subst, ◌∙◌}
-use Rattle.flash_map.specs.Area.{value_limit}
+use Rattle.std.proofs.Common.{◌≡◌, ◌+◌, ◌<◌, ◌≤◌, List, Option, Some, None, ℕ, refl, sym, ap, subst, ◌∙◌}
 use Rattle.std.specs.Prelude.{Contains}
+use Rattle.std.specs.List.{All}
 use Rattle.flash_sim.specs.Device.{Device}
+use Rattle.flash_map.specs.Area.{unit_of, sector_size}
 use Rattle.flash_map.specs.declared.area.Area.{Area}
 use Rattle.flash_map.proofs.PieceLemmas.{on_err}
 use Rattle.fcb_ring.specs.declared.record.RecordAt.{RecordAt}
 use Rattle.fcb_ring.specs.declared.ring.Ring.{Ring}
-use Rattle.fcb_ring.specs.Standing.{IsNext, entries_on, record_places}
+use Rattle.fcb_ring.specs.Standing.{IsListed, entries_on, record_places}
 use Rattle.fcb_ring.specs.Entries.{bodies}
 use Rattle.settings_laws.specs.Live.{live_bodies}
-use Rattle.backend_fcb.proofs.CopySteps.{IsCopying, copying-others, copying-start, copying-listed, copying-fits, copying-step, copying-end, copying-stands, stops-then, stops-none, stops-other, oldest-some, is-other, is-oldest}
+use Rattle.settings_laws.specs.Rounds.{bodies_cost}
+use Rattle.flash_map.specs.Area.{value_limit}
+use Rattle.backend_fcb.specs.Changing.{Copies}
+use Rattle.backend_fcb.specs.Gathering.{AreKeptWithin, AreShort, IsKept, bodies_at, Gathers}
+use Rattle.backend_fcb.specs.declared.gathering.Kept.{Kept}
+use Rattle.backend_fcb.proofs.CopySteps.{IsCopying, copying-list, copying-others, copying-start, copying-step, copying-end, gathered, gathered-short, gathered-fits, stops-then, part-none, oldest-some}
+use Rattle.backend_fcb.proofs.GatherSteps.{gathers-smaller}
 use Rattle.backend_fcb.proofs.Tearing.{lost-then}
-use Rattle.backend_fcb.proofs.WalkLemmas.{Entry, left_at, for-listed, at-smaller}
+use Rattle.backend_fcb.proofs.WalkLemmas.{Entry, left_at}
 use Rattle.backend_fcb.proofs.collecting.copy_live.Goals as goal
 
 pub loop-at-init : goal.loop-at-init
-loop-at-init g c = copying-start (g.F.Flash.device c.args.flash.now) c.args.ring.now (g.met.F.Flash.is_lawful c.args.flash.now) c.requires.stands c.requires.collecting c.next-at.result c.next-at.ensures.next
+loop-at-init g c = copying-start (g.F.Flash.device c.args.flash.now) c.args.ring.now (g.met.F.Flash.is_lawful c.args.flash.now) c.requires.stands c.requires.collecting c.next-at.result c.next-at.ensures.next c.next-at.ensures.listed
 
-pub returns-then-ne-clause-copies : goal.returns-then-ne-clause-copies
-returns-then-ne-clause-copies g c =
+pub gather_live-at-requires-clause-stands : goal.gather_live-at-requires-clause-stands
+gather_live-at-requires-clause-stands g c =
     let a : Device = g.F.Flash.device c.args.flash.now in
     let d : Device = g.F.Flash.device c.loop-at.flash in
     let before : Ring = c.args.ring.now in
     let now : Ring = c.loop-at.ring in
-    let so_far : IsCopying (g.F.Flash.device c.args.flash.now) (g.F.Flash.device c.loop-at.flash) c.args.ring.now c.loop-at.ring (Some c.in-Some.entry) =
+    let so_far : IsCopying (g.F.Flash.device c.args.flash.now) (g.F.Flash.device c.loop-at.flash) c.args.ring.now c.loop-at.ring (Some c.in-Some.from) =
     subst (λ (o : Option RecordAt). IsCopying (g.F.Flash.device c.args.flash.now) (g.F.Flash.device c.loop-at.flash) c.args.ring.now c.loop-at.ring o) c.in-Some.is c.loop-at.invariant in
-    let oldest = oldest-some a before c.requires.stands c.requires.collecting c.oldest-oldest.result c.oldest-oldest.ensures in
-    let apart = is-other c.in-Some.entry.sector before.oldest c.oldest-oldest.result c.ne.result oldest c.ne.ensures c.if-ne.true in
-    copying-end a d before now (Some c.in-Some.entry) c.requires.stands c.requires.collecting so_far (stops-other a d before now c.in-Some.entry so_far apart)
+    so_far.copies.stands
 
-pub copy_if_live-requires-clause-listed : goal.copy_if_live-requires-clause-listed
-copy_if_live-requires-clause-listed g c =
+pub gather_live-at-requires-clause-from : goal.gather_live-at-requires-clause-from
+gather_live-at-requires-clause-from g c =
     let a : Device = g.F.Flash.device c.args.flash.now in
     let d : Device = g.F.Flash.device c.loop-at.flash in
     let before : Ring = c.args.ring.now in
     let now : Ring = c.loop-at.ring in
-    let so_far : IsCopying (g.F.Flash.device c.args.flash.now) (g.F.Flash.device c.loop-at.flash) c.args.ring.now c.loop-at.ring (Some c.in-Some.entry) =
+    let so_far : IsCopying (g.F.Flash.device c.args.flash.now) (g.F.Flash.device c.loop-at.flash) c.args.ring.now c.loop-at.ring (Some c.in-Some.from) =
     subst (λ (o : Option RecordAt). IsCopying (g.F.Flash.device c.args.flash.now) (g.F.Flash.device c.loop-at.flash) c.args.ring.now c.loop-at.ring o) c.in-Some.is c.loop-at.invariant in
-    copying-listed a d before now c.in-Some.entry so_far
+    λ q same. subst (λ (l : List Entry). Contains (record_places l) q) (sym (copying-list a d before now (Some c.in-Some.from) so_far)) (so_far.listed q same)
 
-pub copy_if_live-requires-clause-fits : goal.copy_if_live-requires-clause-fits
-copy_if_live-requires-clause-fits g c =
+pub copy_all-requires-clause-stands : goal.copy_all-requires-clause-stands
+copy_all-requires-clause-stands g c =
     let a : Device = g.F.Flash.device c.args.flash.now in
     let d : Device = g.F.Flash.device c.loop-at.flash in
     let before : Ring = c.args.ring.now in
     let now : Ring = c.loop-at.ring in
-    let so_far : IsCopying (g.F.Flash.device c.args.flash.now) (g.F.Flash.device c.loop-at.flash) c.args.ring.now c.loop-at.ring (Some c.in-Some.entry) =
+    let so_far : IsCopying (g.F.Flash.device c.args.flash.now) (g.F.Flash.device c.loop-at.flash) c.args.ring.now c.loop-at.ring (Some c.in-Some.from) =
     subst (λ (o : Option RecordAt). IsCopying (g.F.Flash.device c.args.flash.now) (g.F.Flash.device c.loop-at.flash) c.args.ring.now c.loop-at.ring o) c.in-Some.is c.loop-at.invariant in
-    let oldest = oldest-some a before c.requires.stands c.requires.collecting c.oldest-oldest.result c.oldest-oldest.ensures in
-    let of : c.in-Some.entry.sector ≡ now.oldest = is-oldest c.in-Some.entry.sector before.oldest c.oldest-oldest.result c.ne.result oldest c.ne.ensures c.if-ne.false ∙ sym so_far.copies.oldest in
-    copying-fits a d before now c.in-Some.entry (g.met.F.Flash.is_lawful c.args.flash.now) c.requires.stands c.requires.collecting c.requires.undamaged c.requires.end (g.met.F.Flash.is_lawful c.loop-at.flash) so_far of
+    so_far.copies.stands
 
-pub returns-in_err-copy_if_live-clause-stops : goal.returns-in_err-copy_if_live-clause-stops
-returns-in_err-copy_if_live-clause-stops g c =
+pub copy_all-requires-clause-collecting : goal.copy_all-requires-clause-collecting
+copy_all-requires-clause-collecting g c =
     let a : Device = g.F.Flash.device c.args.flash.now in
     let d : Device = g.F.Flash.device c.loop-at.flash in
     let before : Ring = c.args.ring.now in
     let now : Ring = c.loop-at.ring in
-    let so_far : IsCopying (g.F.Flash.device c.args.flash.now) (g.F.Flash.device c.loop-at.flash) c.args.ring.now c.loop-at.ring (Some c.in-Some.entry) =
+    let so_far : IsCopying (g.F.Flash.device c.args.flash.now) (g.F.Flash.device c.loop-at.flash) c.args.ring.now c.loop-at.ring (Some c.in-Some.from) =
     subst (λ (o : Option RecordAt). IsCopying (g.F.Flash.device c.args.flash.now) (g.F.Flash.device c.loop-at.flash) c.args.ring.now c.loop-at.ring o) c.in-Some.is c.loop-at.invariant in
-    let e : Device = g.F.Flash.device c.copy_if_live.new.flash in
-    on_err c.from_residual.result (stops-then a d e before now c.copy_if_live.new.ring (live_bodies (value_limit c.args.ring.now.area) (bodies so_far.done) (bodies so_far.later)) so_far.touches.banks so_far.area so_far.copies c.in_err-copy_if_live.ensures.stops)
+    so_far.copies.stage
 
-pub next-at-requires-in-Some-clause-stands : goal.next-at-requires-in-Some-clause-stands
-next-at-requires-in-Some-clause-stands g c =
+pub copy_all-requires-clause-kept : goal.copy_all-requires-clause-kept
+copy_all-requires-clause-kept g c = subst (λ (l : List Kept). All (IsKept (g.F.Flash.device c.loop-at.flash) c.loop-at.ring.area) l) (sym c.as_slice.ensures.value) c.gather_live-at.ensures.kept
+
+pub copy_all-requires-clause-of_oldest : goal.copy_all-requires-clause-of_oldest
+copy_all-requires-clause-of_oldest g c =
     let a : Device = g.F.Flash.device c.args.flash.now in
     let d : Device = g.F.Flash.device c.loop-at.flash in
     let before : Ring = c.args.ring.now in
     let now : Ring = c.loop-at.ring in
-    let so_far : IsCopying (g.F.Flash.device c.args.flash.now) (g.F.Flash.device c.loop-at.flash) c.args.ring.now c.loop-at.ring (Some c.in-Some.entry) =
+    let so_far : IsCopying (g.F.Flash.device c.args.flash.now) (g.F.Flash.device c.loop-at.flash) c.args.ring.now c.loop-at.ring (Some c.in-Some.from) =
     subst (λ (o : Option RecordAt). IsCopying (g.F.Flash.device c.args.flash.now) (g.F.Flash.device c.loop-at.flash) c.args.ring.now c.loop-at.ring o) c.in-Some.is c.loop-at.invariant in
-    copying-stands d (g.F.Flash.device c.copy_if_live.new.flash) now c.copy_if_live.new.ring c.in-Some.entry (copying-listed a d before now c.in-Some.entry so_far) c.in_ok-copy_if_live.ensures.copies
+    let part : c.oldest-oldest.result ≡ Some c.args.ring.now.oldest = oldest-some a before c.requires.stands c.requires.collecting c.oldest-oldest.result c.oldest-oldest.ensures in
+    let found : List Kept = c.gather_live-at.new.table.items in
+    let next : Option RecordAt = c.gather_live-at.result in
+    let got : Gathers (g.F.Flash.device c.loop-at.flash) c.loop-at.ring.area (Some c.args.ring.now.oldest) so_far.later c.gather_live-at.new.table.items c.gather_live-at.result =
+    gathered a d before now c.in-Some.from so_far c.oldest-oldest.result part found next c.gather_live-at.ensures.gathers in
+    let slice : c.as_slice.result.now ≡ c.gather_live-at.new.table.items = c.as_slice.ensures.value in
+    subst (λ (l : List Kept). AreKeptWithin (Some c.loop-at.ring.oldest) l) (sym slice)
+    (subst (λ (o : ℕ). AreKeptWithin (Some o) c.gather_live-at.new.table.items) (sym so_far.copies.oldest) (subst (λ (o : Option ℕ). AreKeptWithin o c.gather_live-at.new.table.items) part c.gather_live-at.ensures.within))
 
-pub next-at-requires-in-Some-clause-after : goal.next-at-requires-in-Some-clause-after
-next-at-requires-in-Some-clause-after g c =
+pub copy_all-requires-clause-short : goal.copy_all-requires-clause-short
+copy_all-requires-clause-short g c =
     let a : Device = g.F.Flash.device c.args.flash.now in
     let d : Device = g.F.Flash.device c.loop-at.flash in
     let before : Ring = c.args.ring.now in
     let now : Ring = c.loop-at.ring in
-    let so_far : IsCopying (g.F.Flash.device c.args.flash.now) (g.F.Flash.device c.loop-at.flash) c.args.ring.now c.loop-at.ring (Some c.in-Some.entry) =
+    let so_far : IsCopying (g.F.Flash.device c.args.flash.now) (g.F.Flash.device c.loop-at.flash) c.args.ring.now c.loop-at.ring (Some c.in-Some.from) =
     subst (λ (o : Option RecordAt). IsCopying (g.F.Flash.device c.args.flash.now) (g.F.Flash.device c.loop-at.flash) c.args.ring.now c.loop-at.ring o) c.in-Some.is c.loop-at.invariant in
-    let e : Device = g.F.Flash.device c.copy_if_live.new.flash in
-    let did = c.in_ok-copy_if_live.ensures in
-    let list : entries_on e c.copy_if_live.new.ring.area ≡ entries_on d now.area = ap (λ (x : Area). entries_on e x) did.area ∙ did.list.are in
-    let there : Contains (record_places (entries_on e c.copy_if_live.new.ring.area)) c.in-Some.entry = subst (λ (l : List Entry). Contains (record_places l) c.in-Some.entry) (sym list) (copying-listed a d before now c.in-Some.entry so_far) in
-    for-listed (entries_on e c.copy_if_live.new.ring.area) c.in-Some.entry there
+    let part : c.oldest-oldest.result ≡ Some c.args.ring.now.oldest = oldest-some a before c.requires.stands c.requires.collecting c.oldest-oldest.result c.oldest-oldest.ensures in
+    let found : List Kept = c.gather_live-at.new.table.items in
+    let next : Option RecordAt = c.gather_live-at.result in
+    let got : Gathers (g.F.Flash.device c.loop-at.flash) c.loop-at.ring.area (Some c.args.ring.now.oldest) so_far.later c.gather_live-at.new.table.items c.gather_live-at.result =
+    gathered a d before now c.in-Some.from so_far c.oldest-oldest.result part found next c.gather_live-at.ensures.gathers in
+    let slice : c.as_slice.result.now ≡ c.gather_live-at.new.table.items = c.as_slice.ensures.value in
+    subst (λ (l : List Kept). AreShort (g.F.Flash.device c.loop-at.flash) c.loop-at.ring.area l) (sym slice) (gathered-short d now.area (Some before.oldest) so_far.later found next got)
+
+pub copy_all-requires-clause-fits : goal.copy_all-requires-clause-fits
+copy_all-requires-clause-fits g c =
+    let a : Device = g.F.Flash.device c.args.flash.now in
+    let d : Device = g.F.Flash.device c.loop-at.flash in
+    let before : Ring = c.args.ring.now in
+    let now : Ring = c.loop-at.ring in
+    let so_far : IsCopying (g.F.Flash.device c.args.flash.now) (g.F.Flash.device c.loop-at.flash) c.args.ring.now c.loop-at.ring (Some c.in-Some.from) =
+    subst (λ (o : Option RecordAt). IsCopying (g.F.Flash.device c.args.flash.now) (g.F.Flash.device c.loop-at.flash) c.args.ring.now c.loop-at.ring o) c.in-Some.is c.loop-at.invariant in
+    let part : c.oldest-oldest.result ≡ Some c.args.ring.now.oldest = oldest-some a before c.requires.stands c.requires.collecting c.oldest-oldest.result c.oldest-oldest.ensures in
+    let found : List Kept = c.gather_live-at.new.table.items in
+    let next : Option RecordAt = c.gather_live-at.result in
+    let got : Gathers (g.F.Flash.device c.loop-at.flash) c.loop-at.ring.area (Some c.args.ring.now.oldest) so_far.later c.gather_live-at.new.table.items c.gather_live-at.result =
+    gathered a d before now c.in-Some.from so_far c.oldest-oldest.result part found next c.gather_live-at.ensures.gathers in
+    let slice : c.as_slice.result.now ≡ c.gather_live-at.new.table.items = c.as_slice.ensures.value in
+    subst (λ (l : List Kept). now.end + bodies_cost (unit_of d now.area) (bodies_at d now.area l) ≤ sector_size d now.area) (sym slice)
+    (gathered-fits a d before now c.in-Some.from (g.met.F.Flash.is_lawful c.args.flash.now) c.requires.stands c.requires.collecting c.requires.undamaged c.requires.end so_far found next got)
+
+pub returns-in_err-copy_all-clause-stops : goal.returns-in_err-copy_all-clause-stops
+returns-in_err-copy_all-clause-stops g c =
+    let a : Device = g.F.Flash.device c.args.flash.now in
+    let d : Device = g.F.Flash.device c.loop-at.flash in
+    let before : Ring = c.args.ring.now in
+    let now : Ring = c.loop-at.ring in
+    let so_far : IsCopying (g.F.Flash.device c.args.flash.now) (g.F.Flash.device c.loop-at.flash) c.args.ring.now c.loop-at.ring (Some c.in-Some.from) =
+    subst (λ (o : Option RecordAt). IsCopying (g.F.Flash.device c.args.flash.now) (g.F.Flash.device c.loop-at.flash) c.args.ring.now c.loop-at.ring o) c.in-Some.is c.loop-at.invariant in
+    let e : Device = g.F.Flash.device c.copy_all.new.flash in
+    on_err c.from_residual.result (stops-then a d e before now c.copy_all.new.ring (live_bodies (value_limit c.args.ring.now.area) (bodies so_far.done) (bodies so_far.later)) so_far.touches.banks so_far.area so_far.copies c.in_err-copy_all.ensures.stops)
+
+pub returns-in_err-copy_all-clause-lost : goal.returns-in_err-copy_all-clause-lost
+returns-in_err-copy_all-clause-lost g c =
+    let a : Device = g.F.Flash.device c.args.flash.now in
+    let d : Device = g.F.Flash.device c.loop-at.flash in
+    let before : Ring = c.args.ring.now in
+    let now : Ring = c.loop-at.ring in
+    let so_far : IsCopying (g.F.Flash.device c.args.flash.now) (g.F.Flash.device c.loop-at.flash) c.args.ring.now c.loop-at.ring (Some c.in-Some.from) =
+    subst (λ (o : Option RecordAt). IsCopying (g.F.Flash.device c.args.flash.now) (g.F.Flash.device c.loop-at.flash) c.args.ring.now c.loop-at.ring o) c.in-Some.is c.loop-at.invariant in
+    let e : Device = g.F.Flash.device c.copy_all.new.flash in
+    on_err c.from_residual.result (lost-then a d e before.area now.area so_far.touches so_far.area c.in_err-copy_all.ensures.lost)
+
+pub returns-in_err-copy_all-clause-others : goal.returns-in_err-copy_all-clause-others
+returns-in_err-copy_all-clause-others g c =
+    let a : Device = g.F.Flash.device c.args.flash.now in
+    let d : Device = g.F.Flash.device c.loop-at.flash in
+    let before : Ring = c.args.ring.now in
+    let now : Ring = c.loop-at.ring in
+    let so_far : IsCopying (g.F.Flash.device c.args.flash.now) (g.F.Flash.device c.loop-at.flash) c.args.ring.now c.loop-at.ring (Some c.in-Some.from) =
+    subst (λ (o : Option RecordAt). IsCopying (g.F.Flash.device c.args.flash.now) (g.F.Flash.device c.loop-at.flash) c.args.ring.now c.loop-at.ring o) c.in-Some.is c.loop-at.invariant in
+    let e : Device = g.F.Flash.device c.copy_all.new.flash in
+    copying-others a d e before now c.copy_all.new.ring c.in-Some.from so_far c.in_err-copy_all.ensures.list c.in_err-copy_all.ensures.others
 
 pub loop-at-smaller : goal.loop-at-smaller
 loop-at-smaller g c =
@@ -92,14 +156,15 @@ loop-at-smaller g c =
     let d : Device = g.F.Flash.device c.loop-at.flash in
     let before : Ring = c.args.ring.now in
     let now : Ring = c.loop-at.ring in
-    let so_far : IsCopying (g.F.Flash.device c.args.flash.now) (g.F.Flash.device c.loop-at.flash) c.args.ring.now c.loop-at.ring (Some c.in-Some.entry) =
+    let so_far : IsCopying (g.F.Flash.device c.args.flash.now) (g.F.Flash.device c.loop-at.flash) c.args.ring.now c.loop-at.ring (Some c.in-Some.from) =
     subst (λ (o : Option RecordAt). IsCopying (g.F.Flash.device c.args.flash.now) (g.F.Flash.device c.loop-at.flash) c.args.ring.now c.loop-at.ring o) c.in-Some.is c.loop-at.invariant in
-    let e : Device = g.F.Flash.device c.copy_if_live.new.flash in
-    let did = c.in_ok-copy_if_live.ensures in
-    let list : entries_on e c.copy_if_live.new.ring.area ≡ entries_on d now.area = ap (λ (x : Area). entries_on e x) did.area ∙ did.list.are in
-    let there : Contains (record_places (entries_on e c.copy_if_live.new.ring.area)) c.in-Some.entry = subst (λ (l : List Entry). Contains (record_places l) c.in-Some.entry) (sym list) (copying-listed a d before now c.in-Some.entry so_far) in
-    subst (λ (l : List Entry). left_at (record_places l) c.next-at-in-Some.result < left_at (record_places (entries_on d now.area)) c.loop-at.at) (sym list)
-    (at-smaller (entries_on d now.area) c.loop-at.at c.in-Some.entry c.next-at-in-Some.result c.in-Some.is (copying-listed a d before now c.in-Some.entry so_far) (subst (λ (l : List Entry). IsNext l (Some c.in-Some.entry) c.next-at-in-Some.result) list c.next-at-in-Some.ensures.next))
+    let e : Device = g.F.Flash.device c.copy_all.new.flash in
+    let did = c.in_ok-copy_all.ensures in
+    let list : entries_on e c.copy_all.new.ring.area ≡ entries_on d now.area = ap (λ (x : Area). entries_on e x) did.area ∙ did.list.are in
+    let there : IsListed (g.F.Flash.device c.loop-at.flash) c.loop-at.ring.area c.in-Some.from = subst (λ (l : List Entry). Contains (record_places l) c.in-Some.from) (sym (copying-list a d before now (Some c.in-Some.from) so_far)) (so_far.listed c.in-Some.from refl) in
+    subst (λ (l : List Entry). left_at (record_places l) c.gather_live-at.result < left_at (record_places (entries_on d now.area)) c.loop-at.at) (sym list)
+    (subst (λ (o : Option RecordAt). left_at (record_places (entries_on d now.area)) c.gather_live-at.result < left_at (record_places (entries_on d now.area)) o) (sym c.in-Some.is)
+    (gathers-smaller d now.area c.oldest-oldest.result c.in-Some.from c.gather_live-at.result c.gather_live-at.new.table.items there c.gather_live-at.ensures.gathers))
 
 pub loop-at-preserved : goal.loop-at-preserved
 loop-at-preserved g c =
@@ -107,15 +172,19 @@ loop-at-preserved g c =
     let d : Device = g.F.Flash.device c.loop-at.flash in
     let before : Ring = c.args.ring.now in
     let now : Ring = c.loop-at.ring in
-    let so_far : IsCopying (g.F.Flash.device c.args.flash.now) (g.F.Flash.device c.loop-at.flash) c.args.ring.now c.loop-at.ring (Some c.in-Some.entry) =
+    let so_far : IsCopying (g.F.Flash.device c.args.flash.now) (g.F.Flash.device c.loop-at.flash) c.args.ring.now c.loop-at.ring (Some c.in-Some.from) =
     subst (λ (o : Option RecordAt). IsCopying (g.F.Flash.device c.args.flash.now) (g.F.Flash.device c.loop-at.flash) c.args.ring.now c.loop-at.ring o) c.in-Some.is c.loop-at.invariant in
-    let e : Device = g.F.Flash.device c.copy_if_live.new.flash in
-    let did = c.in_ok-copy_if_live.ensures in
-    let list : entries_on e c.copy_if_live.new.ring.area ≡ entries_on d now.area = ap (λ (x : Area). entries_on e x) did.area ∙ did.list.are in
-    let there : Contains (record_places (entries_on e c.copy_if_live.new.ring.area)) c.in-Some.entry = subst (λ (l : List Entry). Contains (record_places l) c.in-Some.entry) (sym list) (copying-listed a d before now c.in-Some.entry so_far) in
-    let oldest = oldest-some a before c.requires.stands c.requires.collecting c.oldest-oldest.result c.oldest-oldest.ensures in
-    let of : c.in-Some.entry.sector ≡ now.oldest = is-oldest c.in-Some.entry.sector before.oldest c.oldest-oldest.result c.ne.result oldest c.ne.ensures c.if-ne.false ∙ sym so_far.copies.oldest in
-    copying-step a d e before now c.copy_if_live.new.ring c.in-Some.entry so_far did.list did.others of did.touches did.area did.reserve did.copies c.next-at-in-Some.result c.next-at-in-Some.ensures.next
+    let part : c.oldest-oldest.result ≡ Some c.args.ring.now.oldest = oldest-some a before c.requires.stands c.requires.collecting c.oldest-oldest.result c.oldest-oldest.ensures in
+    let found : List Kept = c.gather_live-at.new.table.items in
+    let next : Option RecordAt = c.gather_live-at.result in
+    let got : Gathers (g.F.Flash.device c.loop-at.flash) c.loop-at.ring.area (Some c.args.ring.now.oldest) so_far.later c.gather_live-at.new.table.items c.gather_live-at.result =
+    gathered a d before now c.in-Some.from so_far c.oldest-oldest.result part found next c.gather_live-at.ensures.gathers in
+    let slice : c.as_slice.result.now ≡ c.gather_live-at.new.table.items = c.as_slice.ensures.value in
+    let e : Device = g.F.Flash.device c.copy_all.new.flash in
+    let did = c.in_ok-copy_all.ensures in
+    let copies : Copies (g.F.Flash.device c.loop-at.flash) (g.F.Flash.device c.copy_all.new.flash) c.loop-at.ring c.copy_all.new.ring (bodies_at (g.F.Flash.device c.loop-at.flash) c.loop-at.ring.area c.gather_live-at.new.table.items) =
+    subst (λ (l : List Kept). Copies (g.F.Flash.device c.loop-at.flash) (g.F.Flash.device c.copy_all.new.flash) c.loop-at.ring c.copy_all.new.ring (bodies_at (g.F.Flash.device c.loop-at.flash) c.loop-at.ring.area l)) slice did.copies in
+    copying-step a d e before now c.copy_all.new.ring c.in-Some.from so_far did.list did.others did.touches did.area did.reserve found next got c.gather_live-at.ensures.listed copies
 
 pub returns-clause-copies : goal.returns-clause-copies
 returns-clause-copies g c =
@@ -125,21 +194,4 @@ returns-clause-copies g c =
     let now : Ring = c.loop-at.ring in
     let so_far : IsCopying (g.F.Flash.device c.args.flash.now) (g.F.Flash.device c.loop-at.flash) c.args.ring.now c.loop-at.ring None =
     subst (λ (o : Option RecordAt). IsCopying (g.F.Flash.device c.args.flash.now) (g.F.Flash.device c.loop-at.flash) c.args.ring.now c.loop-at.ring o) c.in_default.is c.loop-at.invariant in
-    copying-end a d before now None c.requires.stands c.requires.collecting so_far (stops-none a d before now so_far)
-
-pub returns-in_err-copy_if_live-clause-lost : goal.returns-in_err-copy_if_live-clause-lost
-returns-in_err-copy_if_live-clause-lost g c =
-    let a : Device = g.F.Flash.device c.args.flash.now in
-    let d : Device = g.F.Flash.device c.loop-at.flash in
-    let before : Ring = c.args.ring.now in
-    let now : Ring = c.loop-at.ring in
-    let so_far : IsCopying a d c.args.ring.now c.loop-at.ring (Some c.in-Some.entry) = subst (λ (o : Option RecordAt). IsCopying a d c.args.ring.now c.loop-at.ring o) c.in-Some.is c.loop-at.invariant in
-    let e : Device = g.F.Flash.device c.copy_if_live.new.flash in
-    on_err c.from_residual.result (lost-then a d e before.area now.area so_far.touches so_far.area c.in_err-copy_if_live.ensures.lost)
-
-pub returns-in_err-copy_if_live-clause-others : goal.returns-in_err-copy_if_live-clause-others
-returns-in_err-copy_if_live-clause-others g c =
-    let so_far : IsCopying (g.F.Flash.device c.args.flash.now) (g.F.Flash.device c.loop-at.flash) c.args.ring.now c.loop-at.ring (Some c.in-Some.entry) =
-    subst (λ (o : Option RecordAt). IsCopying (g.F.Flash.device c.args.flash.now) (g.F.Flash.device c.loop-at.flash) c.args.ring.now c.loop-at.ring o) c.in-Some.is c.loop-at.invariant in
-    let did = c.in_err-copy_if_live.ensures in
-    copying-others (g.F.Flash.device c.args.flash.now) (g.F.Flash.device c.loop-at.flash) (g.F.Flash.device c.copy_if_live.new.flash) c.args.ring.now c.loop-at.ring c.copy_if_live.new.ring c.in-Some.entry so_far did.list did.others
+    copying-end a d before now None c.requires.stands c.requires.collecting so_far (part-none a d before now so_far)

@@ -1,54 +1,71 @@
-use Rattle.std.proofs.Common.{ℕ, ◌+◌, Option, Some, None, sym, subst, ◌∙◌, arith}
+use Rattle.std.proofs.Common.{◌≡◌, ◌*◌, ◌<◌, ◌≤◌, List, length, Option, Some, None, sym, ap, subst, ◌∙◌, arith}
+use Rattle.std.specs.Prelude.{sum_by}
+use Rattle.std.specs.List.{All}
 use Rattle.flash_sim.specs.Device.{Device}
+use Rattle.flash_sim.specs.declared.flash.TheConstants.{PROGRAM_LIMIT}
 use Rattle.flash_map.specs.Area.{value_limit, unit_of, sector_size}
+use Rattle.flash_map.specs.declared.area.Area.{Area}
 use Rattle.fcb_ring.specs.declared.record.RecordAt.{RecordAt}
-use Rattle.fcb_ring.specs.Standing.{entries_on}
-use Rattle.backend_fcb.proofs.WalkLemmas.{at-listed, for-listed, at-smaller}
-use Rattle.backend_fcb.specs.Standing.{bodies_on}
+use Rattle.fcb_ring.specs.Standing.{entries_on, record_places}
+use Rattle.settings_laws.specs.Numbers.{put_cost}
 use Rattle.settings_laws.proofs.CopyCost.{room-cost}
+use Rattle.backend_fcb.specs.Gathering.{IsKept, bodies_at}
+use Rattle.backend_fcb.specs.Standing.{bodies_on}
+use Rattle.backend_fcb.specs.declared.gathering.Kept.{Kept}
 use Rattle.backend_fcb.proofs.CostSteps.{Sums, sums-start, sums-few, sums-step, sums-end, few-records}
+use Rattle.backend_fcb.proofs.GatherSteps.{gathers-smaller}
+use Rattle.backend_fcb.proofs.WalkLemmas.{left_at}
 use Rattle.backend_fcb.proofs.lookup.live_cost.Goals as goal
 
 pub loop-at-init : goal.loop-at-init
-loop-at-init g c = sums-start (value_limit c.args.ring.now.area) (unit_of (g.F.Flash.device c.args.flash.now) c.args.ring.now.area) (entries_on (g.F.Flash.device c.args.flash.now) c.args.ring.now.area) c.next-at.result c.next-at.ensures.next
+loop-at-init g c = record {
+  sums = sums-start (value_limit c.args.ring.now.area) (unit_of (g.F.Flash.device c.args.flash.now) c.args.ring.now.area) (entries_on (g.F.Flash.device c.args.flash.now) c.args.ring.now.area) c.next-at.result c.next-at.ensures.next;
+  listed = c.next-at.ensures.listed;
+}
 
-pub live_cost_of-requires-clause-listed : goal.live_cost_of-requires-clause-listed
-live_cost_of-requires-clause-listed g c =
-    let so_far = c.loop-at.invariant in
-    at-listed (entries_on (g.F.Flash.device c.args.flash.now) c.args.ring.now.area) c.loop-at.at so_far.done so_far.later c.in-Some.entry so_far.at c.in-Some.is
+pub gather_live-at-requires-clause-from : goal.gather_live-at-requires-clause-from
+gather_live-at-requires-clause-from g c q same = c.loop-at.invariant.listed q (c.in-Some.is ∙ same)
+
+pub cost_of-live-requires-clause-kept : goal.cost_of-live-requires-clause-kept
+cost_of-live-requires-clause-kept g c = subst (λ (l : List Kept). All (IsKept (g.F.Flash.device c.args.flash.now) c.args.ring.now.area) l) (sym c.as_slice.ensures.value) c.gather_live-at.ensures.kept
 
 pub overflow_add-live : goal.overflow_add-live
 overflow_add-live g c =
     let d : Device = g.F.Flash.device c.args.flash.now in
-    let so_far : Sums (value_limit c.args.ring.now.area) (unit_of (g.F.Flash.device c.args.flash.now) c.args.ring.now.area) (entries_on (g.F.Flash.device c.args.flash.now) c.args.ring.now.area) (Some c.in-Some.entry) c.loop-at.live =
-    subst (λ (o : Option RecordAt). Sums (value_limit c.args.ring.now.area) (unit_of (g.F.Flash.device c.args.flash.now) c.args.ring.now.area) (entries_on (g.F.Flash.device c.args.flash.now) c.args.ring.now.area) o c.loop-at.live) c.in-Some.is c.loop-at.invariant in
-    let few = sums-few (value_limit c.args.ring.now.area) (unit_of d c.args.ring.now.area) (entries_on d c.args.ring.now.area) c.in-Some.entry c.loop-at.live so_far in
+    let area : Area = c.args.ring.now.area in
+    let so_far : Sums (value_limit c.args.ring.now.area) (unit_of (g.F.Flash.device c.args.flash.now) c.args.ring.now.area) (entries_on (g.F.Flash.device c.args.flash.now) c.args.ring.now.area) (Some c.in-Some.from) c.loop-at.live =
+    subst (λ (o : Option RecordAt). Sums (value_limit c.args.ring.now.area) (unit_of (g.F.Flash.device c.args.flash.now) c.args.ring.now.area) (entries_on (g.F.Flash.device c.args.flash.now) c.args.ring.now.area) o c.loop-at.live) c.in-Some.is c.loop-at.invariant.sums in
+    let slice : c.as_slice.result.now ≡ c.gather_live-at.new.table.items = c.as_slice.ensures.value in
+    let small : c.cost_of-live.result ≤ PROGRAM_LIMIT * length c.gather_live-at.new.table.items = subst (λ (l : List Kept). c.cost_of-live.result ≤ PROGRAM_LIMIT * length l) slice c.cost_of-live.ensures.small in
+    let few = sums-few d area c.in-Some.from c.loop-at.live so_far c.gather_live-at.new.table.items c.gather_live-at.result c.gather_live-at.ensures.gathers c.cost_of-live.result small in
     let most = few-records d c.args.ring.now (g.met.F.Flash.is_lawful c.args.flash.now) c.requires in
-    omega (arith, few, most, c.from-live.ensures, c.live_cost_of.ensures.small)
-
-pub next-at-requires-in-Some-clause-after : goal.next-at-requires-in-Some-clause-after
-next-at-requires-in-Some-clause-after g c =
-    let so_far = c.loop-at.invariant in
-    let list = entries_on (g.F.Flash.device c.args.flash.now) c.args.ring.now.area in
-    for-listed list c.in-Some.entry (at-listed list c.loop-at.at so_far.done so_far.later c.in-Some.entry so_far.at c.in-Some.is)
+    omega (arith, few, most)
 
 pub loop-at-smaller : goal.loop-at-smaller
 loop-at-smaller g c =
-    let so_far = c.loop-at.invariant in
-    let list = entries_on (g.F.Flash.device c.args.flash.now) c.args.ring.now.area in
-    at-smaller list c.loop-at.at c.in-Some.entry c.next-at-in-Some.result c.in-Some.is (at-listed list c.loop-at.at so_far.done so_far.later c.in-Some.entry so_far.at c.in-Some.is) c.next-at-in-Some.ensures.next
+    let d : Device = g.F.Flash.device c.args.flash.now in
+    let area : Area = c.args.ring.now.area in
+    subst (λ (o : Option RecordAt). left_at (record_places (entries_on d area)) c.gather_live-at.result < left_at (record_places (entries_on d area)) o) (sym c.in-Some.is)
+    (gathers-smaller d area None c.in-Some.from c.gather_live-at.result c.gather_live-at.new.table.items (c.loop-at.invariant.listed c.in-Some.from c.in-Some.is) c.gather_live-at.ensures.gathers)
 
 pub loop-at-preserved : goal.loop-at-preserved
 loop-at-preserved g c =
     let d : Device = g.F.Flash.device c.args.flash.now in
-    let so_far : Sums (value_limit c.args.ring.now.area) (unit_of (g.F.Flash.device c.args.flash.now) c.args.ring.now.area) (entries_on (g.F.Flash.device c.args.flash.now) c.args.ring.now.area) (Some c.in-Some.entry) c.loop-at.live =
-    subst (λ (o : Option RecordAt). Sums (value_limit c.args.ring.now.area) (unit_of (g.F.Flash.device c.args.flash.now) c.args.ring.now.area) (entries_on (g.F.Flash.device c.args.flash.now) c.args.ring.now.area) o c.loop-at.live) c.in-Some.is c.loop-at.invariant in
-    subst (λ (n : ℕ). Sums (value_limit c.args.ring.now.area) (unit_of (g.F.Flash.device c.args.flash.now) c.args.ring.now.area) (entries_on (g.F.Flash.device c.args.flash.now) c.args.ring.now.area) c.next-at-in-Some.result (c.loop-at.live + n)) (sym c.from-live.ensures)
-    (sums-step (value_limit c.args.ring.now.area) (unit_of d c.args.ring.now.area) (entries_on d c.args.ring.now.area) c.in-Some.entry c.loop-at.live so_far c.live_cost_of.result c.live_cost_of.ensures.cost c.live_cost_of.ensures.small c.next-at-in-Some.result c.next-at-in-Some.ensures.next)
+    let area : Area = c.args.ring.now.area in
+    let so_far : Sums (value_limit c.args.ring.now.area) (unit_of (g.F.Flash.device c.args.flash.now) c.args.ring.now.area) (entries_on (g.F.Flash.device c.args.flash.now) c.args.ring.now.area) (Some c.in-Some.from) c.loop-at.live =
+    subst (λ (o : Option RecordAt). Sums (value_limit c.args.ring.now.area) (unit_of (g.F.Flash.device c.args.flash.now) c.args.ring.now.area) (entries_on (g.F.Flash.device c.args.flash.now) c.args.ring.now.area) o c.loop-at.live) c.in-Some.is c.loop-at.invariant.sums in
+    let slice : c.as_slice.result.now ≡ c.gather_live-at.new.table.items = c.as_slice.ensures.value in
+    let small : c.cost_of-live.result ≤ PROGRAM_LIMIT * length c.gather_live-at.new.table.items = subst (λ (l : List Kept). c.cost_of-live.result ≤ PROGRAM_LIMIT * length l) slice c.cost_of-live.ensures.small in
+    let cost : c.cost_of-live.result ≡ sum_by (put_cost (value_limit c.args.ring.now.area) (unit_of (g.F.Flash.device c.args.flash.now) c.args.ring.now.area)) (bodies_at (g.F.Flash.device c.args.flash.now) c.args.ring.now.area c.gather_live-at.new.table.items) =
+    c.cost_of-live.ensures.cost ∙ ap (λ (l : List Kept). sum_by (put_cost (value_limit c.args.ring.now.area) (unit_of (g.F.Flash.device c.args.flash.now) c.args.ring.now.area)) (bodies_at (g.F.Flash.device c.args.flash.now) c.args.ring.now.area l)) slice in
+    record {
+      sums = sums-step d area c.in-Some.from c.loop-at.live so_far c.gather_live-at.new.table.items c.gather_live-at.result c.gather_live-at.ensures.gathers c.cost_of-live.result small cost;
+      listed = c.gather_live-at.ensures.listed;
+    }
 
 pub returns : goal.returns
 returns g c =
     let d : Device = g.F.Flash.device c.args.flash.now in
     let so_far : Sums (value_limit c.args.ring.now.area) (unit_of (g.F.Flash.device c.args.flash.now) c.args.ring.now.area) (entries_on (g.F.Flash.device c.args.flash.now) c.args.ring.now.area) None c.loop-at.live =
-    subst (λ (o : Option RecordAt). Sums (value_limit c.args.ring.now.area) (unit_of (g.F.Flash.device c.args.flash.now) c.args.ring.now.area) (entries_on (g.F.Flash.device c.args.flash.now) c.args.ring.now.area) o c.loop-at.live) c.in_default.is c.loop-at.invariant in
+    subst (λ (o : Option RecordAt). Sums (value_limit c.args.ring.now.area) (unit_of (g.F.Flash.device c.args.flash.now) c.args.ring.now.area) (entries_on (g.F.Flash.device c.args.flash.now) c.args.ring.now.area) o c.loop-at.live) c.in_default.is c.loop-at.invariant.sums in
     sums-end (value_limit c.args.ring.now.area) (unit_of d c.args.ring.now.area) (entries_on d c.args.ring.now.area) c.loop-at.live so_far ∙ sym (room-cost (value_limit c.args.ring.now.area) (unit_of d c.args.ring.now.area) (sector_size d c.args.ring.now.area) (bodies_on d c.args.ring.now.area))

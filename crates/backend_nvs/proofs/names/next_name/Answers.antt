@@ -5,7 +5,8 @@ use Rattle.flash_map.specs.declared.area.Area.{Area}
 use Rattle.pair_laws.specs.Items.{Items}
 use Rattle.item_pairs.specs.Numbering.{Numbering}
 use Rattle.item_pairs.specs.Pairs.{count_in}
-use Rattle.pair_store.specs.Least.{IsBetween, IsLeastTo}
+use Rattle.pair_store.specs.Least.{IsBetween}
+use Rattle.pair_store.proofs.SoFar.{IsLeastTo}
 use Rattle.pair_store.proofs.NextSteps.{least-step, least-end}
 use Rattle.backend_nvs.specs.Numbers.{numbers_in}
 use Rattle.backend_nvs.proofs.names.next_name.Goals as goal

@@ -1,7 +1,7 @@
 use Rattle.std.proofs.Common.{◌≤◌}
 use Rattle.std.specs.Prelude.{option_map}
 use Rattle.flash_map.specs.On.{on}
-use Rattle.pair_store.specs.Least.{IsLeastTo}
+use Rattle.pair_store.proofs.SoFar.{IsLeastTo}
 use Rattle.backend_nvs.specs.Numbers.{numbers_in}
 use Rattle.backend_nvs.proofs.names.next_name.Given as goal
 

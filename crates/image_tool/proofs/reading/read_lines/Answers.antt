@@ -1,5 +1,5 @@
 use Rattle.std.proofs.Common.{subst, List, ℕ}
-use Rattle.script_lines.specs.Script.{IsScript}
+use Rattle.item_lines.specs.Script.{IsScript}
 use Rattle.image_tool.proofs.HostLemmas.{lawful_lines}
 use Rattle.image_tool.proofs.reading.read_lines.Goals as goal
 

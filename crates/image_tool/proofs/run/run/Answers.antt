@@ -1,9 +1,9 @@
 use Rattle.std.proofs.Common.{◌∙◌, List, ap, inr, refl, subst, sym}
 use Rattle.flash_sim.specs.Device.{Device}
 use Rattle.zs_host.specs.Outside.{Outside}
-use Rattle.script_lines.specs.declared.line.Line.{Line}
+use Rattle.item_lines.specs.declared.line.Line.{Line}
 use Rattle.image_file.specs.Format.{Plain, plain}
-use Rattle.session.specs.LineDone.{AreLawfulFor}
+use Rattle.item_session.specs.LineDone.{AreLawfulFor}
 use Rattle.image_tool.specs.Outcomes.{LeavesImage, texts}
 use Rattle.image_tool.specs.Reading.{HasScript}
 use Rattle.image_tool.specs.Served.{begun, first_area, held}

@@ -1,9 +1,9 @@
 use Rattle.std.proofs.Common.{◌≡◌, ◌∷◌, ◌∙◌, Some, ap, sym, subst}
 use Rattle.std.specs.List.{slice_get}
 use Rattle.flash_sim.specs.Device.{Device}
-use Rattle.script_lines.specs.declared.line.Line.TheVariants.{Mount}
-use Rattle.session.specs.declared.run.SessionFault.{SessionFault}
-use Rattle.session.specs.Fault.{IsFault}
+use Rattle.item_lines.specs.declared.line.Line.TheVariants.{Mount}
+use Rattle.item_session.specs.declared.run.SessionFault.{SessionFault}
+use Rattle.item_session.specs.Fault.{IsFault}
 use Rattle.image_tool.proofs.Images.{still_image, left_file, undamaged_first, damaged_first, label_first, runs_first, safely_first, left_first, rested_first}
 use Rattle.image_tool.proofs.run.run_image.Goals as goal
 

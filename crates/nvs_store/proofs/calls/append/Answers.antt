@@ -8,7 +8,8 @@ use Rattle.flash_map.specs.Area.{unit_of, sector_size, sectors_of, sector_bytes,
 use Rattle.flash_map.specs.Pieces.{CanProgramAll}
 use Rattle.flash_map.specs.Spending.{Spends, SpendsAtMost}
 use Rattle.flash_map.specs.Units.{IsUnit, padded, padded_bytes}
-use Rattle.flash_map.proofs.PieceLemmas.{on_err}
+use Rattle.flash_map.proofs.PieceLemmas.{on_err, within_then}
+use Rattle.flash_map.specs.declared.pieces.TheConstants.{PIECE}
 use Rattle.flash_map.proofs.Places.{length-sector}
 use Rattle.flash_map.proofs.Rounding.{padding}
 use Rattle.ring_laws.specs.Area.{next, is_closed_at, open_sector}
@@ -396,6 +397,9 @@ returns-in_err-program_padded-2-clause-spent_at_most g c =
     on_err c.from_residual-in_err-program_padded-2.result
     (pair_most a area lawful is_area place has_sector m bytes room one.touches.banks first_part last e one.spent
     (subst (λ (xs : List ℕ). SpendsAtMost m last (padded (unit_of m area) (length xs) / unit_of m area)) c.encode_entry.ensures c.in_err-program_padded-2.ensures.spent_at_most))
+
+pub returns-in_err-program_padded-2-clause-in_pieces : goal.returns-in_err-program_padded-2-clause-in_pieces
+returns-in_err-program_padded-2-clause-in_pieces g c = on_err c.from_residual-in_err-program_padded-2.result (within_then PIECE (g.F.Flash.device c.args.flash.now) (g.F.Flash.device c.program_padded.new.flash) (g.F.Flash.device c.program_padded-2.new.flash) (c.args.area.now ∷ []) c.in_ok-program_padded.ensures.touches c.in_err-program_padded-2.ensures.in_pieces)
 
 pub returns-in_err-program_padded-2-clause-sound : goal.returns-in_err-program_padded-2-clause-sound
 returns-in_err-program_padded-2-clause-sound g c =

@@ -1,4 +1,4 @@
-use Rattle.std.proofs.Common.{◌≡◌, ℕ, ◌-◌, ◌/◌, ◌<◌, List, length, sym, ap, subst, ◌∙◌, arith}
+use Rattle.std.proofs.Common.{◌≡◌, ℕ, ◌-◌, ◌/◌, ◌<◌, List, [], ◌∷◌, length, sym, ap, subst, ◌∙◌, arith}
 use Rattle.flash_sim.specs.Bank.{bank_at}
 use Rattle.flash_sim.specs.Device.{Device}
 use Rattle.flash_sim.specs.declared.flash.Bank.{Bank}
@@ -9,7 +9,9 @@ use Rattle.flash_map.specs.Pieces.{CanProgramAll}
 use Rattle.flash_map.specs.Spending.{Spends, SpendsAtMost}
 use Rattle.flash_map.specs.Units.{IsUnit, padded, padded_bytes}
 use Rattle.flash_map.proofs.CopyLemmas.{length-source}
-use Rattle.flash_map.proofs.PieceLemmas.{on_err}
+use Rattle.flash_map.proofs.PieceLemmas.{on_err, within_then, within_most}
+use Rattle.flash_map.specs.declared.copies.TheConstants.{COPY_PIECE}
+use Rattle.flash_map.specs.declared.pieces.TheConstants.{PIECE}
 use Rattle.flash_map.proofs.Places.{length-sector}
 use Rattle.ring_laws.specs.Area.{open_sector}
 use Rattle.flash_map.specs.Area.{sector_at}
@@ -114,6 +116,10 @@ returns-in_err-copy_padded-clause-lost g c =
     let m : Device = g.F.Flash.device c.copy_padded.new.flash in
     on_err c.from_residual.result
     (data_cut a area lawful is_area place has_sector m c.args.from.now.entry.id bytes room (subst (λ (offset : ℕ). WritesPart a m area place offset (padded_bytes unit bytes)) end c.in_err-copy_padded.ensures.lost))
+
+pub returns-in_err-copy_padded-clause-in_pieces : goal.returns-in_err-copy_padded-clause-in_pieces
+returns-in_err-copy_padded-clause-in_pieces g c =
+    on_err c.from_residual.result (within_most COPY_PIECE PIECE (g.F.Flash.device c.args.flash.now) (g.F.Flash.device c.copy_padded.new.flash) (omega arith) c.in_err-copy_padded.ensures.in_pieces)
 
 pub returns-in_err-copy_padded-clause-spent_at_most : goal.returns-in_err-copy_padded-clause-spent_at_most
 returns-in_err-copy_padded-clause-spent_at_most g c =
@@ -221,6 +227,10 @@ returns-in_err-program_padded-clause-lost g c =
     let part : WritesPart m last area place (low unit b - slot_size unit) (padded_bytes (unit_of m area) (encoded e)) =
     subst (λ (offset : ℕ). WritesPart m last area place offset (padded_bytes (unit_of m area) (encoded e))) at (subst (λ (xs : List ℕ). WritesPart m last area place (c.args.scan.now.low - c.slot_size.result) (padded_bytes (unit_of m area) xs)) c.encode_entry-bytes.ensures c.in_err-program_padded.ensures.lost) in
     on_err c.from_residual-in_err-program_padded.result (entry_cut a area lawful is_area place has_sector m bytes room one.touches.banks first_part last e follows part)
+
+pub returns-in_err-program_padded-clause-in_pieces : goal.returns-in_err-program_padded-clause-in_pieces
+returns-in_err-program_padded-clause-in_pieces g c =
+    on_err c.from_residual-in_err-program_padded.result (within_then PIECE (g.F.Flash.device c.args.flash.now) (g.F.Flash.device c.copy_padded.new.flash) (g.F.Flash.device c.program_padded.new.flash) (c.args.area.now ∷ []) c.in_ok-copy_padded.ensures.touches c.in_err-program_padded.ensures.in_pieces)
 
 pub returns-in_err-program_padded-clause-spent_at_most : goal.returns-in_err-program_padded-clause-spent_at_most
 returns-in_err-program_padded-clause-spent_at_most g c =

@@ -9,7 +9,8 @@ use Rattle.flash_map.proofs.Touches.{then, untouched}
 use Rattle.flash_map.specs.On.{on}
 use Rattle.item_pairs.specs.Pairs.{settings_in, HasNoStrays, IsKept}
 use Rattle.item_store.specs.Ends.{IsNextId}
-use Rattle.pair_store.specs.Strays.{HasNoneBefore, KeepsEach, Removes, ids_left}
+use Rattle.pair_store.specs.Strays.{KeepsEach, Removes}
+use Rattle.pair_store.proofs.SoFar.{HasNoneBefore, ids_left}
 use Rattle.pair_store.proofs.StraySteps.{kept-more, stays-more, strays-start, strays-step, strays-end, left-smaller}
 use Rattle.pair_store.proofs.strays.remove_strays.Goals as goal
 

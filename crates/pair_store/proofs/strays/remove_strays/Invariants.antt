@@ -3,7 +3,7 @@ use Rattle.std.specs.Prelude.{IfSome}
 use Rattle.flash_map.specs.Touches.{Touches}
 use Rattle.flash_map.specs.On.{on, StandsOn}
 use Rattle.item_pairs.specs.Pairs.{settings_in, HasNoStrays}
-use Rattle.pair_store.specs.Strays.{HasNoneBefore, ids_left}
+use Rattle.pair_store.proofs.SoFar.{HasNoneBefore, ids_left}
 use Rattle.pair_store.proofs.StraySteps.{StaysEach}
 use Rattle.pair_store.proofs.strays.remove_strays.Given as goal
 

@@ -5,7 +5,8 @@ use Rattle.std.proofs.lemmas.Option.{IfSome_then}
 use Rattle.flash_map.specs.declared.area.Area.{Area}
 use Rattle.flash_map.specs.On.{on}
 use Rattle.pair_laws.specs.Items.{Items}
-use Rattle.pair_store.specs.Walking.{IsBetweenAt, IsLeastBefore}
+use Rattle.pair_store.specs.Walking.{IsBetweenAt}
+use Rattle.pair_store.proofs.SoFar.{IsLeastBefore}
 use Rattle.pair_store.proofs.WalkSteps.{names-start, names-step, names-end}
 use Rattle.pair_store.proofs.walking.next_name.Goals as goal
 

@@ -1,8 +1,7 @@
 use Rattle.std.specs.Prelude.{IfSome, ◌<◌}
 use Rattle.std.specs.Option.{option_map}
 use Rattle.flash_map.specs.On.{on}
-use Rattle.pair_store.specs.Walking.{IsLeastBefore}
-use Rattle.pair_store.specs.Strays.{ids_left}
+use Rattle.pair_store.proofs.SoFar.{IsLeastBefore, ids_left}
 use Rattle.pair_store.proofs.walking.next_name.Given as goal
 
 abbrev pub invariant-loop-at : goal.invariant-loop-at

@@ -1,7 +1,7 @@
-use Rattle.std.proofs.Common.{ℕ, ◌+◌, ◌/◌, List, length, ap, ◌∙◌, arith}
+use Rattle.std.proofs.Common.{ℕ, ◌+◌, ◌/◌, List, length, ap, ◌∙◌, arith, [], ◌∷◌}
 use Rattle.std.proofs.lemmas.Result.{on_ok_weaker, on_err_weaker}
 use Rattle.flash_map.specs.Area.{sector_bytes}
-use Rattle.flash_map.proofs.PieceLemmas.{on_err}
+use Rattle.flash_map.proofs.PieceLemmas.{on_err, within_then, within_most}
 use Rattle.flash_map.proofs.SpendingBounds.{between_then, between_within}
 use Rattle.zms_cycle.specs.declared.entry.ZEntry.{ZEntry}
 use Rattle.zms_cycle.specs.Sector.{slot_of, valid_slots, data_len, cost}
@@ -9,6 +9,8 @@ use Rattle.zms_cycle.proofs.AreaFacts.{still_zms, others_then}
 use Rattle.zms_cycle.proofs.PairCalls.{fits_room}
 use Rattle.zms_cycle.proofs.EntryCalls.{ready, ready_fits, ready_aligned, ready_slots, ready_slot, ready_part, ready_cut, ready_value, ready_pair, ready_short}
 use Rattle.zms_cycle.proofs.GuardUnits.{value_under, entry_guard}
+use Rattle.flash_map.specs.declared.pieces.TheConstants.{PIECE}
+use Rattle.zms_cycle.specs.declared.reading.TheConstants.{SLOT}
 use Rattle.zms_cycle.proofs.appending.put_entry.Goals as goal
 
 pub value_entry-entry-requires : goal.value_entry-entry-requires
@@ -72,3 +74,9 @@ returns-clause-guards g c =
     let same = ap (λ (b : List ℕ). slot_of b (length (valid_slots (sector_bytes (g.F.Flash.device c.args.flash.now) c.args.area.now c.args.sector)) + 2 + 1)) c.in_ok-put_value.ensures.ok ∙ value_under (sector_bytes (g.F.Flash.device c.args.flash.now) c.args.area.now c.args.sector) c.args.bytes.now c.opened_sector-opened.result.data_end r.end_is r.fits in
     let due = entry_guard (g.F.Flash.device c.args.flash.now) c.args.area.now c.args.sector c.opened_sector-opened.result.cycle c.opened_sector-opened.result.slots c.opened_sector-opened.result.data_end (data_len (length c.args.bytes.now)) c.value_entry-entry.result.cycle (sector_bytes (g.F.Flash.device c.put_value.new.flash) c.args.area.now c.args.sector) r (ap (λ (e : ZEntry). e.cycle) c.value_entry-entry.ensures) same in
     on_ok_weaker c.put_slot.result (λ spends. between_within (between_then c.in_ok-put_value.ensures.spends spends) _ _ (omega arith) (omega arith)) c.put_slot.ensures.guards
+
+pub returns-clause-in_pieces : goal.returns-clause-in_pieces
+returns-clause-in_pieces g c =
+    let m = g.F.Flash.device c.put_value.new.flash in
+    let last = g.F.Flash.device c.put_slot.new.flash in
+    on_err_weaker c.put_slot.result (λ within. within_then PIECE (g.F.Flash.device c.args.flash.now) m last (c.args.area.now ∷ []) c.in_ok-put_value.ensures.touches (within_most SLOT PIECE m last (omega arith) within)) c.put_slot.ensures.in_pieces

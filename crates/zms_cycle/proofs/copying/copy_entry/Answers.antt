@@ -1,7 +1,7 @@
-use Rattle.std.proofs.Common.{ℕ, ◌+◌, ◌/◌, List, length, sym, ap, subst, ◌∙◌, arith}
+use Rattle.std.proofs.Common.{ℕ, ◌+◌, ◌/◌, List, length, sym, ap, subst, ◌∙◌, arith, [], ◌∷◌}
 use Rattle.std.proofs.lemmas.Result.{on_ok_weaker, on_err_weaker}
 use Rattle.flash_map.specs.Area.{sector_bytes}
-use Rattle.flash_map.proofs.PieceLemmas.{on_err}
+use Rattle.flash_map.proofs.PieceLemmas.{on_err, within_then, within_most}
 use Rattle.flash_map.proofs.SpendingBounds.{between_then, between_within}
 use Rattle.zms_cycle.specs.declared.entry.ZEntry.{ZEntry}
 use Rattle.zms_cycle.specs.Changes.{HasPart, AddsPair}
@@ -11,6 +11,8 @@ use Rattle.zms_cycle.proofs.Frames.{sound-parts}
 use Rattle.zms_cycle.proofs.CopyCalls.{copied, moved_is, ordinary_id}
 use Rattle.zms_cycle.proofs.EntryCalls.{ready, ready_fits, ready_aligned, ready_slots, ready_slot, ready_part, ready_cut, ready_value, ready_pair}
 use Rattle.zms_cycle.proofs.GuardUnits.{value_under, entry_guard}
+use Rattle.flash_map.specs.declared.copies.TheConstants.{COPY_PIECE}
+use Rattle.zms_cycle.specs.declared.reading.TheConstants.{SLOT}
 use Rattle.zms_cycle.proofs.copying.copy_entry.Goals as goal
 
 pub ordinary_entry-from-requires-clause-slot : goal.ordinary_entry-from-requires-clause-slot
@@ -116,3 +118,9 @@ returns-clause-guards g c =
     let due = entry_guard (g.F.Flash.device c.args.flash.now) c.args.area.now c.args.sector c.opened_sector-opened.result.cycle c.opened_sector-opened.result.slots c.opened_sector-opened.result.data_end (data_len (length (value_of (sector_bytes (g.F.Flash.device c.args.flash.now) c.args.area.now c.args.from_sector) c.ordinary_entry-from.result))) c.moved_entry-entry.result.cycle (sector_bytes (g.F.Flash.device c.copy_value.new.flash) c.args.area.now c.args.sector) r (ap (λ (e : ZEntry). e.cycle) c.moved_entry-entry.ensures) under in
     let listed = ap data_len copy.listed_len in
     on_ok_weaker c.put_slot.result (λ spends. between_within (between_then c.in_ok-copy_value.ensures.spends spends) _ _ (omega arith) (omega arith)) c.put_slot.ensures.guards
+
+pub returns-clause-in_pieces : goal.returns-clause-in_pieces
+returns-clause-in_pieces g c =
+    let m = g.F.Flash.device c.copy_value.new.flash in
+    let last = g.F.Flash.device c.put_slot.new.flash in
+    on_err_weaker c.put_slot.result (λ within. within_then COPY_PIECE (g.F.Flash.device c.args.flash.now) m last (c.args.area.now ∷ []) c.in_ok-copy_value.ensures.touches (within_most SLOT COPY_PIECE m last (omega arith) within)) c.put_slot.ensures.in_pieces

@@ -1,10 +1,12 @@
-use Rattle.std.proofs.Common.{◌+◌, arith}
+use Rattle.std.proofs.Common.{◌+◌, arith, [], ◌∷◌}
 use Rattle.std.proofs.lemmas.Result.{on_ok_weaker, on_err_weaker}
 use Rattle.flash_map.specs.Area.{sector_bytes}
 use Rattle.flash_map.proofs.SpendingBounds.{between_then, between_within}
 use Rattle.zms_cycle.specs.Sector.{slot_of, is_valid_under}
 use Rattle.zms_cycle.proofs.AreaFacts.{still_zms, others_then}
 use Rattle.zms_cycle.proofs.UnitCalls.{zero_or_one}
+use Rattle.flash_map.proofs.PieceLemmas.{within_then}
+use Rattle.zms_cycle.specs.declared.reading.TheConstants.{SLOT}
 use Rattle.zms_cycle.proofs.guarding.put_slot.Goals as goal
 
 pub put_unit-requires-clause-zms : goal.put_unit-requires-clause-zms
@@ -25,3 +27,6 @@ returns-clause-spends_lost g c =
 
 pub returns-clause-guards : goal.returns-clause-guards
 returns-clause-guards g c = on_ok_weaker c.put_unit.result (λ spends. between_within (between_then c.in_ok-guard.ensures.spends spends) _ _ (omega arith) (omega arith)) c.put_unit.ensures.spends
+
+pub returns-clause-in_pieces : goal.returns-clause-in_pieces
+returns-clause-in_pieces g c = on_err_weaker c.put_unit.result (within_then SLOT (g.F.Flash.device c.args.flash.now) (g.F.Flash.device c.guard.new.flash) (g.F.Flash.device c.put_unit.new.flash) (c.args.area.now ∷ []) c.in_ok-guard.ensures.touches) c.put_unit.ensures.in_pieces

@@ -1,8 +1,10 @@
-use Rattle.std.proofs.Common.{refl}
+use Rattle.std.proofs.Common.{refl, arith}
 use Rattle.std.proofs.lemmas.Result.{on_ok_weaker, on_err_weaker}
 use Rattle.flash_map.specs.Area.{place_of}
 use Rattle.zms_cycle.proofs.AreaFacts.{others_same}
 use Rattle.zms_cycle.proofs.UnitCalls.{both_ends, can_unit, unit_written, unit_others, unit_lost, unit_spends, unit_spends_lost}
+use Rattle.flash_map.proofs.PieceLemmas.{loses_one}
+use Rattle.zms_cycle.specs.declared.reading.TheConstants.{SLOT}
 use Rattle.zms_cycle.proofs.guarding.put_unit.Goals as goal
 
 pub area_program-requires-clause-can : goal.area_program-requires-clause-can
@@ -26,3 +28,6 @@ returns-clause-spends g c = on_ok_weaker c.area_program.result (unit_spends (g.F
 
 pub returns-clause-spends_lost : goal.returns-clause-spends_lost
 returns-clause-spends_lost g c = on_err_weaker c.area_program.result (unit_spends_lost (g.F.Flash.device c.args.flash.now) (g.F.Flash.device c.area_program.new.flash) c.args.area.now c.args.sector c.args.slot c.slot_start-start.result c.args.bytes.now c.requires.zms (g.met.F.Flash.is_lawful c.args.flash.now) c.slot_start-start.ensures c.requires.slot c.requires.unit (place_of (g.F.Flash.device c.args.flash.now) c.args.area.now c.args.sector c.slot_start-start.result) refl) c.area_program.ensures.lost
+
+pub returns-clause-in_pieces : goal.returns-clause-in_pieces
+returns-clause-in_pieces g c = on_err_weaker c.area_program.result (λ fails. loses_one SLOT (g.F.Flash.device c.args.flash.now) (g.F.Flash.device c.area_program.new.flash) (place_of (g.F.Flash.device c.args.flash.now) c.args.area.now c.args.sector c.slot_start-start.result) c.args.bytes.now fails (omega (arith, c.requires.unit))) c.area_program.ensures.lost

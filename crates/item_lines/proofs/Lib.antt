@@ -1,0 +1,4 @@
+pub mod LineLemmas
+pub mod ScriptLaws
+pub mod TableFacts
+pub mod TableLemmas

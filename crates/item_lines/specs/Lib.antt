@@ -1,0 +1,5 @@
+pub mod Answer
+pub mod Line
+pub mod Table
+pub mod Script
+pub mod Laws

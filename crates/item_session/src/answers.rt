@@ -1,0 +1,52 @@
+// The answers of a run.
+ghost use Rattle.std.specs.Prelude.{◌≡◌, List, [], ◌∷◌, ◌++◌, OnOk, OnErr};
+
+use flash_sim::NoMemory;
+use item_lines::Answer;
+use std::alloc::Global;
+use std::marker::Model;
+
+/// Answers, which contracts see as a list.
+#[derive(Debug, Drop)]
+pub struct Answers {
+    items: Vec<Answer>,
+}
+
+impl Model for Answers {
+    ghost use Rattle.std.specs.Prelude.{List};
+    ghost use Rattle.item_lines.specs.declared.answer.Answer.{Answer as answer};
+
+    ghost Value = { List answer };
+
+    ghost view = { λ answers. answers.items.items };
+}
+
+impl Answers {
+    /// No answers. Takes no memory.
+    pub fn new(alloc: Global) -> Answers
+        ensures { result ≡ [] }
+    {
+        Answers {
+            items: Vec::new(alloc),
+        }
+    }
+
+    /// Puts an answer behind the others.
+    ///
+    /// # Errors
+    /// `NoMemory`, and the list is as before.
+    pub fn push(&mut self, item: Answer) -> Result<(), NoMemory>
+        ensures ok { OnOk result (self.new ≡ self.old ++ item ∷ []) }
+        ensures err { OnErr result (self.new ≡ self.old) }
+    {
+        self.items.push(item)?;
+        Ok(())
+    }
+
+    /// The answers in order.
+    pub fn as_slice(&self) -> &[Answer]
+        ensures { result.now ≡ self.now }
+    {
+        self.items.as_slice()
+    }
+}

@@ -1,0 +1,11 @@
+pub mod AreaLemmas
+pub mod Values
+pub mod Latest
+pub mod Choices
+pub mod Collecting
+pub mod Putting
+pub mod Names
+pub mod Copies
+pub mod Moving
+pub mod Migration
+pub mod Puts

@@ -1,0 +1,39 @@
+use Rattle.std.proofs.Common.{ℕ, List, Option, Some, refl, ap, subst, ◌∙◌}
+use Rattle.std.specs.FinMap.{get}
+use Rattle.flash_sim.specs.Device.{Device}
+use Rattle.backend_api.specs.Map.{Map, next_name}
+use Rattle.flash_map.specs.On.{on}
+use Rattle.migrator.proofs.Copies.{IsCopying, copying-start, copying-step, copying-end, source-same, has-value}
+use Rattle.migrator.proofs.Names.{left-smaller}
+use Rattle.migrator.proofs.copying.copy_all.Goals as goal
+
+pub loop-at-init : goal.loop-at-init
+loop-at-init g c =
+    copying-start g.K.Backend.mounted_on g.K.Backend.stands g.K.Backend.contents g.K.Backend.room (g.F.Flash.device c.args.flash.now) c.args.from.now c.args.to.now c.next_name-at.result c.requires.stands_to c.requires.empty c.next_name-at.ensures
+
+pub loop-at-preserved : goal.loop-at-preserved
+loop-at-preserved g c =
+    let a : Device = g.F.Flash.device c.args.flash.now in
+    let d : Device = g.F.Flash.device c.loop-at.flash in
+    let e : Device = g.F.Flash.device c.copy_one.new.flash in
+    let so_far : IsCopying g.K.Backend.mounted_on g.K.Backend.stands g.K.Backend.contents g.K.Backend.room (g.F.Flash.device c.args.flash.now) (g.F.Flash.device c.loop-at.flash) c.args.from.now c.args.to.now c.loop-at.to (Some c.in-Some.name) =
+    subst (λ (o : Option (List ℕ)). IsCopying g.K.Backend.mounted_on g.K.Backend.stands g.K.Backend.contents g.K.Backend.room (g.F.Flash.device c.args.flash.now) (g.F.Flash.device c.loop-at.flash) c.args.from.now c.args.to.now c.loop-at.to o) c.in-Some.is c.loop-at.invariant in
+    let v = has-value (get (on g.K.Backend.contents (g.F.Flash.device c.args.flash.now) (g.K.Backend.mounted_on c.args.from.now)) c.in-Some.name) (so_far.stored c.in-Some.name refl) in
+    let same = source-same g.K.Backend.mounted_on g.K.Backend.stands g.K.Backend.contents g.K.Backend.room a d c.args.from.now c.args.to.now c.loop-at.to (Some c.in-Some.name) so_far in
+    copying-step g.K.Backend.mounted_on g.K.Backend.stands g.K.Backend.contents g.K.Backend.room a d e c.args.from.now c.args.to.now c.loop-at.to c.copy_one.new.to c.in-Some.name v.0 c.next_name-at-in-Some.result c.copy_one.result c.in-Ok.field-0 c.in-Ok.is so_far v.1
+    c.copy_one.ensures.touches c.copy_one.ensures.area c.copy_one.ensures.source (c.copy_one.ensures.ends v.0 (ap (λ (m : Map). get m c.in-Some.name) same ∙ v.1)) c.copy_one.ensures.stands c.next_name-at-in-Some.ensures
+
+pub loop-at-smaller : goal.loop-at-smaller
+loop-at-smaller g c =
+    let a : Device = g.F.Flash.device c.args.flash.now in
+    let e : Device = g.F.Flash.device c.copy_one.new.flash in
+    let so_far : IsCopying g.K.Backend.mounted_on g.K.Backend.stands g.K.Backend.contents g.K.Backend.room (g.F.Flash.device c.args.flash.now) (g.F.Flash.device c.loop-at.flash) c.args.from.now c.args.to.now c.loop-at.to (Some c.in-Some.name) =
+    subst (λ (o : Option (List ℕ)). IsCopying g.K.Backend.mounted_on g.K.Backend.stands g.K.Backend.contents g.K.Backend.room (g.F.Flash.device c.args.flash.now) (g.F.Flash.device c.loop-at.flash) c.args.from.now c.args.to.now c.loop-at.to o) c.in-Some.is c.loop-at.invariant in
+    let then = loop-at-preserved g c in
+    left-smaller (on g.K.Backend.contents (g.F.Flash.device c.args.flash.now) (g.K.Backend.mounted_on c.args.from.now)) c.loop-at.at c.in-Some.name c.next_name-at-in-Some.result c.in-Some.is (so_far.stored c.in-Some.name refl)
+    (c.next_name-at-in-Some.ensures ∙ ap (λ (m : Map). next_name m (Some c.in-Some.name)) (source-same g.K.Backend.mounted_on g.K.Backend.stands g.K.Backend.contents g.K.Backend.room a e c.args.from.now c.args.to.now c.copy_one.new.to c.next_name-at-in-Some.result then))
+
+pub returns-clause-ends : goal.returns-clause-ends
+returns-clause-ends g c =
+    copying-end g.K.Backend.mounted_on g.K.Backend.stands g.K.Backend.contents g.K.Backend.room (g.F.Flash.device c.args.flash.now) (g.F.Flash.device c.loop-at.flash) c.args.from.now c.args.to.now c.loop-at.to (tt {0})
+    (subst (λ (o : Option (List ℕ)). IsCopying g.K.Backend.mounted_on g.K.Backend.stands g.K.Backend.contents g.K.Backend.room (g.F.Flash.device c.args.flash.now) (g.F.Flash.device c.loop-at.flash) c.args.from.now c.args.to.now c.loop-at.to o) c.in_default.is c.loop-at.invariant)

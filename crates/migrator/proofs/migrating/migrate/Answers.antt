@@ -1,0 +1,84 @@
+use Rattle.std.proofs.Common.{◌≡◌, ℕ, List, true, sym, subst, ◌∙◌}
+use Rattle.std.proofs.lemmas.Bool.{false≢true}
+use Rattle.flash_sim.specs.Device.{Device}
+use Rattle.flash_map.specs.Area.{sectors_of, geometry_of}
+use Rattle.flash_map.specs.Touches.{Touches}
+use Rattle.flash_map.specs.declared.area.Area.{Area}
+use Rattle.flash_map.specs.On.{on}
+use Rattle.migrator.specs.Areas.{is_store_at}
+use Rattle.migrator.specs.Migrating.{migrate_lost}
+use Rattle.migrator.proofs.Moving.{open-sound, still}
+use Rattle.migrator.proofs.Migration.{selector-apart, active-on, active-store, worked-is, reads-still, reads-through, store-of, moved-served, refused-served}
+use Rattle.migrator.proofs.Copies.{stands-still}
+use Rattle.migrator.proofs.migrating.migrate.Goals as goal
+
+pub move_to-requires-clause-lawful : goal.move_to-requires-clause-lawful
+move_to-requires-clause-lawful g c = c.requires.lawful.each c.in-Some.index c.area_at-area.result c.area_at-area.ensures
+
+pub move_to-requires-clause-apart_selector : goal.move_to-requires-clause-apart_selector
+move_to-requires-clause-apart_selector g c =
+    (selector-apart (g.F.Flash.device c.args.flash.now).banks c.args.map.now c.args.selector.now.ring.area c.area_at-area.result c.in-Some.index c.requires.lawful c.requires.selected c.area_at-area.ensures c.in-Some.ensures.store).1
+
+pub move_to-requires-clause-selector_source : goal.move_to-requires-clause-selector_source
+move_to-requires-clause-selector_source g c =
+    let store = active-store c.args.map.now (g.F.Flash.device c.args.flash.now) c.args.selector.now.ring.area c.in-Some.index c.in-Some.ensures.store in
+    (selector-apart (g.F.Flash.device c.args.flash.now).banks c.args.map.now c.args.selector.now.ring.area (g.K.Backend.mounted_on c.args.from.now) c.args.active c.requires.lawful c.requires.selected c.requires.there
+    (subst (λ (i : ℕ). is_store_at c.args.map.now i ≡ true)
+    (sym (c.requires.is_active ∙ active-on c.args.map.now (g.F.Flash.device c.args.flash.now) c.args.selector.now.ring.area c.requires.selected)) store)).0
+
+pub move_to-requires-clause-selector_target : goal.move_to-requires-clause-selector_target
+move_to-requires-clause-selector_target g c =
+    (selector-apart (g.F.Flash.device c.args.flash.now).banks c.args.map.now c.args.selector.now.ring.area c.area_at-area.result c.in-Some.index c.requires.lawful c.requires.selected c.area_at-area.ensures c.in-Some.ensures.store).0
+
+pub returns-in-Some-clause-touches : goal.returns-in-Some-clause-touches
+returns-in-Some-clause-touches g c =
+    subst (λ (areas : List Area). Touches areas (g.F.Flash.device c.args.flash.now) (g.F.Flash.device c.move_to.new.flash) (migrate_lost c.move_to.result))
+    (sym (worked-is c.args.map.now c.args.selector.now.ring.area c.area_at-area.result c.args.active c.in-Some.index (sym c.target.ensures.target ∙ c.in-Some.is) c.area_at-area.ensures)) c.move_to.ensures.touches
+
+pub returns-in-Some-clause-map : goal.returns-in-Some-clause-map
+returns-in-Some-clause-map g c =
+    let a : Device = g.F.Flash.device c.args.flash.now in
+    let e : Device = g.F.Flash.device c.move_to.new.flash in
+    let source = g.K.Backend.mounted_on c.args.from.now in
+    let undamaged = g.met.K.Backend.stands_reads c.args.from.now (geometry_of a source) (sectors_of a source) c.requires.up in
+    let banks = c.move_to.ensures.touches.banks in
+    reads-through g.K.Backend.mounted_on g.K.Backend.damage g.K.Backend.contents g.K.Backend.room c.args.map.now c.args.selector.now.ring.area (g.K.Backend.mounted_on c.args.from.now) c.area_at-area.result c.args.active c.in-Some.index
+    (on g.K.Backend.contents a (g.K.Backend.mounted_on c.args.from.now)) a e c.move_to.result c.requires.selected c.requires.there c.requires.is_active c.area_at-area.ensures c.move_to.ensures.sound
+    (still g.K.Backend.damage a e (g.K.Backend.mounted_on c.args.from.now) banks c.move_to.ensures.source ∙ undamaged)
+    (still g.K.Backend.contents a e (g.K.Backend.mounted_on c.args.from.now) banks c.move_to.ensures.source) c.move_to.ensures.ends
+
+pub returns-in-None-clause-map : goal.returns-in-None-clause-map
+returns-in-None-clause-map g c =
+    let a : Device = g.F.Flash.device c.args.flash.now in
+    let source = g.K.Backend.mounted_on c.args.from.now in
+    reads-still g.K.Backend.mounted_on g.K.Backend.damage g.K.Backend.contents g.K.Backend.room c.args.map.now a c.args.selector.now.ring.area (g.K.Backend.mounted_on c.args.from.now) c.args.active c.requires.selected c.requires.there c.requires.is_active
+    (open-sound a c.args.selector.now.ring (g.met.F.Flash.is_lawful c.args.flash.now) c.requires.open_ring) (g.met.K.Backend.stands_reads c.args.from.now (geometry_of a source) (sectors_of a source) c.requires.up)
+
+pub move_to-requires-clause-serves : goal.move_to-requires-clause-serves
+move_to-requires-clause-serves g c =
+    c.requires.served c.in-Some.index c.area_at-area.result c.area_at-area.ensures (store-of c.args.map.now c.in-Some.index c.area_at-area.result c.area_at-area.ensures c.in-Some.ensures.store)
+
+pub move_to-requires-clause-version : goal.move_to-requires-clause-version
+move_to-requires-clause-version g c = c.requires.lawful.versions c.in-Some.index c.args.active c.area_at-area.result (g.K.Backend.mounted_on c.args.from.now) c.area_at-area.ensures c.requires.there
+
+pub returns-in-Some-clause-goes_on : goal.returns-in-Some-clause-goes_on
+returns-in-Some-clause-goes_on g c =
+    let a : Device = g.F.Flash.device c.args.flash.now in
+    moved-served g.K.Backend.serves g.K.Backend.mounted_on g.K.Backend.stands g.K.Backend.damage g.K.Backend.contents g.K.Backend.room c.args.map.now c.area_at-area.result c.args.active c.in-Some.index
+    (on g.K.Backend.contents a (g.K.Backend.mounted_on c.args.from.now)) a (g.F.Flash.device c.move_to.new.flash) c.args.selector.now.ring c.move_to.new.selector.ring c.args.from.now c.move_to.result c.requires
+    c.move_to.ensures.touches.banks c.move_to.ensures.area c.area_at-area.ensures c.move_to.ensures.open_ring c.move_to.ensures.stands c.move_to.ensures.ends
+
+pub returns-in-Some-clause-stays : goal.returns-in-Some-clause-stays
+returns-in-Some-clause-stays g c refused =
+    let a : Device = g.F.Flash.device c.args.flash.now in
+    let e : Device = g.F.Flash.device c.move_to.new.flash in
+    refused-served g.K.Backend.serves g.K.Backend.mounted_on g.K.Backend.stands g.K.Backend.damage g.K.Backend.contents g.K.Backend.room c.args.map.now c.area_at-area.result c.args.active c.in-Some.index
+    (on g.K.Backend.contents a (g.K.Backend.mounted_on c.args.from.now)) a e c.args.selector.now.ring c.move_to.new.selector.ring c.args.from.now c.move_to.result c.requires
+    c.move_to.ensures.touches.banks c.move_to.ensures.area c.move_to.ensures.open_ring
+    (stands-still g.K.Backend.mounted_on g.K.Backend.stands g.K.Backend.contents g.K.Backend.room a e c.args.from.now c.move_to.ensures.touches.banks c.move_to.ensures.source c.requires.up) c.move_to.ensures.ends refused
+
+pub returns-in-Some-clause-lost : goal.returns-in-Some-clause-lost
+returns-in-Some-clause-lost g c lost = c.move_to.ensures.lost lost
+
+pub returns-in-None-clause-lost : goal.returns-in-None-clause-lost
+returns-in-None-clause-lost g c lost = absurd (false≢true lost)

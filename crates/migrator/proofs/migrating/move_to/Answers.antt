@@ -1,0 +1,101 @@
+use Rattle.std.proofs.Common.{◌≡◌, ℕ, Bool, List, [], ◌∷◌, sym, ap, subst, ◌∙◌, refl, inl, inr}
+use Rattle.flash_sim.specs.Device.{Device}
+use Rattle.flash_sim.specs.declared.flash.Bank.{Bank}
+use Rattle.flash_map.specs.Area.{IsLawfulArea, sectors_of, geometry_of}
+use Rattle.flash_map.specs.Touches.{Touches}
+use Rattle.flash_map.specs.declared.area.Area.{Area}
+use Rattle.flash_map.proofs.Apart.{same_apart}
+use Rattle.flash_map.proofs.Touches.{then, first_of_two, second_of_two}
+use Rattle.flash_map.specs.On.{on}
+use Rattle.migrator.specs.Migrating.{migrate_lost}
+use Rattle.migrator.proofs.Copies.{stands-still}
+use Rattle.migrator.proofs.Moving.{open-still, active-still, open-sound, still, moved-lost, fault-lost, chosen-sound, chosen-open, chosen-down, refused-ends, chosen-ends, chosen-stands}
+use Rattle.migrator.proofs.migrating.move_to.Goals as goal
+
+pub returns-in-Err-clause-touches : goal.returns-in-Err-clause-touches
+returns-in-Err-clause-touches g c =
+    subst (λ (lost : Bool). Touches (c.args.area ∷ c.args.selector.now.ring.area ∷ []) (g.F.Flash.device c.args.flash.now) (g.F.Flash.device c.fill-filled.new.flash) lost) (fault-lost g.row.K.Denot (g.row.K.Denot × ℕ) c.in-Err.fault) (first_of_two c.in-Err.ensures.touches)
+
+pub returns-in-Err-clause-sound : goal.returns-in-Err-clause-sound
+returns-in-Err-clause-sound g c =
+    let a : Device = g.F.Flash.device c.args.flash.now in
+    let b : Device = g.F.Flash.device c.fill-filled.new.flash in
+    let same = same_apart (g.met.F.Flash.is_lawful c.args.flash.now) (g.met.F.Flash.is_lawful c.fill-filled.new.flash) c.requires.mounted.stands.area.lawful.in_bank c.requires.apart_selector c.fill-filled.ensures.touches in
+    open-sound b c.args.selector.now.ring (g.met.F.Flash.is_lawful c.fill-filled.new.flash) (open-still a b c.args.selector.now.ring c.fill-filled.ensures.touches.banks same c.requires.mounted)
+
+pub returns-in-Err-clause-open_ring : goal.returns-in-Err-clause-open_ring
+returns-in-Err-clause-open_ring g c kept =
+    let same = same_apart (g.met.F.Flash.is_lawful c.args.flash.now) (g.met.F.Flash.is_lawful c.fill-filled.new.flash) c.requires.mounted.stands.area.lawful.in_bank c.requires.apart_selector c.fill-filled.ensures.touches in
+    open-still (g.F.Flash.device c.args.flash.now) (g.F.Flash.device c.fill-filled.new.flash) c.args.selector.now.ring c.fill-filled.ensures.touches.banks same c.requires.mounted
+
+pub returns-in-Err-clause-lost : goal.returns-in-Err-clause-lost
+returns-in-Err-clause-lost g c lost =
+    let same = same_apart (g.met.F.Flash.is_lawful c.args.flash.now) (g.met.F.Flash.is_lawful c.fill-filled.new.flash) c.requires.mounted.stands.area.lawful.in_bank c.requires.apart_selector c.fill-filled.ensures.touches in
+    inr (open-still (g.F.Flash.device c.args.flash.now) (g.F.Flash.device c.fill-filled.new.flash) c.args.selector.now.ring c.fill-filled.ensures.touches.banks same c.requires.mounted)
+
+pub returns-in-Err-clause-ends : goal.returns-in-Err-clause-ends
+returns-in-Err-clause-ends g c =
+    let a : Device = g.F.Flash.device c.args.flash.now in
+    let b : Device = g.F.Flash.device c.fill-filled.new.flash in
+    let same = same_apart (g.met.F.Flash.is_lawful c.args.flash.now) (g.met.F.Flash.is_lawful c.fill-filled.new.flash) c.requires.mounted.stands.area.lawful.in_bank c.requires.apart_selector c.fill-filled.ensures.touches in
+    refused-ends g.K.Backend.mounted_on g.K.Backend.stands g.K.Backend.damage g.K.Backend.contents g.row.K.Denot (g.K.Backend.room c.args.area (geometry_of a c.args.area)) c.args.map.now c.args.selector.now.ring.area c.args.area c.args.index
+    (on g.K.Backend.contents a (g.K.Backend.mounted_on c.args.from.now)) (on g.K.Backend.contents b c.args.area) a b c.in-Err.fault (active-still c.args.map.now a b c.args.selector.now.ring.area c.fill-filled.ensures.touches.banks same) c.in-Err.ensures.ends
+
+pub choose-chosen-requires-clause-mounted : goal.choose-chosen-requires-clause-mounted
+choose-chosen-requires-clause-mounted g c =
+    let same = same_apart (g.met.F.Flash.is_lawful c.args.flash.now) (g.met.F.Flash.is_lawful c.fill-filled.new.flash) c.requires.mounted.stands.area.lawful.in_bank c.requires.apart_selector c.fill-filled.ensures.touches in
+    open-still (g.F.Flash.device c.args.flash.now) (g.F.Flash.device c.fill-filled.new.flash) c.args.selector.now.ring c.fill-filled.ensures.touches.banks same c.requires.mounted
+
+pub returns-clause-touches : goal.returns-clause-touches
+returns-clause-touches g c =
+    let a : Device = g.F.Flash.device c.args.flash.now in
+    let e : Device = g.F.Flash.device c.choose-chosen.new.flash in
+    subst (λ (lost : Bool). Touches (c.args.area ∷ c.args.selector.now.ring.area ∷ []) a e lost) (moved-lost (c.in-Ok.to, c.args.index) c.choose-chosen.result ∙ ap migrate_lost (sym c.moved_as.ensures))
+    (then (first_of_two c.in-Ok.ensures.touches) (second_of_two c.choose-chosen.ensures.touches))
+
+pub returns-clause-source : goal.returns-clause-source
+returns-clause-source g c =
+    same_apart (g.met.F.Flash.is_lawful c.fill-filled.new.flash) (g.met.F.Flash.is_lawful c.choose-chosen.new.flash)
+    (subst (λ (banks : List Bank). IsLawfulArea banks (g.K.Backend.mounted_on c.args.from.now)) (sym c.fill-filled.ensures.touches.banks) c.requires.lawful_from.in_bank) c.requires.selector_source c.choose-chosen.ensures.touches
+    ∙ c.fill-filled.ensures.source
+
+pub returns-clause-sound : goal.returns-clause-sound
+returns-clause-sound g c =
+    chosen-sound c.args.map.now (g.F.Flash.device c.fill-filled.new.flash) (g.F.Flash.device c.choose-chosen.new.flash) c.args.selector.now.ring c.choose-chosen.new.self.ring c.args.index c.choose-chosen.result
+    (g.met.F.Flash.is_lawful c.choose-chosen.new.flash) c.choose-chosen.ensures.area c.choose-chosen.ensures.ends
+
+pub returns-clause-open_ring : goal.returns-clause-open_ring
+returns-clause-open_ring g c kept =
+    chosen-open c.args.map.now (g.F.Flash.device c.fill-filled.new.flash) (g.F.Flash.device c.choose-chosen.new.flash) c.args.selector.now.ring c.choose-chosen.new.self.ring c.args.index (c.in-Ok.to, c.args.index) c.choose-chosen.result c.moved_as.result
+    c.choose-chosen.ensures.ends c.moved_as.ensures kept
+
+pub returns-clause-lost : goal.returns-clause-lost
+returns-clause-lost g c lost =
+    inl (chosen-down c.args.map.now (g.F.Flash.device c.fill-filled.new.flash) (g.F.Flash.device c.choose-chosen.new.flash) c.args.selector.now.ring c.choose-chosen.new.self.ring c.args.index (c.in-Ok.to, c.args.index) c.choose-chosen.result c.moved_as.result
+    c.choose-chosen.ensures.ends c.moved_as.ensures lost)
+
+pub returns-clause-ends : goal.returns-clause-ends
+returns-clause-ends g c =
+    let a : Device = g.F.Flash.device c.args.flash.now in
+    let b : Device = g.F.Flash.device c.fill-filled.new.flash in
+    let e : Device = g.F.Flash.device c.choose-chosen.new.flash in
+    let selector = same_apart (g.met.F.Flash.is_lawful c.args.flash.now) (g.met.F.Flash.is_lawful c.fill-filled.new.flash) c.requires.mounted.stands.area.lawful.in_bank c.requires.apart_selector c.fill-filled.ensures.touches in
+    let target = same_apart (g.met.F.Flash.is_lawful c.fill-filled.new.flash) (g.met.F.Flash.is_lawful c.choose-chosen.new.flash)
+    (subst (λ (banks : List Bank). IsLawfulArea banks c.args.area) (sym c.fill-filled.ensures.touches.banks) c.requires.lawful.in_bank) c.requires.selector_target c.choose-chosen.ensures.touches in
+    let banks = c.choose-chosen.ensures.touches.banks in
+    let undamaged = g.met.K.Backend.stands_reads c.in-Ok.to (geometry_of b (g.K.Backend.mounted_on c.in-Ok.to)) (sectors_of b (g.K.Backend.mounted_on c.in-Ok.to)) c.in-Ok.ensures.stands in
+    chosen-ends g.K.Backend.mounted_on g.K.Backend.stands g.K.Backend.damage g.K.Backend.contents (g.K.Backend.room c.args.area (geometry_of a c.args.area)) c.args.map.now c.args.area c.args.index
+    (on g.K.Backend.contents a (g.K.Backend.mounted_on c.args.from.now)) a b e c.args.selector.now.ring c.choose-chosen.new.self.ring c.in-Ok.to c.in-Ok.to c.choose-chosen.result c.moved_as.result
+    (active-still c.args.map.now a b c.args.selector.now.ring.area c.fill-filled.ensures.touches.banks selector) c.in-Ok.ensures.on refl
+    (still g.K.Backend.damage b e c.args.area banks target ∙ ap (on g.K.Backend.damage b) (sym c.in-Ok.ensures.on) ∙ undamaged)
+    (still g.K.Backend.contents b e c.args.area banks target ∙ c.in-Ok.ensures.ends.0) c.in-Ok.ensures.ends.1
+    c.choose-chosen.ensures.ends c.moved_as.ensures
+
+pub returns-clause-stands : goal.returns-clause-stands
+returns-clause-stands g c =
+    let b : Device = g.F.Flash.device c.fill-filled.new.flash in
+    let e : Device = g.F.Flash.device c.choose-chosen.new.flash in
+    let target = same_apart (g.met.F.Flash.is_lawful c.fill-filled.new.flash) (g.met.F.Flash.is_lawful c.choose-chosen.new.flash)
+    (subst (λ (banks : List Bank). IsLawfulArea banks c.args.area) (sym c.fill-filled.ensures.touches.banks) c.requires.lawful.in_bank) c.requires.selector_target c.choose-chosen.ensures.touches in
+    chosen-stands g.K.Backend.mounted_on g.K.Backend.stands g.K.Backend.damage g.K.Backend.contents e c.args.index c.in-Ok.to c.choose-chosen.result c.moved_as.result
+    (stands-still g.K.Backend.mounted_on g.K.Backend.stands g.K.Backend.contents g.K.Backend.room b e c.in-Ok.to c.choose-chosen.ensures.touches.banks (subst (λ (x : Area). sectors_of e x ≡ sectors_of b x) (sym c.in-Ok.ensures.on) target) c.in-Ok.ensures.stands) c.moved_as.ensures

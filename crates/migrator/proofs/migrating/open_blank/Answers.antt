@@ -1,0 +1,14 @@
+use Rattle.std.proofs.Common.{[], ◌∷◌, Result, Err, ap, subst, ◌∙◌}
+use Rattle.flash_map.proofs.Touches.{then}
+use Rattle.flash_map.specs.Faults.{mount_lost}
+use Rattle.flash_map.specs.Touches.{Touches}
+use Rattle.flash_map.specs.declared.faults.MountFault.{MountFault}
+use Rattle.migrator.proofs.migrating.open_blank.Goals as goal
+
+pub returns-in-Ok-mount-clause-touches : goal.returns-in-Ok-mount-clause-touches
+returns-in-Ok-mount-clause-touches g c = then c.in-Ok.ensures.touches c.in-Ok-mount.ensures.touches
+
+pub returns-in-Err-PowerLost-clause-touches : goal.returns-in-Err-PowerLost-clause-touches
+returns-in-Err-PowerLost-clause-touches g c =
+    then c.in-Ok.ensures.touches
+    (subst (λ (r : Result g.row.K.Denot MountFault). Touches (c.args.area ∷ []) (g.F.Flash.device c.erase-erased.new.flash) (g.F.Flash.device c.mount.new.flash) (mount_lost r)) (c.in-Err-PowerLost.is ∙ ap (λ (x : MountFault). Err x) c.in-Err-PowerLost.field-0-is) c.mount.ensures.touches)

@@ -1,0 +1,46 @@
+use Rattle.std.proofs.Common.{true, false}
+use Rattle.flash_sim.specs.Device.{Device}
+use Rattle.flash_map.specs.Touches.{Touches}
+use Rattle.flash_map.proofs.Touches.{then}
+use Rattle.fcb_ring.proofs.AppendLemmas.{is_err_by}
+use Rattle.std.proofs.Common.{[], ◌∷◌, subst, ◌∙◌}
+use Rattle.flash_map.specs.declared.area.Area.{Area}
+use Rattle.migrator.proofs.Collecting.{last-contained, last-short, collected-all}
+use Rattle.migrator.proofs.selecting.collect.Goals as goal
+
+pub copy_last-requires-clause-listed : goal.copy_last-requires-clause-listed
+copy_last-requires-clause-listed g c =
+    last-contained c.args.map.now (g.F.Flash.device c.args.flash.now) (g.F.Flash.device c.begin_collect.new.flash) c.args.ring.now.area c.begin_collect.new.self.area c.last_record-last.result
+    c.last_record-last.ensures c.in_ok-begin_collect.ensures.begun.list c.in_ok-begin_collect.ensures.begun.area
+
+pub copy_last-requires-clause-short : goal.copy_last-requires-clause-short
+copy_last-requires-clause-short g c =
+    last-short c.args.map.now (g.F.Flash.device c.args.flash.now) c.args.ring.now c.last_record-last.result (g.met.F.Flash.is_lawful c.args.flash.now) c.requires.mounted.stands c.last_record-last.ensures
+
+pub returns-in_err-end_collect-clause-touches : goal.returns-in_err-end_collect-clause-touches
+returns-in_err-end_collect-clause-touches g c =
+    let a : Device = g.F.Flash.device c.args.flash.now in
+    let e : Device = g.F.Flash.device c.end_collect.new.flash in
+    let area1 = c.in_ok-begin_collect.ensures.begun.area in
+    let area2 = c.in_ok-copy_last.ensures.area ∙ area1 in
+    is_err_by c.from_residual-in_err-end_collect.result (λ b. Touches (c.args.ring.now.area ∷ []) a e b) c.from_residual-in_err-end_collect.ensures.0
+    (then (then c.in_ok-begin_collect.ensures.touches (subst (λ (x : Area). Touches (x ∷ []) (g.F.Flash.device c.begin_collect.new.flash) (g.F.Flash.device c.copy_last.new.flash) false) area1 c.in_ok-copy_last.ensures.touches))
+    (subst (λ (x : Area). Touches (x ∷ []) (g.F.Flash.device c.copy_last.new.flash) (g.F.Flash.device c.end_collect.new.flash) true) area2 c.in_err-end_collect.ensures.touches))
+
+pub returns-clause-touches : goal.returns-clause-touches
+returns-clause-touches g c =
+    let area1 = c.in_ok-begin_collect.ensures.begun.area in
+    let area2 = c.in_ok-copy_last.ensures.area ∙ area1 in
+    then (then c.in_ok-begin_collect.ensures.touches (subst (λ (x : Area). Touches (x ∷ []) (g.F.Flash.device c.begin_collect.new.flash) (g.F.Flash.device c.copy_last.new.flash) false) area1 c.in_ok-copy_last.ensures.touches))
+    (subst (λ (x : Area). Touches (x ∷ []) (g.F.Flash.device c.copy_last.new.flash) (g.F.Flash.device c.end_collect.new.flash) false) area2 c.in_ok-end_collect.ensures.touches)
+
+pub returns-clause-collected : goal.returns-clause-collected
+returns-clause-collected g c =
+    let one = c.in_ok-begin_collect.ensures.begun in
+    let two = c.in_ok-copy_last.ensures in
+    let three = c.in_ok-end_collect.ensures in
+    collected-all c.args.map.now (g.F.Flash.device c.args.flash.now) (g.F.Flash.device c.begin_collect.new.flash) (g.F.Flash.device c.copy_last.new.flash) (g.F.Flash.device c.end_collect.new.flash)
+    c.args.ring.now c.begin_collect.new.self c.copy_last.new.ring c.end_collect.new.self c.last_record-last.result
+    (g.met.F.Flash.is_lawful c.args.flash.now) (g.met.F.Flash.is_lawful c.begin_collect.new.flash) (g.met.F.Flash.is_lawful c.copy_last.new.flash) c.requires.mounted c.requires.left c.last_record-last.ensures
+    one.banks two.touches.banks one.others two.others one.units two.units three.units one.list one.area one.stands one.goes_on two.list two.area two.collecting two.copied three.ends
+    three.stands three.ready (three.reserve ∙ two.reserve ∙ one.reserve) three.end

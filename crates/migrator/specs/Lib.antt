@@ -1,0 +1,5 @@
+pub mod Active
+pub mod Areas
+pub mod Choosing
+pub mod Copying
+pub mod Migrating

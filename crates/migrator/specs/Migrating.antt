@@ -1,0 +1,150 @@
+-- What a migration makes of the areas, and how it ends.
+use Rattle.std.specs.Prelude.{◌≡◌, ◌⊎◌, ℕ, Bool, true, false, List, [], ◌∷◌, Option, Some, None, Result, Ok, Err}
+use Rattle.std.specs.FinMap as finite
+use Rattle.std.specs.List.{slice_get}
+use Rattle.std.specs.Option.{option_map_or, option_and_then}
+use Rattle.flash_sim.specs.Device.{Device}
+use Rattle.flash_map.specs.declared.area.Area.{Area}
+use Rattle.flash_map.specs.declared.area.Geometry.{Geometry}
+use Rattle.flash_map.specs.declared.faults.Damaged.{Damaged}
+use Rattle.flash_map.specs.Area.{geometry_of}
+use Rattle.fcb_ring.specs.declared.ring.Ring.{Ring}
+use Rattle.backend_api.specs.Map.{Map}
+use Rattle.flash_map.specs.On.{on, StandsOn}
+use Rattle.backend_api.specs.Room.{Room}
+use Rattle.backend_api.specs.declared.backend.SetFault.{SetFault}
+use Rattle.backend_api.specs.declared.backend.SetFault.TheVariants.{NoSpace as NoPlace, TooManyNames as OneTooMany, PowerLost as CopyLost}
+use Rattle.flash_sim.specs.declared.flash.PowerLost.{PowerLost as Lost}
+use Rattle.migrator.specs.declared.migrating.MigrateFault.{MigrateFault}
+use Rattle.migrator.specs.declared.migrating.MigrateFault.TheVariants.{NoTarget, NoSpace, TooManyNames, PowerLost, NoMemory}
+use Rattle.migrator.specs.Active.{active_in, active_on, selector_damage_on}
+use Rattle.migrator.specs.Areas.{IsLawfulMap, is_store, selector_of, target}
+use Rattle.migrator.specs.Choosing.{IsOpen}
+use Rattle.migrator.specs.Copying.{NoneTooMany, HasOneTooMany, HasOneWithoutRoom}
+
+-- the answer says that power was lost
+abbrev pub migrate_lost : {T : Type 0} → Result T MigrateFault → Bool
+migrate_lost (Ok x) = false
+migrate_lost (Err NoTarget) = false
+migrate_lost (Err (NoSpace need live)) = false
+migrate_lost (Err TooManyNames) = false
+migrate_lost (Err PowerLost) = true
+migrate_lost (Err NoMemory) = false
+
+-- it says why the settings were not moved, and not that power was lost
+abbrev pub is_refused : {T : Type 0} → Result T MigrateFault → Bool
+is_refused (Ok x) = false
+is_refused (Err NoTarget) = true
+is_refused (Err (NoSpace need live)) = true
+is_refused (Err TooManyNames) = true
+is_refused (Err PowerLost) = false
+is_refused (Err NoMemory) = true
+
+-- what a copy of all settings is for the migration
+abbrev pub filled_as : {T : Type 0} → T → Result (Unit {0}) SetFault → Result T MigrateFault
+filled_as to (Ok x) = Ok to
+filled_as to (Err (NoPlace need live)) = Err (NoSpace need live)
+filled_as to (Err OneTooMany) = Err TooManyNames
+filled_as to (Err CopyLost) = Err PowerLost
+
+-- and what the record that names the area is
+abbrev pub moved_as : {T : Type 0} → T → Result (Unit {0}) Lost → Result T MigrateFault
+moved_as moved (Ok x) = Ok moved
+moved_as moved (Err lost) = Err PowerLost
+
+-- the area to which the settings go
+abbrev pub target_area : List Area → ℕ → Option Area
+target_area areas active = option_and_then (slice_get areas) (target areas active)
+
+-- the areas on which a migration works: that one, and the selector's
+abbrev pub worked_on : List Area → Area → ℕ → List Area
+worked_on areas selector active = option_map_or (λ area. area ∷ selector ∷ []) (target_area areas active) (selector ∷ [])
+
+-- the room of an area on a device
+abbrev pub room_on : (Area → Geometry → Room) → Device → Area → Room
+room_on room d area = room area (geometry_of d area)
+
+-- The selector and a store are mounted on areas of a lawful map: the ring is the selector's, and the store's area is active. The store
+-- is one that serves each area in which settings are stored.
+pub record IsServed {S : Type 0} (serves : Area → Geometry → Type 0) (mounted_on : S → Area) (stands : S → Geometry → List (List ℕ) → Type 0)
+    (areas : List Area) (d : Device) (ring : Ring) (state : S) (active : ℕ) : Type 0 where
+  pub lawful : IsLawfulMap d.banks areas
+  pub served : (index : ℕ) (area : Area) → slice_get areas index ≡ Some area → is_store area ≡ true → serves area (geometry_of d area)
+  pub selected : selector_of areas ≡ Some ring.area
+  pub open_ring : IsOpen d ring
+  pub there : slice_get areas active ≡ Some (mounted_on state)
+  pub up : StandsOn mounted_on stands d state
+  pub is_active : active ≡ active_on areas d
+
+-- how opening an area with no settings ends
+abbrev pub OpenEnds : {T : Type 0} → Map → Result T MigrateFault → Type 0
+OpenEnds copy (Ok x) = copy ≡ finite.empty
+OpenEnds copy (Err NoTarget) = ⊥
+OpenEnds copy (Err TooManyNames) = ⊥
+OpenEnds copy (Err (NoSpace need live)) = ⊥
+OpenEnds copy (Err PowerLost) = Unit {0}
+OpenEnds copy (Err NoMemory) = Unit {0}
+
+-- how filling an area with all settings ends
+abbrev pub FillEnds : {T : Type 0} → Room → ℕ → Map → Map → Result T MigrateFault → Type 0
+FillEnds room sectors settings copy (Ok x) = (copy ≡ settings) × NoneTooMany room settings None
+FillEnds room sectors settings copy (Err NoTarget) = ⊥
+FillEnds room sectors settings copy (Err TooManyNames) = HasOneTooMany room settings
+FillEnds room sectors settings copy (Err (NoSpace need live)) = HasOneWithoutRoom room sectors settings need live
+FillEnds room sectors settings copy (Err PowerLost) = Unit {0}
+FillEnds room sectors settings copy (Err NoMemory) = Unit {0}
+
+-- The settings are those that the active area of the map reads as; neither it nor the selector is damaged.
+pub record ReadsAs (damage : Area → Geometry → List (List ℕ) → Option Damaged) (contents : Area → Geometry → List (List ℕ) → Map)
+    (areas : List Area) (d : Device) (settings : Map) : Type 0 where
+  pub sound : selector_damage_on areas d ≡ None
+  pub area : Area
+  pub there : slice_get areas (active_on areas d) ≡ Some area
+  pub undamaged : on damage d area ≡ None
+  pub reads : on contents d area ≡ settings
+
+-- the area at this index is active, and has all settings
+pub record IsMoved (damage : Area → Geometry → List (List ℕ) → Option Damaged) (contents : Area → Geometry → List (List ℕ) → Map)
+    (room : Room) (areas : List Area) (selector area : Area) (index : ℕ) (settings : Map) (new : Device) : Type 0 where
+  pub active : active_in areas new selector ≡ index
+  pub undamaged : on damage new area ≡ None
+  pub reads : on contents new area ≡ settings
+  pub free : NoneTooMany room settings None
+
+-- the active area is the one that was
+abbrev pub StaysActive : List Area → Area → Device → Device → Type 0
+StaysActive areas selector old new = active_in areas new selector ≡ active_in areas old selector
+
+-- How moving the settings to the area at this index ends.
+abbrev pub MoveEnds : {S : Type 0} → (S → Area) → (Area → Geometry → List (List ℕ) → Option Damaged) → (Area → Geometry → List (List ℕ) → Map)
+    → Room → List Area → Area → Area → ℕ → Map → Device → Device → Result (S × ℕ) MigrateFault → Type 0
+MoveEnds mounted damage contents room areas selector area index settings old new (Ok moved) =
+    (moved.1 ≡ index) × (mounted moved.0 ≡ area) × IsMoved damage contents room areas selector area index settings new
+MoveEnds mounted damage contents room areas selector area index settings old new (Err NoTarget) = ⊥
+MoveEnds mounted damage contents room areas selector area index settings old new (Err TooManyNames) =
+    HasOneTooMany room settings × StaysActive areas selector old new
+MoveEnds mounted damage contents room areas selector area index settings old new (Err (NoSpace need live)) =
+    HasOneWithoutRoom room area.sectors settings need live × StaysActive areas selector old new
+MoveEnds mounted damage contents room areas selector area index settings old new (Err PowerLost) =
+    StaysActive areas selector old new ⊎ IsMoved damage contents room areas selector area index settings new
+MoveEnds mounted damage contents room areas selector area index settings old new (Err NoMemory) = StaysActive areas selector old new
+
+-- the area at this index is the target
+pub record IsTarget (areas : List Area) (active index : ℕ) (area : Area) : Type 0 where
+  pub target : target areas active ≡ Some index
+  pub there : slice_get areas index ≡ Some area
+
+-- there is a target, and the move to it ends so
+abbrev pub Migrates : {S : Type 0} → (S → Area) → (Area → Geometry → List (List ℕ) → Option Damaged) → (Area → Geometry → List (List ℕ) → Map)
+    → (Area → Geometry → Room) → List Area → Area → ℕ → Map → Device → Device → Result (S × ℕ) MigrateFault → Type 0
+Migrates mounted damage contents room areas selector active settings old new result =
+    (index : ℕ) × (area : Area) × IsTarget areas active index area
+    × MoveEnds mounted damage contents (room_on room old area) areas selector area index settings old new result
+
+-- how a migration ends: there is no target exactly where it says so, and then nothing changed
+abbrev pub MigrateEnds : {S : Type 0} → (S → Area) → (Area → Geometry → List (List ℕ) → Option Damaged) → (Area → Geometry → List (List ℕ) → Map)
+    → (Area → Geometry → Room) → List Area → Area → ℕ → Map → Device → Device → Result (S × ℕ) MigrateFault → Type 0
+MigrateEnds mounted damage contents room areas selector active settings old new (Err NoTarget) =
+    (target areas active ≡ None) × (new ≡ old)
+MigrateEnds mounted damage contents room areas selector active settings old new result =
+    Migrates mounted damage contents room areas selector active settings old new result

@@ -1,0 +1,12 @@
+//! Which of several stores is active, by the records of a selector, and how all settings go from one to another.
+#![tactic(auto)]
+
+mod areas;
+mod copying;
+mod migrating;
+mod selecting;
+
+pub use areas::target;
+pub use copying::put_in_order;
+pub use migrating::{MigrateFault, migrate};
+pub use selecting::Selector;

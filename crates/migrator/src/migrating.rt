@@ -1,0 +1,229 @@
+// Moving all settings to another area.
+ghost use Rattle.std.specs.Prelude.{◌≡◌, ◌≢◌, ◌⊎◌, ℕ, ◌<◌, ◌≤◌, ◌∷◌, [], List, true, false, length, Some, None, IfOk, OnOk, is_err};
+ghost use Rattle.std.specs.FinMap as finite;
+ghost use Rattle.flash_map.specs.Area.{sectors_of, geometry_of, AreApart};
+ghost use Rattle.flash_map.specs.Lawful.{IsLawfulFor};
+ghost use Rattle.flash_map.specs.Touches.{Touches};
+ghost use Rattle.flash_map.specs.On.{on, StandsOn};
+ghost use Rattle.fcb_ring.specs.Standing.{is_up, ring_damage};
+ghost use Rattle.migrator.specs.Areas.{is_store_at};
+ghost use Rattle.migrator.specs.Choosing.{IsOpen};
+ghost use Rattle.migrator.specs.Migrating.{migrate_lost, is_refused, IsServed, filled_as, moved_as, worked_on, room_on, OpenEnds, FillEnds, ReadsAs, MoveEnds, MigrateEnds};
+
+use crate::Selector;
+use crate::areas::{area_at, target};
+use crate::copying::copy_all;
+use backend_api::{Backend, SetFault};
+use flash_map::{Area, FlashMap, MountFault};
+use flash_sim::{Flash, PowerLost, Steps};
+use std::alloc::Global;
+use std::sync::ledger::Ledger;
+
+/// Why the settings were not moved.
+#[derive(Clone, Copy, Debug, PartialEq, Eq)]
+pub enum MigrateFault {
+    /// There is no other store area.
+    NoTarget,
+    /// A setting finds no room in the target: the bytes that it needs, and those that the settings before it cost.
+    NoSpace { need: u64, live: u64 },
+    /// A name would be one too many for the target.
+    TooManyNames,
+    /// Power was off, or was lost in the call.
+    PowerLost,
+    /// There was not enough memory.
+    NoMemory,
+}
+
+// Erases an area, which then reads as no settings.
+fn erase<F: Flash, K: Backend, L: Ledger>(
+    flash: &mut F,
+    area: &Area,
+    steps: &mut Steps<L>,
+) -> Result<(), PowerLost>
+    requires lawful { IsLawfulFor (F.device flash.old).banks area.now }
+    requires serves { K.serves area.now (geometry_of (F.device flash.old) area.now) }
+
+    ensures touches { Touches (area.now ∷ []) (F.device flash.old) (F.device flash.new) (is_err result) }
+    ensures sound { OnOk result (on K.damage (F.device flash.new) area.now ≡ None) }
+    ensures empty { OnOk result (on K.contents (F.device flash.new) area.now ≡ finite.empty) }
+{
+    K::format(flash, area, steps)
+}
+
+// Erases an area, and mounts a store on it.
+fn open_blank<F: Flash, K: Backend, L: Ledger>(
+    alloc: Global,
+    flash: &mut F,
+    area: Area,
+    steps: &mut Steps<L>,
+) -> Result<K, MigrateFault>
+    requires lawful { IsLawfulFor (F.device flash.old).banks area }
+    requires serves { K.serves area (geometry_of (F.device flash.old) area) }
+
+    ensures touches { Touches (area ∷ []) (F.device flash.old) (F.device flash.new) (migrate_lost result) }
+    ensures ends { OpenEnds (on K.contents (F.device flash.new) area) result }
+    ensures on { IfOk result (λ state. K.mounted_on state ≡ area) }
+    ensures stands { IfOk result (λ state. StandsOn K.mounted_on K.stands (F.device flash.new) state) }
+{
+    let erased: Result<(), PowerLost> = erase::<F, K, L>(flash, &area, steps);
+    match erased {
+        Ok(()) => {}
+        Err(_) => return Err(MigrateFault::PowerLost),
+    }
+    match K::mount(alloc, flash, area, steps) {
+        Ok(state) => Ok(state),
+        Err(MountFault::PowerLost) => Err(MigrateFault::PowerLost),
+        Err(MountFault::NoMemory) => Err(MigrateFault::NoMemory),
+        Err(MountFault::Damaged(_)) => unreachable!(),
+    }
+}
+
+// The store, where all settings were put into it, or why they were not.
+fn filled_as<K: Backend>(to: K, copied: Result<(), SetFault>) -> Result<K, MigrateFault>
+    ensures { result ≡ filled_as to copied }
+{
+    match copied {
+        Ok(()) => Ok(to),
+        Err(SetFault::NoSpace { need, live }) => Err(MigrateFault::NoSpace { need, live }),
+        Err(SetFault::TooManyNames) => Err(MigrateFault::TooManyNames),
+        Err(SetFault::PowerLost) => Err(MigrateFault::PowerLost),
+    }
+}
+
+// The store and its index, where the selector names it.
+fn moved_as<K: Backend>(
+    to: K,
+    index: usize,
+    chosen: Result<(), PowerLost>,
+) -> Result<(K, usize), MigrateFault>
+    ensures { result ≡ moved_as (to, index) chosen }
+{
+    match chosen {
+        Ok(()) => Ok((to, index)),
+        Err(_) => Err(MigrateFault::PowerLost),
+    }
+}
+
+// Erases an area, mounts a store on it, and puts all settings into it. The source stays as it is.
+fn fill<F: Flash, K: Backend, L: Ledger>(
+    alloc: Global,
+    from: &K,
+    flash: &mut F,
+    area: Area,
+    steps: &mut Steps<L>,
+) -> Result<K, MigrateFault>
+    requires lawful_from { IsLawfulFor (F.device flash.old).banks (K.mounted_on from.now) }
+    requires stands_from { StandsOn K.mounted_on K.stands (F.device flash.old) from.now }
+    requires lawful { IsLawfulFor (F.device flash.old).banks area }
+    requires serves { K.serves area (geometry_of (F.device flash.old) area) }
+    requires apart { AreApart area (K.mounted_on from.now) }
+    requires version { area.version ≡ (K.mounted_on from.now).version }
+
+    ensures touches { Touches (area ∷ []) (F.device flash.old) (F.device flash.new) (migrate_lost result) }
+    ensures source { let area = K.mounted_on from.now in
+        sectors_of (F.device flash.new) area ≡ sectors_of (F.device flash.old) area }
+    ensures ends { let d = F.device flash.old in let settings = on K.contents d (K.mounted_on from.now) in
+        FillEnds (room_on K.room d area) area.sectors settings (on K.contents (F.device flash.new) area) result }
+    ensures on { IfOk result (λ state. K.mounted_on state ≡ area) }
+    ensures stands { IfOk result (λ state. StandsOn K.mounted_on K.stands (F.device flash.new) state) }
+{
+    let opened: Result<K, MigrateFault> = open_blank(alloc, flash, area, steps);
+    let mut to = match opened {
+        Ok(to) => to,
+        Err(fault) => return Err(fault),
+    };
+    let copied = copy_all(from, &mut to, flash, steps);
+    filled_as(to, copied)
+}
+
+// Moves all settings to this area, and makes it the active one.
+fn move_to<F: Flash, K: Backend, L: Ledger>(
+    alloc: Global,
+    flash: &mut F,
+    map: &FlashMap,
+    selector: &mut Selector,
+    from: &K,
+    area: Area,
+    index: u8,
+    steps: &mut Steps<L>,
+) -> Result<(K, usize), MigrateFault>
+    requires lawful_from { IsLawfulFor (F.device flash.old).banks (K.mounted_on from.now) }
+    requires stands_from { StandsOn K.mounted_on K.stands (F.device flash.old) from.now }
+    requires lawful { IsLawfulFor (F.device flash.old).banks area }
+    requires serves { K.serves area (geometry_of (F.device flash.old) area) }
+    requires mounted { IsOpen (F.device flash.old) selector.old.ring }
+    requires store { is_store_at map.now index ≡ true }
+    requires apart_source { AreApart area (K.mounted_on from.now) }
+    requires version { area.version ≡ (K.mounted_on from.now).version }
+    requires apart_selector { AreApart area selector.old.ring.area }
+    requires selector_source { AreApart selector.old.ring.area (K.mounted_on from.now) }
+    requires selector_target { AreApart selector.old.ring.area area }
+
+    ensures touches { let areas = area ∷ selector.old.ring.area ∷ [] in
+        Touches areas (F.device flash.old) (F.device flash.new) (migrate_lost result) }
+    ensures source { let area = K.mounted_on from.now in
+        sectors_of (F.device flash.new) area ≡ sectors_of (F.device flash.old) area }
+    ensures area { selector.new.ring.area ≡ selector.old.ring.area }
+    ensures sound { ring_damage (F.device flash.new) selector.old.ring.area ≡ None }
+    ensures open_ring { migrate_lost result ≡ false → IsOpen (F.device flash.new) selector.new.ring }
+    ensures lost { let e = F.device flash.new in migrate_lost result ≡ true
+        → (is_up selector.new.ring.stage ≡ false) ⊎ IsOpen e selector.new.ring }
+    ensures ends { let d = F.device flash.old in let settings = on K.contents d (K.mounted_on from.now) in
+        MoveEnds K.mounted_on K.damage K.contents (room_on K.room d area) map.now selector.old.ring.area area index
+        settings d (F.device flash.new) result }
+    ensures stands { IfOk result (λ moved. StandsOn K.mounted_on K.stands (F.device flash.new) moved.0) }
+{
+    let filled: Result<K, MigrateFault> = fill(alloc, from, flash, area, steps);
+    let to = match filled {
+        Ok(to) => to,
+        Err(fault) => return Err(fault),
+    };
+    let chosen = selector.choose(flash, map, index, steps);
+    moved_as(to, index as usize, chosen)
+}
+
+/// Moves all settings to the next store area of the map, which is then the active one. It gives a store on that area, and
+/// the area's index. The source's sectors stay as they are, and whatever happens the active area reads as the same settings.
+///
+/// # Errors
+/// `NoTarget` exactly where there is no other store area, and then nothing changed. `TooManyNames` and `NoSpace` where the
+/// target has no place for a setting beside those of lesser names, `NoMemory`: the source is still active. `PowerLost`: the
+/// source is active, or the target, which then has all settings; the selector is down, or takes calls as before.
+pub fn migrate<F: Flash, K: Backend, L: Ledger>(
+    alloc: Global,
+    flash: &mut F,
+    map: &FlashMap,
+    selector: &mut Selector,
+    from: &K,
+    active: usize,
+    steps: &mut Steps<L>,
+) -> Result<(K, usize), MigrateFault>
+    requires { let d = F.device flash.old in
+        IsServed K.serves K.mounted_on K.stands map.now d selector.old.ring from.now active }
+
+    ensures touches { let areas = worked_on map.now selector.old.ring.area active in
+        Touches areas (F.device flash.old) (F.device flash.new) (migrate_lost result) }
+    ensures source { let area = K.mounted_on from.now in
+        sectors_of (F.device flash.new) area ≡ sectors_of (F.device flash.old) area }
+    ensures from { StandsOn K.mounted_on K.stands (F.device flash.new) from.now }
+    ensures area { selector.new.ring.area ≡ selector.old.ring.area }
+    ensures map { let settings = on K.contents (F.device flash.old) (K.mounted_on from.now) in
+        ReadsAs K.damage K.contents map.now (F.device flash.new) settings }
+    ensures ends { let d = F.device flash.old in let settings = on K.contents d (K.mounted_on from.now) in
+        MigrateEnds K.mounted_on K.damage K.contents K.room map.now selector.old.ring.area active
+        settings d (F.device flash.new) result }
+    ensures goes_on { let e = F.device flash.new in IfOk result (λ moved.
+        IsServed K.serves K.mounted_on K.stands map.now e selector.new.ring moved.0 moved.1) }
+    ensures stays { let e = F.device flash.new in is_refused result ≡ true
+        → IsServed K.serves K.mounted_on K.stands map.now e selector.new.ring from.now active }
+    ensures lost { let e = F.device flash.new in migrate_lost result ≡ true
+        → (is_up selector.new.ring.stage ≡ false) ⊎ IsOpen e selector.new.ring }
+{
+    match target(map, active) {
+        Some(index) => {
+            let area = area_at(map, index);
+            move_to(alloc, flash, map, selector, from, area, index as u8, steps)
+        }
+        None => Err(MigrateFault::NoTarget),
+    }
+}

@@ -1,0 +1,69 @@
+-- The texts of answers in a row, and what they show.
+use Rattle.std.specs.Prelude.{◌≡◌, ℕ, ◌^◌, ◌<◌, ⊤, Bool, List, [], ◌∷◌, ◌++◌, All, length, map, codes, if◌then◌else◌}
+use Rattle.std.specs.Str.{bytes_eq}
+use Rattle.hex.specs.Hex.{IsBytes}
+use Rattle.setting_name.specs.Name.{IsName}
+use Rattle.script_lines.specs.declared.lists.Pair.{Pair}
+use Rattle.script_lines.specs.declared.lists.Give.{Give}
+use Rattle.script_lines.specs.declared.answer.SaveEnd.{SaveEnd}
+use Rattle.script_lines.specs.declared.answer.Answer.{Answer}
+use Rattle.script_lines.specs.declared.answer.SaveEnd.TheVariants as ends
+use Rattle.script_lines.specs.declared.answer.Answer.TheVariants.{Done, Value, Absent, Lost, Off, NoSpace, TooMany, Exists, NoKind, NoTarget, Rejected, NoHandler, Loaded, Direct, Saved, Names}
+use Rattle.image_file.specs.Lawful.{IsLabel}
+use Rattle.script_lines.specs.Answer.{text_of, lines_of}
+
+abbrev pub transcript : List Answer → List ℕ
+transcript [] = []
+transcript (answer ∷ answers) = text_of answer ++ transcript answers
+
+-- bytes above the space
+abbrev pub IsWord : List ℕ → Type 0
+IsWord word = All (λ b. 32 < b) word
+
+pub record IsToldPair (pair : Pair) : Type 0 where
+  pub name : IsName pair.name
+  pub value : IsBytes pair.value
+
+-- the rest is what is left of a name
+pub record IsToldGive (give : Give) : Type 0 where
+  pub subtree : IsName give.subtree
+  pub rest : IsWord give.rest
+  pub value : IsBytes give.value
+
+-- numbers are of 64 bits, values are bytes, and names are names
+abbrev pub IsTold : Answer → Type 0
+IsTold (Done units) = units < 2 ^ 64
+IsTold (Value value) = IsBytes value
+IsTold (Lost units chance) = units < 2 ^ 64
+IsTold (NoSpace units need live) = units < 2 ^ 64
+IsTold (TooMany units) = units < 2 ^ 64
+IsTold (Loaded gives taken rejected passed) =
+    All IsToldGive gives × (taken < 2 ^ 64) × (rejected < 2 ^ 64) × (passed < 2 ^ 64)
+IsTold (Direct pairs) = All IsToldPair pairs × (length pairs < 2 ^ 64)
+IsTold (Saved pairs units end) = (pairs < 2 ^ 64) × (units < 2 ^ 64)
+IsTold (Names active pairs) = IsLabel active × All IsToldPair pairs
+IsTold _ = ⊤
+
+-- The lines of a transcript, answer by answer, are told by its bytes.
+abbrev pub OneListOfLines : Type 0
+OneListOfLines = (some others : List Answer) → All IsTold some → All IsTold others
+    → transcript some ≡ transcript others → map lines_of some ≡ map lines_of others
+
+-- An empty rest is shown as `-`, as a rest that is `-` is.
+abbrev pub shown_rest : List ℕ → List ℕ
+shown_rest rest = if bytes_eq rest (codes "-") then [] else rest
+
+abbrev pub shown_give : Give → Give
+shown_give give = record give { rest = shown_rest give.rest }
+
+-- what an answer shows: all but the bytes that were needed and used, and whether an empty rest was `-`
+abbrev pub shown : Answer → Answer
+shown (NoSpace units need live) = NoSpace units 0 0
+shown (Saved pairs units (ends.NoSpace need live)) = Saved pairs units (ends.NoSpace 0 0)
+shown (Loaded gives taken rejected passed) = Loaded (map shown_give gives) taken rejected passed
+shown answer = answer
+
+-- A transcript has one reading, but for what answers do not show.
+abbrev pub OneTranscript : Type 0
+OneTranscript = (some others : List Answer) → All IsTold some → All IsTold others
+    → transcript some ≡ transcript others → map shown some ≡ map shown others

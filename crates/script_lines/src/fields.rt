@@ -1,0 +1,257 @@
+// The words behind the first one.
+ghost use Rattle.std.specs.Prelude.{◌≡◌, ◌↔◌, IsTrue, ℕ};
+ghost use Rattle.std.specs.List.{list_all};
+ghost use Rattle.image_file.specs.Lawful.{IsLabel, is_label_byte};
+ghost use Rattle.script_lines.specs.Forms.{words_of, IsOneWord, AreTwoWords, ReadsField, ReadsNone, ReadsOne, ReadsTwo, ReadsNameOrNothing};
+ghost use Rattle.script_lines.specs.Forms.Field.{a_name, a_label, a_kind, some_bytes, any_bytes, below};
+ghost use Rattle.script_lines.specs.Forms.Said.{name, label, kind, bytes, number};
+
+use crate::bytes::Bytes;
+use crate::lists::Label;
+use crate::why::LineFault::{NoMemory, Refused};
+use crate::why::{LineFault, LineWhy};
+use handlers::HandlerKind;
+use setting_name::Name;
+use std::alloc::Global;
+use text_parts::{cut_at, one_part, read_number};
+
+/// The name that a word is.
+///
+/// # Errors
+/// `Name` where it is none.
+pub fn read_name(word: &[u8]) -> Result<Name, LineFault>
+    ensures { (limit : ℕ) → ReadsField limit a_name name word.now result }
+{
+    match Name::read(word) {
+        Ok(name) => Ok(name),
+        Err(_) => Err(Refused(LineWhy::Name)),
+    }
+}
+
+fn is_label_byte(byte: u8) -> bool
+    ensures { result ≡ is_label_byte byte }
+{
+    byte.is_ascii_lowercase() || byte.is_ascii_digit()
+}
+
+fn all_label_bytes(word: &[u8]) -> bool
+    ensures { result ≡ list_all is_label_byte word.now }
+{
+    word.iter().all(|byte| is_label_byte(*byte))
+}
+
+fn is_label(word: &[u8]) -> bool
+    ensures { IsTrue result ↔ IsLabel word.now }
+{
+    (1..=8).contains(&word.len()) && all_label_bytes(word)
+}
+
+/// The label of an area that a word is: 1 to 8 bytes of `a` to `z` and `0` to `9`.
+///
+/// # Errors
+/// `Name` where it is none. Want of memory.
+pub fn read_label(alloc: Global, word: &[u8]) -> Result<Label, LineFault>
+    ensures { (limit : ℕ) → ReadsField limit a_label label word.now result }
+{
+    if !is_label(word) {
+        return Err(Refused(LineWhy::Name));
+    }
+    match Vec::from_slice(alloc, word) {
+        Ok(bytes) => Ok(Label::from_vec(bytes)),
+        Err(_) => Err(NoMemory),
+    }
+}
+
+/// The kind of handler that a word is: `table`, `counter` or `level`.
+///
+/// # Errors
+/// `Kind` where it is none of them.
+pub fn read_kind(word: &[u8]) -> Result<HandlerKind, LineFault>
+    ensures { (limit : ℕ) → ReadsField limit a_kind kind word.now result }
+{
+    if word == b"table".as_slice() {
+        Ok(HandlerKind::Table)
+    } else if word == b"counter".as_slice() {
+        Ok(HandlerKind::Counter)
+    } else if word == b"level".as_slice() {
+        Ok(HandlerKind::Level)
+    } else {
+        Err(Refused(LineWhy::Kind))
+    }
+}
+
+/// The bytes that a word is in hexadecimal digits of either case: one at least, and no more than the limit.
+///
+/// # Errors
+/// `Hex` where it is no such digits, `Long` where there are more bytes. Want of memory.
+pub fn read_bytes(alloc: Global, word: &[u8], limit: usize) -> Result<Bytes, LineFault>
+    ensures { ReadsField limit some_bytes bytes word.now result }
+{
+    match hex::decode(alloc, word) {
+        Ok(value) => {
+            if value.is_empty() {
+                Err(Refused(LineWhy::Hex))
+            } else if value.len() > limit {
+                Err(Refused(LineWhy::Long))
+            } else {
+                Ok(Bytes::from_vec(value))
+            }
+        }
+        Err(hex::FromHexError::OutOfMemory) => Err(NoMemory),
+        Err(_) => Err(Refused(LineWhy::Hex)),
+    }
+}
+
+/// The bytes that a word is, as `read_bytes` reads them, or none where it is `-`.
+///
+/// # Errors
+/// Those of `read_bytes`.
+pub fn read_bytes_or_dash(alloc: Global, word: &[u8], limit: usize) -> Result<Bytes, LineFault>
+    ensures { ReadsField limit any_bytes bytes word.now result }
+{
+    if word == b"-".as_slice() {
+        Ok(Bytes::new(alloc))
+    } else {
+        read_bytes(alloc, word, limit)
+    }
+}
+
+/// The number below the end that a word is, in decimal without a sign or leading zeros.
+///
+/// # Errors
+/// `Number` where it is none. Want of memory.
+pub fn read_number_below(alloc: Global, word: &[u8], end: u64) -> Result<u64, LineFault>
+    ensures { (limit : ℕ) → ReadsField limit (below end) number word.now result }
+{
+    match read_number(alloc, word, end) {
+        Ok(Some(found)) => Ok(found),
+        Ok(None) => Err(Refused(LineWhy::Number)),
+        Err(_) => Err(NoMemory),
+    }
+}
+
+/// Checks that no word is left of a line.
+///
+/// # Errors
+/// `Words` where one is.
+pub fn nothing(rest: Option<&[u8]>) -> Result<(), LineFault>
+    ensures { (limit : ℕ) → ReadsNone limit rest.entry result }
+{
+    match rest {
+        None => Ok(()),
+        Some(_) => Err(Refused(LineWhy::Words)),
+    }
+}
+
+/// The one word that is left of a line.
+///
+/// # Errors
+/// `Words` where it is not one.
+pub fn one_word(rest: Option<&[u8]>) -> Result<&[u8], LineFault>
+    ensures { IsOneWord (words_of rest.entry) result }
+{
+    match one_part(rest, b' ') {
+        Some(word) => Ok(word),
+        None => Err(Refused(LineWhy::Words)),
+    }
+}
+
+/// The two words that are left of a line.
+///
+/// # Errors
+/// `Words` where they are not two.
+pub fn two_words(rest: Option<&[u8]>) -> Result<(&[u8], &[u8]), LineFault>
+    ensures { AreTwoWords (words_of rest.entry) result }
+{
+    let Some(text) = rest else {
+        return Err(Refused(LineWhy::Words));
+    };
+    let (first, rest) = cut_at(text, b' ');
+    match one_part(rest, b' ') {
+        Some(second) => Ok((first, second)),
+        None => Err(Refused(LineWhy::Words)),
+    }
+}
+
+/// The one name that is left of a line.
+///
+/// # Errors
+/// The first cause for which it is not.
+pub fn name_alone(rest: Option<&[u8]>) -> Result<Name, LineFault>
+    ensures { (limit : ℕ) → ReadsOne limit a_name name rest.entry result }
+{
+    read_name(one_word(rest)?)
+}
+
+/// The name and the kind that are left of a line.
+///
+/// # Errors
+/// The first cause for which they are not.
+pub fn name_and_kind(rest: Option<&[u8]>) -> Result<(Name, HandlerKind), LineFault>
+    ensures { (limit : ℕ) → ReadsTwo limit a_name a_kind name kind rest.entry result }
+{
+    let (first, second) = two_words(rest)?;
+    let subtree = read_name(first)?;
+    let kind = read_kind(second)?;
+    Ok((subtree, kind))
+}
+
+/// The name and the bytes that are left of a line.
+///
+/// # Errors
+/// The first cause for which they are not. Want of memory.
+pub fn name_and_bytes(
+    alloc: Global,
+    rest: Option<&[u8]>,
+    limit: usize,
+) -> Result<(Name, Bytes), LineFault>
+    ensures { ReadsTwo limit a_name some_bytes name bytes rest.entry result }
+{
+    let (first, second) = two_words(rest)?;
+    let name = read_name(first)?;
+    let value = read_bytes(alloc, second, limit)?;
+    Ok((name, value))
+}
+
+/// The name and the bytes, or `-` for none, that are left of a line.
+///
+/// # Errors
+/// The first cause for which they are not. Want of memory.
+pub fn name_and_bytes_or_dash(
+    alloc: Global,
+    rest: Option<&[u8]>,
+    limit: usize,
+) -> Result<(Name, Bytes), LineFault>
+    ensures { ReadsTwo limit a_name any_bytes name bytes rest.entry result }
+{
+    let (first, second) = two_words(rest)?;
+    let name = read_name(first)?;
+    let value = read_bytes_or_dash(alloc, second, limit)?;
+    Ok((name, value))
+}
+
+/// The one number below the end that is left of a line.
+///
+/// # Errors
+/// The first cause for which it is not. Want of memory.
+pub fn number_alone(alloc: Global, rest: Option<&[u8]>, end: u64) -> Result<u64, LineFault>
+    ensures { (limit : ℕ) → ReadsOne limit (below end) number rest.entry result }
+{
+    read_number_below(alloc, one_word(rest)?, end)
+}
+
+/// The one name that is left of a line, or none where no word is.
+///
+/// # Errors
+/// The first cause for which they are neither.
+pub fn name_or_nothing(rest: Option<&[u8]>) -> Result<Option<Name>, LineFault>
+    ensures { (limit : ℕ) → ReadsNameOrNothing limit (words_of rest.entry) result }
+{
+    match rest {
+        None => Ok(None),
+        Some(_) => {
+            let name = name_alone(rest)?;
+            Ok(Some(name))
+        }
+    }
+}

@@ -1,0 +1,82 @@
+-- each end of the call makes its answer
+use Rattle.std.proofs.Common.{◌≡◌, ℕ, ◌-◌, List, ◌∷◌, [], Ok, Err, ap, subst, sym, ◌∙◌, None}
+use Rattle.flash_sim.specs.declared.flash.Bank.{Bank}
+use Rattle.flash_map.specs.Lawful.{IsLawfulFor}
+use Rattle.settings_core.specs.declared.writing.SaveFault.{SaveFault}
+use Rattle.settings_core.specs.declared.writing.SaveFault.TheVariants.{NoSpace, TooManyNames, PowerLost}
+use Rattle.settings_core.specs.Carrying.{command_of}
+use Rattle.script_lines.specs.declared.line.Line.TheVariants.{Set}
+use Rattle.script_lines.specs.declared.answer.Answer.TheVariants.{Done, NoSpace as Full, TooMany, Lost}
+use Rattle.session_table.specs.Bench.{geometry_in}
+use Rattle.session.proofs.LineLemmas.{CarriedAt, ended, set_by_ok, set_by_many, set_by_full, set_by_lost}
+use Rattle.flash_map.specs.declared.area.Area.{Area}
+use Rattle.flash_map.specs.On.{on}
+use Rattle.session.proofs.changing.set_setting.Goals as goal
+
+pub spells_another-requires-clause-lawful : goal.spells_another-requires-clause-lawful
+spells_another-requires-clause-lawful g c = subst (λ (banks : List Bank). IsLawfulFor banks c.args.area.now) (sym c.save_one-end.ensures.touches.banks) c.requires.lawful
+
+pub spells_another-requires-clause-serves : goal.spells_another-requires-clause-serves
+spells_another-requires-clause-serves g c = subst (λ (banks : List Bank). g.K.Backend.serves c.args.area.now (geometry_in banks c.args.area.now)) (sym c.save_one-end.ensures.touches.banks) c.requires.serves
+
+pub returns-in-Ok-clause-done : goal.returns-in-Ok-clause-done
+returns-in-Ok-clause-done g c =
+    let old = g.B.Flash.device c.args.bench.now in
+    let new = g.B.Flash.device c.save_one-end.new.flash in
+    let up = g.K.Backend.runs c.args.settings.now.backend in
+    let bytes = c.as_slice.result.now in
+    let here = ended g.K.Backend.contents g.K.Backend.room g.K.Backend.chance g.K.Backend.tears old new (command_of c.args.name.now bytes ∷ []) up (g.K.Backend.mounted_on c.args.settings.now.backend) c.args.area.now c.save_one-end.result (Ok c.in-Ok.field-0) c.requires.area c.in-Ok.is
+    (record { touches = c.save_one-end.ensures.touches; at_most = c.save_one-end.ensures.at_most; count = c.save_one-end.ensures.ends.0; ends = c.save_one-end.ensures.ends.1 }) in
+    λ registry pool. subst (λ (value : List ℕ). CarriedAt g.K.Backend.contents g.K.Backend.room g.K.Backend.chance g.K.Backend.tears registry pool c.args.area.now (Set c.args.name.now value) (Done (c.spent.result - c.spent-before.result)) old new) c.as_slice.ensures
+    (set_by_ok g.K.Backend.contents g.K.Backend.room g.K.Backend.chance g.K.Backend.tears registry pool c.args.area.now c.args.name.now bytes old new c.requires.on up c.spent-before.result c.spent.result c.spent-before.ensures c.spent.ensures c.in-Ok.field-0 here)
+
+pub returns-in-Err-NoSpace-clause-done : goal.returns-in-Err-NoSpace-clause-done
+returns-in-Err-NoSpace-clause-done g c =
+    let old = g.B.Flash.device c.args.bench.now in
+    let new = g.B.Flash.device c.save_one-end.new.flash in
+    let up = g.K.Backend.runs c.args.settings.now.backend in
+    let bytes = c.as_slice.result.now in
+    let which : c.in-Err-NoSpace.field-0 ≡ NoSpace c.in-Err-NoSpace.need c.in-Err-NoSpace.live = rw c.in-Err-NoSpace.is at c.in-Err-NoSpace.field-0-is in
+    let end : c.save_one-end.result ≡ Err (NoSpace c.in-Err-NoSpace.need c.in-Err-NoSpace.live) = c.in-Err-NoSpace.is ∙ ap (λ (fault : SaveFault). Err fault) which in
+    let here = ended g.K.Backend.contents g.K.Backend.room g.K.Backend.chance g.K.Backend.tears old new (command_of c.args.name.now bytes ∷ []) up (g.K.Backend.mounted_on c.args.settings.now.backend) c.args.area.now c.save_one-end.result (Err (NoSpace c.in-Err-NoSpace.need c.in-Err-NoSpace.live)) c.requires.area end
+    (record { touches = c.save_one-end.ensures.touches; at_most = c.save_one-end.ensures.at_most; count = c.save_one-end.ensures.ends.0; ends = c.save_one-end.ensures.ends.1 }) in
+    λ registry pool. subst (λ (value : List ℕ). CarriedAt g.K.Backend.contents g.K.Backend.room g.K.Backend.chance g.K.Backend.tears registry pool c.args.area.now (Set c.args.name.now value) (Full (c.spent.result - c.spent-before.result) c.in-Err-NoSpace.need c.in-Err-NoSpace.live) old new) c.as_slice.ensures
+    (set_by_full g.K.Backend.contents g.K.Backend.room g.K.Backend.chance g.K.Backend.tears registry pool c.args.area.now c.args.name.now bytes old new c.requires.on up c.spent-before.result c.spent.result c.spent-before.ensures c.spent.ensures c.in-Err-NoSpace.need c.in-Err-NoSpace.live here)
+
+pub returns-in-Err-TooManyNames-clause-done : goal.returns-in-Err-TooManyNames-clause-done
+returns-in-Err-TooManyNames-clause-done g c =
+    let old = g.B.Flash.device c.args.bench.now in
+    let new = g.B.Flash.device c.save_one-end.new.flash in
+    let up = g.K.Backend.runs c.args.settings.now.backend in
+    let bytes = c.as_slice.result.now in
+    let which : c.in-Err-TooManyNames.field-0 ≡ TooManyNames = rw c.in-Err-TooManyNames.is at c.in-Err-TooManyNames.field-0-is in
+    let end : c.save_one-end.result ≡ Err (TooManyNames) = c.in-Err-TooManyNames.is ∙ ap (λ (fault : SaveFault). Err fault) which in
+    let here = ended g.K.Backend.contents g.K.Backend.room g.K.Backend.chance g.K.Backend.tears old new (command_of c.args.name.now bytes ∷ []) up (g.K.Backend.mounted_on c.args.settings.now.backend) c.args.area.now c.save_one-end.result (Err TooManyNames) c.requires.area end
+    (record { touches = c.save_one-end.ensures.touches; at_most = c.save_one-end.ensures.at_most; count = c.save_one-end.ensures.ends.0; ends = c.save_one-end.ensures.ends.1 }) in
+    λ registry pool. subst (λ (value : List ℕ). CarriedAt g.K.Backend.contents g.K.Backend.room g.K.Backend.chance g.K.Backend.tears registry pool c.args.area.now (Set c.args.name.now value) (TooMany (c.spent.result - c.spent-before.result)) old new) c.as_slice.ensures
+    (set_by_many g.K.Backend.contents g.K.Backend.room g.K.Backend.chance g.K.Backend.tears registry pool c.args.area.now c.args.name.now bytes old new c.requires.on up c.spent-before.result c.spent.result c.spent-before.ensures c.spent.ensures here)
+
+pub returns-in-Err-PowerLost-clause-done : goal.returns-in-Err-PowerLost-clause-done
+returns-in-Err-PowerLost-clause-done g c =
+    let old = g.B.Flash.device c.args.bench.now in
+    let new = g.B.Flash.device c.save_one-end.new.flash in
+    let up = g.K.Backend.runs c.args.settings.now.backend in
+    let bytes = c.as_slice.result.now in
+    let which : c.in-Err-PowerLost.field-0 ≡ PowerLost = rw c.in-Err-PowerLost.is at c.in-Err-PowerLost.field-0-is in
+    let end : c.save_one-end.result ≡ Err (PowerLost) = c.in-Err-PowerLost.is ∙ ap (λ (fault : SaveFault). Err fault) which in
+    let here = ended g.K.Backend.contents g.K.Backend.room g.K.Backend.chance g.K.Backend.tears old new (command_of c.args.name.now bytes ∷ []) up (g.K.Backend.mounted_on c.args.settings.now.backend) c.args.area.now c.save_one-end.result (Err PowerLost) c.requires.area end
+    (record { touches = c.save_one-end.ensures.touches; at_most = c.save_one-end.ensures.at_most; count = c.save_one-end.ensures.ends.0; ends = c.save_one-end.ensures.ends.1 }) in
+    λ registry pool. subst (λ (value : List ℕ). CarriedAt g.K.Backend.contents g.K.Backend.room g.K.Backend.chance g.K.Backend.tears registry pool c.args.area.now (Set c.args.name.now value) (Lost (c.spent.result - c.spent-before.result) c.spells_another.result) old new) c.as_slice.ensures
+    (set_by_lost g.K.Backend.contents g.K.Backend.room g.K.Backend.chance g.K.Backend.tears registry pool c.args.area.now c.args.name.now bytes old new c.requires.on up c.spent-before.result c.spent.result c.spent-before.ensures c.spent.ensures c.spells_another.result c.spells_another.ensures here)
+
+pub returns-in-Ok-clause-sound : goal.returns-in-Ok-clause-sound
+returns-in-Ok-clause-sound g c = subst (λ (a : Area). on g.K.Backend.damage (g.B.Flash.device c.save_one-end.new.flash) a ≡ None) c.requires.area (c.save_one-end.ensures.sound c.requires.up)
+
+pub returns-in-Err-NoSpace-clause-sound : goal.returns-in-Err-NoSpace-clause-sound
+returns-in-Err-NoSpace-clause-sound g c = subst (λ (a : Area). on g.K.Backend.damage (g.B.Flash.device c.save_one-end.new.flash) a ≡ None) c.requires.area (c.save_one-end.ensures.sound c.requires.up)
+
+pub returns-in-Err-TooManyNames-clause-sound : goal.returns-in-Err-TooManyNames-clause-sound
+returns-in-Err-TooManyNames-clause-sound g c = subst (λ (a : Area). on g.K.Backend.damage (g.B.Flash.device c.save_one-end.new.flash) a ≡ None) c.requires.area (c.save_one-end.ensures.sound c.requires.up)
+
+pub returns-in-Err-PowerLost-clause-sound : goal.returns-in-Err-PowerLost-clause-sound
+returns-in-Err-PowerLost-clause-sound g c = subst (λ (a : Area). on g.K.Backend.damage (g.B.Flash.device c.save_one-end.new.flash) a ≡ None) c.requires.area (c.save_one-end.ensures.sound c.requires.up)

@@ -1,0 +1,104 @@
+// Lines that change settings, with power on.
+ghost use Rattle.std.specs.Prelude.{◌≡◌, ◌≤◌, true, None, Some, length};
+ghost use Rattle.flash_sim.specs.declared.flash.Loss.{Loss as loss_type};
+ghost use Rattle.flash_map.specs.Area.{geometry_of, value_limit};
+ghost use Rattle.flash_map.specs.Lawful.{IsLawfulFor};
+ghost use Rattle.flash_map.specs.On.{on, StandsOn};
+ghost use Rattle.script_lines.specs.declared.line.Line.TheVariants.{Set, Del};
+ghost use Rattle.session.specs.OneArea.{CarriedBeside};
+
+use backend_api::Backend;
+use flash_map::Area;
+use flash_sim::{Bench, Flash, Steps};
+use script_lines::{Answer, Bytes};
+use setting_name::Name;
+use settings_core::{DeleteFault, SaveFault, Settings};
+use std::sync::ledger::Ledger;
+
+// Whether the units that were put before the last loss spell, by chance, another record in the area.
+fn spells_another<K: Backend, B: Bench, L: Ledger>(
+    bench: &B,
+    area: &Area,
+    steps: &mut Steps<L>,
+) -> bool
+    requires lawful { IsLawfulFor (B.device bench.now).banks area.now }
+    requires serves { K.serves area.now (geometry_of (B.device bench.now) area.now) }
+    ensures { (loss : loss_type) → (B.device bench.now).last_loss ≡ Some loss → result ≡ on K.chance (B.device bench.now) area.now loss }
+{
+    match bench.last_loss() {
+        Some(loss) => K::chance(bench, area, loss, steps),
+        None => false,
+    }
+}
+
+// Sets a setting, or deletes it where the value is empty.
+pub(crate) fn set_setting<K: Backend, B: Bench, L: Ledger>(
+    bench: &mut B,
+    settings: &mut Settings<K>,
+    area: &Area,
+    name: &Name,
+    value: &Bytes,
+    steps: &mut Steps<L>,
+) -> Answer
+    requires on { (B.device bench.old).is_on ≡ true }
+    requires area { K.mounted_on settings.old.backend ≡ area.now }
+    requires lawful { IsLawfulFor (B.device bench.old).banks area.now }
+    requires serves { K.serves area.now (geometry_of (B.device bench.old) area.now) }
+    requires up { K.runs settings.old.backend ≡ true }
+    requires stands { StandsOn K.mounted_on K.stands (B.device bench.old) settings.old.backend }
+    requires short { length value.now ≤ value_limit area.now }
+
+    ensures done { CarriedBeside K.contents K.room K.chance K.tears area.now (Set name.now value.now) result (B.device bench.old) (B.device bench.new) }
+    ensures sound { on K.damage (B.device bench.new) area.now ≡ None }
+    ensures area { K.mounted_on settings.new.backend ≡ area.now }
+    ensures ready { (B.device bench.new).is_on ≡ true → K.runs settings.new.backend ≡ true }
+    ensures stands { (B.device bench.new).is_on ≡ true → StandsOn K.mounted_on K.stands (B.device bench.new) settings.new.backend }
+{
+    let before = bench.spent();
+    let end = settings.save_one(bench, name, value.as_slice(), steps);
+    let units = bench.spent() - before;
+    match end {
+        Ok(()) => Answer::Done { units },
+        Err(SaveFault::NoSpace { need, live }) => Answer::NoSpace { units, need, live },
+        Err(SaveFault::TooManyNames) => Answer::TooMany { units },
+        Err(SaveFault::PowerLost) => Answer::Lost {
+            units,
+            chance: spells_another::<K, B, L>(bench, area, steps),
+        },
+        Err(SaveFault::Off) => unreachable!(),
+    }
+}
+
+// Deletes a setting.
+pub(crate) fn delete_setting<K: Backend, B: Bench, L: Ledger>(
+    bench: &mut B,
+    settings: &mut Settings<K>,
+    area: &Area,
+    name: &Name,
+    steps: &mut Steps<L>,
+) -> Answer
+    requires on { (B.device bench.old).is_on ≡ true }
+    requires area { K.mounted_on settings.old.backend ≡ area.now }
+    requires lawful { IsLawfulFor (B.device bench.old).banks area.now }
+    requires serves { K.serves area.now (geometry_of (B.device bench.old) area.now) }
+    requires up { K.runs settings.old.backend ≡ true }
+    requires stands { StandsOn K.mounted_on K.stands (B.device bench.old) settings.old.backend }
+
+    ensures done { CarriedBeside K.contents K.room K.chance K.tears area.now (Del name.now) result (B.device bench.old) (B.device bench.new) }
+    ensures sound { on K.damage (B.device bench.new) area.now ≡ None }
+    ensures area { K.mounted_on settings.new.backend ≡ area.now }
+    ensures ready { (B.device bench.new).is_on ≡ true → K.runs settings.new.backend ≡ true }
+    ensures stands { (B.device bench.new).is_on ≡ true → StandsOn K.mounted_on K.stands (B.device bench.new) settings.new.backend }
+{
+    let before = bench.spent();
+    let end = settings.delete(bench, name, steps);
+    let units = bench.spent() - before;
+    match end {
+        Ok(()) => Answer::Done { units },
+        Err(DeleteFault::PowerLost) => Answer::Lost {
+            units,
+            chance: spells_another::<K, B, L>(bench, area, steps),
+        },
+        Err(DeleteFault::Off) => unreachable!(),
+    }
+}

@@ -1,0 +1,27 @@
+// Plans of losses.
+ghost use Rattle.std.specs.Prelude.{◌≡◌};
+ghost use Rattle.script_lines.specs.declared.line.Line.TheVariants.{Cut, Uncut};
+ghost use Rattle.session.specs.OneArea.{CarriedBeside};
+
+use backend_api::Backend;
+use flash_map::Area;
+use flash_sim::{Bench, Flash};
+use script_lines::Answer;
+
+// Plans a loss of power.
+pub(crate) fn plan_loss<K: Backend, B: Bench>(bench: &mut B, area: &Area, units: u64) -> Answer
+    ensures done { CarriedBeside K.contents K.room K.chance K.tears area.now (Cut units) result (B.device bench.old) (B.device bench.new) }
+    ensures same { B.device bench.new ≡ record (B.device bench.old) { plan = (B.device bench.new).plan } }
+{
+    bench.arm(units);
+    Answer::Done { units: 0 }
+}
+
+// Drops that plan.
+pub(crate) fn drop_plan<K: Backend, B: Bench>(bench: &mut B, area: &Area) -> Answer
+    ensures done { CarriedBeside K.contents K.room K.chance K.tears area.now Uncut result (B.device bench.old) (B.device bench.new) }
+    ensures same { B.device bench.new ≡ record (B.device bench.old) { plan = (B.device bench.new).plan } }
+{
+    bench.disarm();
+    Answer::Done { units: 0 }
+}

@@ -1,0 +1,9 @@
+pub mod ActiveLemmas
+pub mod CommandLemmas
+pub mod FollowsLemmas
+pub mod PlaceLemmas
+pub mod PlainLemmas
+pub mod PowerLemmas
+pub mod PrefixLemmas
+pub mod RunLemmas
+pub mod TornLemmas

@@ -1,0 +1,10 @@
+pub mod Bench
+pub mod Commands
+pub mod Follows
+pub mod Laws
+pub mod Plain
+pub mod Prefix
+pub mod Rules
+pub mod State
+pub mod Step
+pub mod Torn

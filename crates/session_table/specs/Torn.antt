@@ -1,0 +1,56 @@
+-- What becomes of the commands of a run, also of those whose units spelt another record when power was lost.
+use Rattle.std.specs.Prelude.{◌≡◌, ℕ, true, List, [], ◌∷◌, ◌++◌, map}
+use Rattle.script_lines.specs.declared.line.Line.{Line}
+use Rattle.script_lines.specs.declared.answer.Answer.{Answer}
+use Rattle.script_lines.specs.declared.answer.Answer.TheVariants.{Lost}
+use Rattle.backend_api.specs.Commands.{Command, applied}
+use Rattle.backend_api.specs.Map.{Map}
+use Rattle.session_table.specs.Commands.{commands_of}
+use Rattle.session_table.specs.Follows.{Follows}
+use Rattle.session_table.specs.Prefix.{Stand}
+use Rattle.session_table.specs.Rules.{Rules}
+use Rattle.session_table.specs.State.{State}
+use Rattle.session_table.specs.Step.{Step}
+
+-- A command was carried out; or so many units of it, in the area at this place, spelt another record.
+pub data Deed : Type 0 where
+  did : Command → Deed
+  tore : ℕ → Command → ℕ → Deed
+
+abbrev pub Does : Rules → Deed → Map → Map → Type 0
+Does r (did command) old new = new ≡ applied old command
+Does r (tore place command units) old new = r.tears place command units old new
+
+-- one after another
+abbrev pub DoAll : Rules → List Deed → Map → Map → Type 0
+DoAll r [] old new = new ≡ old
+DoAll r (deed ∷ deeds) old new = (mid : Map) × Does r deed old mid × DoAll r deeds mid new
+
+-- a front of the commands was carried out, and the next one was torn
+pub record TornAt (place : ℕ) (commands : List Command) (deeds : List Deed) : Type 0 where
+  pub front : List Command
+  pub at : Command
+  pub rest : List Command
+  pub units : ℕ
+  pub are : commands ≡ front ++ at ∷ rest
+  pub deeds_are : deeds ≡ map did front ++ tore place at units ∷ []
+
+-- what became of a line's commands: those that stand were carried out, and by chance the one behind them was torn
+abbrev pub BecomeOf : ℕ → Answer → List Command → List Deed → Type 0
+BecomeOf place (Lost units true) commands deeds = TornAt place commands deeds
+BecomeOf place answer commands deeds = (done : List Command) × Stand answer commands done × (deeds ≡ map did done)
+
+-- a state, and what became of the commands so far
+pub record Told : Type 0 where
+  pub state : State
+  pub deeds : List Deed
+
+abbrev pub DeedStep : Rules → Line → Answer → Told → Told → Type 0
+DeedStep r line answer old new =
+    Step r line answer old.state new.state × ((deeds : List Deed) × BecomeOf old.state.active answer (commands_of line old.state) deeds × (new.deeds ≡ old.deeds ++ deeds))
+
+-- The settings are those of the start after what became of the commands, line by line.
+pub record IsAfterDeeds (r : Rules) (lines : List Line) (answers : List Answer) (old new : State) : Type 0 where
+  pub deeds : List Deed
+  pub runs : Follows (DeedStep r) lines answers (record { state = old; deeds = [] }) (record { state = new; deeds = deeds })
+  pub settings : DoAll r deeds old.settings new.settings

@@ -1,0 +1,2 @@
+pub mod TestBank
+pub mod TestLemmas

@@ -1,0 +1,5 @@
+//! Tests of sessions on one area.
+#![tactic(auto)]
+
+#[cfg(test)]
+mod sessions;

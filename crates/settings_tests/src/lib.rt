@@ -1,0 +1,5 @@
+//! Tests of loads, saves and commits.
+#![tactic(auto)]
+
+#[cfg(test)]
+mod settings;

@@ -1,0 +1,435 @@
+ghost use Rattle.std.specs.Prelude.{◌≡◌, ◌<◌, ◌≤◌, ◌∷◌, [], ℕ, length, true, OnOk, IfOk};
+ghost use Rattle.flash_sim.specs.declared.flash.Kind.TheVariants.{Erasing};
+ghost use Rattle.flash_map.specs.Area.{geometry_of, value_limit};
+ghost use Rattle.flash_map.specs.Lawful.{IsLawfulFor};
+ghost use Rattle.flash_map.specs.On.{StandsOn};
+ghost use Rattle.handlers.specs.Held.{fresh};
+ghost use Rattle.handlers.specs.Registry.{registered};
+ghost use Rattle.settings_core.specs.Saving.{AreLawful};
+
+use arrayvec::ArrayString;
+use backend_api::Backend;
+use backend_fcb::FcbBackend;
+use flash_map::{Area, Role};
+use flash_sim::{Bank, Bench, FlatSim, Kind, NoMemory, Steps};
+use handlers::{Handler, HandlerKind, LevelHandler, Registry, TableHandler, ValueView};
+use setting_name::Name;
+use settings_core::*;
+use std::alloc::Global;
+use std::marker::Brand;
+use std::process::Abort;
+use std::sync::ledger::{Blank, Ledger};
+use std::test::Fail;
+
+// Takes so many deliveries, and has no memory for the next.
+#[derive(Drop)]
+struct Tally {
+    left: u32,
+}
+
+impl Report for Tally {
+    ghost use Rattle.std.specs.Prelude.{None};
+
+    ghost gives = { λ _. None };
+
+    fn given(
+        &mut self,
+        _alloc: Global,
+        _subtree: &Name,
+        _rest: &[u8],
+        _value: ValueView<'_>,
+        _taken: bool,
+    ) -> Result<(), NoMemory> {
+        if self.left == 0 {
+            return Err(NoMemory);
+        }
+        self.left -= 1;
+        Ok(())
+    }
+}
+
+// Counts bytes of values.
+#[derive(Drop)]
+struct Bytes {
+    count: usize,
+}
+
+impl Each for Bytes {
+    ghost use Rattle.std.specs.Prelude.{None};
+
+    ghost had = { λ _. None };
+
+    fn have(&mut self, _alloc: Global, _name: &Name, value: ValueView<'_>) -> Result<(), NoMemory> {
+        self.count = self.count.wrapping_add(value.len());
+        Ok(())
+    }
+}
+
+// ---- calls on settings, each of which keeps what the next one requires
+
+fn stores<K: Backend, B: Bench, L: Ledger>(
+    settings: &mut Settings<K>,
+    bench: &mut B,
+    name: &[u8],
+    value: &[u8],
+    steps: &mut Steps<L>,
+) -> Result<Result<(), SaveFault>, Fail>
+    requires lawful { IsLawfulFor (B.device bench.old).banks (K.mounted_on settings.old.backend) }
+    requires stands { K.runs settings.old.backend ≡ true → StandsOn K.mounted_on K.stands (B.device bench.old) settings.old.backend }
+    requires short { length value.now ≤ 4 }
+    ensures lawful { OnOk result (IsLawfulFor (B.device bench.new).banks (K.mounted_on settings.new.backend)) }
+    ensures stands { OnOk result (K.runs settings.new.backend ≡ true → StandsOn K.mounted_on K.stands (B.device bench.new) settings.new.backend) }
+{
+    let name = Name::read(name)?;
+    Ok(settings.save_one(bench, &name, value, steps))
+}
+
+fn deletes<K: Backend, B: Bench, L: Ledger>(
+    settings: &mut Settings<K>,
+    bench: &mut B,
+    name: &Name,
+    steps: &mut Steps<L>,
+) -> Result<(), DeleteFault>
+    requires lawful { IsLawfulFor (B.device bench.old).banks (K.mounted_on settings.old.backend) }
+    requires stands { K.runs settings.old.backend ≡ true → StandsOn K.mounted_on K.stands (B.device bench.old) settings.old.backend }
+    ensures lawful { IsLawfulFor (B.device bench.new).banks (K.mounted_on settings.new.backend) }
+    ensures stands { K.runs settings.new.backend ≡ true → StandsOn K.mounted_on K.stands (B.device bench.new) settings.new.backend }
+{
+    settings.delete(bench, name, steps)
+}
+
+fn saves<K: Backend, B: Bench, L: Ledger>(
+    settings: &mut Settings<K>,
+    bench: &mut B,
+    registry: &Registry,
+    subtree: Option<&Name>,
+    steps: &mut Steps<L>,
+) -> Saved
+    requires lawful { IsLawfulFor (B.device bench.old).banks (K.mounted_on settings.old.backend) }
+    requires stands { K.runs settings.old.backend ≡ true → StandsOn K.mounted_on K.stands (B.device bench.old) settings.old.backend }
+    requires settings { AreLawful (value_limit (K.mounted_on settings.old.backend)) (registered state registry.now) }
+    ensures lawful { IsLawfulFor (B.device bench.new).banks (K.mounted_on settings.new.backend) }
+    ensures stands { K.runs settings.new.backend ≡ true → StandsOn K.mounted_on K.stands (B.device bench.new) settings.new.backend }
+    ensures settings { AreLawful (value_limit (K.mounted_on settings.new.backend)) (registered state registry.now) }
+{
+    settings.save(bench, registry, subtree, steps)
+}
+
+// A load whose report takes so many deliveries.
+fn loads<K: Backend, B: Bench, L: Ledger>(
+    alloc: Global,
+    settings: &Settings<K>,
+    bench: &B,
+    registry: &mut Registry,
+    left: u32,
+    steps: &mut Steps<L>,
+) -> Result<Loaded, LoadFault>
+    requires lawful { IsLawfulFor (B.device bench.now).banks (K.mounted_on settings.now.backend) }
+    requires stands { K.runs settings.now.backend ≡ true → StandsOn K.mounted_on K.stands (B.device bench.now) settings.now.backend }
+    requires settings { AreLawful (value_limit (K.mounted_on settings.now.backend)) (registered state registry.old) }
+    ensures { AreLawful (value_limit (K.mounted_on settings.now.backend)) (registered state registry.new) }
+{
+    let mut tally = Tally { left };
+    settings.load(alloc, bench, registry, None, &mut tally, steps)
+}
+
+// The names under a subtree, and the bytes of their values.
+fn tells<K: Backend, B: Bench, L: Ledger>(
+    alloc: Global,
+    settings: &Settings<K>,
+    bench: &B,
+    subtree: Option<&Name>,
+    steps: &mut Steps<L>,
+) -> Result<(u32, usize), LoadFault>
+    requires lawful { IsLawfulFor (B.device bench.now).banks (K.mounted_on settings.now.backend) }
+    requires stands { K.runs settings.now.backend ≡ true → StandsOn K.mounted_on K.stands (B.device bench.now) settings.now.backend }
+{
+    let mut bytes = Bytes { count: 0 };
+    match settings.load_direct(alloc, bench, subtree, &mut bytes, steps) {
+        Ok(told) => Ok((told, bytes.count)),
+        Err(fault) => Err(fault),
+    }
+}
+
+fn arms<K: Backend, B: Bench>(settings: &Settings<K>, bench: &mut B, units: u64)
+    requires lawful { IsLawfulFor (B.device bench.old).banks (K.mounted_on settings.now.backend) }
+    requires stands { K.runs settings.now.backend ≡ true → StandsOn K.mounted_on K.stands (B.device bench.old) settings.now.backend }
+    ensures lawful { IsLawfulFor (B.device bench.new).banks (K.mounted_on settings.now.backend) }
+    ensures stands { K.runs settings.now.backend ≡ true → StandsOn K.mounted_on K.stands (B.device bench.new) settings.now.backend }
+{
+    bench.arm(units);
+}
+
+// ---- handlers
+
+// What a new handler holds is known once it is boxed.
+fn is_new(_handler: &Box<dyn Handler>, _kind: HandlerKind)
+    requires { state _handler.now ≡ fresh _kind }
+    ensures { state _handler.now ≡ fresh _kind }
+{}
+
+// How often the handler at this place was committed.
+fn commits_of(registry: &Registry, i: usize) -> u64 {
+    match registry.handler(i) {
+        Some(handler) => handler.commits(),
+        None => 0,
+    }
+}
+
+fn puts<K: Backend>(
+    alloc: Global,
+    _settings: &Settings<K>,
+    registry: &mut Registry,
+    name: &Name,
+    value: &[u8],
+) -> Result<(), RuntimeFault>
+    requires some { 0 < length value.now }
+    requires short { length value.now ≤ 4 }
+    requires settings { AreLawful (value_limit (K.mounted_on _settings.now.backend)) (registered state registry.old) }
+    ensures { AreLawful (value_limit (K.mounted_on _settings.now.backend)) (registered state registry.new) }
+{
+    let _name = name.bytes();
+    runtime_set(alloc, registry, name, value)
+}
+
+// ---- the rows
+
+// Six names, of which one is under no subtree and one has a value that its handler rejects.
+fn fills<K: Backend, B: Bench, L: Ledger, R: Abort>(
+    rt: &R,
+    settings: &mut Settings<K>,
+    bench: &mut B,
+    steps: &mut Steps<L>,
+) -> Result<(), Fail>
+    requires lawful { IsLawfulFor (B.device bench.old).banks (K.mounted_on settings.old.backend) }
+    requires stands { K.runs settings.old.backend ≡ true → StandsOn K.mounted_on K.stands (B.device bench.old) settings.old.backend }
+    ensures lawful { OnOk result (IsLawfulFor (B.device bench.new).banks (K.mounted_on settings.new.backend)) }
+    ensures stands { OnOk result (K.runs settings.new.backend ≡ true → StandsOn K.mounted_on K.stands (B.device bench.new) settings.new.backend) }
+{
+    let start = bench.spent();
+    stores(settings, bench, b"bt/mesh/iv", &[1, 2], steps)??;
+    stores(settings, bench, b"bt/x", &[3], steps)??;
+    stores(settings, bench, b"btx/y", &[4], steps)??;
+    stores(settings, bench, b"bt", &[5], steps)??;
+    stores(settings, bench, b"lv", &[100], steps)??;
+    stores(settings, bench, b"lv/a", &[101], steps)??;
+    assert_eq!(rt; bench.spent().wrapping_sub(start), 26);
+    Ok(())
+}
+
+// Memory is wanting behind two deliveries, and then nothing is committed; then a load of all.
+fn fills_handlers<K: Backend, B: Bench, L: Ledger, R: Abort>(
+    rt: &R,
+    alloc: Global,
+    settings: &Settings<K>,
+    bench: &B,
+    registry: &mut Registry,
+    steps: &mut Steps<L>,
+) -> Result<(), Fail>
+    requires lawful { IsLawfulFor (B.device bench.now).banks (K.mounted_on settings.now.backend) }
+    requires stands { K.runs settings.now.backend ≡ true → StandsOn K.mounted_on K.stands (B.device bench.now) settings.now.backend }
+    requires settings { AreLawful (value_limit (K.mounted_on settings.now.backend)) (registered state registry.old) }
+    ensures { OnOk result (AreLawful (value_limit (K.mounted_on settings.now.backend)) (registered state registry.new)) }
+{
+    let ended = loads(alloc, settings, bench, registry, 2, steps);
+    assert_eq!(rt; ended, Err(LoadFault::NoMemory));
+    assert_eq!(rt; commits_of(registry, 0), 0);
+    let ended = loads(alloc, settings, bench, registry, 5, steps);
+    let loaded = Loaded {
+        taken: 4,
+        rejected: 1,
+        passed: 1,
+    };
+    assert_eq!(rt; ended, Ok(loaded));
+    assert_eq!(rt; commits_of(registry, 0), 1);
+    Ok(())
+}
+
+// Values of handlers at run time.
+fn runs<K: Backend, R: Abort>(
+    rt: &R,
+    alloc: Global,
+    settings: &Settings<K>,
+    registry: &mut Registry,
+) -> Result<(), Fail>
+    requires settings { AreLawful (value_limit (K.mounted_on settings.now.backend)) (registered state registry.old) }
+    ensures { OnOk result (AreLawful (value_limit (K.mounted_on settings.now.backend)) (registered state registry.new)) }
+{
+    let iv = Name::read(b"bt/mesh/iv")?;
+    let x = Name::read(b"bt/x")?;
+    let b = Name::read(b"lv/b")?;
+    let none = Name::read(b"zz")?;
+    assert_eq!(rt; runtime_get(registry, &iv), Ok(Some(&[1u8, 2][..])));
+    assert_eq!(rt; runtime_get(registry, &b), Ok(None));
+    assert_eq!(rt; runtime_get(registry, &none), Err(NoHandler));
+    let ended = puts(alloc, settings, registry, &none, &[1]);
+    assert_eq!(rt; ended, Err(RuntimeFault::NoHandler));
+    let ended = puts(alloc, settings, registry, &b, &[101]);
+    assert_eq!(rt; ended, Err(RuntimeFault::Rejected));
+    let ended = puts(alloc, settings, registry, &x, &[9]);
+    assert_eq!(rt; ended, Ok(()));
+    Ok(())
+}
+
+// A save stores the one value that is new, and a second one nothing; a delete takes it away.
+fn stores_what_is_new<K: Backend, B: Bench, L: Ledger, R: Abort>(
+    rt: &R,
+    settings: &mut Settings<K>,
+    bench: &mut B,
+    registry: &Registry,
+    steps: &mut Steps<L>,
+) -> Result<(), Fail>
+    requires lawful { IsLawfulFor (B.device bench.old).banks (K.mounted_on settings.old.backend) }
+    requires stands { K.runs settings.old.backend ≡ true → StandsOn K.mounted_on K.stands (B.device bench.old) settings.old.backend }
+    requires settings { AreLawful (value_limit (K.mounted_on settings.old.backend)) (registered state registry.now) }
+    ensures lawful { OnOk result (IsLawfulFor (B.device bench.new).banks (K.mounted_on settings.new.backend)) }
+    ensures stands { OnOk result (K.runs settings.new.backend ≡ true → StandsOn K.mounted_on K.stands (B.device bench.new) settings.new.backend) }
+{
+    let mesh = Name::read(b"bt/mesh")?;
+    let x = Name::read(b"bt/x")?;
+    let start = bench.spent();
+    let none = Saved {
+        pairs: 0,
+        end: Ok(()),
+    };
+    let one = Saved {
+        pairs: 1,
+        end: Ok(()),
+    };
+    assert_eq!(rt; saves(settings, bench, registry, Some(&mesh), steps), none);
+    assert_eq!(rt; saves(settings, bench, registry, None, steps), one);
+    assert_eq!(rt; saves(settings, bench, registry, None, steps), none);
+    assert_eq!(rt; bench.spent().wrapping_sub(start), 4);
+    assert_eq!(rt; settings.get(bench, &x, steps), Ok(Some(&[9u8][..])));
+    assert_eq!(rt; deletes(settings, bench, &x, steps), Ok(()));
+    assert_eq!(rt; settings.get(bench, &x, steps), Ok(None));
+    Ok(())
+}
+
+fn rows<K: Backend, B: Bench, L: Ledger, R: Abort>(
+    rt: &R,
+    alloc: Global,
+    settings: &mut Settings<K>,
+    bench: &mut B,
+    registry: &mut Registry,
+    steps: &mut Steps<L>,
+) -> Result<(), Fail>
+    requires lawful { IsLawfulFor (B.device bench.old).banks (K.mounted_on settings.old.backend) }
+    requires stands { K.runs settings.old.backend ≡ true → StandsOn K.mounted_on K.stands (B.device bench.old) settings.old.backend }
+    requires settings { (limit : ℕ) → AreLawful limit (registered state registry.old) }
+    ensures lawful { OnOk result (IsLawfulFor (B.device bench.new).banks (K.mounted_on settings.new.backend)) }
+    ensures stands { OnOk result (K.runs settings.new.backend ≡ true → StandsOn K.mounted_on K.stands (B.device bench.new) settings.new.backend) }
+{
+    let mesh = Name::read(b"bt/mesh")?;
+    fills(rt, settings, bench, steps)?;
+    assert_eq!(rt;
+        tells(alloc, settings, bench, Some(&mesh), steps),
+        Ok((1, 2))
+    );
+    fills_handlers(rt, alloc, settings, bench, registry, steps)?;
+    runs(rt, alloc, settings, registry)?;
+    stores_what_is_new(rt, settings, bench, registry, steps)
+}
+
+// Off behind a loss, and not before it.
+fn goes_off<K: Backend, B: Bench, L: Ledger, R: Abort>(
+    rt: &R,
+    alloc: Global,
+    settings: &mut Settings<K>,
+    bench: &mut B,
+    steps: &mut Steps<L>,
+) -> Result<(), Fail>
+    requires lawful { IsLawfulFor (B.device bench.old).banks (K.mounted_on settings.old.backend) }
+    requires stands { K.runs settings.old.backend ≡ true → StandsOn K.mounted_on K.stands (B.device bench.old) settings.old.backend }
+{
+    let x = Name::read(b"bt/x")?;
+    let mut none = Registry::new(alloc);
+    arms(settings, bench, 1);
+    assert!(rt; !settings.is_off());
+    assert_eq!(rt;
+        stores(settings, bench, b"bt/x", &[7, 7, 7], steps)?,
+        Err(SaveFault::PowerLost)
+    );
+    assert!(rt; settings.is_off());
+    assert!(rt; !settings.backend().is_up());
+    assert_eq!(rt; settings.get(bench, &x, steps), Err(Off));
+    assert_eq!(rt;
+        stores(settings, bench, b"bt/x", &[7], steps)?,
+        Err(SaveFault::Off)
+    );
+    assert_eq!(rt; deletes(settings, bench, &x, steps), Err(DeleteFault::Off));
+    let saved = saves(settings, bench, &none, None, steps);
+    assert_eq!(rt; saved.end, Err(SaveFault::Off));
+    assert_eq!(rt;
+        loads(alloc, settings, bench, &mut none, 9, steps),
+        Err(LoadFault::Off)
+    );
+    assert_eq!(rt;
+        tells(alloc, settings, bench, None, steps),
+        Err(LoadFault::Off)
+    );
+    Ok(())
+}
+
+// Two tables, one under the other, and a level, over a store with nothing in it.
+fn exercise<K: Backend, B: Bench, L: Ledger, R: Abort>(
+    rt: &R,
+    alloc: Global,
+    bench: &mut B,
+    area: Area,
+    blank: Blank,
+) -> Result<(), Fail>
+    requires lawful { IsLawfulFor (B.device bench.old).banks area }
+    requires serves { K.serves area (geometry_of (B.device bench.old) area) }
+    requires name { blank.name ≡ L.name }
+    requires parts { blank.parts ≡ L.parts }
+    requires some { 0 < L.parts }
+{
+    let mut registry = Registry::new(alloc);
+    let bt: Box<dyn Handler> = Box::new(alloc, TableHandler::new(alloc))?;
+    is_new(&bt, HandlerKind::Table);
+    let Ok(()) = registry.register(Name::read(b"bt")?, bt) else {
+        return Err(Fail::new("bt"));
+    };
+    let mesh: Box<dyn Handler> = Box::new(alloc, TableHandler::new(alloc))?;
+    is_new(&mesh, HandlerKind::Table);
+    let Ok(()) = registry.register(Name::read(b"bt/mesh")?, mesh) else {
+        return Err(Fail::new("bt/mesh"));
+    };
+    let lv: Box<dyn Handler> = Box::new(alloc, LevelHandler::new(alloc))?;
+    is_new(&lv, HandlerKind::Level);
+    let Ok(()) = registry.register(Name::read(b"lv")?, lv) else {
+        return Err(Fail::new("lv"));
+    };
+    let mut steps = Steps::<L>::new(blank);
+    let mounted = Settings::<K>::mount(alloc, bench, area.copy(), &mut steps)?;
+    assert!(rt; !mounted.is_off());
+    let mut settings = Settings::<K>::of(K::mount(alloc, bench, area, &mut steps)?);
+    rows(rt, alloc, &mut settings, bench, &mut registry, &mut steps)?;
+    goes_off(rt, alloc, &mut settings, bench, &mut steps)
+}
+
+// Four sectors of 512 bytes at unit 4, with nothing in them.
+fn load<B: Bench>(alloc: Global, bench: &mut B) -> Result<(), Fail>
+    ensures { OnOk result ((B.device bench.new).banks ≡ (record { kind = Erasing; unit = 4; sector = 512; count = 4 }) ∷ []) }
+{
+    let bank = Bank {
+        kind: Kind::Erasing,
+        unit: 4,
+        sector: 512,
+        count: 4,
+    };
+    let banks = vec![in alloc; bank]?;
+    let bytes = vec![in alloc; vec![in alloc; 255u8; 2048]?]?;
+    bench.load(alloc, banks, bytes)?;
+    Ok(())
+}
+
+#[test]
+fn settings_of_a_ring(rt: HostRuntime) -> Result<(), Fail> {
+    let alloc = rt.alloc();
+    let mut sim = FlatSim::new(alloc);
+    load(alloc, &mut sim)?;
+    let area = Area::new(ArrayString::new(), Role::Fcb, 0, 0, 4, 1);
+    exercise::<FcbBackend, FlatSim, Brand, HostRuntime>(&rt, alloc, &mut sim, area, Blank::new(1))
+}

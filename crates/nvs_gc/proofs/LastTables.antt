@@ -7,6 +7,7 @@ use Rattle.std.proofs.lemmas.Bool.{cases_Bool, eqb-true, ne_eqb, eq-eqb, false�
 use Rattle.std.proofs.lemmas.List.{map-append, append-nil, length-replicate, length-set, get_or-replicate, get_or-set_other}
 use Rattle.std.proofs.lemmas.Grind.{get_or-set_at}
 use Rattle.std.proofs.lemmas.List.Concat.{flat_map-append, flat_map-cons}
+use Rattle.std.proofs.lemmas.List.Elements.{All-nil, All-cons, All-append}
 use Rattle.std.proofs.lemmas.List.Sums.{fold_push}
 use Rattle.ring_laws.specs.Area.{round}
 use Rattle.flash_map.specs.Area.{sector_at}
@@ -33,6 +34,7 @@ tells_none n is = record {
   slots_long = length-replicate n 0 ∙ is;
   sector = λ id below. get_or-replicate n id 0 0 (omega arith);
   slot = λ id below. get_or-replicate n id 0 0 (omega arith);
+  narrow = All-nil (λ (f : Found). f.entry.id < 2 ^ 16);
 }
 
 last_push : (id : ℕ) (before : List Found) (f : Found) (here : Bool) → eqb f.entry.id id ≡ here → last_of id (before ++ f ∷ []) ≡ cond here (Some f) (last_of id before)
@@ -57,6 +59,7 @@ tells_put sectors slots before f below tells = record {
   slots_long = length-set slots f.entry.id f.slot ∙ tells.slots_long;
   sector = table_put sector_in sectors before f below tells.sectors_long tells.sector;
   slot = table_put slot_in slots before f below tells.slots_long tells.slot;
+  narrow = All-append (λ (f : Found). f.entry.id < 2 ^ 16) before (f ∷ []) tells.narrow (All-cons (λ (f : Found). f.entry.id < 2 ^ 16) f [] below (All-nil (λ (f : Found). f.entry.id < 2 ^ 16)));
 }
 
 pub tells_same : (sectors slots : List ℕ) (before : List Found) (o : Option Found) → None ≡ o → Tells sectors slots before → Tells sectors slots (before ++ option_to_list o)

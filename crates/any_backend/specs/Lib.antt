@@ -1,3 +1,4 @@
+pub mod Blank
 pub mod ByRole
 pub mod Laws
 pub mod Standing

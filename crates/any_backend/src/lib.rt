@@ -2,7 +2,9 @@
 #![tactic(auto)]
 
 mod backend;
+mod laws;
 mod tearing;
 
 pub use backend::AnyBackend;
+pub use laws::blank_areas;
 pub use tearing::chance;

@@ -19,7 +19,7 @@ ghost use Rattle.backend_api.specs.Commands.Command.{Put, Del};
 ghost use Rattle.backend_api.specs.Ends.{MountEnds, set_lost, SetEndsOn, DeleteEndsOn};
 ghost use Rattle.backend_api.specs.Map.{Map, IsSettings, next_name};
 ghost use Rattle.flash_map.specs.On.{on, HoldsOn, StandsOn};
-ghost use Rattle.backend_api.specs.Room.{Room, most_units};
+ghost use Rattle.backend_api.specs.Room.{Room, most_units, mount_units};
 
 use flash_map::{Area, MountFault};
 use flash_sim::{Flash, Loss, PowerLost, Steps};
@@ -71,7 +71,8 @@ pub trait Backend: Drop {
     /// Whether no call of the state answered that power was lost.
     ghost runs: { Self → Bool };
 
-    /// Mounts a backend on an area. The map stays, also where power is lost.
+    /// Mounts a backend on an area. The map stays, also where power is lost. Whatever the result, it spends at most so many units
+    /// and erases as the area's geometry says (`mount_units`), and none where a mount has nothing to do.
     ///
     /// # Errors
     /// `Damaged` exactly where the area reads as no map, and then nothing was programmed; `PowerLost`; `NoMemory`, and then
@@ -92,6 +93,7 @@ pub trait Backend: Drop {
         ensures keeps { let d = F.device flash.old in let e = F.device flash.new in
             on damage d area ≡ None → on contents e area ≡ on contents d area }
         ensures rests { HoldsOn rests (F.device flash.old) area → F.device flash.new ≡ F.device flash.old }
+        ensures at_most { let d = F.device flash.old in SpendsAtMost d (F.device flash.new) (mount_units (geometry_of d area)) }
         ensures on { IfOk result (λ state. mounted_on state ≡ area) }
         ensures stands { IfOk result (λ state. StandsOn mounted_on stands (F.device flash.new) state) };
 

@@ -10,6 +10,7 @@ pub mod FrontWalk
 pub mod GatherSteps
 pub mod Limits
 pub mod LookupSteps
+pub mod MountUnits
 pub mod NameSteps
 pub mod PartLists
 pub mod PutsCosts

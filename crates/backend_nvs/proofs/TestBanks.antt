@@ -1,5 +1,5 @@
 -- The bank of the tests, and when a backend stands on it.
-use Rattle.std.proofs.Common.{◌≡◌, ℕ, zero, suc, ◌*◌, ◌%◌, ◌<◌, ◌≤◌, List, [], ◌∷◌, length, get_or, inl, refl, sym, ap, subst, arith}
+use Rattle.std.proofs.Common.{◌≡◌, ℕ, zero, suc, ◌%◌, ◌<◌, List, [], ◌∷◌, length, get_or, inl, refl, sym, ap, subst, arith}
 use Rattle.flash_sim.specs.Bank.{IsLawful, IsLawfulBank, bank_at, capacity}
 use Rattle.flash_sim.specs.Device.{Device}
 use Rattle.flash_sim.specs.declared.flash.Bank.{Bank}

@@ -1,7 +1,7 @@
 // Which items are kept.
 ghost use Rattle.std.specs.Prelude.{◌≡◌, ◌<◌, ℕ, List, true, false, option_map};
 ghost use Rattle.flash_map.specs.Lawful.{IsLawfulFor};
-ghost use Rattle.flash_map.specs.On.{on, StandsOn};
+ghost use Rattle.flash_map.specs.On.{on, HoldsOn, StandsOn};
 ghost use Rattle.item_pairs.specs.Pairs.{IsAt, IsKept};
 ghost use Rattle.pair_store.specs.Looking.{HasIds};
 ghost use Rattle.backend_nvs.specs.Numbers.{is_count, numbers_in};
@@ -17,24 +17,26 @@ use std::sync::ledger::Ledger;
 fn stands_at<S: ItemStore, F: Flash, L: Ledger>(
     store: &S,
     flash: &F,
+    index: &S::Index,
     place: u32,
     steps: &mut Steps<L>,
 ) -> bool
     requires ids { HasIds TOP S.is_id }
     requires lawful { IsLawfulFor (F.device flash.now).banks (S.mounted_on store.now) }
     requires stands { StandsOn S.mounted_on S.stands (F.device flash.now) store.now }
+    requires tells { HoldsOn (S.tells index.now) (F.device flash.now) (S.mounted_on store.now) }
     requires known { place < TOP }
     ensures yes_it { let area = S.mounted_on store.now in result ≡ true → (name : List ℕ) × IsAt (numbers_in area) (on S.contents (F.device flash.now) area) name place }
     ensures not_it { let area = S.mounted_on store.now in result ≡ false → (name : List ℕ) → IsAt (numbers_in area) (on S.contents (F.device flash.now) area) name place → ⊥ }
 {
-    let name = match store.get(flash, place, steps) {
+    let name = match store.get_by(flash, index, place, steps) {
         Some(bytes) => match Name::read(bytes) {
             Ok(name) => name,
             Err(_) => return false,
         },
         None => return false,
     };
-    match place_of(store, flash, &name, steps) {
+    match place_of(store, flash, index, &name, steps) {
         Some(found) => found == place,
         None => false,
     }
@@ -54,19 +56,21 @@ fn is_count(found: Option<&[u8]>) -> bool
 pub(crate) fn is_kept<S: ItemStore, F: Flash, L: Ledger>(
     store: &S,
     flash: &F,
+    index: &S::Index,
     id: u32,
     steps: &mut Steps<L>,
 ) -> bool
     requires ids { HasIds TOP S.is_id }
     requires lawful { IsLawfulFor (F.device flash.now).banks (S.mounted_on store.now) }
     requires stands { StandsOn S.mounted_on S.stands (F.device flash.now) store.now }
+    requires tells { HoldsOn (S.tells index.now) (F.device flash.now) (S.mounted_on store.now) }
     requires known { id < TOP }
     ensures yes_it { let area = S.mounted_on store.now in result ≡ true → IsKept (numbers_in area) (on S.contents (F.device flash.now) area) id }
     ensures not_it { let area = S.mounted_on store.now in result ≡ false → IsKept (numbers_in area) (on S.contents (F.device flash.now) area) id → ⊥ }
 {
     if id == COUNT {
-        return is_count(store.get(flash, COUNT, steps));
+        return is_count(store.get_by(flash, index, COUNT, steps));
     }
     let place = if id < FIRST + STEP { id } else { id - STEP };
-    stands_at(store, flash, place, steps)
+    stands_at(store, flash, index, place, steps)
 }

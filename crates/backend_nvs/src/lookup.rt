@@ -2,7 +2,7 @@
 ghost use Rattle.std.specs.Prelude.{◌≡◌, ◌+◌, ◌<◌, ◌≤◌};
 ghost use Rattle.std.specs.Bool.{MatchBool};
 ghost use Rattle.flash_map.specs.Lawful.{IsLawfulFor};
-ghost use Rattle.flash_map.specs.On.{on, StandsOn};
+ghost use Rattle.flash_map.specs.On.{on, HoldsOn, StandsOn};
 ghost use Rattle.item_pairs.specs.Pairs.{count_in, pair_at, HasName, IsPlaceOf};
 ghost use Rattle.pair_store.specs.Looking.{HasIds};
 ghost use Rattle.backend_nvs.specs.Numbers.{number_of, numbers_in, IsFreePlace};
@@ -39,15 +39,17 @@ fn number_of(bytes: &[u8]) -> u32
 pub(crate) fn read_count<S: ItemStore, F: Flash, L: Ledger>(
     store: &S,
     flash: &F,
+    index: &S::Index,
     steps: &mut Steps<L>,
 ) -> u32
     requires ids { HasIds TOP S.is_id }
     requires lawful { IsLawfulFor (F.device flash.now).banks (S.mounted_on store.now) }
     requires stands { StandsOn S.mounted_on S.stands (F.device flash.now) store.now }
+    requires tells { HoldsOn (S.tells index.now) (F.device flash.now) (S.mounted_on store.now) }
     ensures count { let area = S.mounted_on store.now in result ≡ count_in (numbers_in area) (on S.contents (F.device flash.now) area) }
     ensures few { result ≤ LIMIT }
 {
-    match store.get(flash, COUNT, steps) {
+    match store.get_by(flash, index, COUNT, steps) {
         Some(bytes) => number_of(bytes),
         None => 0,
     }
@@ -57,6 +59,7 @@ pub(crate) fn read_count<S: ItemStore, F: Flash, L: Ledger>(
 fn is_here<S: ItemStore, F: Flash, L: Ledger>(
     store: &S,
     flash: &F,
+    index: &S::Index,
     name: &Name,
     place: u32,
     steps: &mut Steps<L>,
@@ -64,28 +67,31 @@ fn is_here<S: ItemStore, F: Flash, L: Ledger>(
     requires ids { HasIds TOP S.is_id }
     requires lawful { IsLawfulFor (F.device flash.now).banks (S.mounted_on store.now) }
     requires stands { StandsOn S.mounted_on S.stands (F.device flash.now) store.now }
+    requires tells { HoldsOn (S.tells index.now) (F.device flash.now) (S.mounted_on store.now) }
     requires low { place < FIRST + LIMIT }
     ensures { let area = S.mounted_on store.now in let items = on S.contents (F.device flash.now) area in
         MatchBool result (HasName (pair_at (numbers_in area) items place) name.now) (¬ HasName (pair_at (numbers_in area) items place) name.now) }
 {
-    is_at(store, flash, name, place, place + STEP, steps)
+    is_at(store, flash, index, name, place, place + STEP, steps)
 }
 
 // Where the name stands that counts.
 pub(crate) fn place_of<S: ItemStore, F: Flash, L: Ledger>(
     store: &S,
     flash: &F,
+    index: &S::Index,
     name: &Name,
     steps: &mut Steps<L>,
 ) -> Option<u32>
     requires ids { HasIds TOP S.is_id }
     requires lawful { IsLawfulFor (F.device flash.now).banks (S.mounted_on store.now) }
     requires stands { StandsOn S.mounted_on S.stands (F.device flash.now) store.now }
+    requires tells { HoldsOn (S.tells index.now) (F.device flash.now) (S.mounted_on store.now) }
     ensures { let area = S.mounted_on store.now in IsPlaceOf (numbers_in area) (on S.contents (F.device flash.now) area) name.now result }
 {
-    let count = read_count(store, flash, steps);
+    let count = read_count(store, flash, index, steps);
     for place in FIRST..FIRST + count {
-        if is_here(store, flash, name, place, steps) {
+        if is_here(store, flash, index, name, place, steps) {
             return Some(place);
         }
     }
@@ -96,16 +102,18 @@ pub(crate) fn place_of<S: ItemStore, F: Flash, L: Ledger>(
 pub(crate) fn free_place<S: ItemStore, F: Flash, L: Ledger>(
     store: &S,
     flash: &F,
+    index: &S::Index,
     steps: &mut Steps<L>,
 ) -> Option<u32>
     requires ids { HasIds TOP S.is_id }
     requires lawful { IsLawfulFor (F.device flash.now).banks (S.mounted_on store.now) }
     requires stands { StandsOn S.mounted_on S.stands (F.device flash.now) store.now }
+    requires tells { HoldsOn (S.tells index.now) (F.device flash.now) (S.mounted_on store.now) }
     ensures { let area = S.mounted_on store.now in IsFreePlace (numbers_in area) (on S.contents (F.device flash.now) area) result }
 {
-    let count = read_count(store, flash, steps);
+    let count = read_count(store, flash, index, steps);
     for place in FIRST..FIRST + count {
-        if is_free(store, flash, place, place + STEP, steps) {
+        if is_free(store, flash, index, place, place + STEP, steps) {
             return Some(place);
         }
     }

@@ -1,7 +1,7 @@
 // Names in their order.
 ghost use Rattle.std.specs.Prelude.{◌≡◌, ◌+◌, ◌<◌, option_map};
 ghost use Rattle.flash_map.specs.Lawful.{IsLawfulFor};
-ghost use Rattle.flash_map.specs.On.{on, StandsOn};
+ghost use Rattle.flash_map.specs.On.{on, HoldsOn, StandsOn};
 ghost use Rattle.backend_api.specs.Map.{next_name as next_name_of};
 ghost use Rattle.pair_store.specs.Least.{IsBetween};
 ghost use Rattle.pair_store.specs.Looking.{HasIds};
@@ -19,6 +19,7 @@ use std::sync::ledger::Ledger;
 fn name_between<S: ItemStore, F: Flash, L: Ledger>(
     store: &S,
     flash: &F,
+    index: &S::Index,
     place: u32,
     after: Option<&Name>,
     before: Option<&Name>,
@@ -27,10 +28,11 @@ fn name_between<S: ItemStore, F: Flash, L: Ledger>(
     requires ids { HasIds TOP S.is_id }
     requires lawful { IsLawfulFor (F.device flash.now).banks (S.mounted_on store.now) }
     requires stands { StandsOn S.mounted_on S.stands (F.device flash.now) store.now }
+    requires tells { HoldsOn (S.tells index.now) (F.device flash.now) (S.mounted_on store.now) }
     requires low { place < FIRST + LIMIT }
     ensures { let area = S.mounted_on store.now in IsBetween (numbers_in area) (on S.contents (F.device flash.now) area) place (option_map (λ other. other.now) after.entry) (option_map (λ other. other.now) before.entry) result }
 {
-    let name = name_at(store, flash, place, place + STEP, steps)?;
+    let name = name_at(store, flash, index, place, place + STEP, steps)?;
     if is_between(name.bytes(), after, before) {
         Some(name)
     } else {
@@ -50,10 +52,11 @@ pub(crate) fn next_name<S: ItemStore, F: Flash, L: Ledger>(
     requires stands { StandsOn S.mounted_on S.stands (F.device flash.now) store.now }
     ensures { let area = S.mounted_on store.now in result ≡ next_name_of (settings_of area (on S.contents (F.device flash.now) area)) (option_map (λ other. other.now) after.entry) }
 {
-    let count = read_count(store, flash, steps);
+    let index = store.index(flash, steps);
+    let count = read_count(store, flash, &index, steps);
     let mut least = None;
     for place in FIRST..FIRST + count {
-        let name = name_between(store, flash, place, after, least.as_ref(), steps);
+        let name = name_between(store, flash, &index, place, after, least.as_ref(), steps);
         least = name.or(least);
     }
     least

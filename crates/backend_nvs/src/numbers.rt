@@ -43,19 +43,21 @@ impl Numbers for NvsNumbers {
     fn place_of<S: ItemStore, F: Flash, L: Ledger>(
         store: &S,
         flash: &F,
+        index: &S::Index,
         name: &Name,
         steps: &mut Steps<L>,
     ) -> Option<u32> {
-        lookup::place_of(store, flash, name, steps)
+        lookup::place_of(store, flash, index, name, steps)
     }
 
     fn is_kept<S: ItemStore, F: Flash, L: Ledger>(
         store: &S,
         flash: &F,
+        index: &S::Index,
         id: u32,
         steps: &mut Steps<L>,
     ) -> bool {
-        kept::is_kept(store, flash, id, steps)
+        kept::is_kept(store, flash, index, id, steps)
     }
 
     fn settings_cost<S: ItemStore, F: Flash, L: Ledger>(

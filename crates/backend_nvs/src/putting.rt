@@ -141,7 +141,8 @@ pub(crate) fn set_value<S: ItemStore, F: Flash, L: Ledger>(
     ensures down { set_lost result ≡ true → S.runs store.new ≡ false }
 {
     let need = price_of_pair(store, flash, name, value);
-    match place_of(store, flash, name, steps) {
+    let index = store.index(flash, steps);
+    match place_of(store, flash, &index, name, steps) {
         Some(place) => change_value::<NvsNumbers, S, F, L>(
             store,
             flash,
@@ -151,7 +152,7 @@ pub(crate) fn set_value<S: ItemStore, F: Flash, L: Ledger>(
             value,
             steps,
         ),
-        None => match free_place(store, flash, steps) {
+        None => match free_place(store, flash, &index, steps) {
             Some(free) => put_new::<NvsNumbers, S, F, L>(
                 store,
                 flash,
@@ -163,7 +164,7 @@ pub(crate) fn set_value<S: ItemStore, F: Flash, L: Ledger>(
                 steps,
             ),
             None => {
-                let count = read_count(store, flash, steps);
+                let count = read_count(store, flash, &index, steps);
                 if is_full(count) {
                     Err(SetFault::TooManyNames)
                 } else {

@@ -3,7 +3,7 @@ ghost use Rattle.std.specs.Prelude.{◌≡◌, ◌+◌, ◌<◌, ◌≤◌, ℕ,
 ghost use Rattle.std.proofs.Common.{refl, lit<};
 ghost use Rattle.flash_map.specs.Area.{value_limit};
 ghost use Rattle.flash_map.specs.Lawful.{IsLawfulFor};
-ghost use Rattle.flash_map.specs.On.{on, StandsOn};
+ghost use Rattle.flash_map.specs.On.{on, HoldsOn, StandsOn};
 ghost use Rattle.item_pairs.specs.Homes.{IsFreeHome};
 ghost use Rattle.item_pairs.specs.Pairs.{IsAt, IsPlaceOf};
 ghost use Rattle.pair_store.specs.Looking.{HasIds};
@@ -48,20 +48,22 @@ impl Numbers for ZmsNumbers {
     fn place_of<S: ItemStore, F: Flash, L: Ledger>(
         store: &S,
         flash: &F,
+        index: &S::Index,
         name: &Name,
         steps: &mut Steps<L>,
     ) -> Option<u32> {
-        place_of(store, flash, name, steps)
+        place_of(store, flash, index, name, steps)
     }
 
     fn is_kept<S: ItemStore, F: Flash, L: Ledger>(
         store: &S,
         flash: &F,
+        index: &S::Index,
         id: u32,
         steps: &mut Steps<L>,
     ) -> bool {
         let place = if id < FIRST + STEP { id } else { id - STEP };
-        stands_at(store, flash, place, steps)
+        stands_at(store, flash, index, place, steps)
     }
 
     fn settings_cost<S: ItemStore, F: Flash, L: Ledger>(
@@ -77,19 +79,21 @@ impl Numbers for ZmsNumbers {
 pub(crate) fn place_of<S: ItemStore, F: Flash, L: Ledger>(
     store: &S,
     flash: &F,
+    index: &S::Index,
     name: &Name,
     steps: &mut Steps<L>,
 ) -> Option<u32>
     requires ids { HasIds top S.is_id }
     requires lawful { IsLawfulFor (F.device flash.now).banks (S.mounted_on store.now) }
     requires stands { StandsOn S.mounted_on S.stands (F.device flash.now) store.now }
+    requires tells { HoldsOn (S.tells index.now) (F.device flash.now) (S.mounted_on store.now) }
     ensures place { let area = S.mounted_on store.now in
         IsPlaceOf (numbers_in area) (on S.contents (F.device flash.now) area) name.now result }
     ensures below { IfSome result (λ place. place < FIRST + GROUP_BITS + GROUP_SIZE) }
 {
     let first = first_of(name.bytes());
     for place in first..first + GROUP_SIZE {
-        if is_at(store, flash, name, place, place + STEP, steps) {
+        if is_at(store, flash, index, name, place, place + STEP, steps) {
             return Some(place);
         }
     }
@@ -100,20 +104,22 @@ pub(crate) fn place_of<S: ItemStore, F: Flash, L: Ledger>(
 fn stands_at<S: ItemStore, F: Flash, L: Ledger>(
     store: &S,
     flash: &F,
+    index: &S::Index,
     id: u32,
     steps: &mut Steps<L>,
 ) -> bool
     requires ids { HasIds top S.is_id }
     requires lawful { IsLawfulFor (F.device flash.now).banks (S.mounted_on store.now) }
     requires stands { StandsOn S.mounted_on S.stands (F.device flash.now) store.now }
+    requires tells { HoldsOn (S.tells index.now) (F.device flash.now) (S.mounted_on store.now) }
     requires known { id < top }
     ensures yes_it { let area = S.mounted_on store.now in let items = on S.contents (F.device flash.now) area in
         result ≡ true → (name : List ℕ) × IsAt (numbers_in area) items name id }
     ensures not_it { let area = S.mounted_on store.now in let items = on S.contents (F.device flash.now) area in
         result ≡ false → (name : List ℕ) → ¬ IsAt (numbers_in area) items name id }
 {
-    match name_in(store, flash, id, steps) {
-        Some(name) => match place_of(store, flash, &name, steps) {
+    match name_in(store, flash, index, id, steps) {
+        Some(name) => match place_of(store, flash, index, &name, steps) {
             Some(found) => found == id,
             None => false,
         },
@@ -125,19 +131,21 @@ fn stands_at<S: ItemStore, F: Flash, L: Ledger>(
 pub(crate) fn free_place<S: ItemStore, F: Flash, L: Ledger>(
     store: &S,
     flash: &F,
+    index: &S::Index,
     name: &Name,
     steps: &mut Steps<L>,
 ) -> Option<u32>
     requires ids { HasIds top S.is_id }
     requires lawful { IsLawfulFor (F.device flash.now).banks (S.mounted_on store.now) }
     requires stands { StandsOn S.mounted_on S.stands (F.device flash.now) store.now }
+    requires tells { HoldsOn (S.tells index.now) (F.device flash.now) (S.mounted_on store.now) }
     ensures place { let area = S.mounted_on store.now in
         IsFreeHome (numbers_in area) (on S.contents (F.device flash.now) area) name.now result }
     ensures below { IfSome result (λ place. place < FIRST + GROUP_BITS + GROUP_SIZE) }
 {
     let start = first_of(name.bytes());
     for place in start..start + GROUP_SIZE {
-        if is_free(store, flash, place, place + STEP, steps) {
+        if is_free(store, flash, index, place, place + STEP, steps) {
             return Some(place);
         }
     }

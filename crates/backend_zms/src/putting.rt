@@ -50,7 +50,8 @@ pub(crate) fn set_value<S: ItemStore, F: Flash, L: Ledger>(
     ensures down { set_lost result ≡ true → S.runs store.new ≡ false }
 {
     let need = price_of_pair(store, flash, name, value);
-    match place_of(store, flash, name, steps) {
+    let index = store.index(flash, steps);
+    match place_of(store, flash, &index, name, steps) {
         Some(place) => change_value::<ZmsNumbers, S, F, L>(
             store,
             flash,
@@ -60,7 +61,7 @@ pub(crate) fn set_value<S: ItemStore, F: Flash, L: Ledger>(
             value,
             steps,
         ),
-        None => match free_place(store, flash, name, steps) {
+        None => match free_place(store, flash, &index, name, steps) {
             Some(free) => put_new::<ZmsNumbers, S, F, L>(
                 store,
                 flash,

@@ -1,3 +1,4 @@
+pub mod CommandLemmas
 pub mod FormWalk
 pub mod FoundLemmas
 pub mod OperandWalk

@@ -1,7 +1,8 @@
 -- The words of `image_tool`, by its forms.
-use Rattle.std.proofs.Common.{◌≡◌, ◌∙◌, ◌⊎◌, inl, inr, MatchOption, true, false, List, [], ◌∷◌, Option, Some, None, map, refl, sym, ap, ap₂, subst, codes}
+use Rattle.std.proofs.Common.{◌≡◌, ◌∙◌, ◌⊎◌, inl, inr, MatchOption, IfOk, Result, Ok, Err, true, false, List, [], ◌∷◌, Option, Some, None, map, refl, sym, ap, ap₂, subst, codes}
 use Rattle.std.specs.Option.{option_map_or}
 use Rattle.std.specs.List.{list_all}
+use Rattle.std.specs.declared.alloc.AllocError.{AllocError}
 use Rattle.clap.specs.Walk.{Row, Text}
 use Rattle.clap.specs.Kinds.{IsAmong}
 use Rattle.clap.specs.declared.error.kind.ErrorKind.{ErrorKind}
@@ -11,9 +12,9 @@ use Rattle.clap.specs.Simple.{App, HasMatchesOf, Shape, built, built_leaf, inher
 use Rattle.clap.specs.Faults.{fault_of, is_simple_and_free}
 use Rattle.clap.proofs.OnLiterals.{clap_on_literals}
 use Rattle.command_words.specs.Commands.{IsCommand, IsNoCommand, asks_for_help, is_operand, name_of, operands_of}
-use Rattle.command_words.specs.Forms.{IsFound, IsNoneFound, build_form, dump_form, image_tool, operand_names, run_form, values_at}
+use Rattle.command_words.specs.Forms.{FindsIn, IsFound, form, image_tool, operand_names, values_at}
 use Rattle.command_words.specs.declared.commands.Command.{Command}
-use Rattle.command_words.specs.declared.commands.Command.TheVariants.{Build, Run, Dump}
+use Rattle.command_words.specs.declared.commands.Command.TheVariants.{Build, Run, Dump, Migrate, Gen, Log}
 use Rattle.command_words.proofs.OperandWalk.{first_of_all, rest_of_all}
 use Rattle.command_words.proofs.FormWalk.{IsEntered, began_with, entered_form, fault_of_form, fault_of_operands, operand_rows, operands_fault, rows_of_operands, takes_one}
 
@@ -29,25 +30,27 @@ built_form s = built_leaf (inherited image_tool.top s)
 
 -- the form of a command
 abbrev form_for : Command → Shape
-form_for (Build out spec) = built_form build_form
-form_for (Run image script out) = built_form run_form
-form_for (Dump image) = built_form dump_form
+form_for c = built_form (form (name_of c) (operand_names (name_of c)))
 
 entered_for : (c : Command) → IsEntered (built image_tool) (form_for c)
 unfolding clap_on_literals
 entered_for (Build out spec) = record { met = refl; no_help = refl; form = refl; quiet = refl }
 entered_for (Run image script out) = record { met = refl; no_help = refl; form = refl; quiet = refl }
 entered_for (Dump image) = record { met = refl; no_help = refl; form = refl; quiet = refl }
+entered_for (Migrate image out) = record { met = refl; no_help = refl; form = refl; quiet = refl }
+entered_for (Gen out backend n) = record { met = refl; no_help = refl; form = refl; quiet = refl }
+entered_for (Log image script out) = record { met = refl; no_help = refl; form = refl; quiet = refl }
 
 named_for : (c : Command) → (form_for c).name ≡ name_of c
-named_for (Build out spec) = refl
-named_for (Run image script out) = refl
-named_for (Dump image) = refl
+named_for c = refl
 
 ones_for : (c : Command) → list_all takes_one (form_for c).rules ≡ true
 ones_for (Build out spec) = refl
 ones_for (Run image script out) = refl
 ones_for (Dump image) = refl
+ones_for (Migrate image out) = refl
+ones_for (Gen out backend n) = refl
+ones_for (Log image script out) = refl
 
 -- the form takes its operands
 taken_for : (c : Command) → operands_fault (form_for c) (operands_of c) ≡ []
@@ -55,18 +58,23 @@ unfolding clap_on_literals
 taken_for (Build out spec) = refl
 taken_for (Run image script out) = refl
 taken_for (Dump image) = refl
+taken_for (Migrate image out) = refl
+taken_for (Gen out backend n) = refl
+taken_for (Log image script out) = refl
 
 -- words that a form takes are the values of its operands, in their order
-build_read : (words : List Text) → operands_fault (built_form build_form) words ≡ []
-    → values_at (codes "OUT" ∷ codes "SPEC" ∷ []) (operand_rows (built_form build_form) words) ≡ map (λ word. Some word) words
+abbrev ReadsAll : Text → List Text → Type 0
+ReadsAll name ids = (words : List Text) → operands_fault (built_form (form name ids)) words ≡ []
+    → values_at ids (operand_rows (built_form (form name ids)) words) ≡ map (λ word. Some word) words
+
+build_read : ReadsAll (codes "build") (codes "OUT" ∷ codes "SPEC" ∷ [])
 unfolding clap_on_literals
 build_read [] none = cc
 build_read (a ∷ []) none = cc
 build_read (a ∷ b ∷ []) none = refl
 build_read (a ∷ b ∷ c ∷ more) none = cc
 
-run_read : (words : List Text) → operands_fault (built_form run_form) words ≡ []
-    → values_at (codes "IMAGE" ∷ codes "SCRIPT" ∷ codes "OUT" ∷ []) (operand_rows (built_form run_form) words) ≡ map (λ word. Some word) words
+run_read : ReadsAll (codes "run") (codes "IMAGE" ∷ codes "SCRIPT" ∷ codes "OUT" ∷ [])
 unfolding clap_on_literals
 run_read [] none = cc
 run_read (a ∷ []) none = cc
@@ -74,18 +82,43 @@ run_read (a ∷ b ∷ []) none = cc
 run_read (a ∷ b ∷ c ∷ []) none = refl
 run_read (a ∷ b ∷ c ∷ d ∷ more) none = cc
 
-dump_read : (words : List Text) → operands_fault (built_form dump_form) words ≡ []
-    → values_at (codes "IMAGE" ∷ []) (operand_rows (built_form dump_form) words) ≡ map (λ word. Some word) words
+dump_read : ReadsAll (codes "dump") (codes "IMAGE" ∷ [])
 unfolding clap_on_literals
 dump_read [] none = cc
 dump_read (a ∷ []) none = refl
 dump_read (a ∷ b ∷ more) none = cc
 
+migrate_read : ReadsAll (codes "migrate") (codes "IMAGE" ∷ codes "OUT" ∷ [])
+unfolding clap_on_literals
+migrate_read [] none = cc
+migrate_read (a ∷ []) none = cc
+migrate_read (a ∷ b ∷ []) none = refl
+migrate_read (a ∷ b ∷ c ∷ more) none = cc
+
+gen_read : ReadsAll (codes "gen") (codes "OUT" ∷ codes "BACKEND" ∷ codes "N" ∷ [])
+unfolding clap_on_literals
+gen_read [] none = cc
+gen_read (a ∷ []) none = cc
+gen_read (a ∷ b ∷ []) none = cc
+gen_read (a ∷ b ∷ c ∷ []) none = refl
+gen_read (a ∷ b ∷ c ∷ d ∷ more) none = cc
+
+log_read : ReadsAll (codes "log") (codes "IMAGE" ∷ codes "SCRIPT" ∷ codes "OUT" ∷ [])
+unfolding clap_on_literals
+log_read [] none = cc
+log_read (a ∷ []) none = cc
+log_read (a ∷ b ∷ []) none = cc
+log_read (a ∷ b ∷ c ∷ []) none = refl
+log_read (a ∷ b ∷ c ∷ d ∷ more) none = cc
+
 read_for : (c : Command) (words : List Text) → operands_fault (form_for c) words ≡ []
-    → values_at (operand_names c) (operand_rows (form_for c) words) ≡ map (λ word. Some word) words
+    → values_at (operand_names (name_of c)) (operand_rows (form_for c) words) ≡ map (λ word. Some word) words
 read_for (Build out spec) words none = build_read words none
 read_for (Run image script out) words none = run_read words none
 read_for (Dump image) words none = dump_read words none
+read_for (Migrate image out) words none = migrate_read words none
+read_for (Gen out backend n) words none = gen_read words none
+read_for (Log image script out) words none = log_read words none
 
 -- ---- both ways
 
@@ -111,6 +144,7 @@ command_found words c w =
         rows = operand_rows s (operands_of c);
         at = ap (subcommand_of image_tool) written ∙ found.1 ∙ ap (λ name. Some (name, operand_rows s (operands_of c))) (named_for c);
         values = read_for c (operands_of c) (taken_for c);
+        in_range = w.in_range;
       },
     )
 
@@ -136,10 +170,11 @@ found_is_command (word ∷ rest) c all none f =
     let found = form_found c rest (rest_of_all word rest all) in
     let taken : operands_fault s rest ≡ [] = sym found.0 ∙ ap (λ w. fault_of image_tool (w ∷ rest)) (sym by_form) ∙ none in
     let rows : f.rows ≡ operand_rows s rest = ap rows_in (sym f.at ∙ ap (λ w. subcommand_of image_tool (w ∷ rest)) by_form ∙ found.1) in
-    let operands : rest ≡ operands_of c = same_words rest (operands_of c) (sym (read_for c rest taken) ∙ ap (values_at (operand_names c)) (sym rows) ∙ f.values) in
+    let operands : rest ≡ operands_of c = same_words rest (operands_of c) (sym (read_for c rest taken) ∙ ap (values_at (operand_names (name_of c))) (sym rows) ∙ f.values) in
     record {
       written = ap₂ (λ w ws. w ∷ ws) by_name operands;
       operands = subst (λ ws. list_all is_operand ws ≡ true) operands (rest_of_all word rest all);
+      in_range = f.in_range;
     }
 
 -- ---- words that are refused before the parse
@@ -151,6 +186,9 @@ command_operands words c w = ap (list_all is_operand) w.written ∙ named c (ope
     named (Build out spec) operands h = h
     named (Run image script out) operands h = h
     named (Dump image) operands h = h
+    named (Migrate image out) operands h = h
+    named (Gen out backend n) operands h = h
+    named (Log image script out) operands h = h
 
 pub command_no_help : (words : List Text) (c : Command) → IsCommand words c → asks_for_help words ≡ false
 command_no_help words c w = ap asks_for_help w.written ∙ named c
@@ -159,22 +197,32 @@ command_no_help words c w = ap asks_for_help w.written ∙ named c
     named (Build out spec) = refl
     named (Run image script out) = refl
     named (Dump image) = refl
+    named (Migrate image out) = refl
+    named (Gen out backend n) = refl
+    named (Log image script out) = refl
 
 -- ---- what a parse says of the words
 
 -- of a parse that did not fail, what it found
-pub reads_found : (a : App) (words : List Text) (m : ArgMatches) (found : Option Command) → a ≡ image_tool → list_all is_operand words ≡ true
+reads_found : (a : App) (words : List Text) (m : ArgMatches) (found : Option Command) → a ≡ image_tool → list_all is_operand words ≡ true
     → HasMatchesOf a words m → (is_simple_and_free a ≡ true → fault_of a words ≡ [])
-    → MatchOption found (IsNoneFound (subcommand_rows_of m)) (IsFound (subcommand_rows_of m)) → MatchOption found (IsNoCommand words) (IsCommand words)
+    → FindsIn (subcommand_rows_of m) found → MatchOption found (IsNoCommand words) (IsCommand words)
 reads_found a words m found same all matches free is = go found is
   where
     rows : subcommand_rows_of m ≡ subcommand_of image_tool words
     rows = (matches (ap is_simple same ∙ simple_tool)).1 ∙ ap (λ app. subcommand_of app words) same
 
-    go : (o : Option Command) → MatchOption o (IsNoneFound (subcommand_rows_of m)) (IsFound (subcommand_rows_of m)) → MatchOption o (IsNoCommand words) (IsCommand words)
+    go : (o : Option Command) → FindsIn (subcommand_rows_of m) o → MatchOption o (IsNoCommand words) (IsCommand words)
     go None none = λ c w. none c (subst (λ rows. IsFound rows c) (sym rows) (command_found words c w).1)
     go (Some c) is =
         found_is_command words c all (ap (λ app. fault_of app words) (sym same) ∙ free (ap is_simple_and_free same ∙ free_tool)) (subst (λ rows. IsFound rows c) rows is)
+
+-- of a parse that did not fail, what is made of what it found
+pub reads_as : (a : App) (words : List Text) (m : ArgMatches) (read : Result (Option Command) AllocError) → a ≡ image_tool → list_all is_operand words ≡ true
+    → HasMatchesOf a words m → (is_simple_and_free a ≡ true → fault_of a words ≡ [])
+    → IfOk read (FindsIn (subcommand_rows_of m)) → IfOk read (λ found. MatchOption found (IsNoCommand words) (IsCommand words))
+reads_as a words m (Ok found) same all matches free is = reads_found a words m found same all matches free is
+reads_as a words m (Err fault) same all matches free is = tt
 
 -- a parse that failed, and not for want of memory
 pub reads_none : (a : App) (words : List Text) (kind : ErrorKind) → a ≡ image_tool → (is_simple_and_free a ≡ true → (kind ≡ OutOfMemory) ⊎ IsAmong kind (fault_of a words))

@@ -1,10 +1,11 @@
 -- What `clap` is told of the forms, and what it gives back of one.
-use Rattle.std.specs.Prelude.{◌≡◌, true, false, List, [], ◌∷◌, map, Option, Some, codes}
+use Rattle.std.specs.Prelude.{◌≡◌, true, false, List, [], ◌∷◌, map, find, Option, Some, MatchOption, codes}
+use Rattle.std.specs.Option.{option_map_or}
+use Rattle.std.specs.Str.{bytes_eq}
 use Rattle.clap.specs.Words.{App, Row, Rule, Shape, Text, first_of, new_rule}
 use Rattle.clap.specs.Simple.{new_shape}
-use Rattle.command_words.specs.Commands.{name_of, operands_of}
+use Rattle.command_words.specs.Commands.{IsInRange, name_of, operands_of}
 use Rattle.command_words.specs.declared.commands.Command.{Command}
-use Rattle.command_words.specs.declared.commands.Command.TheVariants.{Build, Run, Dump}
 
 -- an operand that has to be there
 abbrev pub operand_rule : Text → Rule
@@ -21,23 +22,23 @@ tool forms = record {
   subs = forms;
 }
 
-abbrev pub build_form : Shape
-build_form = form (codes "build") (codes "OUT" ∷ codes "SPEC" ∷ [])
-
-abbrev pub run_form : Shape
-run_form = form (codes "run") (codes "IMAGE" ∷ codes "SCRIPT" ∷ codes "OUT" ∷ [])
-
-abbrev pub dump_form : Shape
-dump_form = form (codes "dump") (codes "IMAGE" ∷ [])
+-- each form by its name, with the names of its operands in the order in which they are written
+abbrev pub forms : List (Text × List Text)
+forms =
+    (codes "build", codes "OUT" ∷ codes "SPEC" ∷ [])
+    ∷ (codes "run", codes "IMAGE" ∷ codes "SCRIPT" ∷ codes "OUT" ∷ [])
+    ∷ (codes "dump", codes "IMAGE" ∷ [])
+    ∷ (codes "migrate", codes "IMAGE" ∷ codes "OUT" ∷ [])
+    ∷ (codes "gen", codes "OUT" ∷ codes "BACKEND" ∷ codes "N" ∷ [])
+    ∷ (codes "log", codes "IMAGE" ∷ codes "SCRIPT" ∷ codes "OUT" ∷ [])
+    ∷ []
 
 abbrev pub image_tool : App
-image_tool = tool (build_form ∷ run_form ∷ dump_form ∷ [])
+image_tool = tool (map (λ f. form f.0 f.1) forms)
 
--- the names of the command's operands, in the order in which they are written
-abbrev pub operand_names : Command → List Text
-operand_names (Build out spec) = codes "OUT" ∷ codes "SPEC" ∷ []
-operand_names (Run image script out) = codes "IMAGE" ∷ codes "SCRIPT" ∷ codes "OUT" ∷ []
-operand_names (Dump image) = codes "IMAGE" ∷ []
+-- the names of the operands of the form with this name
+abbrev pub operand_names : Text → List Text
+operand_names name = option_map_or (λ f. f.1) (find (λ f. bytes_eq f.0 name) forms) []
 
 -- the value of each of these names
 abbrev pub values_at : List Text → List Row → List (Option Text)
@@ -47,8 +48,13 @@ values_at names rows = map (λ name. first_of name rows) names
 pub record IsFound (found : Option (Text × List Row)) (command : Command) : Type 0 where
   pub rows : List Row
   pub at : found ≡ Some (name_of command, rows)
-  pub values : values_at (operand_names command) rows ≡ map (λ word. Some word) (operands_of command)
+  pub values : values_at (operand_names (name_of command)) rows ≡ map (λ word. Some word) (operands_of command)
+  pub in_range : IsInRange command
 
 -- what was found is no command
 abbrev pub IsNoneFound : Option (Text × List Row) → Type 0
 IsNoneFound found = (command : Command) → ¬ IsFound found command
+
+-- which command was found, if one was
+abbrev pub FindsIn : Option (Text × List Row) → Option Command → Type 0
+FindsIn found command = MatchOption command (IsNoneFound found) (IsFound found)

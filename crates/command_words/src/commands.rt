@@ -1,6 +1,20 @@
 //! What the program is told to do.
 
-/// A command of `image_tool`, with its operands as they were written. None of them is empty or begins with `-`.
+/// How many lines a generated script has at most.
+pub const MOST_LINES: u32 = 10_000;
+
+/// A kind of store that an image may have.
+#[derive(Clone, Copy, Debug, PartialEq, Eq)]
+pub enum StoreKind {
+    /// Settings in an NVS area; its word is `nvs`.
+    Nvs,
+    /// Settings in a ZMS area; its word is `zms`.
+    Zms,
+    /// Settings in an FCB area; its word is `fcb`.
+    Fcb,
+}
+
+/// A command of `image_tool`, with its operands as they were written. No word among them is empty or begins with `-`.
 #[derive(Clone, Copy, Debug, PartialEq, Eq)]
 pub enum Command<'a> {
     /// Writes the blank image of the specification `spec` into the file `out`.
@@ -14,8 +28,27 @@ pub enum Command<'a> {
         script: &'a str,
         out: &'a str,
     },
-    /// Prints the items that the image in the file `image` holds.
+    /// Prints what the image in the file `image` holds.
     Dump {
         image: &'a str,
+    },
+    /// Moves the settings of the image in the file `image` to its next store area, and writes the image into `out`.
+    Migrate {
+        image: &'a str,
+        out: &'a str,
+    },
+    /// Runs a generated script of `n` lines, 1 to [`MOST_LINES`], on a blank image with one store of the kind `backend`,
+    /// and writes the image into `out`.
+    Gen {
+        out: &'a str,
+        backend: StoreKind,
+        n: u32,
+    },
+    /// Runs the script in the file `script` on the application log of the image in the file `image`, and writes the image into
+    /// `out`.
+    Log {
+        image: &'a str,
+        script: &'a str,
+        out: &'a str,
     },
 }

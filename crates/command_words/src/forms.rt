@@ -26,9 +26,15 @@ pub fn image_tool<'a>(alloc: Global) -> Result<Command<'a>, AllocError>
     let build = form(alloc, "build", &["OUT", "SPEC"])?;
     let run = form(alloc, "run", &["IMAGE", "SCRIPT", "OUT"])?;
     let dump = form(alloc, "dump", &["IMAGE"])?;
+    let migrate = form(alloc, "migrate", &["IMAGE", "OUT"])?;
+    let generate = form(alloc, "gen", &["OUT", "BACKEND", "N"])?;
+    let log = form(alloc, "log", &["IMAGE", "SCRIPT", "OUT"])?;
     Command::new(alloc, "image_tool")
         .no_binary_name(true)
         .subcommand(build)?
         .subcommand(run)?
-        .subcommand(dump)
+        .subcommand(dump)?
+        .subcommand(migrate)?
+        .subcommand(generate)?
+        .subcommand(log)
 }

@@ -3,9 +3,11 @@
 
 mod commands;
 mod forms;
+mod found;
+mod operands;
 mod reading;
 #[cfg(test)]
 mod tests;
 
-pub use commands::Command;
+pub use commands::{Command, MOST_LINES, StoreKind};
 pub use reading::{one_command, read_words};

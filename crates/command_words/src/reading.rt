@@ -2,14 +2,12 @@
 ghost use Rattle.std.specs.Prelude.{◌≡◌, map, IfOk, MatchOption};
 ghost use Rattle.std.specs.String.{string_bytes};
 ghost use Rattle.std.specs.List.{list_all};
-ghost use Rattle.clap.specs.Words.{subcommand_rows_of};
 ghost use Rattle.command_words.specs.Commands.{asks_for_help, is_operand, IsCommand, IsNoCommand};
-ghost use Rattle.command_words.specs.Forms.{IsFound, IsNoneFound};
-ghost use Rattle.command_words.specs.Laws.{OneCommand};
+ghost use Rattle.command_words.specs.Laws.{OneCommand, OneScript};
 
 use crate::commands::Command;
 use crate::forms::image_tool;
-use clap::ArgMatches;
+use crate::found::found_command;
 use clap::error::ErrorKind;
 use std::alloc::{AllocError, Global};
 
@@ -34,28 +32,6 @@ fn asks_for_help(words: &[String]) -> bool
     }
 }
 
-// The command that a parse found.
-fn found_command<'a>(matches: &ArgMatches<'a>) -> Option<Command<'a>>
-    ensures { MatchOption result (IsNoneFound (subcommand_rows_of matches.now)) (IsFound (subcommand_rows_of matches.now)) }
-{
-    let (name, operands) = matches.subcommand()?;
-    match name {
-        "build" => Some(Command::Build {
-            out: operands.get_str("OUT")?,
-            spec: operands.get_str("SPEC")?,
-        }),
-        "run" => Some(Command::Run {
-            image: operands.get_str("IMAGE")?,
-            script: operands.get_str("SCRIPT")?,
-            out: operands.get_str("OUT")?,
-        }),
-        "dump" => Some(Command::Dump {
-            image: operands.get_str("IMAGE")?,
-        }),
-        _ => None,
-    }
-}
-
 /// The command that the words write, if they write one. They are read without the program's own name. The one error is
 /// that memory ran out.
 pub fn read_words<'a>(alloc: Global, words: &'a [String]) -> Result<Option<Command<'a>>, AllocError>
@@ -65,7 +41,7 @@ pub fn read_words<'a>(alloc: Global, words: &'a [String]) -> Result<Option<Comma
         return Ok(None);
     }
     match image_tool(alloc)?.try_get_matches_from(words) {
-        Ok(matches) => Ok(found_command(&matches)),
+        Ok(matches) => found_command(alloc, &matches),
         Err(error) => match error.kind() {
             ErrorKind::OutOfMemory => Err(AllocError),
             _ => Ok(None),
@@ -75,5 +51,6 @@ pub fn read_words<'a>(alloc: Global, words: &'a [String]) -> Result<Option<Comma
 
 /// Words are one command at most.
 pub fn one_command()
-    ensures { OneCommand }
+    ensures words { OneCommand }
+    ensures numbers { OneScript }
 {}

@@ -1,4 +1,4 @@
-use crate::{Command, read_words};
+use crate::{Command, StoreKind, read_words};
 use std::alloc::{AllocError, Global};
 use std::process::Abort;
 use std::test::Fail;
@@ -52,6 +52,45 @@ fn each_form_is_read(rt: HostRuntime) -> Result<(), Fail> {
                 spec: "ü=",
             },
         ),
+        (
+            "migrate x.img y.img",
+            Command::Migrate {
+                image: "x.img",
+                out: "y.img",
+            },
+        ),
+        (
+            "gen x.img nvs 1",
+            Command::Gen {
+                out: "x.img",
+                backend: StoreKind::Nvs,
+                n: 1,
+            },
+        ),
+        (
+            "gen gen zms 500",
+            Command::Gen {
+                out: "gen",
+                backend: StoreKind::Zms,
+                n: 500,
+            },
+        ),
+        (
+            "gen x.img fcb 10000",
+            Command::Gen {
+                out: "x.img",
+                backend: StoreKind::Fcb,
+                n: 10_000,
+            },
+        ),
+        (
+            "log x.img s.txt y.img",
+            Command::Log {
+                image: "x.img",
+                script: "s.txt",
+                out: "y.img",
+            },
+        ),
     ];
     for (text, command) in rows {
         is_read_as(&rt, alloc, text, Some(command))?;
@@ -59,7 +98,7 @@ fn each_form_is_read(rt: HostRuntime) -> Result<(), Fail> {
     Ok(())
 }
 
-static NO_COMMANDS: [&str; 19] = [
+static NO_COMMANDS: [&str; 33] = [
     "",
     "build",
     "build x.img",
@@ -79,6 +118,20 @@ static NO_COMMANDS: [&str; 19] = [
     "run x.img -x y.img",
     "dump -",
     "dump -- x.img",
+    "migrate",
+    "migrate x.img",
+    "migrate x.img y.img more",
+    "gen x.img nvs",
+    "gen x.img nvs 1 more",
+    "gen x.img sel 1",
+    "gen x.img NVS 1",
+    "gen x.img nvs 0",
+    "gen x.img nvs 10001",
+    "gen x.img nvs 007",
+    "gen x.img nvs +7",
+    "gen x.img nvs 18446744073709551617",
+    "log x.img s.txt",
+    "log x.img s.txt y.img more",
 ];
 
 #[test]

@@ -14,11 +14,13 @@ use Rattle.fcb_ring.specs.declared.record.RecordAt.{RecordAt}
 use Rattle.fcb_ring.specs.declared.ring.Ring.{Ring}
 use Rattle.fcb_ring.specs.declared.ring.Stage.{Stage}
 use Rattle.fcb_ring.specs.declared.ring.Stage.TheVariants.{Ready}
-use Rattle.fcb_ring.specs.Changing.{newest_place, next_place, PutsRecord, AddsRecord, CutList, CutAppend, append_units, GoesOn, has_room, is_scratch_left}
+use Rattle.fcb_ring.specs.Changing.{newest_place, next_place, PutsRecord, AddsRecord, CutList, IsRecordLoss, CutAppend, append_units, GoesOn, has_room, is_scratch_left}
+use Rattle.fcb_ring.specs.declared.record.Record.{Record}
 use Rattle.fcb_ring.specs.Entries.{states, HasEntries}
-use Rattle.fcb_ring.specs.Rings.{turned}
-use Rattle.fcb_ring.specs.Standing.{StandsOn, FitsStage, entries_on, KeepsEntries}
-use Rattle.fcb_ring.specs.Writing.{record_cost}
+use Rattle.fcb_ring.specs.Gains.{records_in, GainsRecord, CutRecords, CutInRecord}
+use Rattle.fcb_ring.specs.Rings.{turned, IsRing}
+use Rattle.fcb_ring.specs.Standing.{StandsOn, FitsStage, states_on, entries_on, KeepsEntries}
+use Rattle.fcb_ring.specs.Writing.{record_cost, spelled}
 use Rattle.fcb_ring.proofs.AreaLemmas.{count-sectors, length-states}
 use Rattle.fcb_ring.proofs.OthersLemmas.{others_then}
 
@@ -68,6 +70,41 @@ cut-after a b c before ring body same oldest more kept power cut = by (subst (λ
       free = cut.free;
       list = subst (λ (l : List (RecordAt × List ℕ)). CutList (unit_of c before.area) (sectors_of c before.area) l (next_place before) body cut.done) kept.are cut.list;
     })
+
+-- what the sector gains that was opened with no records in it
+gains-then : (a b c : Device) (area : Area) (place : ℕ) (body : List ℕ) (checked : Bool) → records_in b area place ≡ records_in a area place → GainsRecord b c area place body checked → GainsRecord a c area place body checked
+gains-then a b c area place body checked empty gains = record {
+  last = gains.last;
+  len = gains.len;
+  checks = gains.checks;
+  all = gains.all ∙ ap (λ (l : List (Record × List ℕ)). l ++ (gains.last, body) ∷ []) empty;
+}
+
+pub gains-after : (a b c : Device) (before ring : Ring) (body : List ℕ) → ring.area ≡ before.area → ring.oldest ≡ before.oldest → ring.used ≡ before.used + 1 → records_in b before.area (next_place before) ≡ records_in a before.area (next_place before)
+    → GainsRecord b c ring.area (newest_place ring) body true → GainsRecord a c before.area (next_place before) body true
+gains-after a b c before ring body same oldest more empty gains =
+    gains-then a b c before.area (next_place before) body true empty
+    (subst (λ (p : ℕ). GainsRecord b c before.area p body true) (opened-place before ring same oldest more) (subst (λ (x : Area). GainsRecord b c x (newest_place ring) body true) same gains))
+
+records-then : (unit : ℕ) (a b c : Device) (area : Area) (place : ℕ) (body : List ℕ) (done : ℕ) → records_in b area place ≡ records_in a area place → CutRecords unit b c area place body done → CutRecords unit a c area place body done
+records-then unit a b c area place body done empty (inl (none, same)) = inl (none, same ∙ empty)
+records-then unit a b c area place body done empty (inr (inl (none, gains))) = inr (inl (none, gains-then a b c area place (spelled unit body done) false empty gains))
+records-then unit a b c area place body done empty (inr (inr (inl (whole, gains)))) = inr (inr (inl (whole, gains-then a b c area place body true empty gains)))
+records-then unit a b c area place body done empty (inr (inr (inr (chance, gains)))) = inr (inr (inr (chance, gains-then a b c area place (spelled unit body done) true empty gains)))
+
+pub torn-after : (a b c : Device) (before ring : Ring) (body : List ℕ) → ring.area ≡ before.area → ring.oldest ≡ before.oldest → ring.used ≡ before.used + 1 → records_in b before.area (next_place before) ≡ records_in a before.area (next_place before)
+    → CutInRecord b c ring (newest_place ring) ring.used body → CutInRecord a c before (next_place before) (before.used + 1) body
+torn-after a b c before ring body same oldest more empty cut =
+    let place = opened-place before ring same oldest more in
+    record {
+      offset = cut.offset;
+      done = cut.done;
+      loss = subst (λ (p : ℕ). IsRecordLoss c before.area p cut.offset body cut.done) place (subst (λ (x : Area). IsRecordLoss c x (newest_place ring) cut.offset body cut.done) same cut.loss);
+      form = subst (λ (n : ℕ). IsRing (states_on c before.area) before.oldest n) more (subst (λ (o : ℕ). IsRing (states_on c before.area) o ring.used) oldest (subst (λ (x : Area). IsRing (states_on c x) ring.oldest ring.used) same cut.form));
+      records =
+          records-then (unit_of c before.area) a b c before.area (next_place before) body cut.done empty
+          (subst (λ (p : ℕ). CutRecords (unit_of c before.area) b c before.area p body cut.done) place (subst (λ (x : Area). CutRecords (unit_of c x) b c x (newest_place ring) body cut.done) same cut.records));
+    }
 
 -- the sectors that neither call changed
 pub others-after : (a b c : Device) (before ring : Ring) → ring.area ≡ before.area → ring.oldest ≡ before.oldest → ring.used ≡ before.used + 1 → OthersStay a b before.area (next_place before) → OthersStay b c ring.area (newest_place ring)

@@ -9,6 +9,7 @@ use Rattle.flash_map.proofs.Rounding.{by_unit}
 use Rattle.fcb_ring.specs.Records.{has_record, record_at, records, records_end}
 use Rattle.fcb_ring.specs.SectorStates.{is_torn, id_of, state_of}
 use Rattle.fcb_ring.specs.Entries.{entry_of, sector_entries}
+use Rattle.fcb_ring.specs.Gains.{with_body, sector_records}
 use Rattle.fcb_ring.specs.Writing.{filled, header_image}
 use Rattle.fcb_ring.proofs.RecordLemmas.{header_fits, reads_none}
 use Rattle.fcb_ring.proofs.Walks.{walk-none, walk_end-none}
@@ -69,6 +70,10 @@ module _ (unit id size : ℕ) (is_unit : IsUnit unit) (large : 512 ≤ size) whe
   unfolding sector_entries records
   opened-entries place = ap (λ rs. map (entry_of place s) (filter (λ r. r.checks) rs)) (walk-none (record_at unit s) (length s) (padded unit 8) no-record)
 
+  pub opened-all : sector_records unit (opened id size) ≡ []
+  unfolding sector_records records
+  opened-all = ap (map (with_body s)) (walk-none (record_at unit s) (length s) (padded unit 8) no-record)
+
   pub opened-header : (state_of unit (opened id size)).has_header ≡ true
   unfolding state_of
   opened-header = refl
@@ -117,3 +122,14 @@ cut_header unit id size done is_unit large lt =
           ∙ ap (λ (l : List ℕ). (state_of unit (overwritten (replicate size 255) 0 (take 4 l))).is_free) (header-is unit id)
           ∙ ap (λ (l : List ℕ). (state_of unit (0xEE ∷ 0xEE ∷ 0xFF ∷ 0xC0 ∷ l)).is_free) (drop-replicate 4 size 255) ∙ torn-front unit (size - 4)
     ]
+
+-- a blank sector has no records
+pub blank-all : (unit size : ℕ) → IsUnit unit → 512 ≤ size → sector_records unit (replicate size 255) ≡ []
+unfolding sector_records records
+blank-all unit size is_unit large =
+    let s : List ℕ = replicate size 255 in
+    let fits = header_fits unit is_unit in
+    let long : length (replicate size 255) ≡ size = length-replicate {A = ℕ} size 255 in
+    let behind : drop (padded unit 8) (replicate size 255) ≡ replicate (length (replicate size 255) - padded unit 8) 255 = drop-replicate (padded unit 8) size 255 ∙ ap (λ (n : ℕ). replicate (n - padded unit 8) 255) (sym long) in
+    let none : record_at unit (replicate size 255) (padded unit 8) ≡ None = reads_none unit s (padded unit 8) (blank_none s (padded unit 8) (λ lt. omega (arith, long)) behind) in
+    ap (map (with_body (replicate size 255))) (walk-none (record_at unit s) (length s) (padded unit 8) none)

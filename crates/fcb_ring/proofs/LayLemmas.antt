@@ -16,7 +16,8 @@ use Rattle.fcb_ring.specs.declared.record.RecordAt.{RecordAt}
 use Rattle.fcb_ring.specs.Records.{body_len, field_width, has_record, checks_at, record_of, record_at, records, records_end, walk}
 use Rattle.fcb_ring.specs.SectorStates.{IsSector, is_torn, id_of, state_of, lead, magic}
 use Rattle.fcb_ring.specs.Entries.{placed, entry_of, sector_entries}
-use Rattle.fcb_ring.proofs.Walks.{walk_end, Advances, walk-none, walk-next, walk_end-none, walk_end-next, walk_end-within, walk_end-keeps, walk-more, walk_end-more, walk-agree}
+use Rattle.fcb_ring.specs.Gains.{with_body, sector_records}
+use Rattle.fcb_ring.proofs.Walks.{walk_end, Advances, walk-none, walk-next, walk_end-none, walk_end-next, walk_end-within, walk_end-keeps, walk-more, walk_end-more, walk-agree, walk-agree_all}
 use Rattle.fcb_ring.proofs.RecordLemmas.{read, reads, reads_none, advances, aligned_after, end-of, end-fields, unit_there, header_fits}
 
 -- the records of two sectors agree where their bytes do
@@ -322,3 +323,29 @@ module _ (unit : ℕ) (s y : List ℕ) (len : ℕ) (h : CanLay unit s y len) whe
       let pad = padding unit is_unit in
       let sum : e + unit + len ≡ e + (unit + len) = omega arith in
       ap (λ (n : ℕ). slice_range new (e + unit) (e + unit + n)) len-is ∙ ap (λ (n : ℕ). slice_range new (e + unit) n) sum ∙ range-in s e y unit (unit + len) h.fits (omega (arith, h.long, pad.no_less len))
+
+  -- and all records
+  pub laid-len : (record_of unit (overwritten s (records_end unit s) y) (records_end unit s)).len ≡ len
+  unfolding record_of
+  laid-len = len-is
+
+  pub laid-checks : (record_of unit (overwritten s (records_end unit s) y) (records_end unit s)).checks ≡ checks_at y 0 unit len (unit + padded unit len)
+  laid-checks = checks-is
+
+  all-open : (t : List ℕ) → sector_records unit t ≡ map (with_body t) (records unit t)
+  unfolding sector_records
+  all-open t = refl
+
+  with-kept : (k : ℕ) (r : Record) → record_at unit s k ≡ Some r → r.end ≤ e → with_body new r ≡ with_body s r
+  with-kept k r some le = ap (λ (x : RecordAt × List ℕ). (r, x.1)) (body-kept 0 k r some le)
+
+  old-all : map (with_body new) (records unit s) ≡ sector_records unit s
+  unfolding records records_end sector_records
+  old-all = walk-agree_all (with_body new) (with_body s) (record_at unit s) (length s) e (advances unit s is_unit) with-kept (length s) (padded unit 8) (omega arith)
+
+  pub laid-all : sector_records unit (overwritten s (records_end unit s) y) ≡ sector_records unit s ++ (record_of unit (overwritten s (records_end unit s) y) (records_end unit s), slice_range y unit (unit + len)) ∷ []
+  laid-all =
+      all-open new ∙ ap (map (with_body new)) laid-records
+      ∙ map-append (with_body new) (records unit s) (record_of unit new e ∷ [])
+      ∙ ap (λ (l : List (Record × List ℕ)). l ++ with_body new (record_of unit new e) ∷ []) old-all
+      ∙ ap (λ (b : List ℕ). sector_records unit s ++ (record_of unit new e, b) ∷ []) (laid-body 0)

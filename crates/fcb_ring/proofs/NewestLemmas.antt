@@ -115,7 +115,7 @@ module _ (unit size : ℕ) (old : List (List ℕ)) (has : HasSize unit size old)
       again : ring.used - 1 + 1 ≡ ring.used
       again = omega arith
 
-      put-form : IsRing (states unit laid_area) ring.oldest ring.used
+      pub put-form : IsRing (states unit laid_area) ring.oldest ring.used
       put-form = subst (λ (n : ℕ). IsRing (states unit laid_area) ring.oldest n) again (grown-form unit old ring.oldest ring.used j t run-form (omega arith) (omega arith) inside good follows)
 
       old-clean : AreClean (states unit old) ring.oldest (ring.used - 1)

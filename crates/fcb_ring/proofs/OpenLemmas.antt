@@ -19,7 +19,7 @@ use Rattle.fcb_ring.specs.Writing.{header_image}
 use Rattle.fcb_ring.proofs.RingLemmas.{turned-within}
 use Rattle.fcb_ring.proofs.AreaLemmas.{HasSize, state-at, length-states}
 use Rattle.flash_map.proofs.ErasedBytes.{erased_is}
-use Rattle.fcb_ring.proofs.StandLemmas.{KeepsRun, kept-has, part, entries-are, set-there, set-elsewhere}
+use Rattle.fcb_ring.proofs.StandLemmas.{KeepsRun, kept-has, kept-form, part, entries-are, set-there, set-elsewhere}
 use Rattle.fcb_ring.proofs.HeaderLemmas.{opened, opened-entries, opened-header, opened-used, opened-id, opened-not_overfull, opened-not_dirty, opened-end_state, cut_header}
 use Rattle.fcb_ring.proofs.GrowLemmas.{IsGood, there, elsewhere, grown-form, grown-clean, grown-entries, grown-uncounted, grown-undamaged}
 
@@ -65,13 +65,13 @@ module _ (unit size : ℕ) (old : List (List ℕ)) (has : HasSize unit size old)
   old-list : entries unit old ≡ flat_map (part unit old ring.oldest) (range_with_len 0 ring.used)
   old-list = entries-are unit old ring.oldest ring.used form ∙ ap (λ (n : ℕ). flat_map (part unit old ring.oldest) (range_with_len 0 n)) (omega (arith, open-place.1))
 
-  -- a header that was cut leaves the list
-  pub open-cut : (id done : ℕ) → done < padded unit 8 / unit
-      → HasEntries unit (set old (turned (length old) ring.oldest ring.used) (overwritten (replicate size 255) 0 (take (done * unit) (header_image unit id)))) (entries unit old)
-  open-cut id done lt =
+  -- a header that was cut leaves the sectors that are used
+  cut-kept : (id done : ℕ) → done < padded unit 8 / unit
+      → KeepsRun unit old (set old (turned (length old) ring.oldest ring.used) (overwritten (replicate size 255) 0 (take (done * unit) (header_image unit id)))) ring.oldest ring.used
+  cut-kept id done lt =
       let t = overwritten (replicate size 255) 0 (take (done * unit) (header_image unit id)) in
       let free : (state_of unit (overwritten (replicate size 255) 0 (take (done * unit) (header_image unit id)))).is_free ≡ true = cut_header unit id size done has.is_unit (omega (arith, has.at_least)) lt in
-      let kept : KeepsRun unit old (set old (turned (length old) ring.oldest ring.used) (overwritten (replicate size 255) 0 (take (done * unit) (header_image unit id)))) ring.oldest ring.used = record {
+      record {
         long = length-set old (turned (length old) ring.oldest ring.used) t;
         same = λ k below. set-elsewhere old ring.oldest ring.used k t open-place.0 open-place.1 (omega (arith, open-place.1)) (λ (e : k ≡ ring.used). omega arith);
         free = λ k le inside. elim (cases_eq k ring.used) [
@@ -81,8 +81,17 @@ module _ (unit size : ℕ) (old : List (List ℕ)) (has : HasSize unit size old)
               ∙ sym (ap (λ (x : SectorState). x.is_free) (state-at unit old (turned (length old) ring.oldest k) (turned-within (length old) ring.oldest k open-place.0 (omega arith))))
               ∙ subst (λ (n : ℕ). (state_at (states unit old) (turned n ring.oldest k)).is_free ≡ true) long (form.free_ones k le (omega (arith, long)))
         ];
-      } in
-      kept-has unit old (written t) ring.oldest ring.used ring.used kept form (omega arith) form.empty clean-count refl
+      }
+
+  -- and the list
+  pub open-cut : (id done : ℕ) → done < padded unit 8 / unit
+      → HasEntries unit (set old (turned (length old) ring.oldest ring.used) (overwritten (replicate size 255) 0 (take (done * unit) (header_image unit id)))) (entries unit old)
+  open-cut id done lt =
+      kept-has unit old (written (overwritten (replicate size 255) 0 (take (done * unit) (header_image unit id)))) ring.oldest ring.used ring.used (cut-kept id done lt) form (omega arith) form.empty clean-count refl
+
+  pub open-cut-form : (id done : ℕ) → done < padded unit 8 / unit
+      → IsRing (states unit (set old (turned (length old) ring.oldest ring.used) (overwritten (replicate size 255) 0 (take (done * unit) (header_image unit id))))) ring.oldest ring.used
+  open-cut-form id done lt = kept-form unit old (written (overwritten (replicate size 255) 0 (take (done * unit) (header_image unit id)))) ring.oldest ring.used ring.used (cut-kept id done lt) form (omega arith) form.empty
 
   module _ (id : ℕ) (id-is : id ≡ cond (eqb ring.used 0) 0 ((ring.id + 1) % 65536)) where
     abbrev t : List ℕ

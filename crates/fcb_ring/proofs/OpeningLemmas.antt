@@ -16,16 +16,17 @@ use Rattle.fcb_ring.specs.declared.ring.Ring.{Ring}
 use Rattle.fcb_ring.specs.declared.ring.Stage.{Stage}
 use Rattle.fcb_ring.specs.declared.ring.Stage.TheVariants.{Ready}
 use Rattle.fcb_ring.specs.Changing.{next_place, sector_list, FitsOpened, IsHeaderLoss}
-use Rattle.fcb_ring.specs.Entries.{sector_entries, HasEntries}
-use Rattle.fcb_ring.specs.Rings.{turned}
-use Rattle.fcb_ring.specs.Standing.{Stands, StandsOn, entries_on, KeepsEntries}
+use Rattle.fcb_ring.specs.Entries.{states, sector_entries, HasEntries}
+use Rattle.fcb_ring.specs.Gains.{sector_records, records_in}
+use Rattle.fcb_ring.specs.Rings.{turned, IsRing}
+use Rattle.fcb_ring.specs.Standing.{Stands, StandsOn, states_on, entries_on, KeepsEntries}
 use Rattle.fcb_ring.specs.Writing.{filled, header_image}
 use Rattle.fcb_ring.proofs.RecordLemmas.{header_fits}
 use Rattle.fcb_ring.proofs.RingLemmas.{turned-within}
 use Rattle.fcb_ring.proofs.AreaLemmas.{HasSize, has_size, count-sectors, area_after}
 use Rattle.fcb_ring.proofs.FinishLemmas.{with_unit}
-use Rattle.fcb_ring.proofs.HeaderLemmas.{opened, opened-is, opened-entries, length-header}
-use Rattle.fcb_ring.proofs.OpenLemmas.{open-place, next-blank, open-cut, open-has, open-stands}
+use Rattle.fcb_ring.proofs.HeaderLemmas.{opened, opened-is, opened-entries, opened-all, blank-all, length-header}
+use Rattle.fcb_ring.proofs.OpenLemmas.{open-place, next-blank, open-cut, open-cut-form, open-has, open-stands}
 
 -- the header at a smaller unit is the front of that at the greatest
 pub header-front : (unit id : ℕ) → IsUnit unit → take (padded unit 8) (header_image 16 id) ≡ header_image unit id
@@ -111,27 +112,46 @@ module _ (d : Device) (ring : Ring) (lawful : IsLawful d.banks d.bytes) (on : St
       opened-list = with_unit (λ (u : ℕ). HasEntries u (sectors_of new ring.area) (entries_on d ring.area)) d new ring.area banks
           (subst (λ (l : List (List ℕ)). HasEntries (unit_of d ring.area) l (entries_on d ring.area)) (sym after) (open-has unit size old has ring on.sectors ready id id-is))
 
+      there : sector_at (sectors_of new ring.area) place ≡ opened id (sector_size d ring.area)
+      there =
+          ap (λ (l : List (List ℕ)). sector_at l place) after ∙ ap (λ (n : ℕ). sector_at (set old n (opened id size)) place) (sym place-old)
+          ∙ get_or-set_same old place (opened id size) [] (omega (arith, place-within, count-sectors d ring.area))
+
+      -- neither it nor the blank one has records
+      pub opened-empty : records_in new ring.area (next_place ring) ≡ records_in d ring.area (next_place ring)
+      opened-empty =
+          ap (λ (n : ℕ). records_in new ring.area n) (sym place-is)
+          ∙ ap (λ (l : List ℕ). sector_records (unit_of new ring.area) l) there
+          ∙ ap (λ (all : List Bank). sector_records (bank_at all ring.area.bank).unit (opened id (sector_size d ring.area))) banks
+          ∙ opened-all unit id size has.is_unit has.at_least
+          ∙ sym (ap (λ (n : ℕ). records_in d ring.area n) (sym place-is) ∙ ap (sector_records unit) blank ∙ blank-all unit size has.is_unit has.at_least)
+
       pub opened-fresh : sector_list new ring.area (turned ring.area.sectors ring.oldest (ring.used + 1 - 1)) ≡ []
       opened-fresh =
           let back : turned ring.area.sectors ring.oldest (ring.used + 1 - 1) ≡ place = ap (turned ring.area.sectors ring.oldest) (omega arith) ∙ sym place-is in
-          let there : sector_at (sectors_of new ring.area) place ≡ opened id (sector_size d ring.area) =
-          ap (λ (l : List (List ℕ)). sector_at l place) after ∙ ap (λ (n : ℕ). sector_at (set old n (opened id size)) place) (sym place-old)
-          ∙ get_or-set_same old place (opened id size) [] (omega (arith, place-within, count-sectors d ring.area)) in
           ap (λ (n : ℕ). sector_list new ring.area n) back
           ∙ ap (λ (l : List ℕ). sector_entries (unit_of new ring.area) place l) there
           ∙ ap (λ (all : List Bank). sector_entries (bank_at all ring.area.bank).unit place (opened id (sector_size d ring.area))) banks
           ∙ opened-entries unit id size has.is_unit has.at_least place
 
-    pub lost-list : WritesPart d new ring.area place 0 header → KeepsEntries d new ring.area
-    lost-list part =
-        let fewer : part.0 < padded (unit_of d ring.area) 8 / unit_of d ring.area = subst (λ (n : ℕ). part.0 < n / unit_of d ring.area) header-long part.1 in
-        let after : sectors_of new ring.area ≡ set (sectors_of d ring.area) (turned (length (sectors_of d ring.area)) ring.oldest ring.used) (overwritten (replicate (sector_size d ring.area) 255) 0 (take (part.0 * unit_of d ring.area) (header_image (unit_of d ring.area) id))) =
+    cut-after : (part : WritesPart d new ring.area place 0 header)
+        → sectors_of new ring.area ≡ set (sectors_of d ring.area) (turned (length (sectors_of d ring.area)) ring.oldest ring.used) (overwritten (replicate (sector_size d ring.area) 255) 0 (take (part.0 * unit_of d ring.area) (header_image (unit_of d ring.area) id)))
+    cut-after part =
         part.2
         ∙ ap (λ (l : List ℕ). set old place (overwritten l 0 (take (part.0 * unit) header))) blank
         ∙ ap (λ (l : List ℕ). set old place (overwritten (replicate size 255) 0 (take (part.0 * unit) l))) header-is
-        ∙ ap (λ (n : ℕ). set old n (overwritten (replicate size 255) 0 (take (part.0 * unit) (header_image unit id)))) place-old in
-        with_unit (λ (u : ℕ). HasEntries u (sectors_of new ring.area) (entries_on d ring.area)) d new ring.area banks
-        (subst (λ (l : List (List ℕ)). HasEntries (unit_of d ring.area) l (entries_on d ring.area)) (sym after) (open-cut unit size old has ring on.sectors ready id part.0 fewer))
+        ∙ ap (λ (n : ℕ). set old n (overwritten (replicate size 255) 0 (take (part.0 * unit) (header_image unit id)))) place-old
+
+    cut-fewer : (part : WritesPart d new ring.area place 0 header) → part.0 < padded (unit_of d ring.area) 8 / unit_of d ring.area
+    cut-fewer part = subst (λ (n : ℕ). part.0 < n / unit_of d ring.area) header-long part.1
+
+    pub lost-list : WritesPart d new ring.area place 0 header → KeepsEntries d new ring.area
+    lost-list part = with_unit (λ (u : ℕ). HasEntries u (sectors_of new ring.area) (entries_on d ring.area)) d new ring.area banks
+        (subst (λ (l : List (List ℕ)). HasEntries (unit_of d ring.area) l (entries_on d ring.area)) (sym (cut-after part)) (open-cut unit size old has ring on.sectors ready id part.0 (cut-fewer part)))
+
+    pub lost-form : WritesPart d new ring.area place 0 header → IsRing (states_on new ring.area) ring.oldest ring.used
+    lost-form part = with_unit (λ (u : ℕ). IsRing (states u (sectors_of new ring.area)) ring.oldest ring.used) d new ring.area banks
+        (subst (λ (l : List (List ℕ)). IsRing (states (unit_of d ring.area) l) ring.oldest ring.used) (sym (cut-after part)) (open-cut-form unit size old has ring on.sectors ready id part.0 (cut-fewer part)))
 
     pub header-loss : FailsToProgram d new (place_of d ring.area place 0) header → d.is_on ≡ true → IsHeaderLoss new ring.area (next_place ring)
     header-loss (inl off) is_on = absurd (both_ways d.is_on off.off is_on)

@@ -1,5 +1,5 @@
 -- The call that puts a record, on a device.
-use Rattle.std.proofs.Common.{◌≡◌, ℕ, ◌+◌, ◌-◌, ◌*◌, ◌/◌, ◌%◌, ◌<◌, ◌≤◌, Bool, true, false, cond, eqb, List, [], ◌∷◌, ◌++◌, length, get_or, set, take, drop, replicate, Some, inl, inr, refl, sym, ap, subst, ◌∙◌, arith}
+use Rattle.std.proofs.Common.{◌≡◌, ℕ, ◌+◌, ◌-◌, ◌*◌, ◌/◌, ◌%◌, ◌<◌, ◌≤◌, Bool, true, false, cond, eqb, List, [], ◌∷◌, ◌++◌, length, length-drop, get_or, set, take, drop, replicate, Some, inl, inr, refl, sym, ap, subst, ◌∙◌, arith}
 use Rattle.std.specs.Prelude.{slice_range}
 use Rattle.std.specs.Str.{bytes_eq}
 use Rattle.std.proofs.lemmas.Bool.{both_ways, cases_eq, eq-eqb, ne_eqb}
@@ -23,18 +23,19 @@ use Rattle.fcb_ring.specs.declared.record.RecordAt.{RecordAt}
 use Rattle.fcb_ring.specs.declared.ring.Ring.{Ring}
 use Rattle.fcb_ring.specs.Changing.{newest_place, sector_list, PutsRecord, CutList, IsRecordLoss, CutAppend}
 use Rattle.fcb_ring.specs.Entries.{states, sector_entries, HasEntries}
+use Rattle.fcb_ring.specs.Gains.{sector_records, records_in, GainsRecord, CutRecords, CutInRecord}
 use Rattle.fcb_ring.specs.Records.{body_len, checks_at, record_of, records_end}
-use Rattle.fcb_ring.specs.Rings.{turned, is_full}
+use Rattle.fcb_ring.specs.Rings.{turned, is_full, IsRing}
 use Rattle.fcb_ring.specs.SectorStates.{IsSector}
 use Rattle.fcb_ring.specs.Standing.{Stands, StandsOn, states_on, entries_on, KeepsEntries, is_finished}
 use Rattle.fcb_ring.specs.Writing.{record_image, record_cost, cut_record, spelled, IsChance}
 use Rattle.fcb_ring.proofs.AreaLemmas.{HasSize, has_size, count-sectors, length-states, area_after}
 use Rattle.fcb_ring.proofs.FinishLemmas.{with_unit}
 use Rattle.fcb_ring.proofs.ImageLemmas.{image-long, image-says, image-there, image-body, image-checks, cut-long, cut-says, cut-there, cut-laid}
-use Rattle.fcb_ring.proofs.LayLemmas.{CanLay, end-after-header, laid_entry, laid-body}
+use Rattle.fcb_ring.proofs.LayLemmas.{CanLay, end-after-header, laid_entry, laid-body, laid-len, laid-checks, laid-all}
 use Rattle.fcb_ring.proofs.RecordLemmas.{header_fits, unit_aligned}
 use Rattle.fcb_ring.proofs.RingLemmas.{undamaged, full-yes, full-no}
-use Rattle.fcb_ring.proofs.NewestLemmas.{run-form, run-within, newest-in, newest-long, newest-sector, newest-end, newest-blank, laid_area, put-stands, put-undamaged, put-full, put-free, put-here, put-list, put-uncounted}
+use Rattle.fcb_ring.proofs.NewestLemmas.{run-form, run-within, newest-in, newest-long, newest-sector, newest-end, newest-blank, laid_area, put-form, put-stands, put-undamaged, put-full, put-free, put-here, put-list, put-uncounted}
 
 pub record-checks : (unit : ℕ) (y : List ℕ) (len : ℕ) → body_len (get_or y 0 0) (get_or y 1 0) ≡ len → (record_of unit y 0).checks ≡ checks_at y 0 unit len (unit + padded unit len)
 unfolding record_of
@@ -134,6 +135,26 @@ module _ (d : Device) (ring : Ring) (lawful : IsLawful d.banks d.bytes) (on : St
         ∙ ap (λ (k : ℕ). set old place (overwritten s k bytes)) end-is
         ∙ ap (set old place) same
 
+    -- what the sector gains where these bytes are laid behind its records
+    gains-by : (y : List ℕ) (can : CanLay (unit_of d ring.area) s y (length body)) (b : Bool) → sectors_of new ring.area ≡ laid_area (unit_of d ring.area) (sector_size d ring.area) (sectors_of d ring.area) has ring on.sectors writes some y (length body) can
+        → checks_at y 0 (unit_of d ring.area) (length body) (unit_of d ring.area + padded (unit_of d ring.area) (length body)) ≡ b → GainsRecord d new ring.area (newest_place ring) (slice_range y (unit_of d ring.area) (unit_of d ring.area + length body)) b
+    gains-by y can b after checks = record {
+      last = record_of unit (overwritten s (records_end unit s) y) (records_end unit s);
+      len =
+          let pad = padding unit has.is_unit in
+          let from : unit + length body - unit ≡ length body = omega arith in
+          laid-len unit s y (length body) can
+          ∙ sym (length-take-le (unit + length body - unit) (drop unit y) (omega (arith, length-drop unit y, can.long, pad.no_less (length body))) ∙ from);
+      checks = laid-checks unit s y (length body) can ∙ checks;
+      all =
+          ap (λ (k : ℕ). records_in new ring.area k) place-newest
+          ∙ ap (λ (all : List Bank). sector_records (bank_at all ring.area.bank).unit (sector_at (sectors_of new ring.area) place)) banks
+          ∙ ap (λ (l : List (List ℕ)). sector_records (unit_of d ring.area) (sector_at l place)) after
+          ∙ ap (sector_records unit) (get_or-set_same old place (overwritten s (records_end unit s) y) [] (newest-in unit size old has ring on.sectors writes some))
+          ∙ laid-all unit s y (length body) can
+          ∙ ap (λ (k : ℕ). records_in d ring.area k ++ (record_of unit (overwritten s (records_end unit s) y) (records_end unit s), slice_range y unit (unit + length body)) ∷ []) (sym place-newest);
+    }
+
     module _ (at : ℕ) (bytes : List ℕ) (at-is : at ≡ newest_place ring) (is : bytes ≡ record_image (unit_of d ring.area) body) (written : Writes d new ring.area at ring.end bytes) where
       abbrev image : List ℕ
       image = record_image (unit_of d ring.area) body
@@ -191,6 +212,9 @@ module _ (d : Device) (ring : Ring) (lawful : IsLawful d.banks d.bytes) (on : St
             ∙ ap (λ (k : ℕ). sector_list d ring.area k ++ (at-record, body) ∷ []) (sym place-newest);
         list = with_unit (λ (u : ℕ). HasEntries u (sectors_of new ring.area) (entries_on d ring.area ++ cond (eqb ring.used ring.area.sectors) [] ((at-record, body) ∷ []))) d new ring.area banks list-after;
       }
+
+      pub record-gains : GainsRecord d new ring.area (newest_place ring) body true
+      record-gains = subst (λ (b : List ℕ). GainsRecord d new ring.area (newest_place ring) b true) (image-body unit has.is_unit body few) (gains-by image lay true after (image-checks unit has.is_unit body few))
 
       pub record-stands : (end : ℕ) → end ≡ ring.end + length bytes → slice_range (sector_bytes new ring.area (newest_place ring)) (end - record_cost (unit_of new ring.area) (length body)) end ≡ record_image (unit_of new ring.area) body
       record-stands end end-of =
@@ -302,6 +326,31 @@ module _ (d : Device) (ring : Ring) (lawful : IsLawful d.banks d.bytes) (on : St
               torn-list free true is,
             ))
 
+        torn-gains : (b : Bool) → (record_of (unit_of d ring.area) (cut_record (unit_of d ring.area) body done) 0).checks ≡ b → GainsRecord d new ring.area (newest_place ring) (spelled (unit_of d ring.area) body done) b
+        torn-gains b is = gains-by torn lay-cut b after-cut (sym torn-checks ∙ is)
+
+        records-by : (b same : Bool) → (record_of (unit_of d ring.area) (cut_record (unit_of d ring.area) body done) 0).checks ≡ b
+            → bytes_eq (cut_record (unit_of d ring.area) body done) (record_image (unit_of d ring.area) body) ≡ same → CutRecords (unit_of d ring.area) d new ring.area (newest_place ring) body done
+        records-by false same is whether =
+            inr (inl ((λ (chance : IsChance (unit_of d ring.area) body done). both_ways (record_of (unit_of d ring.area) torn 0).checks is chance.checks), torn-gains false is))
+        records-by true true is whether =
+            let equal : cut_record (unit_of d ring.area) body done ≡ record_image (unit_of d ring.area) body = (bytes_eq-Decides torn (record_image unit body)).0 whether in
+            let reads : spelled (unit_of d ring.area) body done ≡ body = ap (λ (l : List ℕ). slice_range l unit (unit + length body)) equal ∙ image-body unit has.is_unit body few in
+            inr (inr (inl (equal, subst (λ (x : List ℕ). GainsRecord d new ring.area (newest_place ring) x true) reads (torn-gains true is))))
+        records-by true false is whether =
+            inr (inr (inr (
+              record {
+                some = any;
+                fewer = below;
+                checks = is;
+                differs = λ (equal : cut_record (unit_of d ring.area) body done ≡ record_image (unit_of d ring.area) body). both_ways (bytes_eq torn (record_image unit body)) whether ((bytes_eq-Decides torn (record_image unit body)).1 equal);
+              },
+              torn-gains true is,
+            )))
+
+        torn-form : IsRing (states (unit_of d ring.area) (sectors_of new ring.area)) ring.oldest ring.used
+        torn-form = subst (λ (l : List (List ℕ)). IsRing (states (unit_of d ring.area) l) ring.oldest ring.used) (sym after-cut) (put-form unit size old has ring on.sectors writes some torn (length body) lay-cut)
+
         torn-full : ring.used ≡ ring.area.sectors → is_full (states (unit_of d ring.area) (sectors_of new ring.area)) ≡ true
         torn-full full =
             ap (λ (l : List (List ℕ)). is_full (states (unit_of d ring.area) l)) after-cut
@@ -335,6 +384,22 @@ module _ (d : Device) (ring : Ring) (lawful : IsLawful d.banks d.bytes) (on : St
       cut-list free = elim (cases_eq done 0) [
         | inl none ↦ inl ((λ (chance : IsChance (unit_of d ring.area) body done). let h = chance.some in absurd (omega arith)), subst (λ (l : List (List ℕ)). HasEntries (unit_of d ring.area) l (entries_on d ring.area)) (sym (nothing-put none)) old-has)
         | inr more ↦ cut-by (omega (arith, more)) (record_of (unit_of d ring.area) (cut_record unit body done) 0).checks (bytes_eq (cut_record unit body done) (record_image unit body)) free refl refl
+      ]
+
+      cut-records : CutRecords (unit_of d ring.area) d new ring.area (newest_place ring) body done
+      cut-records = elim (cases_eq done 0) [
+        | inl none ↦ inl (
+          (λ (chance : IsChance (unit_of d ring.area) body done). let h = chance.some in absurd (omega arith)),
+          ap (λ (all : List Bank). sector_records (bank_at all ring.area.bank).unit (sector_at (sectors_of new ring.area) (newest_place ring))) banks
+              ∙ ap (λ (l : List (List ℕ)). sector_records (unit_of d ring.area) (sector_at l (newest_place ring))) (nothing-put none),
+        )
+        | inr more ↦ records-by (omega (arith, more)) (record_of (unit_of d ring.area) (cut_record unit body done) 0).checks (bytes_eq (cut_record unit body done) (record_image unit body)) refl refl
+      ]
+
+      cut-form : IsRing (states (unit_of d ring.area) (sectors_of new ring.area)) ring.oldest ring.used
+      cut-form = elim (cases_eq done 0) [
+        | inl none ↦ subst (λ (l : List (List ℕ)). IsRing (states (unit_of d ring.area) l) ring.oldest ring.used) (sym (nothing-put none)) (run-form unit size old has ring on.sectors writes)
+        | inr more ↦ torn-form (omega (arith, more))
       ]
 
       cut-kept : ring.used ≡ ring.area.sectors → HasEntries (unit_of d ring.area) (sectors_of new ring.area) (entries_on d ring.area)
@@ -389,6 +454,19 @@ module _ (d : Device) (ring : Ring) (lawful : IsLawful d.banks d.bytes) (on : St
           free = with_unit (λ (u : ℕ). is_full (states u (sectors_of new ring.area)) ≡ false) d new ring.area banks (cut-free at done at-is w.0 w.1 free);
           list = with_unit (λ (u : ℕ). CutList u (sectors_of new ring.area) (entries_on d ring.area) (newest_place ring) body done) d new ring.area banks (cut-list at done at-is w.0 w.1 free);
         })
+
+    pub record-torn : (at : ℕ) (bytes : List ℕ) → at ≡ newest_place ring → bytes ≡ record_image (unit_of d ring.area) body → FailsToProgram d new (place_of d ring.area at ring.end) bytes → d.is_on ≡ true
+        → CutInRecord d new ring (newest_place ring) ring.used body
+    record-torn at bytes at-is is (inl off) is_on = absurd (both_ways d.is_on off.off is_on)
+    record-torn at bytes at-is is (inr (done, below, cuts)) is_on =
+        let w = cut-written at bytes at-is is done below cuts in
+        record {
+          offset = ring.end;
+          done = done;
+          loss = subst (λ (p : ℕ). IsRecordLoss new ring.area p ring.end body done) at-is (record-loss at bytes at-is is done w.0 cuts);
+          form = with_unit (λ (u : ℕ). IsRing (states u (sectors_of new ring.area)) ring.oldest ring.used) d new ring.area banks (cut-form at done at-is w.0 w.1);
+          records = with_unit (λ (u : ℕ). CutRecords u d new ring.area (newest_place ring) body done) d new ring.area banks (cut-records at done at-is w.0 w.1);
+        }
 
     pub record-kept : (at : ℕ) (bytes : List ℕ) → at ≡ newest_place ring → bytes ≡ record_image (unit_of d ring.area) body → FailsToProgram d new (place_of d ring.area at ring.end) bytes → ring.used ≡ ring.area.sectors → KeepsEntries d new ring.area
     record-kept at bytes at-is is (inl off) full = subst (λ (x : Device). KeepsEntries d x ring.area) (sym off.is) old-has

@@ -162,3 +162,13 @@ walk-agree f g p step size e first same (suc n) at le = elim (option_cases (step
     both : (t : Bool) (r : Record) (rs : List Record) → f r ≡ g r → map f rs ≡ map g rs → map f (cond t (r ∷ rs) rs) ≡ map g (cond t (r ∷ rs) rs)
     both true r rs here rest = ap (λ x. x ∷ map f rs) here ∙ ap (λ xs. g r ∷ xs) rest
     both false r rs here rest = rest
+
+-- the same of all records
+pub walk-agree_all : {X : Type 0} (f g : Record → X) (step : ℕ → Option Record) (size e : ℕ) → Advances step size → ((k : ℕ) (r : Record) → step k ≡ Some r → r.end ≤ e → f r ≡ g r)
+    → (n at : ℕ) → walk_end step n at ≤ e → map f (walk step n at) ≡ map g (walk step n at)
+walk-agree_all f g step size e first same n at le =
+    ap (map f) (sym (passed (walk step n at))) ∙ walk-agree f g (λ r. true) step size e first same n at le ∙ ap (map g) (passed (walk step n at))
+  where
+    passed : (rs : List Record) → filter (λ r. true) rs ≡ rs
+    passed [] = refl
+    passed (r ∷ rs) = ap (λ l. r ∷ l) (passed rs)

@@ -1,6 +1,7 @@
 pub mod Chance
 pub mod Changing
 pub mod Entries
+pub mod Gains
 pub mod Records
 pub mod Rings
 pub mod SectorStates

@@ -1,11 +1,12 @@
 // Collecting: the records of the oldest sector that are to stay are copied into the scratch sector.
 ghost use Rattle.std.specs.Prelude.{◌≡◌, ◌+◌, ◌-◌, ◌/◌, ◌<◌, ◌≤◌, ◌∷◌, [], true, false, is_err, length, OnOk, OnErr};
 ghost use Rattle.flash_sim.specs.declared.flash.TheConstants.{PROGRAM_LIMIT};
-ghost use Rattle.flash_map.specs.Area.{sector_size, OthersStay};
+ghost use Rattle.flash_map.specs.Area.{sector_size, sectors_of, OthersStay};
 ghost use Rattle.flash_map.specs.Spending.{Spends, SpendsAtMost};
 ghost use Rattle.flash_map.specs.Touches.{Touches};
 ghost use Rattle.fcb_ring.specs.Changing.{Begun, StopsBeginning, CopiedRecord, StopsCopyingRecord, cost_on, is_scratch_left, IsEraseLoss, body_at, EndsCollection};
-ghost use Rattle.fcb_ring.specs.Standing.{StandsOn, IsListed, KeepsEntries, is_up};
+ghost use Rattle.fcb_ring.specs.Rings.{IsRing};
+ghost use Rattle.fcb_ring.specs.Standing.{StandsOn, states_on, IsListed, KeepsEntries, is_up};
 
 use crate::record::RecordAt;
 use crate::ring::{Ring, Stage};
@@ -28,7 +29,7 @@ impl Ring {
     /// stays, also where power is lost.
     ///
     /// # Errors
-    /// `PowerLost`. The ring is then down.
+    /// `PowerLost`. The scratch sector is then still free, and the ring is down.
     pub fn begin_collect<F: Flash>(&mut self, flash: &mut F) -> Result<(), PowerLost>
         requires stands { StandsOn (F.device flash.old) self.old }
         requires ready { self.old.stage ≡ Stage.Ready }
@@ -37,6 +38,8 @@ impl Ring {
         ensures touches { Touches (self.old.area ∷ []) (F.device flash.old) (F.device flash.new) (is_err result) }
         ensures begun { OnOk result (Begun (F.device flash.old) (F.device flash.new) self.old self.new) }
         ensures stopped { OnErr result (StopsBeginning (F.device flash.old) (F.device flash.new) self.old self.new) }
+        ensures form { let e = F.device flash.new in
+            OnErr result (IsRing (states_on e self.old.area) self.old.oldest self.old.used) }
     {
         self.open_next(flash, Stage::Collecting)?;
         Ok(())
@@ -88,7 +91,7 @@ impl Ring {
     /// Erases the oldest sector. Its records are gone from the list, and the copies count.
     ///
     /// # Errors
-    /// `PowerLost`. The list is then as before, and the ring is down.
+    /// `PowerLost`. The sectors are then as before, and the ring is down.
     pub fn end_collect<F: Flash>(&mut self, flash: &mut F) -> Result<(), PowerLost>
         requires stands { StandsOn (F.device flash.old) self.old }
         requires collecting { self.old.stage ≡ Stage.Collecting }
@@ -105,6 +108,8 @@ impl Ring {
         ensures units { OnOk result (Spends (F.device flash.old) (F.device flash.new) 1) }
 
         ensures list { OnErr result (KeepsEntries (F.device flash.old) (F.device flash.new) self.old.area) }
+        ensures same { let area = self.old.area in
+            OnErr result (sectors_of (F.device flash.new) area ≡ sectors_of (F.device flash.old) area) }
         ensures down { OnErr result (is_up self.new.stage ≡ false) }
         ensures lost { OnErr result ((F.device flash.old).is_on ≡ true → IsEraseLoss (F.device flash.new) self.old.area self.old.oldest) }
         ensures bound { OnErr result (SpendsAtMost (F.device flash.old) (F.device flash.new) 1) }

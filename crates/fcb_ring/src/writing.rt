@@ -5,8 +5,9 @@ ghost use Rattle.flash_map.specs.Area.{sector_size, Writes, OthersStay};
 ghost use Rattle.flash_map.specs.Spending.{Spends, SpendsAtMost};
 ghost use Rattle.flash_map.specs.Touches.{Touches};
 ghost use Rattle.flash_map.specs.Units.{IsUnit, padded};
-ghost use Rattle.fcb_ring.specs.Changing.{image_on, cost_on, record_units, header_on, header_units, kept_room, is_too_long, has_room, is_scratch_left, newest_place, next_place, sector_list, FitsOpened, PutsRecord, LosesRecord, LosesHeader, CutAppend, AddsRecord, GoesOn, end_for, opening_units, EndsWithRecord, next_id, IsReady, IsDown, append_lost, place_for, AppendEnds, RotateEnds};
-ghost use Rattle.fcb_ring.specs.Rings.{is_full};
+ghost use Rattle.fcb_ring.specs.Changing.{image_on, cost_on, record_units, header_on, header_units, kept_room, is_too_long, has_room, is_scratch_left, newest_place, next_place, sector_list, FitsOpened, PutsRecord, LosesRecord, LosesHeader, CutAppend, AddsRecord, GoesOn, end_for, opening_units, EndsWithRecord, next_id, IsReady, IsDown, append_lost, stays_for, place_for, AppendEnds, RotateEnds};
+ghost use Rattle.fcb_ring.specs.Gains.{records_in, GainsRecord, CutInRecord, CutRing};
+ghost use Rattle.fcb_ring.specs.Rings.{is_full, IsRing};
 ghost use Rattle.fcb_ring.specs.Standing.{StandsOn, states_on, KeepsEntries, is_finished, is_up};
 ghost use Rattle.fcb_ring.specs.Writing.{record_image, record_cost};
 
@@ -99,8 +100,12 @@ impl Ring {
         ensures stage { OnOk result (self.new.stage ≡ next) }
         ensures fresh { OnOk result (sector_list (F.device flash.new) self.old.area (newest_place self.new) ≡ []) }
         ensures units { let d = F.device flash.old in OnOk result (Spends d (F.device flash.new) (header_units d self.old.area)) }
+        ensures empty { let at = next_place self.old in let area = self.old.area in
+            OnOk result (records_in (F.device flash.new) area at ≡ records_in (F.device flash.old) area at) }
 
         ensures down { OnErr result (is_up self.new.stage ≡ false) }
+        ensures form { let e = F.device flash.new in
+            OnErr result (IsRing (states_on e self.old.area) self.old.oldest self.old.used) }
         ensures lost { OnErr result (LosesHeader (F.device flash.old) (F.device flash.new) self.old) }
         ensures bound { let d = F.device flash.old in OnErr result (SpendsAtMost d (F.device flash.new) (header_units d self.old.area)) }
     {
@@ -144,11 +149,15 @@ impl Ring {
         ensures written { let d = F.device flash.old in OnOk result (Writes d (F.device flash.new) self.old.area (newest_place self.old) self.old.end (image_on d self.old.area body.now)) }
         ensures ends_with { OnOk result (EndsWithRecord (F.device flash.new) self.new (newest_place self.old) body.now) }
         ensures puts { OnOk result (PutsRecord (F.device flash.old) (F.device flash.new) self.old body.now) }
+        ensures gains { let d = F.device flash.old in
+            OnOk result (GainsRecord d (F.device flash.new) self.old.area (newest_place self.old) body.now true) }
         ensures units { let d = F.device flash.old in OnOk result (Spends d (F.device flash.new) (record_units d self.old.area (length body.now))) }
 
         ensures down { OnErr result (is_up self.new.stage ≡ false) }
         ensures counted { OnErr result (self.old.used < self.old.area.sectors → CutAppend (F.device flash.old) (F.device flash.new) self.old.area (newest_place self.old) body.now) }
         ensures lost { OnErr result (LosesRecord (F.device flash.old) (F.device flash.new) self.old body.now) }
+        ensures torn { let d = F.device flash.old in let place = newest_place self.old in
+            OnErr result (d.is_on ≡ true → CutInRecord d (F.device flash.new) self.old place self.old.used body.now) }
         ensures full { OnErr result (self.old.used ≡ self.old.area.sectors → is_full (states_on (F.device flash.new) self.old.area) ≡ true) }
         ensures uncounted { OnErr result (self.old.used ≡ self.old.area.sectors → KeepsEntries (F.device flash.old) (F.device flash.new) self.old.area) }
         ensures bound { let d = F.device flash.old in OnErr result (SpendsAtMost d (F.device flash.new) (record_units d self.old.area (length body.now))) }
@@ -186,7 +195,12 @@ impl Ring {
         ensures ends_with { OnOk result (EndsWithRecord (F.device flash.new) self.new (next_place self.old) body.now) }
         ensures ready { let d = F.device flash.old in OnOk result (IsReady d (F.device flash.new) self.new (opening_units d self.old.area body.now)) }
 
+        ensures gains { let d = F.device flash.old in
+            OnOk result (GainsRecord d (F.device flash.new) self.old.area (next_place self.old) body.now true) }
+
         ensures cut { OnErr result (CutAppend (F.device flash.old) (F.device flash.new) self.old.area (next_place self.old) body.now) }
+        ensures torn { let d = F.device flash.old in
+            OnErr result (d.is_on ≡ true → CutRing false d (F.device flash.new) self.old body.now) }
         ensures down { let d = F.device flash.old in OnErr result (IsDown d (F.device flash.new) self.new (opening_units d self.old.area body.now)) }
     {
         self.open_next(flash, Stage::Ready)?;
@@ -201,7 +215,8 @@ impl Ring {
     /// `TooLong` where the body is empty or no sector could hold the record; `Full`
     /// where it does not fit and no sector but the scratch one is free. Neither changes anything. After `PowerLost` the
     /// ring is down, and the list is the old one, or has the record, or, where the record's first units with FF behind
-    /// them check by chance, the body that these spell.
+    /// them check by chance, the body that these spell. All records of the sector into which it was to go are then the old
+    /// ones and at most one more, of this record's length, which may not check.
     pub fn append<F: Flash>(
         &mut self,
         flash: &mut F,
@@ -219,6 +234,12 @@ impl Ring {
         ensures written { OnOk result (EndsWithRecord (F.device flash.new) self.new (place_for (F.device flash.old) self.old body.now (kept_room self.old into_reserve)) body.now) }
         ensures end { OnOk result (self.new.end ≡ end_for (F.device flash.old) self.old body.now (kept_room self.old into_reserve)) }
         ensures ends { AppendEnds (F.device flash.old) (F.device flash.new) self.old self.new body.now (kept_room self.old into_reserve) result }
+        ensures gains { let d = F.device flash.old in let kept = kept_room self.old into_reserve in
+            let place = place_for d self.old body.now kept in
+            OnOk result (GainsRecord d (F.device flash.new) self.old.area place body.now true) }
+        ensures torn { let d = F.device flash.old in let kept = kept_room self.old into_reserve in
+            append_lost result ≡ true → d.is_on ≡ true
+            → CutRing (stays_for d self.old body.now kept) d (F.device flash.new) self.old body.now }
     {
         let geometry = geometry(flash, &self.area);
         let kept = self.kept_room(into_reserve);

@@ -1,54 +1,81 @@
--- How a command ends, from what was prepared and what was printed and written.
-use Rattle.std.proofs.Common.{◌≡◌, ℕ, List, Option, Some, None, inl, inr, refl, sym, subst}
-use Rattle.flash_sim.specs.Device.{Device}
-use Rattle.zs_host.specs.Outside.{Outside, Files, SameBut, printed_more}
+-- How a task ends, from what was prepared and what was printed and written.
+use Rattle.std.proofs.Common.{◌≡◌, ◌⊎◌, ℕ, List, [], ◌∷◌, arith, Option, Some, None, Result, Ok, Err, inl, inr, refl, sym, ap, subst, ◌∙◌}
+use Rattle.std.specs.Prelude.{MatchOption}
+use Rattle.zs_host.specs.Outside.{Outside, Files, SameBut, failed, printed_more}
+use Rattle.handlers.specs.declared.handler.HandlerKind.{HandlerKind}
+use Rattle.image_plays.specs.declared.plays.Output.{Output}
+use Rattle.image_plays.specs.declared.plays.Output.TheVariants.{Nowhere, Into}
+use Rattle.image_plays.specs.declared.plays.Play.{Play}
+use Rattle.image_plays.specs.declared.stops.Refusal.{Refusal}
+use Rattle.image_plays.specs.declared.stops.Refusal.TheVariants.{BadSpec, NoFile, BadFile, Unbuilt, NoLog, BadArea, BadScript}
+use Rattle.image_plays.specs.Inputs.{out_of}
+use Rattle.command_words.specs.Commands.{IsCommand, IsNoCommand, name_of, operands_of}
+use Rattle.command_words.specs.declared.commands.Command.TheVariants as command
 use Rattle.command_words.specs.declared.commands.Command.{Command}
-use Rattle.command_words.specs.declared.commands.Command.TheVariants.{Build, Run, Dump}
-use Rattle.image_tool.specs.declared.stops.Refusal.{Refusal}
-use Rattle.image_tool.specs.declared.stops.Refusal.TheVariants.{BadSpec, NoFile, BadFile, Unbuilt, BadArea, BadScript}
+use Rattle.image_plays.specs.declared.outcome.Outcome.{Outcome}
+use Rattle.image_plays.specs.declared.stops.Stop.{Stop}
+use Rattle.image_plays.specs.declared.stops.Stop.TheVariants.{Refused, HostFailed, NoMemory}
+use Rattle.std.specs.Borrow.{Bor}
+use Rattle.image_logs.specs.Plays.{LogPlayEnds}
+use Rattle.image_plays.specs.Plays.{File, WritesLeft, file_of}
+use Rattle.image_file.specs.Format.{Plain}
+use Rattle.image_plays.specs.Refusals.{line_of}
+use Rattle.image_plays.specs.Stages.{Stage, Stores}
 use Rattle.image_tool.specs.declared.status.Status.{Status}
 use Rattle.image_tool.specs.declared.status.Status.TheVariants as status
-use Rattle.image_tool.specs.Outcomes.{File, Does}
-use Rattle.image_tool.specs.Refusals.{Causes, line_of, status_of}
-use Rattle.image_tool.specs.Telling.{Delivers, DeliversPart, OnlyFile, PrintsFront, Reports}
-use Rattle.image_tool.specs.Tool.{CommandEnds, EndsEarly, MayWrite}
+use Rattle.image_tool.specs.declared.tasks.Task.{Task}
+use Rattle.image_tool.specs.declared.tasks.Task.TheVariants.{Build, Plays, Log}
+use Rattle.image_tool.specs.Tasks.{Causes, Does, Prepares, task_of}
+use Rattle.image_tool.specs.Telling.{Delivers, DeliversOnly, PrintsFront, Reports}
+use Rattle.image_tool.specs.Tool.{MayWrite, OnlyFile, TaskEnds, ToolEnds, out_file, status_of}
 
--- ---- a command that was to print a text and write a file
+module _ (k : Stores) (kinds : List HandlerKind) (task : Task) (host host' : Outside) (old new : Stage) where
+  -- ---- a task that was to print a text and write a file
 
-module _ (c : Command) (host host' : Outside) (bench bench' : Device) (text : List ℕ) (file : Option File) (does : Does c host bench bench' text file) where
-  early : DeliversPart host host' text file → EndsEarly c host host' bench bench'
-  early (inl front) = inr (inl (text, inl (file, does), front))
-  early (inr all) = inr (inr (text, file, does, all))
+  pub ends : (text : List ℕ) (file : Option File) → Does k kinds task host old new text file → (result : Status) → Delivers host host' text file result → TaskEnds k kinds task host host' old new result
+  ends text file does status.Done is = (text, file, does, is)
+  ends text file does status.HostFault is = inr (inr (text, file, does, is))
+  ends text file does status.NoMemory is = inr (inr (text, file, does, is))
+  ends text file does status.Usage is = absurd is
+  ends text file does status.BadScript is = absurd is
+  ends text file does status.BadImage is = absurd is
+  ends text file does status.NoFile is = absurd is
 
-  pub ends : (result : Status) → Delivers host host' text file result → CommandEnds c host host' bench bench' result
-  ends status.Done is = (text, file, does, is)
-  ends status.HostFault is = (is.0, early is.1)
-  ends status.NoMemory is = early is
-  ends status.Usage is = absurd is
-  ends status.BadScript is = absurd is
-  ends status.BadImage is = absurd is
-  ends status.NoFile is = absurd is
+  -- ---- a task that was refused
 
--- ---- a command that was refused
-
-module _ (c : Command) (host host' : Outside) (bench bench' : Device) where
-  refused_ends : (refusal : Refusal) → Causes c host bench bench' refusal → host' ≡ printed_more host (line_of refusal) → CommandEnds c host host' bench bench' (status_of refusal)
+  refused_ends : (refusal : Refusal) → Causes k kinds task host old new refusal → host' ≡ printed_more host (line_of refusal) → TaskEnds k kinds task host host' old new (status_of refusal)
   refused_ends BadSpec causes is = (BadSpec, causes, refl, is)
   refused_ends (NoFile word) causes is = (NoFile word, causes, refl, is)
   refused_ends (BadFile at why) causes is = (BadFile at why, causes, refl, is)
   refused_ends (Unbuilt label) causes is = (Unbuilt label, causes, refl, is)
+  refused_ends NoLog causes is = (NoLog, causes, refl, is)
   refused_ends (BadArea label damage) causes is = (BadArea label damage, causes, refl, is)
   refused_ends (BadScript n why) causes is = (BadScript n why, causes, refl, is)
 
-  told : (refusal : Refusal) → Causes c host bench bench' refusal → PrintsFront host host' (line_of refusal) → EndsEarly c host host' bench bench'
-  told refusal causes front = inr (inl (line_of refusal, inr (refusal, causes, refl), front))
+  pub reported : (refusal : Refusal) (result : Status) → Causes k kinds task host old new refusal → Reports host host' (line_of refusal) (status_of refusal) result → TaskEnds k kinds task host host' old new result
+  reported refusal result causes (inl whole) = subst (λ (s : Status). TaskEnds k kinds task host host' old new s) (sym whole.0) (refused_ends refusal causes whole.1)
+  reported refusal result causes (inr (inl fault)) = subst (λ (s : Status). TaskEnds k kinds task host host' old new s) (sym fault.0) (inr (inl (refusal, causes, fault.1)))
+  reported refusal result causes (inr (inr stopped)) = subst (λ (s : Status). TaskEnds k kinds task host host' old new s) (sym stopped.0) (inr (inl (refusal, causes, stopped.1)))
 
-  pub reported : (refusal : Refusal) (result : Status) → Causes c host bench bench' refusal → Reports host host' (line_of refusal) (status_of refusal) result → CommandEnds c host host' bench bench' result
-  reported refusal result causes (inl whole) = subst (λ (s : Status). CommandEnds c host host' bench bench' s) (sym whole.0) (refused_ends refusal causes whole.1)
-  reported refusal result causes (inr (inl failed)) = subst (λ (s : Status). CommandEnds c host host' bench bench' s) (sym failed.0) (failed.1, told refusal causes failed.2)
-  reported refusal result causes (inr (inr stopped)) = subst (λ (s : Status). CommandEnds c host host' bench bench' s) (sym stopped.0) (told refusal causes stopped.1)
+  -- what was prepared is the refusal that was reported; `middle` is the outside then
+  pub refused_by : (middle : Outside) (field : Stop) (found refusal : Refusal) (result : Status) → field ≡ Refused found → refusal ≡ found
+      → Prepares k kinds task host middle old new (Err field) → Reports middle host' (line_of refusal) (status_of refusal) result → TaskEnds k kinds task host host' old new result
+  refused_by middle field found refusal result field_is found_is prepares reports =
+      let causes = subst (λ (s : Stop). Prepares k kinds task host middle old new (Err s)) field_is prepares in
+      reported refusal result
+      (subst (λ (r : Refusal). Causes k kinds task host old new r) (sym found_is) causes.0)
+      (subst (λ (o : Outside). Reports o host' (line_of refusal) (status_of refusal) result) causes.1 reports)
 
--- ---- files
+  pub done_by : (middle : Outside) (outcome : Outcome) (result : Status) → Prepares k kinds task host middle old new (Ok outcome)
+      → Delivers middle host' outcome.text.items (file_of outcome.file) result → TaskEnds k kinds task host host' old new result
+  done_by middle outcome result prepares delivers =
+      ends outcome.text.items (file_of outcome.file) prepares.0 result (subst (λ (o : Outside). Delivers o host' outcome.text.items (file_of outcome.file) result) prepares.1 delivers)
+
+  -- ---- files
+
+  play_wrote : (output : Output) (image : Plain) (file : Option File) → WritesLeft (out_of output) image file → DeliversOnly file host host' → OnlyFile (out_of output) host host'
+  play_wrote Nowhere image file is only = subst (λ (f : Option File). DeliversOnly f host host') is only
+  play_wrote (Into name) image file (bytes, is_file, is) only = subst (λ (f : Option File). DeliversOnly f host host') is only
 
 same_files : (name : List ℕ) (files : Option Files) → SameBut name files files
 same_files name None = tt
@@ -57,13 +84,90 @@ same_files name (Some files) = λ other different. refl
 same_but : (name : List ℕ) (old new : Option Files) → new ≡ old → SameBut name old new
 same_but name old new is = subst (λ (files : Option Files). SameBut name old files) (sym is) (same_files name old)
 
--- a command that changed no file
-pub wrote_nothing : (c : Command) (host host' : Outside) → host'.files ≡ host.files → MayWrite c host host'
-wrote_nothing (Build out spec) host host' is = same_but out.now host.files host'.files is
-wrote_nothing (Run image script out) host host' is = same_but out.now host.files host'.files is
-wrote_nothing (Dump image) host host' is = is
+-- nothing was written
+pub wrote_nothing : (out : Option (List ℕ)) (host host' : Outside) → host'.files ≡ host.files → OnlyFile out host host'
+wrote_nothing None host host' is = is
+wrote_nothing (Some out) host host' is = same_but out host.files host'.files is
 
-pub wrote : (c : Command) (host host' : Outside) (bench bench' : Device) (text : List ℕ) (file : Option File) → Does c host bench bench' text file → OnlyFile file host host' → MayWrite c host host'
-wrote (Build out spec) host host' bench bench' text file does only = subst (λ (f : Option File). OnlyFile f host host') does.0.writes only
-wrote (Run image script out) host host' bench bench' text file does only = subst (λ (f : Option File). OnlyFile f host host') does.writes only
-wrote (Dump image) host host' bench bench' text file does only = subst (λ (f : Option File). OnlyFile f host host') does.writes only
+-- a refusal writes nothing; `middle` is the outside before its line was printed
+pub refused_wrote : (k : Stores) (kinds : List HandlerKind) (task : Task) (host middle host' : Outside) (old new : Stage) (field : Stop) (found : Refusal) → field ≡ Refused found
+    → Prepares k kinds task host middle old new (Err field) → host'.files ≡ middle.files → OnlyFile (out_file task) host host'
+refused_wrote k kinds task host middle host' old new field found field_is prepares files =
+    let causes = subst (λ (s : Stop). Prepares k kinds task host middle old new (Err s)) field_is prepares in
+    wrote_nothing (out_file task) host host' (files ∙ ap (λ (o : Outside). o.files) causes.1)
+
+module _ (k : Stores) (kinds : List HandlerKind) (host0 host host' : Outside) (old new : Stage) where
+  pub wrote : (task : Task) (text : List ℕ) (file : Option File) → Does k kinds task host0 old new text file → DeliversOnly file host host' → OnlyFile (out_file task) host host'
+  wrote (Build out spec) text file does only = subst (λ (f : Option File). DeliversOnly f host host') does.0.writes only
+  wrote (Plays play) text file does only = play_wrote k kinds (Plays play) host host' old new play.output _ file does.writes only
+  wrote (Log image script out) text file does only = subst (λ (f : Option File). DeliversOnly f host host') does.0.writes.2 only
+
+-- ---- a play on a log
+
+pub log_prepared : (k : Stores) (kinds : List HandlerKind) (image script out : Bor (List ℕ)) (host host' : Outside) (old new : Stage) (result : Result Outcome Stop)
+    → LogPlayEnds image.now script.now out.now host host' old.bench new.bench result → new.registry ≡ old.registry → Prepares k kinds (Log image script out) host host' old new result
+log_prepared k kinds image script out host host' old new (Ok outcome) ends same = ((ends.0, same), ends.1)
+log_prepared k kinds image script out host host' old new (Err (Refused refusal)) ends same = ((ends.0, same), ends.1)
+log_prepared k kinds image script out host host' old new (Err HostFailed) ends same = ((inl ends.0, same), ends.1)
+log_prepared k kinds image script out host host' old new (Err NoMemory) ends same = ((ends.0, same), ends.1)
+
+-- ---- words that are a command
+
+first : List ℕ → ℕ
+first [] = 0
+first (byte ∷ bytes) = byte
+
+-- commands of one name with the same operands have one OUT
+same_out : (a b : Command) → name_of a ≡ name_of b → operands_of a ≡ operands_of b → out_file (task_of a) ≡ out_file (task_of b)
+unfolding first
+same_out (command.Build out spec) (command.Build out' spec') names operands = let same : out.now ≡ out'.now = cc in ap Some same
+same_out (command.Build out spec) (command.Run image' script' out') names operands = let same : 98 ≡ 114 = ap first names in absurd (omega (arith, same))
+same_out (command.Build out spec) (command.Dump image') names operands = let same : 98 ≡ 100 = ap first names in absurd (omega (arith, same))
+same_out (command.Build out spec) (command.Migrate image' out') names operands = let same : 98 ≡ 109 = ap first names in absurd (omega (arith, same))
+same_out (command.Build out spec) (command.Gen out' backend' n') names operands = let same : 98 ≡ 103 = ap first names in absurd (omega (arith, same))
+same_out (command.Build out spec) (command.Log image' script' out') names operands = let same : 98 ≡ 108 = ap first names in absurd (omega (arith, same))
+same_out (command.Run image script out) (command.Build out' spec') names operands = let same : 114 ≡ 98 = ap first names in absurd (omega (arith, same))
+same_out (command.Run image script out) (command.Run image' script' out') names operands = let same : out.now ≡ out'.now = cc in ap Some same
+same_out (command.Run image script out) (command.Dump image') names operands = let same : 114 ≡ 100 = ap first names in absurd (omega (arith, same))
+same_out (command.Run image script out) (command.Migrate image' out') names operands = let same : 114 ≡ 109 = ap first names in absurd (omega (arith, same))
+same_out (command.Run image script out) (command.Gen out' backend' n') names operands = let same : 114 ≡ 103 = ap first names in absurd (omega (arith, same))
+same_out (command.Run image script out) (command.Log image' script' out') names operands = let same : 114 ≡ 108 = ap first names in absurd (omega (arith, same))
+same_out (command.Dump image) (command.Build out' spec') names operands = let same : 100 ≡ 98 = ap first names in absurd (omega (arith, same))
+same_out (command.Dump image) (command.Run image' script' out') names operands = let same : 100 ≡ 114 = ap first names in absurd (omega (arith, same))
+same_out (command.Dump image) (command.Dump image') names operands = refl
+same_out (command.Dump image) (command.Migrate image' out') names operands = let same : 100 ≡ 109 = ap first names in absurd (omega (arith, same))
+same_out (command.Dump image) (command.Gen out' backend' n') names operands = let same : 100 ≡ 103 = ap first names in absurd (omega (arith, same))
+same_out (command.Dump image) (command.Log image' script' out') names operands = let same : 100 ≡ 108 = ap first names in absurd (omega (arith, same))
+same_out (command.Migrate image out) (command.Build out' spec') names operands = let same : 109 ≡ 98 = ap first names in absurd (omega (arith, same))
+same_out (command.Migrate image out) (command.Run image' script' out') names operands = let same : 109 ≡ 114 = ap first names in absurd (omega (arith, same))
+same_out (command.Migrate image out) (command.Dump image') names operands = let same : 109 ≡ 100 = ap first names in absurd (omega (arith, same))
+same_out (command.Migrate image out) (command.Migrate image' out') names operands = let same : out.now ≡ out'.now = cc in ap Some same
+same_out (command.Migrate image out) (command.Gen out' backend' n') names operands = let same : 109 ≡ 103 = ap first names in absurd (omega (arith, same))
+same_out (command.Migrate image out) (command.Log image' script' out') names operands = let same : 109 ≡ 108 = ap first names in absurd (omega (arith, same))
+same_out (command.Gen out backend n) (command.Build out' spec') names operands = let same : 103 ≡ 98 = ap first names in absurd (omega (arith, same))
+same_out (command.Gen out backend n) (command.Run image' script' out') names operands = let same : 103 ≡ 114 = ap first names in absurd (omega (arith, same))
+same_out (command.Gen out backend n) (command.Dump image') names operands = let same : 103 ≡ 100 = ap first names in absurd (omega (arith, same))
+same_out (command.Gen out backend n) (command.Migrate image' out') names operands = let same : 103 ≡ 109 = ap first names in absurd (omega (arith, same))
+same_out (command.Gen out backend n) (command.Gen out' backend' n') names operands = let same : out.now ≡ out'.now = cc in ap Some same
+same_out (command.Gen out backend n) (command.Log image' script' out') names operands = let same : 103 ≡ 108 = ap first names in absurd (omega (arith, same))
+same_out (command.Log image script out) (command.Build out' spec') names operands = let same : 108 ≡ 98 = ap first names in absurd (omega (arith, same))
+same_out (command.Log image script out) (command.Run image' script' out') names operands = let same : 108 ≡ 114 = ap first names in absurd (omega (arith, same))
+same_out (command.Log image script out) (command.Dump image') names operands = let same : 108 ≡ 100 = ap first names in absurd (omega (arith, same))
+same_out (command.Log image script out) (command.Migrate image' out') names operands = let same : 108 ≡ 109 = ap first names in absurd (omega (arith, same))
+same_out (command.Log image script out) (command.Gen out' backend' n') names operands = let same : 108 ≡ 103 = ap first names in absurd (omega (arith, same))
+same_out (command.Log image script out) (command.Log image' script' out') names operands = let same : out.now ≡ out'.now = cc in ap Some same
+
+module _ (words : List (List ℕ)) (field : Option Command) (found command : Command) (field_is : field ≡ Some found) (found_is : command ≡ found)
+    (read : MatchOption field (IsNoCommand words) (IsCommand words)) where
+  is_command : IsCommand words command
+  is_command = subst (IsCommand words) (sym found_is) (subst (λ (o : Option Command). MatchOption o (IsNoCommand words) (IsCommand words)) field_is read)
+
+  pub command_ends : (k : Stores) (kinds : List HandlerKind) (task : Task) (host host' : Outside) (old new : Stage) (result : Status) → task ≡ task_of command
+      → TaskEnds k kinds task host host' old new result → ToolEnds k kinds words host host' old new result
+  command_ends k kinds task host host' old new result task_is is =
+      inl (command, is_command, subst (λ (t : Task). TaskEnds k kinds t host host' old new result) task_is is)
+
+  pub command_wrote : (task : Task) (host host' : Outside) → task ≡ task_of command → OnlyFile (out_file task) host host' → (c : Command) → IsCommand words c → MayWrite c host host'
+  command_wrote task host host' task_is is c other =
+      let same = same_out command c (cc (is_command.written, other.written)) (cc (is_command.written, other.written)) in
+      subst (λ (out : Option (List ℕ)). OnlyFile out host host') same (subst (λ (t : Task). OnlyFile (out_file t) host host') task_is is)

@@ -1,4 +1,7 @@
+pub mod Blanks
 pub mod Ends
-pub mod HostLemmas
-pub mod Images
-pub mod Stopping
+pub mod Generated
+pub mod Pool
+pub mod Sound
+pub mod SoundFiles
+pub mod SoundLog

@@ -1,7 +1,6 @@
-pub mod Outcomes
-pub mod Reading
-pub mod Refusals
-pub mod Served
-pub mod Stopped
+pub mod Tasks
 pub mod Telling
 pub mod Tool
+pub mod Complete
+pub mod Blank
+pub mod Exits

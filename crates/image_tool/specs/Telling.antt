@@ -1,34 +1,33 @@
 -- Printing a text, and then writing a file.
 use Rattle.std.specs.Prelude.{◌≡◌, ◌⊎◌, ℕ, Option, Some, None, List, take}
-use Rattle.zs_host.specs.Outside.{Outside, SameBut, printed_more}
+use Rattle.zs_host.specs.Outside.{Outside, SameBut, failed, printed_more, written}
+use Rattle.image_plays.specs.Plays.{File}
 use Rattle.image_tool.specs.declared.status.Status.{Status}
 use Rattle.image_tool.specs.declared.status.Status.TheVariants as status
-use Rattle.image_tool.specs.Outcomes.{File, delivered}
-use Rattle.image_tool.specs.Reading.{Fails}
 
--- a front of these bytes was printed, and no file changed
-pub record PrintsFront (old new : Outside) (text : List ℕ) : Type 0 where
-  pub count : ℕ
-  pub printed : new.printed ≡ (printed_more old (take count text)).printed
-  pub files : new.files ≡ old.files
+-- the text is printed, and then the file is written, if there is one
+abbrev pub delivered : Outside → List ℕ → Option File → Outside
+delivered host text None = printed_more host text
+delivered host text (Some file) = written (printed_more host text) file.0 file.1
 
--- no file but the named one changed, and none at all where none is named
-abbrev pub OnlyFile : Option File → Outside → Outside → Type 0
-OnlyFile None old new = new.files ≡ old.files
-OnlyFile (Some file) old new = SameBut file.0 old.files new.files
+-- a front of these bytes was printed, and all else is as before
+abbrev pub PrintsFront : Outside → Outside → List ℕ → Type 0
+PrintsFront old new text = (count : ℕ) × (new ≡ printed_more old (take count text))
 
--- all was printed, and no file but this one changed
-pub record PrintsAll (old new : Outside) (text : List ℕ) (file : Option File) : Type 0 where
+-- all was printed, and of files at most the named one changed
+pub record Spoils (old new : Outside) (text : List ℕ) (file : File) : Type 0 where
   pub printed : new.printed ≡ (printed_more old text).printed
-  pub files : OnlyFile file old new
+  pub files : SameBut file.0 old.files new.files
+  pub faults : new.faults ≡ old.faults
 
 -- the file is written only after all was printed
 abbrev pub DeliversPart : Outside → Outside → List ℕ → Option File → Type 0
-DeliversPart old new text file = PrintsFront old new text ⊎ PrintsAll old new text file
+DeliversPart old new text None = PrintsFront old new text
+DeliversPart old new text (Some file) = PrintsFront old new text ⊎ Spoils old new text file
 
 abbrev pub Delivers : Outside → Outside → List ℕ → Option File → Status → Type 0
 Delivers old new text file status.Done = new ≡ delivered old text file
-Delivers old new text file status.HostFault = Fails old new × DeliversPart old new text file
+Delivers old new text file status.HostFault = DeliversPart (failed old) new text file
 Delivers old new text file status.NoMemory = DeliversPart old new text file
 Delivers old new text file status.Usage = ⊥
 Delivers old new text file status.BadScript = ⊥
@@ -39,5 +38,10 @@ Delivers old new text file status.NoFile = ⊥
 abbrev pub Reports : Outside → Outside → List ℕ → Status → Status → Type 0
 Reports old new line refusal result =
     ((result ≡ refusal) × (new ≡ printed_more old line))
-    ⊎ ((result ≡ status.HostFault) × Fails old new × PrintsFront old new line)
+    ⊎ ((result ≡ status.HostFault) × PrintsFront (failed old) new line)
     ⊎ ((result ≡ status.NoMemory) × PrintsFront old new line)
+
+-- of files at most the named one changed
+abbrev pub DeliversOnly : Option File → Outside → Outside → Type 0
+DeliversOnly None old new = new.files ≡ old.files
+DeliversOnly (Some file) old new = SameBut file.0 old.files new.files

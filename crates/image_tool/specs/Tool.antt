@@ -1,71 +1,79 @@
 -- What the program does, by its status.
-use Rattle.std.specs.Prelude.{◌≡◌, ◌⊎◌, Option, Result, List, ℕ}
-use Rattle.flash_sim.specs.Device.{Device}
-use Rattle.zs_host.specs.Outside.{Outside, SameBut, printed_more}
+use Rattle.std.specs.Prelude.{◌≡◌, ◌⊎◌, Option, Some, None, List, ℕ}
+use Rattle.zs_host.specs.Outside.{Outside, SameBut, failed, printed_more}
+use Rattle.handlers.specs.declared.handler.HandlerKind.{HandlerKind}
 use Rattle.command_words.specs.Commands.{IsCommand, IsNoCommand}
 use Rattle.command_words.specs.declared.commands.Command.{Command}
-use Rattle.command_words.specs.declared.commands.Command.TheVariants.{Build, Run, Dump}
-use Rattle.image_tool.specs.declared.outcome.Outcome.{Outcome}
-use Rattle.image_tool.specs.declared.stops.Refusal.{Refusal}
-use Rattle.image_tool.specs.declared.stops.Stop.{Stop}
+use Rattle.image_plays.specs.declared.stops.Refusal.{Refusal}
+use Rattle.image_plays.specs.declared.stops.Refusal.TheVariants.{BadSpec, NoFile, BadFile, Unbuilt, NoLog, BadArea, BadScript}
+use Rattle.image_plays.specs.Inputs.{out_of}
+use Rattle.image_plays.specs.Plays.{File}
+use Rattle.image_plays.specs.Refusals.{line_of, usage_line}
+use Rattle.any_backend.specs.ByRole.{any_chance, any_contents, any_damage, any_rests, any_room, any_tears}
+use Rattle.image_plays.specs.Stages.{Stage, Stores, stores}
 use Rattle.image_tool.specs.declared.status.Status.{Status}
 use Rattle.image_tool.specs.declared.status.Status.TheVariants as status
-use Rattle.image_tool.specs.Outcomes.{File, file_of, Does, delivered}
-use Rattle.image_tool.specs.Reading.{Fails, Stays, ReadsOr}
-use Rattle.image_tool.specs.Refusals.{Causes, status_of, line_of, usage_line}
-use Rattle.image_tool.specs.Stopped.{Stops}
-use Rattle.image_tool.specs.Telling.{PrintsFront, PrintsAll}
+use Rattle.image_tool.specs.declared.tasks.Task.{Task}
+use Rattle.image_tool.specs.declared.tasks.Task.TheVariants.{Build, Plays, Log}
+use Rattle.image_tool.specs.Tasks.{Causes, Does, StopsAt, task_of}
+use Rattle.image_tool.specs.Telling.{DeliversPart, PrintsFront, delivered}
 
--- ---- what a command is to print and write, before anything is printed
+-- the stores of the program: each area has that of its role
+abbrev pub any_stores : Stores
+any_stores = stores any_contents any_room any_chance any_tears any_damage any_rests
 
--- neither files nor print changed yet
-abbrev pub Prepares : Command → Outside → Outside → Device → Device → Result Outcome Stop → Type 0
-Prepares c host host' bench bench' result = ReadsOr (λ outcome. Does c host bench bench' outcome.text.items (file_of outcome.file)) (Causes c host bench bench') host host' result
+abbrev pub status_of : Refusal → Status
+status_of BadSpec = status.Usage
+status_of (NoFile word) = status.NoFile
+status_of (BadFile at reason) = status.BadImage
+status_of (Unbuilt label) = status.BadImage
+status_of NoLog = status.BadImage
+status_of (BadArea label damage) = status.BadImage
+status_of (BadScript n reason) = status.BadScript
 
--- ---- a command that was not done
+-- ---- a task that was not done; `from` is the outside of before, with one more fault where the host failed
 
--- the bytes are what the command would print: its text, or the line of its refusal
-abbrev pub Tells : Command → Outside → Device → Device → List ℕ → Type 0
-Tells c host bench bench' text =
-    ((file : Option File) × Does c host bench bench' text file)
-    ⊎ ((refusal : Refusal) × Causes c host bench bench' refusal × (text ≡ line_of refusal))
+-- a front of the line of a refusal, which has its cause, was printed
+abbrev pub TellsRefusal : Stores → List HandlerKind → Task → Outside → Outside → Outside → Stage → Stage → Type 0
+TellsRefusal k kinds task from host host' old new = (refusal : Refusal) × Causes k kinds task host old new refusal × PrintsFront from host' (line_of refusal)
 
--- all was printed, and no file but OUT changed
-abbrev pub WritesOut : Command → Outside → Outside → Device → Device → Type 0
-WritesOut c host host' bench bench' = (text : List ℕ) × (file : Option File) × Does c host bench bench' text file × PrintsAll host host' text file
+-- a front of the text was printed; or all of it, and OUT may hold anything
+abbrev pub TellsPart : Stores → List HandlerKind → Task → Outside → Outside → Outside → Stage → Stage → Type 0
+TellsPart k kinds task from host host' old new =
+    (text : List ℕ) × (file : Option File) × Does k kinds task host old new text file × DeliversPart from host' text file
 
--- Nothing was printed, and the command stopped; or a front of what it would print was, and no file changed; or all was
--- printed, and OUT may hold anything.
-abbrev pub EndsEarly : Command → Outside → Outside → Device → Device → Type 0
-EndsEarly c host host' bench bench' =
-    (Stays host host' × Stops c host bench bench')
-    ⊎ ((text : List ℕ) × Tells c host bench bench' text × PrintsFront host host' text)
-    ⊎ WritesOut c host host' bench bench'
+-- Nothing was printed, and the task stopped; or a part was of what it would print and write.
+abbrev pub EndsEarly : Stores → List HandlerKind → Task → Outside → Outside → Outside → Stage → Stage → Type 0
+EndsEarly k kinds task from host host' old new =
+    (StopsAt k kinds task host old new × (host' ≡ from))
+    ⊎ TellsRefusal k kinds task from host host' old new
+    ⊎ TellsPart k kinds task from host host' old new
 
 -- ---- what each status means
 
--- what the command does was printed and written, and nothing else
-abbrev pub IsDone : Command → Outside → Outside → Device → Device → Type 0
-IsDone c host host' bench bench' = (text : List ℕ) × (file : Option File) × Does c host bench bench' text file × (host' ≡ delivered host text file)
+-- what the task does was printed and written, and nothing else
+abbrev pub IsDone : Stores → List HandlerKind → Task → Outside → Outside → Stage → Stage → Type 0
+IsDone k kinds task host host' old new =
+    (text : List ℕ) × (file : Option File) × Does k kinds task host old new text file × (host' ≡ delivered host text file)
 
 -- the line of a refusal of this status, which has its cause, was printed, and nothing else
-abbrev pub IsRefused : Command → Outside → Outside → Device → Device → Status → Type 0
-IsRefused c host host' bench bench' result =
-    (refusal : Refusal) × Causes c host bench bench' refusal × (result ≡ status_of refusal) × (host' ≡ printed_more host (line_of refusal))
+abbrev pub IsRefused : Stores → List HandlerKind → Task → Outside → Outside → Stage → Stage → Status → Type 0
+IsRefused k kinds task host host' old new result =
+    (refusal : Refusal) × Causes k kinds task host old new refusal × (result ≡ status_of refusal) × (host' ≡ printed_more host (line_of refusal))
 
-abbrev pub CommandEnds : Command → Outside → Outside → Device → Device → Status → Type 0
-CommandEnds c host host' bench bench' status.Done = IsDone c host host' bench bench'
-CommandEnds c host host' bench bench' status.HostFault = Fails host host' × EndsEarly c host host' bench bench'
-CommandEnds c host host' bench bench' status.NoMemory = EndsEarly c host host' bench bench'
-CommandEnds c host host' bench bench' status.Usage = IsRefused c host host' bench bench' status.Usage
-CommandEnds c host host' bench bench' status.NoFile = IsRefused c host host' bench bench' status.NoFile
-CommandEnds c host host' bench bench' status.BadScript = IsRefused c host host' bench bench' status.BadScript
-CommandEnds c host host' bench bench' status.BadImage = IsRefused c host host' bench bench' status.BadImage
+abbrev pub TaskEnds : Stores → List HandlerKind → Task → Outside → Outside → Stage → Stage → Status → Type 0
+TaskEnds k kinds task host host' old new status.Done = IsDone k kinds task host host' old new
+TaskEnds k kinds task host host' old new status.HostFault = EndsEarly k kinds task (failed host) host host' old new
+TaskEnds k kinds task host host' old new status.NoMemory = EndsEarly k kinds task host host host' old new
+TaskEnds k kinds task host host' old new status.Usage = IsRefused k kinds task host host' old new status.Usage
+TaskEnds k kinds task host host' old new status.NoFile = IsRefused k kinds task host host' old new status.NoFile
+TaskEnds k kinds task host host' old new status.BadScript = IsRefused k kinds task host host' old new status.BadScript
+TaskEnds k kinds task host host' old new status.BadImage = IsRefused k kinds task host host' old new status.BadImage
 
 -- the words are no command: the usage line was printed, or a front of it
 abbrev pub NoCommandEnds : Outside → Outside → Status → Type 0
 NoCommandEnds host host' status.Usage = host' ≡ printed_more host usage_line
-NoCommandEnds host host' status.HostFault = Fails host host' × PrintsFront host host' usage_line
+NoCommandEnds host host' status.HostFault = PrintsFront (failed host) host' usage_line
 NoCommandEnds host host' status.NoMemory = PrintsFront host host' usage_line
 NoCommandEnds host host' status.Done = ⊥
 NoCommandEnds host host' status.NoFile = ⊥
@@ -73,13 +81,13 @@ NoCommandEnds host host' status.BadScript = ⊥
 NoCommandEnds host host' status.BadImage = ⊥
 
 -- The words are a command, and it ended so; or they are none; or memory ran out before they were read.
-abbrev pub ToolEnds : List (List ℕ) → Outside → Outside → Device → Device → Status → Type 0
-ToolEnds words host host' bench bench' result =
-    ((c : Command) × IsCommand words c × CommandEnds c host host' bench bench' result)
-    ⊎ (IsNoCommand words × NoCommandEnds host host' result × (bench' ≡ bench))
-    ⊎ ((result ≡ status.NoMemory) × (host' ≡ host) × (bench' ≡ bench))
+abbrev pub ToolEnds : Stores → List HandlerKind → List (List ℕ) → Outside → Outside → Stage → Stage → Status → Type 0
+ToolEnds k kinds words host host' old new result =
+    ((c : Command) × IsCommand words c × TaskEnds k kinds (task_of c) host host' old new result)
+    ⊎ (IsNoCommand words × NoCommandEnds host host' result × (new ≡ old))
+    ⊎ ((result ≡ status.NoMemory) × (host' ≡ host) × (new ≡ old))
 
--- what the process ends with
+-- what the status is as an exit code
 abbrev pub exit_code : Status → ℕ
 exit_code status.Done = 0
 exit_code status.Usage = 2
@@ -89,8 +97,16 @@ exit_code status.HostFault = 5
 exit_code status.NoMemory = 6
 exit_code status.NoFile = 7
 
+abbrev pub out_file : Task → Option (List ℕ)
+out_file (Build out spec) = Some out.now
+out_file (Plays play) = out_of play.output
+out_file (Log image script out) = Some out.now
+
+-- of files at most this one changed
+abbrev pub OnlyFile : Option (List ℕ) → Outside → Outside → Type 0
+OnlyFile None host host' = host'.files ≡ host.files
+OnlyFile (Some out) host host' = SameBut out host.files host'.files
+
 -- no file but OUT changed, whatever the end
 abbrev pub MayWrite : Command → Outside → Outside → Type 0
-MayWrite (Build out spec) host host' = SameBut out.now host.files host'.files
-MayWrite (Run image script out) host host' = SameBut out.now host.files host'.files
-MayWrite (Dump image) host host' = host'.files ≡ host.files
+MayWrite c host host' = OnlyFile (out_file (task_of c)) host host'

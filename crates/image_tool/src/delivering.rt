@@ -1,20 +1,19 @@
 // Printing and writing.
 ghost use Rattle.std.specs.Prelude.{◌≡◌};
-ghost use Rattle.image_tool.specs.Outcomes.{file_of};
-ghost use Rattle.image_tool.specs.Refusals.{line_of, status_of};
-ghost use Rattle.image_tool.specs.Telling.{Delivers, OnlyFile, Reports};
+ghost use Rattle.image_plays.specs.Plays.{file_of};
+ghost use Rattle.image_plays.specs.Refusals.{line_of};
+ghost use Rattle.image_tool.specs.Telling.{Delivers, DeliversOnly, Reports};
+ghost use Rattle.image_tool.specs.Tool.{status_of};
 
-use crate::outcome::Outcome;
-use crate::printing::refusal_line;
 use crate::status::Status;
-use crate::stops::Refusal;
+use image_plays::{Outcome, Refusal, refusal_line};
 use std::alloc::Global;
 use zs_host::{Host, HostFault};
 
 /// Prints the text, and then writes the file, if there is one.
 pub fn deliver<H: Host>(alloc: Global, host: &mut H, outcome: &Outcome<'_>) -> Status
     ensures delivers { Delivers (H.outside host.old) (H.outside host.new) outcome.now.text.items (file_of outcome.now.file) result }
-    ensures files { OnlyFile (file_of outcome.now.file) (H.outside host.old) (H.outside host.new) }
+    ensures files { DeliversOnly (file_of outcome.now.file) (H.outside host.old) (H.outside host.new) }
 {
     match host.print(alloc, outcome.text.as_slice()) {
         Ok(()) => {}
@@ -46,13 +45,27 @@ pub fn report<H: Host>(alloc: Global, host: &mut H, line: &str, status: Status) 
     }
 }
 
+fn status_of(refusal: &Refusal<'_>) -> Status
+    ensures { result ≡ status_of refusal.now }
+{
+    match refusal {
+        Refusal::BadSpec => Status::Usage,
+        Refusal::NoFile { .. } => Status::NoFile,
+        Refusal::BadFile { .. }
+        | Refusal::Unbuilt { .. }
+        | Refusal::NoLog
+        | Refusal::BadArea { .. } => Status::BadImage,
+        Refusal::BadScript { .. } => Status::BadScript,
+    }
+}
+
 /// Prints the line of the refusal.
 pub fn refuse<H: Host>(alloc: Global, host: &mut H, refusal: &Refusal<'_>) -> Status
     ensures reports { Reports (H.outside host.old) (H.outside host.new) (line_of refusal.now) (status_of refusal.now) result }
     ensures files { (H.outside host.new).files ≡ (H.outside host.old).files }
 {
     match refusal_line(alloc, refusal) {
-        Ok(line) => report(alloc, host, line.as_str(), refusal.status()),
+        Ok(line) => report(alloc, host, line.as_str(), status_of(refusal)),
         Err(_) => Status::NoMemory,
     }
 }

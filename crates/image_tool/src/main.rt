@@ -1,29 +1,36 @@
-//! Runs scripts on simulated flash that may lose power at any unit.
+//! Runs scripts of settings on simulated flash that may lose power at any unit.
 #![tactic(auto)]
 
-ghost use Rattle.std.specs.Prelude.{◌≡◌};
-ghost use Rattle.image_tool.specs.Tool.{exit_code};
+ghost use Rattle.std.specs.Prelude.{◌≡◌, [], ◌∷◌, ◌++◌, All, OnOk, IfOk, map};
+ghost use Rattle.std.specs.String.{string_bytes};
+ghost use Rattle.std.specs.Process.{exit_status};
+ghost use Rattle.handlers.specs.Held.{fresh};
+ghost use Rattle.handlers.specs.Registry.{registered};
+ghost use Rattle.session.specs.OnMap.{IsFresh, kinds};
+ghost use Rattle.image_plays.specs.Stages.{stage};
+ghost use Rattle.image_tool.specs.declared.status.Status.{Status as status};
+ghost use Rattle.image_tool.specs.Exits.{ExitsOr, ProcessExits};
+ghost use Rattle.image_tool.specs.Tool.{NoCommandEnds, ToolEnds, any_stores, exit_code};
 
-mod build;
 mod delivering;
-mod dump;
-mod outcome;
-mod printing;
-mod reading;
-mod run;
-mod serving;
+mod laws;
 mod status;
-mod stops;
+mod tasks;
 mod top;
 
-use flash_sim::SparseSim;
+use flash_sim::{Bench, SparseSim};
+use handlers::{CounterHandler, Handler, HandlerKind, LevelHandler, Registry, TableHandler};
+pub use laws::{
+    blanks_are_empty, blanks_are_lawful, generated_is_carried_out, sound_is_carried_out,
+};
 pub use status::Status;
+use std::alloc::{AllocError, Global};
 use std::env;
 use std::io::ErrorKind;
 use std::process::ExitCode;
 use top::no_words;
 pub use top::tool;
-use zs_host::RealHost;
+use zs_host::{Host, RealHost};
 
 impl Status {
     // What the process ends with.
@@ -42,24 +49,140 @@ impl Status {
     }
 }
 
-fn main(rt: HostRuntime) -> ExitCode {
+// Puts a handler of this kind that holds nothing behind others that hold nothing.
+fn add(
+    pool: &mut Vec<Box<dyn Handler>>,
+    _kind: HandlerKind,
+    handler: Box<dyn Handler>,
+) -> Result<(), AllocError>
+    requires pool { All (IsFresh state) pool.old.items }
+    requires handler { state handler ≡ fresh _kind }
+    ensures fresh { OnOk result (All (IsFresh state) pool.new.items) }
+    ensures behind { OnOk result (kinds state pool.new.items ≡ kinds state pool.old.items ++ _kind ∷ []) }
+{
+    match pool.push(handler) {
+        Ok(()) => Ok(()),
+        Err(_) => Err(AllocError),
+    }
+}
+
+// What the process ends with after the command that the words are.
+fn exit_after<H: Host, B: Bench>(
+    alloc: Global,
+    words: &[String],
+    host: &mut H,
+    bench: &mut B,
+    pool: Vec<Box<dyn Handler>>,
+    registry: &mut Registry,
+) -> u8
+    requires pool { All (IsFresh state) pool.items }
+    requires registry { registered state registry.old ≡ [] }
+    ensures { (ends : status) × (result ≡ exit_code ends)
+        × ToolEnds any_stores (kinds state pool.items) (map string_bytes words.now) (H.outside host.old) (H.outside host.new)
+        (stage (B.device bench.old) (registered state registry.old)) (stage (B.device bench.new) (registered state registry.new)) ends }
+{
+    tool(alloc, words, host, bench, pool, registry).code()
+}
+
+// What the process ends with where the words are no text.
+fn exit_without_words<H: Host>(alloc: Global, host: &mut H) -> u8
+    ensures { (ends : status) × (result ≡ exit_code ends) × NoCommandEnds (H.outside host.old) (H.outside host.new) ends }
+{
+    no_words(alloc, host).code()
+}
+
+// Carries out the words with handlers of its own: four tables, two counters and two levels.
+fn with_handlers<H: Host, B: Bench>(
+    alloc: Global,
+    words: &[String],
+    host: &mut H,
+    bench: &mut B,
+) -> Result<u8, AllocError>
+    ensures { ExitsOr (map string_bytes words.now) (H.outside host.old) (H.outside host.new)
+        (B.device bench.old) (B.device bench.new) result }
+{
+    let mut registry = Registry::new(alloc);
+    let mut pool = Vec::new(alloc);
+    add(
+        &mut pool,
+        HandlerKind::Table,
+        Box::new(alloc, TableHandler::new(alloc))?,
+    )?;
+    add(
+        &mut pool,
+        HandlerKind::Table,
+        Box::new(alloc, TableHandler::new(alloc))?,
+    )?;
+    add(
+        &mut pool,
+        HandlerKind::Table,
+        Box::new(alloc, TableHandler::new(alloc))?,
+    )?;
+    add(
+        &mut pool,
+        HandlerKind::Table,
+        Box::new(alloc, TableHandler::new(alloc))?,
+    )?;
+    add(
+        &mut pool,
+        HandlerKind::Counter,
+        Box::new(alloc, CounterHandler::new(alloc))?,
+    )?;
+    add(
+        &mut pool,
+        HandlerKind::Counter,
+        Box::new(alloc, CounterHandler::new(alloc))?,
+    )?;
+    add(
+        &mut pool,
+        HandlerKind::Level,
+        Box::new(alloc, LevelHandler::new(alloc))?,
+    )?;
+    add(
+        &mut pool,
+        HandlerKind::Level,
+        Box::new(alloc, LevelHandler::new(alloc))?,
+    )?;
+    Ok(exit_after(alloc, words, host, bench, pool, &mut registry))
+}
+
+// Makes a host and a bench.
+fn start(rt: &HostRuntime) -> Result<u8, AllocError>
+    ensures { IfOk result ProcessExits }
+{
     let alloc = rt.alloc();
-    let mut host = RealHost::new(&rt);
-    let mut bench = SparseSim::new(alloc);
-    let status = match env::args(&rt) {
-        Ok(words) => match words.skip(1).collect::<Vec<String>>(alloc) {
-            Ok(words) => tool(alloc, words.as_slice(), &mut host, &mut bench),
-            Err(_) => Status::NoMemory,
-        },
+    let mut host = RealHost::new(rt);
+    match env::args(rt) {
+        Ok(words) => {
+            let words = words.skip(1).collect::<Vec<String>>(alloc)?;
+            with_handlers(
+                alloc,
+                words.as_slice(),
+                &mut host,
+                &mut SparseSim::new(alloc),
+            )
+        }
         Err(error) => {
             if error.kind() == ErrorKind::InvalidData {
-                no_words(alloc, &mut host)
-            } else {
-                Status::NoMemory
+                return Ok(exit_without_words(alloc, &mut host));
             }
+            Err(AllocError)
         }
-    };
-    ExitCode::from(status.code())
+    }
+}
+
+// What the process ends with.
+fn exit(rt: &HostRuntime) -> ExitCode
+    ensures { ProcessExits (exit_status result) }
+{
+    match start(rt) {
+        Ok(code) => ExitCode::from(code),
+        Err(_) => ExitCode::from(Status::NoMemory.code()),
+    }
+}
+
+fn main(rt: HostRuntime) -> ExitCode {
+    exit(&rt)
 }
 
 #[cfg(test)]

@@ -1,25 +1,31 @@
 // Rows: commands on image files in memory, what they print and what they leave.
 use super::*;
-use flash_sim::{Bench, FlatSim};
-use std::alloc::{AllocError, Global};
+use flash_sim::FlatSim;
+use image_plays::USAGE;
 use std::test::Fail;
 use zs_host::MemHost;
 
-// One NVS area of two sectors of 512 bytes at unit 4. Its file has a header of 36 bytes.
-const TWO: &str = "bank=erasing/4/512/2,area=nvs/main/0/0/2";
-
-const FOUR: &str = "bank=erasing/4/512/4,area=nvs/main/0/0/4";
-
-// The same area in the second version, whose sectors have at least 4,096 bytes.
-const LONG: &str = "version=2,bank=erasing/4/4096/2,area=nvs/main/0/0/2";
+// One area of two sectors of 512 bytes. A file of one bank and one area has a header of 36 bytes.
+const NVS: &str = "bank=erasing/4/512/2,area=nvs/main/0/0/2";
 
 const ZMS: &str = "bank=rewritable/16/512/2,area=zms/main/0/0/2";
 
-const THREE_AREAS: &str = "bank=erasing/4/512/6,area=nvs/n/0/0/2,area=fcb/f/0/2/2,area=sel/s/0/4/2";
+const FCB: &str = "bank=erasing/4/512/2,area=fcb/main/0/0/2";
 
-const USAGE: &str = "usage: image_tool build OUT SPEC | run IMAGE SCRIPT OUT | dump IMAGE\n";
+// An application log of three sectors.
+const LOG: &str = "bank=erasing/4/512/3,area=fcb/main/0/0/3";
+
+const FOUR: &str = "bank=erasing/4/512/4,area=nvs/main/0/0/4";
+
+// The second version, whose sectors have at least 4,096 bytes.
+const LONG: &str = "version=2,bank=erasing/4/4096/2,area=nvs/main/0/0/2";
+
+const ALL: &str =
+    "bank=erasing/4/512/6,bank=rewritable/16/512/2,area=nvs/n/0/0/2,area=fcb/f/0/2/2,area=zms/z/1/0/2,area=sel/s/0/4/2";
 
 const RUN: &str = "run x.img s.txt y.img";
+
+const RUN_LOG: &str = "log x.img s.txt y.img";
 
 // Carries out one command.
 fn ends<B: Bench>(
@@ -27,20 +33,20 @@ fn ends<B: Bench>(
     host: &mut MemHost,
     bench: &mut B,
     command: &str,
-) -> Result<Status, Fail> {
+) -> Result<u8, Fail> {
     let mut words = Vec::new(alloc);
     for word in command.split(' ') {
         words.push(String::from_str(alloc, word)?)?;
     }
-    Ok(tool(alloc, words.as_slice(), host, bench))
+    Ok(with_handlers(alloc, words.as_slice(), host, bench)?)
 }
 
 // The text with each `BYTE*COUNT` written out.
 fn spelled(alloc: Global, text: &str) -> Result<String, AllocError> {
     let mut all = String::from_str(alloc, text)?;
-    for byte in ["11", "22", "33", "44", "55"] {
-        for count in [100, 256] {
-            let short = format!(in alloc; "{byte}*{count}")?;
+    for byte in ["11", "22", "33", "44", "55", "66", "77", "88", "99"] {
+        for count in [100, 180, 253, 256, 257, 2048] {
+            let short = format!(in alloc; "{byte}*{count} ")?;
             let digits = byte.repeat(alloc, count)?;
             all = all.replace(alloc, short.as_str(), digits.as_str())?;
         }
@@ -53,203 +59,270 @@ fn host_with(alloc: Global, spec: &str, script: &str) -> Result<MemHost, Fail> {
     let mut host = MemHost::new(alloc);
     let script = spelled(alloc, script)?;
     host.put_file(alloc, "s.txt", script.as_bytes())?;
-    host.put_file(alloc, "get.txt", b"get 1\n")?;
-    host.put_file(alloc, "bad.txt", b"set 1 01\nfly\n")?;
     let build = format!(in alloc; "build x.img {spec}")?;
     ends(alloc, &mut host, &mut FlatSim::new(alloc), build.as_str())?;
     Ok(host)
 }
 
-// A word, a script, commands, all that they print, and the size of the file `y.img` with some of its bytes.
-struct Run {
+// A word, a script, commands, all that they print, and some bytes of the file `y.img`.
+struct Row {
     spec: &'static str,
     script: &'static str,
     commands: &'static str,
     printed: &'static str,
-    size: usize,
     left: &'static [(usize, u8)],
 }
 
-static RUNS: [Run; 14] = [
-    Run {
-        spec: TWO,
-        script: "set 1 01\nget 1\nset 1 01\nget 2\n",
-        commands: RUN,
-        printed: "ok 0\nok 3\nvalue 01\nok 0\nnone\n",
-        size: 1060,
+static ROWS: [Row; 28] = [
+    Row {
+        spec: NVS,
+        script: "set a 01\nget a\n",
+        commands: "run x.img s.txt y.img,dump y.img",
+        printed: "ok 0\nok 9\nvalue 01\n{\"active\":\"main\",\"names\":{\"a\":\"01\"}}\n",
         left: &[
-            (4, 1),
             (36, 1),
-            (37, 0xFF),
-            (38, 0xFF),
-            (39, 0xFF),
-            (532, 1),
-            (533, 0),
-            (534, 0),
-            (535, 0),
-            (536, 1),
-            (537, 0),
-            (538, 0xFF),
-            (539, 3),
-        ],
-    },
-    Run {
-        spec: TWO,
-        script: "",
-        commands: RUN,
-        printed: "ok 0\n",
-        size: 1060,
-        left: &[(36, 0xFF), (547, 0xFF), (1059, 0xFF)],
-    },
-    // power is lost inside an entry, and the next set goes on behind it
-    Run {
-        spec: TWO,
-        script: "cut 2\nset 1 01\nget 1\nmount\nget 1\nset 1 02\nget 1\n",
-        commands: RUN,
-        printed: "ok 0\nok 0\nlost 2\noff\nok 0\nnone\nok 3\nvalue 02\n",
-        size: 1060,
-        left: &[
-            (40, 2),
-            (41, 0xFF),
+            (37, 0),
+            (40, 1),
+            (44, 0x61),
             (524, 1),
-            (525, 0),
-            (532, 1),
-            (533, 0),
-            (535, 0),
-            (536, 0xFF),
-            (539, 0xFF),
+            (525, 0xC0),
+            (531, 0x16),
+            (532, 0),
+            (533, 0x80),
+            (539, 0x8D),
         ],
     },
-    Run {
-        spec: TWO,
-        script: "set 1 01\ncut 0\nset 1 02\nmount\nget 1\n",
+    // nothing is done to a blank image
+    Row {
+        spec: NVS,
+        script: "",
+        commands: "run x.img s.txt y.img,dump y.img",
+        printed: "ok 0\n{\"active\":\"main\",\"names\":{}}\n",
+        left: &[(4, 1), (36, 0xFF), (547, 0xFF), (1059, 0xFF)],
+    },
+    Row {
+        spec: ZMS,
+        script: "",
+        commands: "run x.img s.txt y.img,dump y.img",
+        printed: "ok 0\n{\"active\":\"main\",\"names\":{}}\n",
+        left: &[(36, 0xFF), (1059, 0xFF)],
+    },
+    Row {
+        spec: FCB,
+        script: "",
+        commands: "run x.img s.txt y.img,dump y.img",
+        printed: "ok 0\n{\"active\":\"main\",\"names\":{}}\n",
+        left: &[(36, 0xFF), (1059, 0xFF)],
+    },
+    Row {
+        spec: NVS,
+        script: "set a 01\nset a 01\ndel b\nget b\n",
         commands: RUN,
-        printed: "ok 0\nok 3\nok 0\nlost 0\nok 0\nvalue 01\n",
-        size: 1060,
+        printed: "ok 0\nok 9\nok 0\nok 0\nnone\n",
         left: &[],
     },
-    Run {
-        spec: TWO,
-        script: "set 1 01\ncut 1\nset 1 02\nmount\nget 1\n",
+    Row {
+        spec: NVS,
+        script: "set a 11*100 \nset a 22*100 \nset a 33*100 \nset a 44*100 \nset a 55*100 \n",
         commands: RUN,
-        printed: "ok 0\nok 3\nok 0\nlost 1\nok 0\nvalue 01\n",
-        size: 1060,
+        printed: "ok 0\nok 33\nok 27\nok 27\nok 27\nok 65\n",
         left: &[],
     },
-    Run {
-        spec: TWO,
-        script: "set 1 01\ncut 2\nset 1 02\nmount\nget 1\n",
+    Row {
+        spec: NVS,
+        script: "set a 01\nset b 11*100 \ndel a\nset b 22*100 \nset b 33*100 \nset b 44*100 \nget a\n",
         commands: RUN,
-        printed: "ok 0\nok 3\nok 0\nlost 2\nok 0\nvalue 01\n",
-        size: 1060,
+        printed: "ok 0\nok 9\nok 33\nok 4\nok 27\nok 27\nok 65\nnone\n",
         left: &[],
     },
-    Run {
-        spec: TWO,
-        script: "set 1 01\ncut 3\nset 1 02\nmount\nget 1\nset 1 03\n",
+    Row {
+        spec: NVS,
+        script: "set a 11*256 \nset b 22*256 \ndel a\nset b 22*256 \n",
         commands: RUN,
-        printed: "ok 0\nok 3\nok 0\nok 3\nok 0\nvalue 02\nlost 0\n",
-        size: 1060,
+        printed: "ok 0\nok 72\nnospace 80\nok 4\nok 77\n",
         left: &[],
     },
-    // the fifth value needs a collection
-    Run {
-        spec: TWO,
-        script: "set 1 11*100\nset 1 22*100\nset 1 33*100\nset 1 44*100\nset 1 55*100\nget 1\n",
+    Row {
+        spec: NVS,
+        script: "set a 11*256 \nset b 22*180 \nget b\n",
         commands: RUN,
-        printed: "ok 0\nok 27\nok 27\nok 27\nok 27\nok 59\nvalue 55*100\n",
-        size: 1060,
+        printed: "ok 0\nok 72\nnospace 253\nnone\n",
         left: &[],
     },
-    // one sector holds one such value; a delete makes room
-    Run {
-        spec: TWO,
-        script: "set 1 11*256\nset 2 22*256\ndel 1\nset 2 22*256\n",
+    Row {
+        spec: NVS,
+        script: "set a 11*256 \ncut 252\nset b 22*180 \nmount\n",
         commands: RUN,
-        printed: "ok 0\nok 66\nnospace 71\nok 2\nok 71\n",
-        size: 1060,
+        printed: "ok 0\nok 72\nok 0\nlost 252\nok 126\n",
         left: &[],
     },
-    // power is lost before the erase that ends a collection, and again in the mount that is to do it
-    Run {
-        spec: TWO,
-        script: "set 1 11*100\nset 1 22*100\nset 1 33*100\nset 1 44*100\ncut 31\nset 1 55*100\ncut 0\nmount\nget 1\ndel 1\nmount\nget 1\ndel 1\nget 1\ndel 1\n",
+    Row {
+        spec: ZMS,
+        script: "set a 0102030405060708\n",
         commands: RUN,
-        printed: "ok 0\nok 27\nok 27\nok 27\nok 27\nok 0\nlost 31\nok 0\nlost 0\noff\noff\nok 1\nvalue 44*100\nok 2\nnone\nok 0\n",
-        size: 1060,
+        printed: "ok 0\nok 3\n",
         left: &[],
     },
-    // an image that was left inside a collection: it is listed as it is, and the opening mount ends the collection
-    Run {
-        spec: TWO,
-        script: "set 1 11*100\nset 1 22*100\nset 1 33*100\nset 1 44*100\ncut 31\nset 1 55*100\n",
-        commands: "run x.img s.txt x.img,dump x.img,run x.img get.txt y.img",
-        printed: "ok 0\nok 27\nok 27\nok 27\nok 27\nok 0\nlost 31\nitem 1 44*100\nok 1\nvalue 44*100\n",
-        size: 1060,
+    Row {
+        spec: ZMS,
+        script: "set a 010203040506070809\n",
+        commands: RUN,
+        printed: "ok 0\nok 4\n",
         left: &[],
     },
-    Run {
-        spec: TWO,
-        script: "set 7 0A\nset 1 01\nset 300 ff00\nset 7 0b\n",
-        commands: "run x.img s.txt x.img,dump x.img",
-        printed: "ok 0\nok 3\nok 3\nok 3\nok 3\nitem 1 01\nitem 7 0b\nitem 300 ff00\n",
-        size: 0,
+    // a record that was cut checks by chance
+    Row {
+        spec: FCB,
+        script: "cut 4\nset a 00a401020304\nmount\nget a\n",
+        commands: RUN,
+        printed: "ok 0\nok 0\nlost 4 chance\nok 0\nvalue 00a4ffffffff\n",
+        left: &[],
+    },
+    Row {
+        spec: FCB,
+        script: "cut 3\nset a 00a401020304\nmount\nget a\n",
+        commands: RUN,
+        printed: "ok 0\nok 0\nlost 3\nok 0\nnone\n",
+        left: &[],
+    },
+    Row {
+        spec: FCB,
+        script: "set a 11*100 \nset a 22*100 \nset a 33*100 \ncut 2\nset a 44*100 \nmount\nget a\n",
+        commands: RUN,
+        printed: "ok 0\nok 30\nok 28\nok 28\nok 0\nlost 2\nok 1\nvalue 33*100 \n",
+        left: &[],
+    },
+    Row {
+        spec: FCB,
+        script: "set a 11*253 \nmount\nget a\n",
+        commands: RUN,
+        printed: "ok 0\nok 68\nok 0\nvalue 11*253 \n",
+        left: &[],
+    },
+    // handlers
+    Row {
+        spec: FOUR,
+        script: "register bt table\nregister bt/mesh table\nregister lv level\nregister bt counter\nset bt/mesh/iv 01\nset bt/x 02\nset btx/y 03\nset bt 04\nset lv 65\nset lv/a 64\nload\n",
+        commands: RUN,
+        printed: "ok 0\nok 0\nok 0\nok 0\nexists\nok 11\nok 9\nok 10\nok 9\nok 9\nok 9\ngive bt - 04 taken\ngive bt/mesh iv 01 taken\ngive bt x 02 taken\ngive lv - 65 rejected\ngive lv a 64 taken\nloaded 4 1 1\n",
+        left: &[],
+    },
+    Row {
+        spec: NVS,
+        script: "register tb table\nrset tb/x 01\nsave\nsave\nrget tb/x\nrget tb/y\nrset zz 01\ndirect tb\n",
+        commands: RUN,
+        printed: "ok 0\nok 0\nok 0\nsaved 1 9\nsaved 0 0\nvalue 01\nnone\nnohandler\nhave tb/x 01\ndirect 1\n",
+        left: &[],
+    },
+    Row {
+        spec: NVS,
+        script: "register l level\nregister m level\nregister n level\nrset l 65\n",
+        commands: RUN,
+        printed: "ok 0\nok 0\nok 0\nnokind\nrejected\n",
+        left: &[],
+    },
+    // migrations
+    Row {
+        spec: ALL,
+        script: "set a 01\nmigrate\nnames\nmigrate\nmigrate\nnames\n",
+        commands: RUN,
+        printed: "ok 0\nok 9\nok 10\n{\"active\":\"f\",\"names\":{\"a\":\"01\"}}\nok 6\nok 13\n{\"active\":\"n\",\"names\":{\"a\":\"01\"}}\n",
+        left: &[],
+    },
+    Row {
+        spec: ALL,
+        script: "set a 01\ncut 9\nmigrate\nmount\nnames\n",
+        commands: RUN,
+        printed: "ok 0\nok 9\nok 0\nlost 9\nok 0\n{\"active\":\"n\",\"names\":{\"a\":\"01\"}}\n",
+        left: &[],
+    },
+    Row {
+        spec: ALL,
+        script: "set a 01\n",
+        commands: "run x.img s.txt y.img,migrate y.img z.img,dump z.img",
+        printed: "ok 0\nok 9\nok 0\nok 0\nok 10\n{\"active\":\"f\",\"names\":{\"a\":\"01\"}}\n",
+        left: &[],
+    },
+    Row {
+        spec: NVS,
+        script: "migrate\n",
+        commands: RUN,
+        printed: "ok 0\nnotarget\n",
+        left: &[],
+    },
+    // power is lost inside a pair
+    Row {
+        spec: NVS,
+        script: "cut 6\nset a 01\nget a\nset a 02\nmount\nget a\n",
+        commands: RUN,
+        printed: "ok 0\nok 0\nlost 6\noff\noff\nok 2\nnone\n",
         left: &[],
     },
     // the second version
-    Run {
+    Row {
         spec: LONG,
-        script: "",
-        commands: "run x.img s.txt y.img",
-        printed: "ok 0\n",
-        size: 8228,
-        left: &[(4, 2), (36, 0xFF), (8227, 0xFF)],
+        script: "set a 11*2048 \nget a\n",
+        commands: "run x.img s.txt y.img,run y.img s.txt z.img",
+        printed: "ok 0\nok 520\nvalue 11*2048 \nok 0\nok 0\nvalue 11*2048 \n",
+        left: &[(4, 2), (40, 0x11)],
     },
-    Run {
-        spec: LONG,
-        script: "set 1 11*256\nset 2 22*256\nset 1 33*256\ndel 2\n",
-        commands: "run x.img s.txt y.img,dump y.img",
-        printed: "ok 0\nok 66\nok 66\nok 66\nok 2\nitem 1 33*256\n",
-        size: 8228,
-        left: &[
-            (3, 0x4D),
-            (4, 2),
-            (5, 1),
-            (36, 0x11),
-            (291, 0x11),
-            (292, 0x22),
-        ],
+    Row {
+        spec: NVS,
+        script: "",
+        commands: "gen y.img nvs 3",
+        printed: "gen nvs 3: set 3 del 0 get 0 names 3 bytes 63 refused 0\n",
+        left: &[(0, 0x5A)],
+    },
+    // a full log drops its oldest sector, with four records
+    Row {
+        spec: LOG,
+        script: "put 11*100 \nput 22*100 \nput 33*100 \nput 44*100 \nput 55*100 \n\
+            put 66*100 \nput 77*100 \nput 88*100 \nput 99*100 \nall\n",
+        commands: RUN_LOG,
+        printed: "ok 0\nok 29 0\nok 27 0\nok 27 0\nok 27 0\nok 29 0\nok 27 0\nok 27 0\nok 27 0\nok 30 4\n\
+            record 55*100 \nrecord 66*100 \nrecord 77*100 \nrecord 88*100 \nrecord 99*100 \nlog 5\n",
+        left: &[(36, 0xFF), (1060, 0xEE), (1068, 0x64)],
+    },
+    // power is lost once they were dropped
+    Row {
+        spec: LOG,
+        script: "put 11*100 \nput 22*100 \nput 33*100 \nput 44*100 \nput 55*100 \n\
+            put 66*100 \nput 77*100 \nput 88*100 \ncut 3\nput 99*100 \nmount\nall\n",
+        commands: RUN_LOG,
+        printed: "ok 0\nok 29 0\nok 27 0\nok 27 0\nok 27 0\nok 29 0\nok 27 0\nok 27 0\nok 27 0\nok 0\nlost 3\nok 0\n\
+            record 55*100 \nrecord 66*100 \nrecord 77*100 \nrecord 88*100 \nlog 4\n",
+        left: &[(36, 0xFF), (1060, 0xEE), (1068, 0xFF)],
     },
 ];
 
 #[test]
-fn runs(rt: HostRuntime) -> Result<(), Fail> {
+fn rows(rt: HostRuntime) -> Result<(), Fail> {
     let alloc = rt.alloc();
-    for run in &RUNS {
-        let mut host = host_with(alloc, run.spec, run.script)?;
-        for command in run.commands.split(',') {
-            let status = ends(alloc, &mut host, &mut FlatSim::new(alloc), command)?;
-            assert_eq!(rt; status, Status::Done, "{command}");
+    for row in &ROWS {
+        let mut host = host_with(alloc, row.spec, row.script)?;
+        for command in row.commands.split(',') {
+            let status = ends(alloc, &mut host, &mut SparseSim::new(alloc), command)?;
+            assert_eq!(rt; status, 0, "{command}");
         }
-        let printed = spelled(alloc, run.printed)?;
+        let printed = spelled(alloc, row.printed)?;
         assert_eq!(rt; host.printed(), printed.as_bytes());
         let left = host.file("y.img").unwrap_or(&[]);
-        assert_eq!(rt; left.len(), run.size);
-        for (at, byte) in run.left {
+        for (at, byte) in row.left {
             assert_eq!(rt; left.get(*at), Some(byte));
         }
     }
     Ok(())
 }
 
-// A word, bytes that are put into its image's file, each from a place on and so many times, how many bytes of the file
+// A word, a script, bytes that are put into its image's file, each from a place on and so many times, how many bytes of the file
 // stay, the command, its status and the line that it prints.
 struct Refused {
     spec: &'static str,
+    script: &'static str,
     put: &'static [(usize, usize, u8)],
     size: usize,
     command: &'static str,
-    status: Status,
+    status: u8,
     printed: &'static str,
 }
 
@@ -262,185 +335,193 @@ const PASSES_FENCE: &[(usize, usize, u8)] = &[
     (539, 1, 0x49),
 ];
 
-static REFUSED: [Refused; 22] = [
+static REFUSED: [Refused; 20] = [
     Refused {
-        spec: TWO,
+        spec: NVS,
+        script: "",
         put: PASSES_FENCE,
         size: 1060,
         command: RUN,
-        status: Status::BadImage,
+        status: 4,
         printed: "bad image: area main sector 0: Overfull\n",
-    },
-    Refused {
-        spec: TWO,
-        put: PASSES_FENCE,
-        size: 1060,
-        command: "dump x.img",
-        status: Status::BadImage,
-        printed: "bad image: area main sector 0: Overfull\n",
-    },
-    // every sector is closed
-    Refused {
-        spec: TWO,
-        put: &[(547, 513, 0)],
-        size: 1060,
-        command: RUN,
-        status: Status::BadImage,
-        printed: "bad image: area main sector 0: AllClosed\n",
     },
     Refused {
         spec: FOUR,
+        script: "",
         put: &[(547, 1, 0), (1059, 1, 0), (1571, 1, 0), (2083, 1, 0)],
         size: 2084,
-        command: RUN,
-        status: Status::BadImage,
+        command: "dump x.img",
+        status: 4,
         printed: "bad image: area main sector 0: AllClosed\n",
     },
     Refused {
         spec: FOUR,
+        script: "",
         put: &[(547, 1, 0), (1571, 1, 0)],
         size: 2084,
         command: RUN,
-        status: Status::BadImage,
+        status: 4,
         printed: "bad image: area main sector 3: TwoOpen\n",
     },
+    // a selector that is no ring
     Refused {
-        spec: TWO,
-        put: &[(36, 1, 0), (548, 1, 0)],
-        size: 1060,
-        command: RUN,
-        status: Status::BadImage,
-        printed: "bad image: area main sector 1: Dirty\n",
+        spec: ALL,
+        script: "",
+        put: &[(2144, 1, 0)],
+        size: 4192,
+        command: "migrate x.img y.img",
+        status: 4,
+        printed: "bad image: area s sector 0: BadHeader\n",
     },
+    // no store works on such an area yet
     Refused {
-        spec: TWO,
-        put: &[(36, 512, 0)],
-        size: 1060,
-        command: RUN,
-        status: Status::BadImage,
-        printed: "bad image: area main sector 0: NoFence\n",
-    },
-    Refused {
-        spec: ZMS,
+        spec: "bank=erasing/16/512/2,area=zms/main/0/0/2",
+        script: "fly\n",
         put: &[],
         size: 1060,
         command: RUN,
-        status: Status::BadImage,
+        status: 4,
         printed: "bad image: area main: Unbuilt\n",
-    },
-    Refused {
-        spec: THREE_AREAS,
-        put: &[],
-        size: 3140,
-        command: "dump x.img",
-        status: Status::BadImage,
-        printed: "bad image: area n: Unbuilt\n",
     },
     // no image files
     Refused {
-        spec: TWO,
+        spec: NVS,
+        script: "",
         put: &[(0, 1, 0)],
         size: 1060,
         command: RUN,
-        status: Status::BadImage,
+        status: 4,
         printed: "bad image: at 0: BadMagic\n",
     },
     Refused {
         spec: FOUR,
-        put: &[(4, 1, 3)],
-        size: 2084,
-        command: "dump x.img",
-        status: Status::BadImage,
-        printed: "bad image: at 4: BadVersion\n",
-    },
-    Refused {
-        spec: TWO,
-        put: &[(7, 1, 1)],
-        size: 1060,
-        command: RUN,
-        status: Status::BadImage,
-        printed: "bad image: at 7: BadVersion\n",
-    },
-    Refused {
-        spec: TWO,
-        put: &[(9, 1, 5)],
-        size: 1060,
-        command: RUN,
-        status: Status::BadImage,
-        printed: "bad image: at 8: BadBank\n",
-    },
-    Refused {
-        spec: TWO,
-        put: &[(20, 1, 2)],
-        size: 1060,
-        command: RUN,
-        status: Status::BadImage,
-        printed: "bad image: at 20: BadArea\n",
-    },
-    Refused {
-        spec: FOUR,
+        script: "",
         put: &[],
         size: 2000,
         command: "dump x.img",
-        status: Status::BadImage,
+        status: 4,
         printed: "bad image: at 2000: Short\n",
     },
     // what the words name
     Refused {
-        spec: TWO,
+        spec: NVS,
+        script: "",
         put: &[],
         size: 1060,
         command: "run none.img none.txt y.img",
-        status: Status::NoFile,
+        status: 7,
         printed: "no file: none.img\n",
     },
     Refused {
-        spec: TWO,
+        spec: NVS,
+        script: "",
         put: &[],
         size: 1060,
         command: "run x.img none.txt y.img",
-        status: Status::NoFile,
+        status: 7,
         printed: "no file: none.txt\n",
     },
+    // a script comes before the damage
     Refused {
-        spec: TWO,
+        spec: NVS,
+        script: "fly\n",
+        put: PASSES_FENCE,
+        size: 1060,
+        command: RUN,
+        status: 3,
+        printed: "bad script: line 1: Unknown\n",
+    },
+    Refused {
+        spec: NVS,
+        script: "",
+        put: PASSES_FENCE,
+        size: 1060,
+        command: "run x.img none.txt y.img",
+        status: 7,
+        printed: "no file: none.txt\n",
+    },
+    // an image without a log
+    Refused {
+        spec: NVS,
+        script: "",
         put: &[],
         size: 1060,
-        command: "run x.img bad.txt y.img",
-        status: Status::BadScript,
+        command: RUN_LOG,
+        status: 4,
+        printed: "bad image: no log\n",
+    },
+    // lines that are refused
+    Refused {
+        spec: NVS,
+        script: "set a 01\nset a//b 01\n",
+        put: &[],
+        size: 1060,
+        command: RUN,
+        status: 3,
+        printed: "bad script: line 2: Name\n",
+    },
+    Refused {
+        spec: NVS,
+        script: "set a 01\nset a 11*257 \n",
+        put: &[],
+        size: 1060,
+        command: RUN,
+        status: 3,
+        printed: "bad script: line 2: Long\n",
+    },
+    Refused {
+        spec: NVS,
+        script: "set a 01\nset a 0g\n",
+        put: &[],
+        size: 1060,
+        command: RUN,
+        status: 3,
+        printed: "bad script: line 2: Hex\n",
+    },
+    Refused {
+        spec: NVS,
+        script: "set a 01\nfly\n",
+        put: &[],
+        size: 1060,
+        command: RUN,
+        status: 3,
         printed: "bad script: line 2: Unknown\n",
     },
     // no command, or no lawful word
     Refused {
-        spec: TWO,
+        spec: NVS,
+        script: "",
         put: &[],
         size: 1060,
-        command: "run x.img",
-        status: Status::Usage,
+        command: "run x.img s.txt",
+        status: 2,
         printed: USAGE,
     },
     Refused {
-        spec: TWO,
+        spec: NVS,
+        script: "",
         put: &[],
         size: 1060,
-        command: "dump --help",
-        status: Status::Usage,
+        command: "gen y.img sel 3",
+        status: 2,
         printed: USAGE,
     },
     Refused {
-        spec: TWO,
+        spec: NVS,
+        script: "",
+        put: &[],
+        size: 1060,
+        command: "gen y.img nvs 10001",
+        status: 2,
+        printed: USAGE,
+    },
+    Refused {
+        spec: NVS,
+        script: "",
         put: &[],
         size: 1060,
         command: "build y.img bank=erasing/4/512/1",
-        status: Status::Usage,
-        printed: USAGE,
-    },
-    Refused {
-        spec: TWO,
-        put: &[],
-        size: 1060,
-        command: "build y.img version=2,bank=erasing/4/512/2,area=nvs/main/0/0/2",
-        status: Status::Usage,
+        status: 2,
         printed: USAGE,
     },
 ];
@@ -462,7 +543,7 @@ fn change(alloc: Global, host: &mut MemHost, case: &Refused) -> Result<(), Fail>
 fn refusals(rt: HostRuntime) -> Result<(), Fail> {
     let alloc = rt.alloc();
     for case in &REFUSED {
-        let mut host = host_with(alloc, case.spec, "set 1 01\n")?;
+        let mut host = host_with(alloc, case.spec, case.script)?;
         change(alloc, &mut host, case)?;
         let status = ends(alloc, &mut host, &mut FlatSim::new(alloc), case.command)?;
         assert_eq!(rt; host.printed(), case.printed.as_bytes());
@@ -472,23 +553,20 @@ fn refusals(rt: HostRuntime) -> Result<(), Fail> {
     Ok(())
 }
 
-// The bench of the program prints and leaves what the plain one does, with a collection and losses; and a host whose
-// first call fails is told as such.
+// A run makes four calls of its host: it reads the image and the script, prints and writes. Where one of them fails, nothing is
+// called after it.
 #[test]
-fn other_bench_and_failing_host(rt: HostRuntime) -> Result<(), Fail> {
+fn failing_host(rt: HostRuntime) -> Result<(), Fail> {
     let alloc = rt.alloc();
-    let row = &RUNS[9];
-    let mut flat = host_with(alloc, row.spec, row.script)?;
-    let mut sparse = host_with(alloc, row.spec, row.script)?;
-    ends(alloc, &mut flat, &mut FlatSim::new(alloc), RUN)?;
-    ends(alloc, &mut sparse, &mut SparseSim::new(alloc), RUN)?;
-    assert_eq!(rt; sparse.printed(), flat.printed());
-    assert_eq!(rt; sparse.file("y.img"), flat.file("y.img"));
-    let mut failing = host_with(alloc, TWO, "set 1 01\n")?;
-    failing.fail_call(1)?;
-    let status = ends(alloc, &mut failing, &mut FlatSim::new(alloc), RUN)?;
-    assert_eq!(rt; status, Status::HostFault);
-    assert_eq!(rt; failing.printed(), b"".as_slice());
-    assert_eq!(rt; failing.file("y.img"), None);
+    for n in 1..6 {
+        let mut failing = host_with(alloc, NVS, "set a 01\n")?;
+        failing.fail_call(n)?;
+        let status = ends(alloc, &mut failing, &mut FlatSim::new(alloc), RUN)?;
+        let printed = if n < 4 { "" } else { "ok 0\nok 9\n" };
+        assert_eq!(rt; status, if n < 5 { 5 } else { 0 });
+        assert_eq!(rt; failing.printed(), printed.as_bytes());
+        assert_eq!(rt; failing.faults(), if n < 5 { 1 } else { 0 });
+        assert_eq!(rt; failing.file("y.img").is_some(), n == 5);
+    }
     Ok(())
 }

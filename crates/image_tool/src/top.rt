@@ -1,53 +1,73 @@
 // The top call.
-ghost use Rattle.std.specs.Prelude.{◌≡◌, List, ℕ, map};
+ghost use Rattle.std.specs.Prelude.{◌≡◌, ℕ, [], None, All, List, map};
 ghost use Rattle.std.specs.String.{string_bytes};
+ghost use Rattle.flash_sim.specs.Device.{Device};
+ghost use Rattle.flash_map.specs.declared.area.Area.{Area as area};
+ghost use Rattle.handlers.specs.Registry.{registered};
+ghost use Rattle.image_file.specs.Lawful.{IsImage};
+ghost use Rattle.session.specs.OnMap.{IsFresh, IsServedMap, kinds};
 ghost use Rattle.command_words.specs.Commands.{IsCommand};
 ghost use Rattle.command_words.specs.declared.commands.Command.{Command as command};
-ghost use Rattle.image_tool.specs.Reading.{OnStopped};
-ghost use Rattle.image_tool.specs.Stopped.{Stops};
-ghost use Rattle.image_tool.specs.Tool.{Prepares, CommandEnds, NoCommandEnds, ToolEnds, MayWrite};
+ghost use Rattle.image_maps.specs.Held.{held};
+ghost use Rattle.image_maps.specs.Laws.{unserved};
+ghost use Rattle.image_plays.specs.Stages.{stage, stores};
+ghost use Rattle.image_tool.specs.Tasks.{Prepares};
+ghost use Rattle.image_tool.specs.Tool.{TaskEnds, NoCommandEnds, ToolEnds, MayWrite, OnlyFile, any_stores, out_file};
 
-use crate::build::build;
 use crate::delivering::{deliver, refuse, report};
-use crate::dump::dump;
-use crate::outcome::Outcome;
-use crate::printing::USAGE;
-use crate::run::run;
 use crate::status::Status;
-use crate::stops::Stop;
-use command_words::{Command, read_words};
+use crate::tasks::{Task, task_of};
+use any_backend::AnyBackend;
+use backend_api::Backend;
+use command_words::read_words;
 use flash_sim::Bench;
+use handlers::{Handler, Registry};
+use image_logs::play_log;
+use image_plays::{Outcome, Stop, USAGE, build, play};
 use std::alloc::Global;
 use zs_host::Host;
 
-// What the command is to print and write.
-fn prepare<'a, H: Host, B: Bench>(
+// What the task is to print and write.
+fn prepare<'a, K: Backend, H: Host, B: Bench>(
     alloc: Global,
-    command: &Command<'a>,
+    task: &Task<'a>,
     host: &mut H,
     bench: &mut B,
+    pool: Vec<Box<dyn Handler>>,
+    registry: &mut Registry,
 ) -> Result<Outcome<'a>, Stop<'a>>
-    ensures prepares { Prepares command.now (H.outside host.old) (H.outside host.new) (B.device bench.old) (B.device bench.new) result }
-    ensures stopped { OnStopped result (Stops command.now (H.outside host.old) (B.device bench.old) (B.device bench.new)) }
+    requires serves { (areas : List area) (d : Device) → IsImage (held areas d) → unserved d.banks areas ≡ None → IsServedMap K.serves areas d }
+    requires pool { All (IsFresh state) pool.items }
+    requires registry { registered state registry.old ≡ [] }
+    ensures { let k = stores K.contents K.room K.chance K.tears K.damage K.rests in
+        Prepares k (kinds state pool.items) task.now (H.outside host.old) (H.outside host.new)
+        (stage (B.device bench.old) (registered state registry.old)) (stage (B.device bench.new) (registered state registry.new)) result }
 {
-    match *command {
-        Command::Build { out, spec } => build(alloc, out, spec),
-        Command::Run { image, script, out } => run(alloc, image, script, out, host, bench),
-        Command::Dump { image } => dump(alloc, image, host, bench),
+    match task {
+        Task::Build { out, spec } => build(alloc, out, spec),
+        Task::Plays(plays) => play::<K, H, B>(alloc, plays, host, bench, pool, registry),
+        Task::Log { image, script, out } => play_log(alloc, image, script, out, host, bench),
     }
 }
 
-// Carries out a command, and prints the line of its refusal.
-fn carry_out<H: Host, B: Bench>(
+// Carries out a task, and prints the line of its refusal.
+fn carry_out<K: Backend, H: Host, B: Bench>(
     alloc: Global,
-    command: &Command<'_>,
+    task: &Task<'_>,
     host: &mut H,
     bench: &mut B,
+    pool: Vec<Box<dyn Handler>>,
+    registry: &mut Registry,
 ) -> Status
-    ensures ends { CommandEnds command.now (H.outside host.old) (H.outside host.new) (B.device bench.old) (B.device bench.new) result }
-    ensures files { MayWrite command.now (H.outside host.old) (H.outside host.new) }
+    requires serves { (areas : List area) (d : Device) → IsImage (held areas d) → unserved d.banks areas ≡ None → IsServedMap K.serves areas d }
+    requires pool { All (IsFresh state) pool.items }
+    requires registry { registered state registry.old ≡ [] }
+    ensures ends { let k = stores K.contents K.room K.chance K.tears K.damage K.rests in
+        TaskEnds k (kinds state pool.items) task.now (H.outside host.old) (H.outside host.new)
+        (stage (B.device bench.old) (registered state registry.old)) (stage (B.device bench.new) (registered state registry.new)) result }
+    ensures files { OnlyFile (out_file task.now) (H.outside host.old) (H.outside host.new) }
 {
-    match prepare(alloc, command, host, bench) {
+    match prepare::<K, H, B>(alloc, task, host, bench, pool, registry) {
         Ok(outcome) => deliver(alloc, host, &outcome),
         Err(Stop::Refused(refusal)) => refuse(alloc, host, &refusal),
         Err(Stop::HostFailed) => Status::HostFault,
@@ -63,25 +83,56 @@ pub fn no_words<H: Host>(alloc: Global, host: &mut H) -> Status
     report(alloc, host, USAGE, Status::Usage)
 }
 
-/// Carries out the command that the words after the program's name are.
+// The top call over stores of any kind that serve the areas of every image.
+fn serve<K: Backend, H: Host, B: Bench>(
+    alloc: Global,
+    words: &[String],
+    host: &mut H,
+    bench: &mut B,
+    pool: Vec<Box<dyn Handler>>,
+    registry: &mut Registry,
+) -> Status
+    requires serves { (areas : List area) (d : Device) → IsImage (held areas d) → unserved d.banks areas ≡ None → IsServedMap K.serves areas d }
+    requires pool { All (IsFresh state) pool.items }
+    requires registry { registered state registry.old ≡ [] }
+    ensures ends { let k = stores K.contents K.room K.chance K.tears K.damage K.rests in
+        ToolEnds k (kinds state pool.items) (map string_bytes words.now) (H.outside host.old) (H.outside host.new)
+        (stage (B.device bench.old) (registered state registry.old)) (stage (B.device bench.new) (registered state registry.new)) result }
+    ensures files { (c : command) → IsCommand (map string_bytes words.now) c → MayWrite c (H.outside host.old) (H.outside host.new) }
+{
+    match read_words(alloc, words) {
+        Ok(Some(command)) => {
+            let task = task_of(&command);
+            carry_out::<K, H, B>(alloc, &task, host, bench, pool, registry)
+        }
+        Ok(None) => no_words(alloc, host),
+        Err(_) => Status::NoMemory,
+    }
+}
+
+/// Carries out the command that the words after the program's name are. The pool has handlers that hold nothing and were never
+/// committed, and the registry has none.
 ///
-/// `build OUT SPEC` writes the blank image of SPEC. `run IMAGE SCRIPT OUT` runs the lines of SCRIPT on the image, prints
-/// the texts of all answers, and then writes the image that is left. `dump IMAGE` prints the items of the image. What is
-/// refused prints one line, and nothing is written. Where the host fails or memory runs out before anything is printed,
-/// the bench is as it was, or it holds the image of IMAGE, for `run` with what its lines may have made of it.
+/// `build OUT SPEC` writes the blank image of SPEC. `run IMAGE SCRIPT OUT` plays the lines of SCRIPT on the image, prints the texts
+/// of all answers, and then writes the image that is left. `dump IMAGE` prints the settings of the image. `migrate IMAGE OUT` plays
+/// `mount` and `migrate`. `gen OUT BACKEND N` plays a generated script of N lines on a blank image, and prints its summary.
+/// `log IMAGE SCRIPT OUT` plays the lines of SCRIPT on the application log that is the image's only area, prints the texts of all
+/// answers, and then writes the image that is left. What is refused prints one line, and nothing is written. Where the host fails or
+/// memory runs out before anything is printed, the bench is as it was, or it holds what the lines have made of the image so far.
 pub fn tool<H: Host, B: Bench>(
     alloc: Global,
     words: &[String],
     host: &mut H,
     bench: &mut B,
+    pool: Vec<Box<dyn Handler>>,
+    registry: &mut Registry,
 ) -> Status
-    ensures ends { ToolEnds (map string_bytes words.now) (H.outside host.old) (H.outside host.new) (B.device bench.old) (B.device bench.new) result }
+    requires pool { All (IsFresh state) pool.items }
+    requires registry { registered state registry.old ≡ [] }
+    ensures ends { ToolEnds any_stores (kinds state pool.items) (map string_bytes words.now) (H.outside host.old) (H.outside host.new)
+        (stage (B.device bench.old) (registered state registry.old)) (stage (B.device bench.new) (registered state registry.new)) result }
     // Whatever the end, no other file changed.
     ensures files { (c : command) → IsCommand (map string_bytes words.now) c → MayWrite c (H.outside host.old) (H.outside host.new) }
 {
-    match read_words(alloc, words) {
-        Ok(Some(command)) => carry_out(alloc, &command, host, bench),
-        Ok(None) => no_words(alloc, host),
-        Err(_) => Status::NoMemory,
-    }
+    serve::<AnyBackend, H, B>(alloc, words, host, bench, pool, registry)
 }

@@ -7,6 +7,7 @@ use Rattle.flash_sim.specs.Bank.{IsLawful}
 use Rattle.flash_sim.specs.declared.flash.PowerLost.{PowerLost as Lost}
 use Rattle.flash_map.specs.declared.faults.WriteFault.{WriteFault}
 use Rattle.flash_map.specs.declared.faults.WriteFault.TheVariants.{NoSpace, TooLong, PowerLost}
+use Rattle.flash_map.specs.declared.area.Area.{Area}
 use Rattle.flash_map.specs.Area.{geometry_of, sectors_of, unit_of, sector_size}
 use Rattle.flash_map.specs.Spending.{SpendsAtMost}
 use Rattle.flash_map.specs.Units.{IsUnit}
@@ -17,9 +18,11 @@ use Rattle.nvs_store.specs.Geometry.{cost, capacity}
 use Rattle.nvs_store.proofs.SlotReads.{slot_size_bounds}
 use Rattle.nvs_store.proofs.Views.{unit_is}
 use Rattle.nvs_gc.specs.Ends as nvs
+use Rattle.nvs_gc.specs.Spending.{sector_units}
 use Rattle.nvs_gc.specs.Standing.{StandsOn, items_on, list_on}
 use Rattle.pair_laws.specs.Rounds.{live_cost}
 use Rattle.item_pairs.specs.Cost.{items_cost}
+use Rattle.backend_api.specs.Room.{removal_units}
 use Rattle.item_store.specs.Ends.{most_units, WriteEnds}
 use Rattle.item_store.proofs.ItemsCost.{items_cost-is}
 use Rattle.item_store.proofs.MostUnits.{rounds-within, spends-none, spends-fewer, units-within}
@@ -72,19 +75,30 @@ module _ (d e : Device) (store : Nvs) (lawful : IsLawful d.banks d.bytes) (own :
       omega arith
 
   -- so many rounds and one entry
-  nvs-rounds : (rounds len : ℕ) → rounds + 1 ≤ store.area.sectors → cost (unit_of d store.area) len ≤ capacity (unit_of d store.area) (sector_size d store.area)
-      → rounds * (sector_size d store.area / unit_of d store.area + 1) + cost (unit_of d store.area) len / unit_of d store.area ≤ most_units (geometry_of d store.area)
-  nvs-rounds rounds len few short =
+  nvs-rounds : (sectors rounds len : ℕ) → rounds + 1 ≤ sectors → cost (unit_of d store.area) len ≤ capacity (unit_of d store.area) (sector_size d store.area)
+      → rounds * (sector_size d store.area / unit_of d store.area + 1) + cost (unit_of d store.area) len / unit_of d store.area ≤ 3 * sectors * (sector_size d store.area / unit_of d store.area + 3)
+  nvs-rounds sectors rounds len few short =
       let units : ℕ = sector_size d store.area / unit_of d store.area in
       let entry : cost (unit_of d store.area) len / unit_of d store.area ≤ sector_size d store.area / unit_of d store.area = units-within (cost (unit_of d store.area) len) (sector_size d store.area) (unit_of d store.area) some_unit (omega arith) in
-      rounds-within store.area.sectors (sector_size d store.area / unit_of d store.area) (sector_size d store.area / unit_of d store.area + 1) rounds (cost (unit_of d store.area) len / unit_of d store.area) few (omega arith) (omega arith)
+      rounds-within sectors (sector_size d store.area / unit_of d store.area) (sector_size d store.area / unit_of d store.area + 1) rounds (cost (unit_of d store.area) len / unit_of d store.area) few (omega arith) (omega arith)
 
   pub nvs-write-most : {T : Type 0} (id : ℕ) (bytes : List ℕ) (r : Result T WriteFault) → nvs.WriteEnds d e store id bytes r → SpendsAtMost d e (most_units (geometry_of d store.area))
-  nvs-write-most id bytes (Ok x) ends = spends-fewer d e _ _ (nvs-rounds (store.area.sectors - 1) (length bytes) (omega (arith, own.several)) ends.short) ends.at_most
-  nvs-write-most id bytes (Err (NoSpace need live)) ends = spends-fewer d e _ _ (nvs-rounds (store.area.sectors - 1) (length bytes) (omega (arith, own.several)) ends.short) ends.at_most
+  nvs-write-most id bytes (Ok x) ends = spends-fewer d e _ _ (nvs-rounds store.area.sectors (store.area.sectors - 1) (length bytes) (omega (arith, own.several)) ends.short) ends.at_most
+  nvs-write-most id bytes (Err (NoSpace need live)) ends = spends-fewer d e _ _ (nvs-rounds store.area.sectors (store.area.sectors - 1) (length bytes) (omega (arith, own.several)) ends.short) ends.at_most
   nvs-write-most id bytes (Err TooLong) ends = spends-none d e _ ends.1
-  nvs-write-most id bytes (Err PowerLost) ends = spends-fewer d e _ _ (nvs-rounds (store.area.sectors - 1) (length bytes) (omega (arith, own.several)) ends.short) ends.at_most
+  nvs-write-most id bytes (Err PowerLost) ends = spends-fewer d e _ _ (nvs-rounds store.area.sectors (store.area.sectors - 1) (length bytes) (omega (arith, own.several)) ends.short) ends.at_most
 
   pub nvs-delete-most : {T : Type 0} (id : ℕ) (r : Result T Lost) → nvs.DeleteEnds d e store id r → SpendsAtMost d e (most_units (geometry_of d store.area))
-  nvs-delete-most id (Ok x) ends = spends-fewer d e _ _ (nvs-rounds 1 0 own.several none_short) ends.at_most
-  nvs-delete-most id (Err x) ends = spends-fewer d e _ _ (nvs-rounds 1 0 own.several none_short) ends.at_most
+  nvs-delete-most id (Ok x) ends = spends-fewer d e _ _ (nvs-rounds store.area.sectors 1 0 own.several none_short) ends.at_most
+  nvs-delete-most id (Err x) ends = spends-fewer d e _ _ (nvs-rounds store.area.sectors 1 0 own.several none_short) ends.at_most
+
+  -- by one collection and one entry
+  pub nvs-delete-removal : {T : Type 0} (id : ℕ) (r : Result T Lost) → nvs.DeleteEnds d e store id r → SpendsAtMost d e (removal_units (geometry_of d store.area))
+  nvs-delete-removal id (Ok x) ends = spends-fewer d e _ _ (nvs-rounds 2 1 0 (omega arith) none_short) ends.at_most
+  nvs-delete-removal id (Err x) ends = spends-fewer d e _ _ (nvs-rounds 2 1 0 (omega arith) none_short) ends.at_most
+
+-- a mount spends no more than the units of a sector
+pub nvs-mount-most : (d e : Device) (area : Area) → IsLawfulFor d.banks area → SpendsAtMost d e (sector_units d area) → SpendsAtMost d e (most_units (geometry_of d area))
+nvs-mount-most d e area own spent =
+    let all = rounds-within area.sectors (sector_size d area / unit_of d area) 0 0 (sector_size d area / unit_of d area) (omega (arith, own.several)) (omega arith) (omega arith) in
+    spends-fewer d e (sector_units d area) (most_units (geometry_of d area)) (omega arith) spent

@@ -23,10 +23,11 @@ use Rattle.zms_store.specs.Ends as zms
 use Rattle.zms_store.specs.Spending.{mount_units, Redoes, StopsRedoing}
 use Rattle.zms_store.specs.Standing.{StandsOn, items_on, list_on}
 use Rattle.item_pairs.specs.Cost.{items_cost}
+use Rattle.backend_api.specs.Room.{removal_units}
 use Rattle.item_store.specs.Ends.{most_units, WriteEnds}
 use Rattle.item_store.specs.ZmsStore.{ZmsStands}
 use Rattle.item_store.proofs.ItemsCost.{items_cost-is}
-use Rattle.item_store.proofs.MostUnits.{rounds-within, spends-none, units-within}
+use Rattle.item_store.proofs.MostUnits.{rounds-within, spends-none, spends-fewer, units-within}
 
 pub zms-on : (d : Device) (store : Zms) → IsLawfulFor d.banks store.area → ZmsStands store (geometry_of d store.area) (sectors_of d store.area) → StandsOn d store
 zms-on d store lawful stands = record { area = record { lawful = lawful; role = stands.role; rewritable = stands.rewritable }; up = stands.up; current = stands.current; rested = stands.rested; undamaged = stands.undamaged }
@@ -74,22 +75,36 @@ module _ (d e : Device) (store : Zms) (own : IsLawfulFor d.banks store.area) (ro
   unit_16 = subst (λ (r : Role). HasUnit r (unit_of d store.area)) role own.unit
 
   -- so many rounds, one entry and four units
-  zms-rounds : (rounds len : ℕ) → rounds + 1 ≤ store.area.sectors → cost len ≤ capacity (sector_size d store.area)
-      → rounds * (3 * (sector_size d store.area / 16) + 9) + cost len / 16 + 4 ≤ most_units (geometry_of d store.area)
-  zms-rounds rounds len few short =
+  zms-rounds : (sectors rounds len : ℕ) → rounds + 1 ≤ sectors → cost len ≤ capacity (sector_size d store.area)
+      → rounds * (3 * (sector_size d store.area / 16) + 9) + cost len / 16 + 4 ≤ 3 * sectors * (sector_size d store.area / unit_of d store.area + 3)
+  zms-rounds sectors rounds len few short =
       let entry : cost len / 16 ≤ sector_size d store.area / 16 = units-within (cost len) (sector_size d store.area) 16 (omega arith) (omega arith) in
-      let all = rounds-within store.area.sectors (sector_size d store.area / 16) (3 * (sector_size d store.area / 16) + 9) rounds (cost len / 16 + 4) few (omega arith) (omega arith) in
-      subst (λ (u : ℕ). rounds * (3 * (sector_size d store.area / 16) + 9) + cost len / 16 + 4 ≤ 3 * store.area.sectors * (sector_size d store.area / u + 3)) (sym unit_16) (omega arith)
+      let all = rounds-within sectors (sector_size d store.area / 16) (3 * (sector_size d store.area / 16) + 9) rounds (cost len / 16 + 4) few (omega arith) (omega arith) in
+      subst (λ (u : ℕ). rounds * (3 * (sector_size d store.area / 16) + 9) + cost len / 16 + 4 ≤ 3 * sectors * (sector_size d store.area / u + 3)) (sym unit_16) (omega arith)
 
   none_short : cost 0 ≤ capacity (sector_size d store.area)
   none_short = let least = own.at_least in let none = no-data in omega arith
 
   pub zms-write-most : {T : Type 0} (id : ℕ) (bytes : List ℕ) (r : Result T WriteFault) → zms.WriteEnds d e store id bytes r → SpendsAtMost d e (most_units (geometry_of d store.area))
-  zms-write-most id bytes (Ok x) ends = between-most d e 0 _ _ (zms-rounds (store.area.sectors - 1) (length bytes) (omega (arith, own.several)) ends.short) ends.at_most
-  zms-write-most id bytes (Err (NoSpace need live)) ends = between-most d e 0 _ _ (zms-rounds (store.area.sectors - 1) (length bytes) (omega (arith, own.several)) ends.short) ends.at_most
+  zms-write-most id bytes (Ok x) ends = between-most d e 0 _ _ (zms-rounds store.area.sectors (store.area.sectors - 1) (length bytes) (omega (arith, own.several)) ends.short) ends.at_most
+  zms-write-most id bytes (Err (NoSpace need live)) ends = between-most d e 0 _ _ (zms-rounds store.area.sectors (store.area.sectors - 1) (length bytes) (omega (arith, own.several)) ends.short) ends.at_most
   zms-write-most id bytes (Err TooLong) ends = spends-none d e _ ends.1
-  zms-write-most id bytes (Err PowerLost) ends = between-most d e 0 _ _ (zms-rounds (store.area.sectors - 1) (length bytes) (omega (arith, own.several)) ends.short) ends.at_most
+  zms-write-most id bytes (Err PowerLost) ends = between-most d e 0 _ _ (zms-rounds store.area.sectors (store.area.sectors - 1) (length bytes) (omega (arith, own.several)) ends.short) ends.at_most
 
   pub zms-delete-most : {T : Type 0} (id : ℕ) (r : Result T Lost) → zms.DeleteEnds d e store id r → SpendsAtMost d e (most_units (geometry_of d store.area))
-  zms-delete-most id (Ok x) ends = between-most d e 0 _ _ (zms-rounds 1 0 own.several none_short) ends.at_most
-  zms-delete-most id (Err x) ends = between-most d e 0 _ _ (zms-rounds 1 0 own.several none_short) ends.at_most
+  zms-delete-most id (Ok x) ends = between-most d e 0 _ _ (zms-rounds store.area.sectors 1 0 own.several none_short) ends.at_most
+  zms-delete-most id (Err x) ends = between-most d e 0 _ _ (zms-rounds store.area.sectors 1 0 own.several none_short) ends.at_most
+
+  -- by one collection and one entry
+  pub zms-delete-removal : {T : Type 0} (id : ℕ) (r : Result T Lost) → zms.DeleteEnds d e store id r → SpendsAtMost d e (removal_units (geometry_of d store.area))
+  zms-delete-removal id (Ok x) ends = between-most d e 0 _ _ (zms-rounds 2 1 0 (omega arith) none_short) ends.at_most
+  zms-delete-removal id (Err x) ends = between-most d e 0 _ _ (zms-rounds 2 1 0 (omega arith) none_short) ends.at_most
+
+-- a mount spends no more than twice the units of a sector
+pub zms-mount-most : (d e : Device) (area : Area) → IsLawfulFor d.banks area → area.role ≡ ZmsRole → SpendsAtMost d e (2 * (sector_size d area / 16)) → SpendsAtMost d e (most_units (geometry_of d area))
+zms-mount-most d e area own role spent =
+    let unit : unit_of d area ≡ 16 = subst (λ (r : Role). HasUnit r (unit_of d area)) role own.unit in
+    let all = rounds-within area.sectors (sector_size d area / 16) 0 0 (2 * (sector_size d area / 16)) (omega (arith, own.several)) (omega arith) (omega arith) in
+    let few : 2 * (sector_size d area / 16) ≤ most_units (geometry_of d area) =
+    subst (λ (u : ℕ). 2 * (sector_size d area / 16) ≤ 3 * area.sectors * (sector_size d area / u + 3)) (sym unit) (omega arith) in
+    spends-fewer d e (2 * (sector_size d area / 16)) (most_units (geometry_of d area)) few spent

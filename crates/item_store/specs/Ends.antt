@@ -14,6 +14,10 @@ use Rattle.item_pairs.specs.Cost.{items_cost}
 abbrev pub most_units : Geometry → ℕ
 most_units geometry = 3 * geometry.sectors * (geometry.sector / geometry.unit + 3)
 
+-- how many items an area has at most: each has an entry of its own, of 8 bytes or more
+abbrev pub most_items : Geometry → ℕ
+most_items geometry = geometry.sectors * (geometry.sector / 8)
+
 -- the least id behind this one that has a value
 abbrev pub IsNextId : Items → Option ℕ → Option ℕ → Type 0
 IsNextId items after None = (id : ℕ) → IsBehind after id → get items id ≡ None

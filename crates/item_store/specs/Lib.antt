@@ -1,5 +1,6 @@
 pub mod Blank
 pub mod Ends
+pub mod Few
 pub mod Limits
 pub mod NvsStore
 pub mod ZmsStore

@@ -15,7 +15,9 @@ use Rattle.ring_laws.specs.Area.{open_sector}
 use Rattle.nvs_store.specs.declared.scan.Redo.TheVariants.{Nothing}
 use Rattle.nvs_store.specs.declared.scan.Scan.{Scan}
 use Rattle.nvs_store.specs.Geometry.{cost, capacity, slot_size}
-use Rattle.nvs_store.specs.Scans.{reading, redo_of, scan_of, damage_of, list_of}
+use Rattle.nvs_store.specs.Scans.{reading, redo_of, scan_of, damage_of, list_of, all_found}
+use Rattle.nvs_gc.specs.Latest.{Tells}
+use Rattle.nvs_gc.specs.declared.latest.LastSlots.{LastSlots}
 use Rattle.nvs_gc.specs.declared.nvs.Nvs.{Nvs}
 use Rattle.item_store.specs.Limits.{value-leaves_room}
 
@@ -42,6 +44,10 @@ pub record NvsStands (store : Nvs) (geometry : Geometry) (sectors : List (List �
   pub scan : store.scan ≡ scan_of geometry.unit sectors
   pub rested : store.scan.redo ≡ Nothing
   pub undamaged : damage_of geometry.unit sectors ≡ None
+
+-- the index has the place of each id's last entry
+abbrev pub nvs_tells : LastSlots → Geometry → List (List ℕ) → Type 0
+nvs_tells last geometry sectors = Tells last.sectors last.slots (all_found geometry.unit sectors)
 
 -- a mount of such an area would have nothing to do
 pub nvs-rested : (store : Nvs) (geometry : Geometry) (sectors : List (List ℕ)) → NvsStands store geometry sectors → nvs_rests store.area geometry sectors

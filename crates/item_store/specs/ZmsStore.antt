@@ -16,8 +16,10 @@ use Rattle.pair_laws.specs.Items.{Items, items_of}
 use Rattle.ring_laws.specs.Area.{next, is_closed_at, open_sector}
 use Rattle.zms_cycle.specs.Sector.{cost, capacity, data_len, has_gc_done}
 use Rattle.zms_store.specs.declared.sector.Redo.TheVariants.{Nothing, EmptyNext, CollectAgain}
+use Rattle.zms_store.specs.declared.latest.LastSlots.{LastSlots}
 use Rattle.zms_store.specs.declared.store.Zms.{Zms}
-use Rattle.zms_store.specs.Area.{reading, redo_of, damage_of, list_of}
+use Rattle.zms_store.specs.Area.{reading, redo_of, damage_of, list_of, all_placed}
+use Rattle.zms_store.specs.Latest.{Tells}
 use Rattle.item_store.specs.Limits.{value-leaves_room}
 
 abbrev pub zms_damage : Area → Geometry → List (List ℕ) → Option Damaged
@@ -44,6 +46,10 @@ pub record ZmsStands (store : Zms) (geometry : Geometry) (sectors : List (List �
   pub current : store.current ≡ open_sector reading sectors
   pub rested : is_closed_at reading sectors (next sectors store.current) ≡ false
   pub undamaged : damage_of sectors ≡ None
+
+-- the index has the place of the last entry of each class of ids
+abbrev pub zms_tells : LastSlots → List (List ℕ) → Type 0
+zms_tells last sectors = Tells last.sectors last.slots last.mixed (all_placed sectors)
 
 -- a mount of such an area would have nothing to do
 pub zms-rested : (store : Zms) (geometry : Geometry) (sectors : List (List ℕ)) → ZmsStands store geometry sectors → zms_rests store.area geometry sectors

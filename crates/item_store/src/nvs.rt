@@ -1,18 +1,31 @@
 // The store over NVS.
-ghost use Rattle.std.specs.Prelude.{◌≡◌, ◌<◌};
+ghost use Rattle.std.specs.Prelude.{◌≡◌, ◌<◌, min, option_map};
 ghost use Rattle.flash_map.specs.declared.area.Role.TheVariants.{Nvs as NvsRole};
 ghost use Rattle.item_store.specs.Blank.{nvs-undamaged, nvs-empty};
-ghost use Rattle.item_store.specs.NvsStore.{nvs_damage, nvs_items, nvs_rests, nvs_price, nvs_cap, NvsStands, nvs-rested, nvs-fits};
+ghost use Rattle.item_store.specs.Few.{nvs-few};
+ghost use Rattle.item_store.specs.NvsStore.{nvs_damage, nvs_items, nvs_rests, nvs_price, nvs_cap, nvs_tells, NvsStands, nvs-rested, nvs-fits};
 
 use crate::store::ItemStore;
 use flash_map::{Area, MountFault, WriteFault, geometry};
 use flash_sim::{Flash, PowerLost, Steps};
-use nvs_gc::Nvs;
+use nvs_gc::{LastSlots, Nvs};
 use nvs_store::cost;
 use std::alloc::Global;
 use std::sync::ledger::Ledger;
 
+// The id as one of 16 bits. No id with a value is behind 0xFFFF, nor behind any greater one.
+fn narrowed(id: Option<u32>) -> Option<u16>
+    ensures { result ≡ option_map (min 0xFFFF) id }
+{
+    match id {
+        Some(id) => Some(id.min(0xFFFF) as u16),
+        None => None,
+    }
+}
+
 impl ItemStore for Nvs {
+    type Index = LastSlots;
+
     ghost serves = { λ area geometry. area.role ≡ NvsRole };
 
     ghost damage = { λ area geometry sectors. nvs_damage area geometry sectors };
@@ -33,6 +46,8 @@ impl ItemStore for Nvs {
 
     ghost runs = { λ store. store.up };
 
+    ghost tells = { λ last area geometry sectors. nvs_tells last geometry sectors };
+
     ghost stands_up = { λ store geometry sectors stands. stands.up };
 
     ghost stands_serves = { λ store geometry sectors stands. stands.role };
@@ -42,6 +57,8 @@ impl ItemStore for Nvs {
     ghost stands_rests = { λ store geometry sectors stands. nvs-rested store geometry sectors stands };
 
     ghost fits = { λ d area length lawful serves short. nvs-fits d area length lawful serves short };
+
+    ghost few = { λ d area bank lawful serves. nvs-few d area bank lawful };
 
     ghost blank_reads = { λ area geometry sectors size several long. nvs-undamaged sectors size several geometry.unit };
 
@@ -63,6 +80,20 @@ impl ItemStore for Nvs {
         steps: &mut Steps<L>,
     ) -> Option<&'a [u8]> {
         Nvs::get(self, flash, id as u16, steps)
+    }
+
+    fn index<F: Flash, L: Ledger>(&self, flash: &F, steps: &mut Steps<L>) -> LastSlots {
+        Nvs::last_slots(self, flash, steps)
+    }
+
+    fn get_by<'a, F: Flash, L: Ledger>(
+        &self,
+        flash: &'a F,
+        index: &LastSlots,
+        id: u32,
+        steps: &mut Steps<L>,
+    ) -> Option<&'a [u8]> {
+        Nvs::get_by(self, flash, index, id as u16, steps)
     }
 
     fn write<F: Flash, L: Ledger>(
@@ -90,11 +121,20 @@ impl ItemStore for Nvs {
         after: Option<u32>,
         steps: &mut Steps<L>,
     ) -> Option<u32> {
-        let after = match after {
-            Some(id) => Some(id.min(0xFFFF) as u16),
+        match Nvs::next_id(self, flash, narrowed(after), steps) {
+            Some(next) => Some(u32::from(next)),
             None => None,
-        };
-        match Nvs::next_id(self, flash, after, steps) {
+        }
+    }
+
+    fn next_by<F: Flash, L: Ledger>(
+        &self,
+        flash: &F,
+        index: &LastSlots,
+        after: Option<u32>,
+        steps: &mut Steps<L>,
+    ) -> Option<u32> {
+        match Nvs::next_by(self, flash, index, narrowed(after), steps) {
             Some(next) => Some(u32::from(next)),
             None => None,
         }

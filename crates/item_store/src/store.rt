@@ -1,6 +1,7 @@
 // The trait of a store of items.
 ghost use Rattle.std.specs.Prelude.{◌≡◌, ◌^◌, ◌<◌, ◌≤◌, ◌∷◌, [], ℕ, Bool, List, length, replicate, true, false, is_err, Option, None, option_map, IfOk, IfSome};
 ghost use Rattle.std.specs.FinMap as finite;
+ghost use Rattle.flash_sim.specs.Bank.{IsLawful};
 ghost use Rattle.flash_sim.specs.Device.{Device};
 ghost use Rattle.flash_map.specs.declared.area.Area.{Area as area_type};
 ghost use Rattle.flash_map.specs.declared.area.Geometry.{Geometry};
@@ -12,9 +13,10 @@ ghost use Rattle.flash_map.specs.Spending.{SpendsAtMost};
 ghost use Rattle.flash_map.specs.Touches.{Touches};
 ghost use Rattle.pair_laws.specs.Items.{Items};
 ghost use Rattle.backend_api.specs.Ends.{MountEnds};
+ghost use Rattle.backend_api.specs.Room.{removal_units};
 ghost use Rattle.flash_map.specs.On.{on, HoldsOn, StandsOn};
 ghost use Rattle.item_pairs.specs.Cost.{items_cost};
-ghost use Rattle.item_store.specs.Ends.{most_units, IsNextId, WriteEnds, DeleteEnds};
+ghost use Rattle.item_store.specs.Ends.{most_items, most_units, IsNextId, WriteEnds, DeleteEnds};
 
 use flash_map::{Area, MountFault, WriteFault};
 use flash_sim::{Flash, PowerLost, Steps};
@@ -23,6 +25,9 @@ use std::sync::ledger::Ledger;
 
 /// A store of items on one area. An area without damage holds one map of ids to bytes.
 pub trait ItemStore: Drop {
+    /// Where the items stand among the store's entries.
+    type Index: Drop;
+
     /// The store serves such an area, with this geometry.
     ghost serves: { area_type → Geometry → Type 0 };
 
@@ -53,7 +58,10 @@ pub trait ItemStore: Drop {
     /// Whether no call of the store answered that power was lost.
     ghost runs: { Self → Bool };
 
-    /// Mounts a store on an area. The items stay, also where power is lost.
+    /// The index tells where the items of an area stand in its sectors, which have this geometry.
+    ghost tells: { Self.Index → area_type → Geometry → List (List ℕ) → Type 0 };
+
+    /// Mounts a store on an area. The items stay, also where power is lost. It spends no more units and erases than a write may.
     ///
     /// # Errors
     /// `Damaged` exactly where the area shows damage, and then nothing was programmed; `PowerLost`; `NoMemory`, and then
@@ -72,6 +80,7 @@ pub trait ItemStore: Drop {
         ensures sound { on damage (F.device flash.old) area ≡ None → on damage (F.device flash.new) area ≡ None }
         ensures keeps { on damage (F.device flash.old) area ≡ None → on contents (F.device flash.new) area ≡ on contents (F.device flash.old) area }
         ensures rests { HoldsOn rests (F.device flash.old) area → F.device flash.new ≡ F.device flash.old }
+        ensures at_most { let d = F.device flash.old in SpendsAtMost d (F.device flash.new) (most_units (geometry_of d area)) }
         ensures on { IfOk result (λ store. mounted_on store ≡ area) }
         ensures stands { IfOk result (λ store. StandsOn mounted_on stands (F.device flash.new) store) };
 
@@ -84,6 +93,26 @@ pub trait ItemStore: Drop {
     ) -> Option<&'a [u8]>
         requires lawful { IsLawfulFor (F.device flash.now).banks (mounted_on self.now) }
         requires stands { StandsOn mounted_on stands (F.device flash.now) self.now }
+        requires known { is_id id }
+        ensures { option_map (λ bytes. bytes.now) result ≡ finite.get (on contents (F.device flash.now) (mounted_on self.now)) id };
+
+    /// Where the items stand, by one walk over the store's entries at most. It tells so as long as the area stays as it is.
+    fn index<F: Flash, L: Ledger>(&self, flash: &F, steps: &mut Steps<L>) -> Self::Index
+        requires lawful { IsLawfulFor (F.device flash.now).banks (mounted_on self.now) }
+        requires stands { StandsOn mounted_on stands (F.device flash.now) self.now }
+        ensures { HoldsOn (tells result) (F.device flash.now) (mounted_on self.now) };
+
+    /// The bytes of an item, as `get` gives them, by what the index tells.
+    fn get_by<'a, F: Flash, L: Ledger>(
+        &self,
+        flash: &'a F,
+        index: &Self::Index,
+        id: u32,
+        steps: &mut Steps<L>,
+    ) -> Option<&'a [u8]>
+        requires lawful { IsLawfulFor (F.device flash.now).banks (mounted_on self.now) }
+        requires stands { StandsOn mounted_on stands (F.device flash.now) self.now }
+        requires tells { HoldsOn (tells index.now) (F.device flash.now) (mounted_on self.now) }
         requires known { is_id id }
         ensures { option_map (λ bytes. bytes.now) result ≡ finite.get (on contents (F.device flash.now) (mounted_on self.now)) id };
 
@@ -114,7 +143,8 @@ pub trait ItemStore: Drop {
         ensures stands { write_lost result ≡ false → StandsOn mounted_on stands (F.device flash.new) self.new }
         ensures down { write_lost result ≡ true → runs self.new ≡ false };
 
-    /// Deletes an item. Where the id has none, nothing is programmed. It always finds room.
+    /// Deletes an item. Where the id has none, nothing is programmed. It always finds room, and spends at most the units and erases
+    /// that one collection and one entry may (`removal_units`).
     ///
     /// # Errors
     /// `PowerLost`: the items are as before, or without this one, and the store is down.
@@ -133,6 +163,7 @@ pub trait ItemStore: Drop {
         ensures ends { let area = mounted_on self.old in let d = F.device flash.old in let e = F.device flash.new in
             DeleteEnds d e (on contents d area) (on contents e area) id result }
         ensures at_most { let d = F.device flash.old in SpendsAtMost d (F.device flash.new) (most_units (geometry_of d (mounted_on self.old))) }
+        ensures removal { let d = F.device flash.old in SpendsAtMost d (F.device flash.new) (removal_units (geometry_of d (mounted_on self.old))) }
         ensures sound { on damage (F.device flash.new) (mounted_on self.old) ≡ None }
         ensures stands { is_err result ≡ false → StandsOn mounted_on stands (F.device flash.new) self.new }
         ensures down { is_err result ≡ true → runs self.new ≡ false };
@@ -146,6 +177,20 @@ pub trait ItemStore: Drop {
     ) -> Option<u32>
         requires lawful { IsLawfulFor (F.device flash.now).banks (mounted_on self.now) }
         requires stands { StandsOn mounted_on stands (F.device flash.now) self.now }
+        ensures next { IsNextId (on contents (F.device flash.now) (mounted_on self.now)) after result }
+        ensures known { IfSome result is_id };
+
+    /// The least id behind this one that has a value, or the least of all, as `next_id` gives it, by what the index tells.
+    fn next_by<F: Flash, L: Ledger>(
+        &self,
+        flash: &F,
+        index: &Self::Index,
+        after: Option<u32>,
+        steps: &mut Steps<L>,
+    ) -> Option<u32>
+        requires lawful { IsLawfulFor (F.device flash.now).banks (mounted_on self.now) }
+        requires stands { StandsOn mounted_on stands (F.device flash.now) self.now }
+        requires tells { HoldsOn (tells index.now) (F.device flash.now) (mounted_on self.now) }
         ensures next { IsNextId (on contents (F.device flash.now) (mounted_on self.now)) after result }
         ensures known { IfSome result is_id };
 
@@ -184,6 +229,10 @@ pub trait ItemStore: Drop {
     // What a value as long as the area allows costs fits a sector.
     ghost fits: { (d : Device) (area : area_type) (length : ℕ) → IsLawfulFor d.banks area → serves area (geometry_of d area) → length ≤ value_limit area
         → price (geometry_of d area) length ≤ cap (geometry_of d area) };
+
+    // An area holds no more items than it has room for entries.
+    ghost few: { (d : Device) (area : area_type) → IsLawful d.banks d.bytes → IsLawfulFor d.banks area → serves area (geometry_of d area)
+        → finite.len (on contents d area) ≤ most_items (geometry_of d area) };
 
     // Sectors all of whose bytes are FF show no damage, and hold no items.
     ghost blank_reads: { (area : area_type) (geometry : Geometry) (sectors size : ℕ) → 2 ≤ sectors → 16 ≤ size → damage area geometry (replicate sectors (replicate size 0xFF)) ≡ None };

@@ -3,7 +3,8 @@ ghost use Rattle.std.specs.Prelude.{◌≡◌, ◌<◌};
 ghost use Rattle.flash_sim.specs.declared.flash.Kind.TheVariants.{Rewritable};
 ghost use Rattle.flash_map.specs.declared.area.Role.TheVariants.{Zms as ZmsRole};
 ghost use Rattle.item_store.specs.Blank.{zms-undamaged, zms-empty};
-ghost use Rattle.item_store.specs.ZmsStore.{zms_damage, zms_items, zms_rests, zms_price, zms_cap, ZmsStands, zms-rested, zms-fits};
+ghost use Rattle.item_store.specs.Few.{zms-few};
+ghost use Rattle.item_store.specs.ZmsStore.{zms_damage, zms_items, zms_rests, zms_price, zms_cap, zms_tells, ZmsStands, zms-rested, zms-fits};
 
 use crate::store::ItemStore;
 use flash_map::{Area, MountFault, WriteFault};
@@ -11,9 +12,11 @@ use flash_sim::{Flash, PowerLost, Steps};
 use std::alloc::Global;
 use std::sync::ledger::Ledger;
 use zms_cycle::cost;
-use zms_store::Zms;
+use zms_store::{LastSlots, Zms};
 
 impl ItemStore for Zms {
+    type Index = LastSlots;
+
     ghost serves = { λ area geometry. (area.role ≡ ZmsRole) × (geometry.kind ≡ Rewritable) };
 
     ghost damage = { λ area geometry sectors. zms_damage area geometry sectors };
@@ -34,6 +37,8 @@ impl ItemStore for Zms {
 
     ghost runs = { λ store. store.up };
 
+    ghost tells = { λ last area geometry sectors. zms_tells last sectors };
+
     ghost stands_up = { λ store geometry sectors stands. stands.up };
 
     ghost stands_serves = { λ store geometry sectors stands. (stands.role, stands.rewritable) };
@@ -43,6 +48,8 @@ impl ItemStore for Zms {
     ghost stands_rests = { λ store geometry sectors stands. zms-rested store geometry sectors stands };
 
     ghost fits = { λ d area length lawful serves short. zms-fits d area length lawful serves short };
+
+    ghost few = { λ d area bank lawful serves. zms-few d area bank lawful };
 
     ghost blank_reads = { λ area geometry sectors size several long. zms-undamaged sectors size several long };
 
@@ -64,6 +71,20 @@ impl ItemStore for Zms {
         steps: &mut Steps<L>,
     ) -> Option<&'a [u8]> {
         Zms::get(self, flash, id, steps)
+    }
+
+    fn index<F: Flash, L: Ledger>(&self, flash: &F, steps: &mut Steps<L>) -> LastSlots {
+        Zms::last_slots(self, flash, steps)
+    }
+
+    fn get_by<'a, F: Flash, L: Ledger>(
+        &self,
+        flash: &'a F,
+        index: &LastSlots,
+        id: u32,
+        steps: &mut Steps<L>,
+    ) -> Option<&'a [u8]> {
+        Zms::get_by(self, flash, index, id, steps)
     }
 
     fn write<F: Flash, L: Ledger>(
@@ -92,6 +113,19 @@ impl ItemStore for Zms {
         steps: &mut Steps<L>,
     ) -> Option<u32> {
         match Zms::next_id(self, flash, after, steps) {
+            Some(next) => Some(next),
+            None => None,
+        }
+    }
+
+    fn next_by<F: Flash, L: Ledger>(
+        &self,
+        flash: &F,
+        index: &LastSlots,
+        after: Option<u32>,
+        steps: &mut Steps<L>,
+    ) -> Option<u32> {
+        match Zms::next_by(self, flash, index, after, steps) {
             Some(next) => Some(next),
             None => None,
         }

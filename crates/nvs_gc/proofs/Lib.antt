@@ -3,10 +3,13 @@ pub mod CollectSteps
 pub mod CopyLemmas
 pub mod CopyLoop
 pub mod EndLemmas
-pub mod LastSlots
+pub mod LastPlaces
+pub mod LastTables
 pub mod LiveSum
+pub mod MountUnits
 pub mod Mounting
 pub mod NextIds
+pub mod NextListed
 pub mod RoundSteps
 pub mod Standings
 pub mod WriteSteps

@@ -7,7 +7,7 @@ ghost use Rattle.nvs_store.specs.declared.scan.Found.{Found as FoundEntry};
 ghost use Rattle.nvs_store.specs.Geometry.{slot_size};
 ghost use Rattle.nvs_store.specs.Sector.{slot_at, counting_entry, entries};
 ghost use Rattle.nvs_store.specs.Scans.{found_at};
-ghost use Rattle.nvs_gc.specs.Latest.{Tells};
+ghost use Rattle.nvs_gc.specs.Latest.{IsPlaceIn, Tells};
 ghost use Rattle.nvs_gc.specs.Standing.{IsNvsArea};
 ghost use Rattle.nvs_store.specs.On.{counted_on, found_on, scan_on};
 
@@ -19,9 +19,13 @@ use std::sync::ledger::Ledger;
 // There are so many ids of 16 bits.
 const IDS: usize = 0x1_0000;
 
-// For each id the sector and the slot of its last entry among some entries; slot 0 where it has none.
+// More than each id.
+pub const ID_END: u32 = 0x1_0000;
+
+/// For each id the sector and the slot of its last entry among some entries.
 #[derive(Drop)]
 pub struct LastSlots {
+    // slot 0 where an id has none
     sectors: [u8; IDS],
     slots: [u16; IDS],
 }
@@ -47,6 +51,33 @@ impl LastSlots {
         let id = usize::from(found.entry.id);
         self.sectors[id] = found.sector as u8;
         self.slots[id] = found.slot as u16;
+    }
+
+    // The sector and the slot of the last entry of an id, if it has one.
+    pub fn place(&self, id: u16) -> Option<(u32, u32)>
+        ensures { IsPlaceIn (slice_index self.now.sectors id) (slice_index self.now.slots id) result }
+    {
+        let slot = u32::from(self.slots[usize::from(id)]);
+        if slot == 0 {
+            return None;
+        }
+        Some((u32::from(self.sectors[usize::from(id)]), slot))
+    }
+
+    // The first id from this one on that has an entry; `ID_END` where none has.
+    pub(crate) fn next_listed(&self, first: u32) -> u32
+        requires { first ≤ 2 ^ 16 }
+        ensures from { first ≤ result }
+        ensures within { result ≤ 2 ^ 16 }
+        ensures none_before { (id : ℕ) → first ≤ id → id < result → slice_index self.now.slots id ≡ 0 }
+        ensures some { result < 2 ^ 16 → ¬ (slice_index self.now.slots result ≡ 0) }
+    {
+        for id in first..ID_END {
+            if self.slots[id as usize] != 0 {
+                return id;
+            }
+        }
+        ID_END
     }
 
     // Whether an entry is the last one of its id, and has data.

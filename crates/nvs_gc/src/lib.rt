@@ -8,4 +8,5 @@ mod nvs;
 mod reading;
 mod writing;
 
+pub use latest::LastSlots;
 pub use nvs::Nvs;

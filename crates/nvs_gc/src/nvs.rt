@@ -5,7 +5,7 @@ ghost use Rattle.flash_map.specs.Spending.{Spends, SpendsAtMost};
 ghost use Rattle.flash_map.specs.Touches.{Touches};
 ghost use Rattle.flash_map.specs.Faults.{mount_lost};
 ghost use Rattle.nvs_gc.specs.Ends.{HasNothingToDo, MountEnds};
-ghost use Rattle.nvs_gc.specs.Spending.{round_units_on};
+ghost use Rattle.nvs_gc.specs.Spending.{round_units_on, sector_units};
 ghost use Rattle.nvs_gc.specs.Standing.{IsNvsArea, StandsOn, KeepsItems};
 ghost use Rattle.nvs_store.specs.On.{is_blank_on};
 
@@ -27,7 +27,8 @@ pub struct Nvs {
 
 impl Nvs {
     /// Reads the area and carries out what a loss of power left undone: the erase of a collected sector, or a whole
-    /// collection. The items stay, also where power is lost. It takes no memory yet.
+    /// collection. The items stay, also where power is lost. Whatever the result, it spends no more units and erases than
+    /// a sector has units. It takes no memory yet.
     ///
     /// # Errors
     /// `Damaged`, and then nothing was programmed; `PowerLost`. Never `NoMemory`.
@@ -41,6 +42,7 @@ impl Nvs {
         ensures touches { Touches (area ∷ []) (F.device flash.old) (F.device flash.new) (mount_lost result) }
         ensures ends { MountEnds (F.device flash.old) (F.device flash.new) area result }
         ensures idle { HasNothingToDo (F.device flash.old) area → F.device flash.new ≡ F.device flash.old }
+        ensures at_most { let d = F.device flash.old in SpendsAtMost d (F.device flash.new) (sector_units d area) }
     {
         match mount_scan(flash, &area, steps) {
             Err(damaged) => Err(MountFault::Damaged(damaged)),

@@ -1,27 +1,38 @@
 // Reading items.
 ghost use Rattle.std.specs.Prelude.{◌≡◌, ◌+◌, ◌*◌, ◌^◌, ◌<◌, ◌≤◌, List, length, All, None, IfSome, option_map, ℕ};
 ghost use Rattle.std.specs.FinMap as map;
-ghost use Rattle.flash_map.specs.Area.{unit_of, sector_at, sectors_of, sector_bytes};
+ghost use Rattle.flash_map.specs.Area.{unit_of, sector_at, sector_size, sectors_of, sector_bytes};
 ghost use Rattle.flash_map.specs.Units.{IsUnit};
+ghost use Rattle.pair_laws.specs.Items.{value_of};
 ghost use Rattle.pair_laws.specs.Rounds.{copies_cost};
+ghost use Rattle.ring_laws.specs.NextIds.{IsBehind};
 ghost use Rattle.nvs_store.specs.Sector.{slot_at, used_slots, counting_entry, entries};
-ghost use Rattle.nvs_store.specs.Scans.{all_found};
+ghost use Rattle.nvs_store.specs.Scans.{all_found, found_at, IsInArea};
 ghost use Rattle.nvs_gc.specs.Collecting.{live_in, live_to, cost_of, used_on};
 ghost use Rattle.nvs_store.specs.Geometry.{cost, slot_size};
 ghost use Rattle.nvs_gc.specs.Ends.{IsNextId, IsNarrow, IsNotBetween, HasNoneBetween};
 ghost use Rattle.nvs_gc.specs.Latest.{Tells};
 ghost use Rattle.nvs_gc.specs.Standing.{IsNvsArea, StandsOn, items_on, live_cost_on};
-ghost use Rattle.nvs_store.specs.On.{found_on};
+ghost use Rattle.nvs_store.specs.On.{bytes_on, found_on, last_found_on};
 
-use crate::latest::{LastSlots, last_slots};
+use crate::latest::{ID_END, LastSlots, last_slots};
 use crate::nvs::Nvs;
 use flash_map::{Area, area_view, geometry, sector_view};
 use flash_sim::{Flash, Steps};
 use nvs_store::{Found, cost, counting_entry, find, used_count};
 use std::sync::ledger::Ledger;
 
-// More than each id.
-const ID_END: u32 = 0x1_0000;
+// The first id behind `after`.
+fn first_behind(after: Option<u16>) -> u32
+    ensures within { result ≤ 2 ^ 16 }
+    ensures behind { (id : ℕ) → IsBehind after id → result ≤ id }
+    ensures from { (id : ℕ) → result ≤ id → IsBehind after id }
+{
+    match after {
+        Some(id) => u32::from(id) + 1,
+        None => 0,
+    }
+}
 
 // The id, where it is from `first` on and before `end`; else `end`.
 fn lesser(id: u32, first: u32, end: u32) -> u32
@@ -104,6 +115,55 @@ pub fn live_at(bytes: &[u8], unit: u32, last: &LastSlots, place: u32, slot: u32)
     }
 }
 
+// The entry in a slot of a sector with these bytes.
+fn entry_at(bytes: &[u8], unit: u32, place: u32, slot: u32) -> Option<Found>
+    requires unit { IsUnit unit }
+    requires short { length bytes.now ≤ 2 ^ 15 }
+    requires inside { (slot + 1) * slot_size unit ≤ length bytes.now }
+    ensures { result ≡ option_map (found_at place) (counting_entry unit (slot_at unit bytes.now slot)) }
+{
+    match counting_entry(bytes, unit, slot) {
+        Some(placed) => Some(placed.at(place)),
+        None => None,
+    }
+}
+
+// The last entry of an id, a delete too, by what is known of each id's last entry.
+fn last_by<F: Flash, L: Ledger>(
+    flash: &F,
+    area: &Area,
+    last: &LastSlots,
+    id: u16,
+    steps: &mut Steps<L>,
+) -> Option<Found>
+    requires area { IsNvsArea (F.device flash.now).banks area.now }
+    requires last { Tells last.now.sectors last.now.slots (found_on (F.device flash.now) area.now) }
+    ensures { result ≡ last_found_on (F.device flash.now) area.now id }
+{
+    let (sector, slot) = last.place(id)?;
+    let unit = geometry(flash, area).unit;
+    entry_at(sector_view(flash, area, sector, steps), unit, sector, slot)
+}
+
+// The bytes that an entry gives its id; none where it is a delete.
+fn bytes_of<'a, F: Flash, L: Ledger>(
+    flash: &'a F,
+    area: &Area,
+    found: &Found,
+    steps: &mut Steps<L>,
+) -> Option<&'a [u8]>
+    requires area { IsNvsArea (F.device flash.now).banks area.now }
+    requires in_area { IsInArea area.now.sectors (sector_size (F.device flash.now) area.now) found.now }
+    ensures { option_map (λ bytes. bytes.now) result ≡ value_of (bytes_on (F.device flash.now) area.now found.now) }
+{
+    if found.entry.len == 0 {
+        return None;
+    }
+    let offset = u32::from(found.entry.offset);
+    let len = u32::from(found.entry.len);
+    Some(area_view(flash, area, found.sector, offset, len, steps))
+}
+
 // What it costs, if there is one.
 fn slot_live_cost(bytes: &[u8], unit: u32, last: &LastSlots, place: u32, slot: u32) -> u64
     requires unit { IsUnit unit }
@@ -168,12 +228,31 @@ impl Nvs {
         ensures { option_map (λ bytes. bytes.now) result ≡ map.get (items_on (F.device flash.now) self.now.area) id }
     {
         let found = find(flash, &self.area, &self.scan, id, steps)?;
-        if found.entry.len == 0 {
-            return None;
-        }
-        let offset = u32::from(found.entry.offset);
-        let len = u32::from(found.entry.len);
-        Some(area_view(flash, &self.area, found.sector, offset, len, steps))
+        bytes_of(flash, &self.area, &found, steps)
+    }
+
+    /// Where the last entry of each id stands, by one walk over the list. It tells so as long as the area stays as it is.
+    pub fn last_slots<F: Flash, L: Ledger>(&self, flash: &F, steps: &mut Steps<L>) -> LastSlots
+        requires { StandsOn (F.device flash.now) self.now }
+        ensures { Tells result.sectors result.slots (found_on (F.device flash.now) self.now.area) }
+    {
+        last_slots(flash, &self.area, &self.scan, steps)
+    }
+
+    /// The bytes of an item, as `get` gives them, from where the last entry of each id stands: no other entry is looked at.
+    pub fn get_by<'a, F: Flash, L: Ledger>(
+        &self,
+        flash: &'a F,
+        last: &LastSlots,
+        id: u16,
+        steps: &mut Steps<L>,
+    ) -> Option<&'a [u8]>
+        requires stands { StandsOn (F.device flash.now) self.now }
+        requires last { Tells last.now.sectors last.now.slots (found_on (F.device flash.now) self.now.area) }
+        ensures { option_map (λ bytes. bytes.now) result ≡ map.get (items_on (F.device flash.now) self.now.area) id }
+    {
+        let found = last_by(flash, &self.area, last, id, steps)?;
+        bytes_of(flash, &self.area, &found, steps)
     }
 
     // The least id from `first` on that an entry of the area has, a delete too; `ID_END` where none has.
@@ -201,16 +280,37 @@ impl Nvs {
         requires { StandsOn (F.device flash.now) self.now }
         ensures { IsNextId (items_on (F.device flash.now) self.now.area) after result }
     {
-        let first = match after {
-            Some(id) => u32::from(id) + 1,
-            None => 0,
-        };
+        let first = first_behind(after);
         let mut next = self.next_entry_id(flash, first, steps);
         while next < ID_END {
             if self.get(flash, next as u16, steps).is_some() {
                 return Some(next as u16);
             }
             next = self.next_entry_id(flash, next + 1, steps);
+        }
+        None
+    }
+
+    /// The least id behind this one that has a value, or the least of all, as `next_id` gives it, from where the last entry of
+    /// each id stands: last entries alone are looked at.
+    pub fn next_by<F: Flash, L: Ledger>(
+        &self,
+        flash: &F,
+        last: &LastSlots,
+        after: Option<u16>,
+        steps: &mut Steps<L>,
+    ) -> Option<u16>
+        requires stands { StandsOn (F.device flash.now) self.now }
+        requires last { Tells last.now.sectors last.now.slots (found_on (F.device flash.now) self.now.area) }
+        ensures { IsNextId (items_on (F.device flash.now) self.now.area) after result }
+    {
+        let first = first_behind(after);
+        let mut next = last.next_listed(first);
+        while next < ID_END {
+            if self.get_by(flash, last, next as u16, steps).is_some() {
+                return Some(next as u16);
+            }
+            next = last.next_listed(next + 1);
         }
         None
     }

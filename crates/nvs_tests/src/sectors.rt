@@ -1,9 +1,9 @@
-ghost use Rattle.std.specs.Prelude.{◌≡◌, ◌<◌, ◌≤◌, ◌∷◌, [], length, OnOk};
+ghost use Rattle.std.specs.Prelude.{◌≡◌, ◌<◌, ◌≤◌, ◌∷◌, [], length, IfOk, OnOk};
 ghost use Rattle.flash_map.specs.declared.area.Role.TheVariants.{Nvs};
 ghost use Rattle.flash_map.specs.Lawful.{IsLawfulFor};
 
 use arrayvec::ArrayString;
-use flash_map::{Area, Geometry, Role, geometry, sector_view};
+use flash_map::{Area, Damaged, Geometry, Role, Why, geometry, sector_view};
 use flash_sim::{Bank, Bench, FlatSim, Kind, PowerLost, Steps};
 use nvs_store::*;
 use std::alloc::Global;
@@ -77,14 +77,29 @@ fn used_slots(rt: HostRuntime) {
 
 // ---- a bank of two sectors, blank at first
 
-fn load_blank<B: Bench>(alloc: Global, bench: &mut B, size: usize) -> Result<(), Fail>
-    requires { size ≡ 1024 }
+// Two erased sectors.
+fn erased(alloc: Global) -> Result<Vec<u8>, Fail>
+    ensures { IfOk result (λ image. length image.items ≡ 1024) }
+{
+    let image = vec![in alloc; 255u8; 1024]?;
+    Ok(image)
+}
+
+fn load<B: Bench>(alloc: Global, bench: &mut B, image: Vec<u8>) -> Result<(), Fail>
+    requires { length image.items ≡ 1024 }
     ensures { OnOk result ((B.device bench.new).banks ≡ SMALL ∷ []) }
 {
     let banks = vec![in alloc; SMALL]?;
-    let bytes = vec![in alloc; vec![in alloc; 255u8; size]?]?;
+    let bytes = vec![in alloc; image]?;
     bench.load(alloc, banks, bytes)?;
     Ok(())
+}
+
+fn load_blank<B: Bench>(alloc: Global, bench: &mut B) -> Result<(), Fail>
+    ensures { OnOk result ((B.device bench.new).banks ≡ SMALL ∷ []) }
+{
+    let image = erased(alloc)?;
+    load(alloc, bench, image)
 }
 
 // The area of both sectors.
@@ -274,7 +289,7 @@ fn after_a_loss<B: Bench, L: Ledger, R: Abort>(
     bench: &mut B,
     steps: &mut Steps<L>,
 ) -> Result<(), Fail> {
-    load_blank(alloc, bench, 1024)?;
+    load_blank(alloc, bench)?;
     put_cut(rt, bench, steps)?;
     put(rt, bench, 2, &[2], steps)?;
     shows(rt, bench, SECOND, None, steps)?;
@@ -289,7 +304,7 @@ fn a_collection<B: Bench, L: Ledger, R: Abort>(
     bench: &mut B,
     steps: &mut Steps<L>,
 ) -> Result<(), Fail> {
-    load_blank(alloc, bench, 1024)?;
+    load_blank(alloc, bench)?;
     put(rt, bench, 1, &[0x11, 0x22, 0x33], steps)?;
     put(rt, bench, 2, &[0x44], steps)?;
     close(rt, bench, steps)?;
@@ -309,6 +324,25 @@ fn a_collection<B: Bench, L: Ledger, R: Abort>(
     victim_is_hidden(rt, bench, steps)
 }
 
+// A sector with an entry of more bytes than there is room for.
+fn overfull<B: Bench, L: Ledger, R: Abort>(
+    rt: &R,
+    alloc: Global,
+    bench: &mut B,
+    steps: &mut Steps<L>,
+) -> Result<(), Fail> {
+    let mut image = erased(alloc)?;
+    image[496..504].copy_from_slice(&[1, 0, 0, 0, 0xEC, 1, 0xFF, 0x49]);
+    load(alloc, bench, image)?;
+    let area = both(bench);
+    let damaged = Damaged {
+        sector: 0,
+        why: Why::Overfull,
+    };
+    assert_eq!(rt; mount_scan(bench, &area, steps), Err(damaged));
+    Ok(())
+}
+
 fn exercise<B: Bench, L: Ledger, R: Abort>(
     rt: &R,
     alloc: Global,
@@ -321,7 +355,8 @@ fn exercise<B: Bench, L: Ledger, R: Abort>(
 {
     let mut steps = Steps::<L>::new(blank);
     after_a_loss(rt, alloc, bench, &mut steps)?;
-    a_collection(rt, alloc, bench, &mut steps)
+    a_collection(rt, alloc, bench, &mut steps)?;
+    overfull(rt, alloc, bench, &mut steps)
 }
 
 #[test]

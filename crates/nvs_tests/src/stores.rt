@@ -185,6 +185,8 @@ fn next_is_behind_a_delete<B: Bench, L: Ledger, R: Abort>(
     assert_eq!(rt; nvs.next_id(bench, None, steps), Some(2));
     assert_eq!(rt; nvs.next_id(bench, Some(1), steps), Some(2));
     assert_eq!(rt; nvs.next_id(bench, Some(2), steps), None);
+    let last = nvs.last_slots(bench, steps);
+    assert_eq!(rt; nvs.next_by(bench, &last, Some(1), steps), Some(2));
 }
 
 fn full<B: Bench, L: Ledger, R: Abort>(

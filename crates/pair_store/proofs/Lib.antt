@@ -7,6 +7,8 @@ pub mod NewSteps
 pub mod NextSteps
 pub mod OtherSteps
 pub mod PutSteps
+pub mod RemovalUnits
+pub mod RemovedSteps
 pub mod SetSteps
 pub mod SoFar
 pub mod SpendSteps

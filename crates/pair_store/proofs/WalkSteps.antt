@@ -1,18 +1,18 @@
 -- The names of settings, one id after the other.
-use Rattle.std.proofs.Common.{◌≡◌, ◌⊎◌, ℕ, ◌+◌, ◌<◌, Bool, true, false, ◌&&◌, List, Option, Some, None, is_some, Ordering, is_lt, nat_cmp, refl, sym, ap, subst, ◌∙◌, inl, inr, arith}
+use Rattle.std.proofs.Common.{◌≡◌, ◌⊎◌, ℕ, ◌<◌, Bool, true, false, ◌&&◌, List, Option, Some, None, is_some, Ordering, is_lt, nat_cmp, refl, sym, ap, subst, ◌∙◌, inl, inr, arith}
 use Rattle.std.specs.Option.{option_or, MatchOption}
 use Rattle.std.specs.FinMap as maps
 use Rattle.std.specs.FinMap.{get}
 use Rattle.std.specs.Cmp.Lexicographic.{slice_cmp}
-use Rattle.std.proofs.lemmas.Bool.{cases_eq, cases_lt, cases_Bool, and_from, false≢true}
+use Rattle.std.proofs.lemmas.Bool.{cases_eq, cases_lt, false≢true}
 use Rattle.std.proofs.lemmas.Cmp.{nat_list_cmp_total, tied_itself}
 use Rattle.pair_laws.specs.Items.{Items}
-use Rattle.backend_api.specs.Least.{is_before, IsLeast}
-use Rattle.backend_api.specs.Map.{Map, is_behind, next_name}
+use Rattle.backend_api.specs.Least.{IsLeast}
+use Rattle.backend_api.specs.Map.{is_behind, next_name}
 use Rattle.backend_api.proofs.LeastLemmas.{next-least, not_below}
 use Rattle.item_store.specs.Ends.{IsNextId}
 use Rattle.item_pairs.specs.Numbering.{Numbering, IsNumbering}
-use Rattle.item_pairs.specs.Pairs.{count_in, pair_at, settings_in, HasName, IsInside, IsAt, IsPlaceOf, HasNoStrays}
+use Rattle.item_pairs.specs.Pairs.{count_in, pair_at, settings_in, IsAt, HasNoStrays}
 use Rattle.item_pairs.proofs.NameLemmas.{get-at, at-value, get-nowhere}
 use Rattle.item_pairs.proofs.StrayLemmas.{kept-place, seek}
 use Rattle.pair_store.specs.Walking.{IsBetweenAt, IsNameIn}

@@ -1,5 +1,5 @@
 -- Names of settings in order, one id after the other.
-use Rattle.std.specs.Prelude.{◌≡◌, ℕ, Bool, true, false, ◌&&◌, List, Option, Some, None}
+use Rattle.std.specs.Prelude.{◌≡◌, ℕ, true, false, ◌&&◌, List, Option, Some, None}
 use Rattle.setting_name.specs.Name.{IsName}
 use Rattle.pair_laws.specs.Items.{Items}
 use Rattle.backend_api.specs.Least.{is_before}

@@ -5,7 +5,7 @@ ghost use Rattle.std.specs.FinMap as finite;
 ghost use Rattle.setting_name.specs.Name.{IsName};
 ghost use Rattle.flash_map.specs.Area.{value_limit};
 ghost use Rattle.flash_map.specs.Lawful.{IsLawfulFor};
-ghost use Rattle.flash_map.specs.On.{on, StandsOn};
+ghost use Rattle.flash_map.specs.On.{on, HoldsOn, StandsOn};
 ghost use Rattle.item_pairs.specs.Pairs.{settings_in};
 ghost use Rattle.pair_store.specs.Ends.{IsFree};
 ghost use Rattle.pair_store.specs.Looking.{is_value, HasIds, StandsHere};
@@ -43,6 +43,7 @@ pub fn is_value(found: Option<&[u8]>, longest: u32) -> bool
 pub fn is_at<S: ItemStore, F: Flash, L: Ledger>(
     store: &S,
     flash: &F,
+    index: &S::Index,
     name: &Name,
     first: u32,
     second: u32,
@@ -50,6 +51,7 @@ pub fn is_at<S: ItemStore, F: Flash, L: Ledger>(
 ) -> bool
     requires lawful { IsLawfulFor (F.device flash.now).banks (S.mounted_on store.now) }
     requires stands { StandsOn S.mounted_on S.stands (F.device flash.now) store.now }
+    requires tells { HoldsOn (S.tells index.now) (F.device flash.now) (S.mounted_on store.now) }
     requires first { S.is_id first }
     requires second { S.is_id second }
     ensures yes_it { let area = S.mounted_on store.now in result ≡ true → StandsHere (value_limit area) (on S.contents (F.device flash.now) area) first second name.now }
@@ -57,30 +59,32 @@ pub fn is_at<S: ItemStore, F: Flash, L: Ledger>(
     ensures name { IsName name.now }
 {
     let longest = store.area().value_limit();
-    if !is_named(store.get(flash, first, steps), name) {
+    if !is_named(store.get_by(flash, index, first, steps), name) {
         return false;
     }
-    is_value(store.get(flash, second, steps), longest)
+    is_value(store.get_by(flash, index, second, steps), longest)
 }
 
 /// Whether neither of two items is there.
 pub fn is_free<S: ItemStore, F: Flash, L: Ledger>(
     store: &S,
     flash: &F,
+    index: &S::Index,
     first: u32,
     second: u32,
     steps: &mut Steps<L>,
 ) -> bool
     requires lawful { IsLawfulFor (F.device flash.now).banks (S.mounted_on store.now) }
     requires stands { StandsOn S.mounted_on S.stands (F.device flash.now) store.now }
+    requires tells { HoldsOn (S.tells index.now) (F.device flash.now) (S.mounted_on store.now) }
     requires first { S.is_id first }
     requires second { S.is_id second }
     ensures { let items = on S.contents (F.device flash.now) (S.mounted_on store.now) in MatchBool result (IsFree items first second) (¬ IsFree items first second) }
 {
-    if store.get(flash, first, steps).is_some() {
+    if store.get_by(flash, index, first, steps).is_some() {
         return false;
     }
-    store.get(flash, second, steps).is_none()
+    store.get_by(flash, index, second, steps).is_none()
 }
 
 /// The value of a name; none where it has no value.
@@ -95,6 +99,7 @@ pub fn value_of<'a, N: Numbers, S: ItemStore, F: Flash, L: Ledger>(
     requires stands { StandsOn S.mounted_on S.stands (F.device flash.now) store.now }
     ensures { let area = S.mounted_on store.now in option_map (λ bytes. bytes.now) result ≡ finite.get (settings_in (N.numbers area) (on S.contents (F.device flash.now) area)) name.now }
 {
-    let place = N::place_of(store, flash, name, steps)?;
-    store.get(flash, place + N::step(), steps)
+    let index = store.index(flash, steps);
+    let place = N::place_of(store, flash, &index, name, steps)?;
+    store.get_by(flash, &index, place + N::step(), steps)
 }

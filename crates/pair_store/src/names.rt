@@ -2,7 +2,7 @@
 ghost use Rattle.std.specs.Prelude.{◌≡◌, ◌&&◌, option_map};
 ghost use Rattle.flash_map.specs.Area.{value_limit};
 ghost use Rattle.flash_map.specs.Lawful.{IsLawfulFor};
-ghost use Rattle.flash_map.specs.On.{on, StandsOn};
+ghost use Rattle.flash_map.specs.On.{on, HoldsOn, StandsOn};
 ghost use Rattle.backend_api.specs.Least.{is_before};
 ghost use Rattle.backend_api.specs.Map.{is_behind};
 ghost use Rattle.pair_store.specs.Least.{IsNameAt};
@@ -35,25 +35,27 @@ pub fn is_between(name: &[u8], after: Option<&Name>, before: Option<&Name>) -> b
 pub fn name_at<S: ItemStore, F: Flash, L: Ledger>(
     store: &S,
     flash: &F,
+    index: &S::Index,
     first: u32,
     second: u32,
     steps: &mut Steps<L>,
 ) -> Option<Name>
     requires lawful { IsLawfulFor (F.device flash.now).banks (S.mounted_on store.now) }
     requires stands { StandsOn S.mounted_on S.stands (F.device flash.now) store.now }
+    requires tells { HoldsOn (S.tells index.now) (F.device flash.now) (S.mounted_on store.now) }
     requires first { S.is_id first }
     requires second { S.is_id second }
     ensures { let area = S.mounted_on store.now in IsNameAt (value_limit area) (on S.contents (F.device flash.now) area) first second result }
 {
     let longest = store.area().value_limit();
-    let name = match store.get(flash, first, steps) {
+    let name = match store.get_by(flash, index, first, steps) {
         Some(bytes) => match Name::read(bytes) {
             Ok(name) => name,
             Err(_) => return None,
         },
         None => return None,
     };
-    if is_value(store.get(flash, second, steps), longest) {
+    if is_value(store.get_by(flash, index, second, steps), longest) {
         Some(name)
     } else {
         None

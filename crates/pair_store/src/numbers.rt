@@ -4,7 +4,7 @@ ghost use Rattle.std.specs.FinMap as finite;
 ghost use Rattle.flash_map.specs.declared.area.Area.{Area as area_type};
 ghost use Rattle.flash_map.specs.Area.{geometry_of, value_limit};
 ghost use Rattle.flash_map.specs.Lawful.{IsLawfulFor};
-ghost use Rattle.flash_map.specs.On.{on, StandsOn};
+ghost use Rattle.flash_map.specs.On.{on, HoldsOn, StandsOn};
 ghost use Rattle.backend_api.specs.Map.{Map};
 ghost use Rattle.item_pairs.specs.Numbering.{Numbering, IsNumbering};
 ghost use Rattle.item_pairs.specs.PairRoom.{IsCountCost};
@@ -39,24 +39,28 @@ pub trait Numbers {
     fn place_of<S: ItemStore, F: Flash, L: Ledger>(
         store: &S,
         flash: &F,
+        index: &S::Index,
         name: &Name,
         steps: &mut Steps<L>,
     ) -> Option<u32>
         requires ids { HasIds top S.is_id }
         requires lawful { IsLawfulFor (F.device flash.now).banks (S.mounted_on store.now) }
         requires stands { StandsOn S.mounted_on S.stands (F.device flash.now) store.now }
+        requires tells { HoldsOn (S.tells index.now) (F.device flash.now) (S.mounted_on store.now) }
         ensures { let area = S.mounted_on store.now in IsPlaceOf (numbers area) (on S.contents (F.device flash.now) area) name.now result };
 
     /// Whether an item is a count, or a part of a setting that counts.
     fn is_kept<S: ItemStore, F: Flash, L: Ledger>(
         store: &S,
         flash: &F,
+        index: &S::Index,
         id: u32,
         steps: &mut Steps<L>,
     ) -> bool
         requires ids { HasIds top S.is_id }
         requires lawful { IsLawfulFor (F.device flash.now).banks (S.mounted_on store.now) }
         requires stands { StandsOn S.mounted_on S.stands (F.device flash.now) store.now }
+        requires tells { HoldsOn (S.tells index.now) (F.device flash.now) (S.mounted_on store.now) }
         requires known { id < top }
         ensures yes_it { let area = S.mounted_on store.now in result ≡ true → IsKept (numbers area) (on S.contents (F.device flash.now) area) id }
         ensures not_it { let area = S.mounted_on store.now in result ≡ false → IsKept (numbers area) (on S.contents (F.device flash.now) area) id → ⊥ };

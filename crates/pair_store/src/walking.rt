@@ -2,7 +2,7 @@
 ghost use Rattle.std.specs.Prelude.{◌≡◌, ◌&&◌, ◌<◌, ℕ, List, true, false, option_map, MatchOption};
 ghost use Rattle.std.specs.FinMap as finite;
 ghost use Rattle.flash_map.specs.Lawful.{IsLawfulFor};
-ghost use Rattle.flash_map.specs.On.{on, StandsOn};
+ghost use Rattle.flash_map.specs.On.{on, HoldsOn, StandsOn};
 ghost use Rattle.backend_api.specs.Least.{is_before};
 ghost use Rattle.backend_api.specs.Map.{is_behind, next_name as next_name_of};
 ghost use Rattle.item_pairs.specs.Pairs.{settings_in, IsAt, HasNoStrays};
@@ -20,15 +20,17 @@ use std::sync::ledger::Ledger;
 pub fn name_in<S: ItemStore, F: Flash, L: Ledger>(
     store: &S,
     flash: &F,
+    index: &S::Index,
     id: u32,
     steps: &mut Steps<L>,
 ) -> Option<Name>
     requires lawful { IsLawfulFor (F.device flash.now).banks (S.mounted_on store.now) }
     requires stands { StandsOn S.mounted_on S.stands (F.device flash.now) store.now }
+    requires tells { HoldsOn (S.tells index.now) (F.device flash.now) (S.mounted_on store.now) }
     requires known { S.is_id id }
     ensures { let items = on S.contents (F.device flash.now) (S.mounted_on store.now) in IsNameIn (finite.get items id) result }
 {
-    match store.get(flash, id, steps) {
+    match store.get_by(flash, index, id, steps) {
         Some(bytes) => match Name::read(bytes) {
             Ok(name) => Some(name),
             Err(_) => None,
@@ -41,18 +43,20 @@ pub fn name_in<S: ItemStore, F: Flash, L: Ledger>(
 pub fn standing_name<N: Numbers, S: ItemStore, F: Flash, L: Ledger>(
     store: &S,
     flash: &F,
+    index: &S::Index,
     id: u32,
     steps: &mut Steps<L>,
 ) -> Option<Name>
     requires ids { HasIds N.top S.is_id }
     requires lawful { IsLawfulFor (F.device flash.now).banks (S.mounted_on store.now) }
     requires stands { StandsOn S.mounted_on S.stands (F.device flash.now) store.now }
+    requires tells { HoldsOn (S.tells index.now) (F.device flash.now) (S.mounted_on store.now) }
     requires known { id < N.top }
     ensures { let area = S.mounted_on store.now in let items = on S.contents (F.device flash.now) area in
         MatchOption result ((name : List ℕ) → ¬ IsAt (N.numbers area) items name id) (λ name. IsAt (N.numbers area) items name id) }
 {
-    let name = name_in(store, flash, id, steps)?;
-    match N::place_of(store, flash, &name, steps) {
+    let name = name_in(store, flash, index, id, steps)?;
+    match N::place_of(store, flash, index, &name, steps) {
         Some(found) if found == id => Some(name),
         Some(_) => None,
         None => None,
@@ -63,6 +67,7 @@ pub fn standing_name<N: Numbers, S: ItemStore, F: Flash, L: Ledger>(
 fn name_between<N: Numbers, S: ItemStore, F: Flash, L: Ledger>(
     store: &S,
     flash: &F,
+    index: &S::Index,
     id: u32,
     after: Option<&Name>,
     before: Option<&Name>,
@@ -71,11 +76,12 @@ fn name_between<N: Numbers, S: ItemStore, F: Flash, L: Ledger>(
     requires ids { HasIds N.top S.is_id }
     requires lawful { IsLawfulFor (F.device flash.now).banks (S.mounted_on store.now) }
     requires stands { StandsOn S.mounted_on S.stands (F.device flash.now) store.now }
+    requires tells { HoldsOn (S.tells index.now) (F.device flash.now) (S.mounted_on store.now) }
     requires known { id < N.top }
     ensures { let area = S.mounted_on store.now in
         IsBetweenAt (N.numbers area) (on S.contents (F.device flash.now) area) (option_map (λ other. other.now) after.entry) (option_map (λ other. other.now) before.entry) id result }
 {
-    let name = standing_name::<N, S, F, L>(store, flash, id, steps)?;
+    let name = standing_name::<N, S, F, L>(store, flash, index, id, steps)?;
     if is_between(name.bytes(), after, before) {
         Some(name)
     } else {
@@ -83,7 +89,8 @@ fn name_between<N: Numbers, S: ItemStore, F: Flash, L: Ledger>(
     }
 }
 
-/// The least name of a setting that is greater than this one, or the least of all.
+/// The least name of a setting that is greater than this one, or the least of all. It makes one index of the store's entries,
+/// and goes from item to item by it.
 pub fn next_name<N: Numbers, S: ItemStore, F: Flash, L: Ledger>(
     store: &S,
     flash: &F,
@@ -97,12 +104,14 @@ pub fn next_name<N: Numbers, S: ItemStore, F: Flash, L: Ledger>(
     ensures { let area = S.mounted_on store.now in
         result ≡ next_name_of (settings_in (N.numbers area) (on S.contents (F.device flash.now) area)) (option_map (λ name. name.now) after.entry) }
 {
+    let index = store.index(flash, steps);
     let mut least = None;
-    let mut at = store.next_id(flash, None, steps);
+    let mut at = store.next_by(flash, &index, None, steps);
     while let Some(id) = at {
-        let name = name_between::<N, S, F, L>(store, flash, id, after, least.as_ref(), steps);
+        let before = least.as_ref();
+        let name = name_between::<N, S, F, L>(store, flash, &index, id, after, before, steps);
         least = name.or(least);
-        at = store.next_id(flash, Some(id), steps);
+        at = store.next_by(flash, &index, Some(id), steps);
     }
     least
 }

@@ -80,7 +80,8 @@ pub fn delete_name<N: Numbers, S: ItemStore, F: Flash, L: Ledger>(
     ensures clean { let area = S.mounted_on store.old in is_err result ≡ false → HasNoStrays (N.numbers area) (on S.contents (F.device flash.new) area) }
     ensures down { is_err result ≡ true → S.runs store.new ≡ false }
 {
-    match N::place_of(store, flash, name, steps) {
+    let index = store.index(flash, steps);
+    match N::place_of(store, flash, &index, name, steps) {
         Some(place) => delete_pair(store, flash, place, place + N::step(), steps),
         None => Ok(()),
     }

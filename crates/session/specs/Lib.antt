@@ -1,2 +1,5 @@
+pub mod Handling
 pub mod Lists
-pub mod OneArea
+pub mod OnMap
+pub mod Mounting
+pub mod Moving

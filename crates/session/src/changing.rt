@@ -5,10 +5,10 @@ ghost use Rattle.flash_map.specs.Area.{geometry_of, value_limit};
 ghost use Rattle.flash_map.specs.Lawful.{IsLawfulFor};
 ghost use Rattle.flash_map.specs.On.{on, StandsOn};
 ghost use Rattle.script_lines.specs.declared.line.Line.TheVariants.{Set, Del};
-ghost use Rattle.session.specs.OneArea.{CarriedBeside};
+ghost use Rattle.session.specs.OnMap.{DoneBeside, IsServedMap, active_area, meanings};
 
 use backend_api::Backend;
-use flash_map::Area;
+use flash_map::{Area, FlashMap};
 use flash_sim::{Bench, Flash, Steps};
 use script_lines::{Answer, Bytes};
 use setting_name::Name;
@@ -16,7 +16,7 @@ use settings_core::{DeleteFault, SaveFault, Settings};
 use std::sync::ledger::Ledger;
 
 // Whether the units that were put before the last loss spell, by chance, another record in the area.
-fn spells_another<K: Backend, B: Bench, L: Ledger>(
+pub(crate) fn spells_another<K: Backend, B: Bench, L: Ledger>(
     bench: &B,
     area: &Area,
     steps: &mut Steps<L>,
@@ -35,12 +35,15 @@ fn spells_another<K: Backend, B: Bench, L: Ledger>(
 pub(crate) fn set_setting<K: Backend, B: Bench, L: Ledger>(
     bench: &mut B,
     settings: &mut Settings<K>,
+    map: &FlashMap,
     area: &Area,
     name: &Name,
     value: &Bytes,
     steps: &mut Steps<L>,
 ) -> Answer
+    requires map { IsServedMap K.serves map.now (B.device bench.old) }
     requires on { (B.device bench.old).is_on ≡ true }
+    requires active { area.now ≡ active_area map.now (B.device bench.old) }
     requires area { K.mounted_on settings.old.backend ≡ area.now }
     requires lawful { IsLawfulFor (B.device bench.old).banks area.now }
     requires serves { K.serves area.now (geometry_of (B.device bench.old) area.now) }
@@ -48,11 +51,13 @@ pub(crate) fn set_setting<K: Backend, B: Bench, L: Ledger>(
     requires stands { StandsOn K.mounted_on K.stands (B.device bench.old) settings.old.backend }
     requires short { length value.now ≤ value_limit area.now }
 
-    ensures done { CarriedBeside K.contents K.room K.chance K.tears area.now (Set name.now value.now) result (B.device bench.old) (B.device bench.new) }
+    ensures done { let d = B.device bench.old in
+        DoneBeside (meanings K.contents K.room K.chance K.tears) map.now (Set name.now value.now) result d (B.device bench.new) }
     ensures sound { on K.damage (B.device bench.new) area.now ≡ None }
     ensures area { K.mounted_on settings.new.backend ≡ area.now }
     ensures ready { (B.device bench.new).is_on ≡ true → K.runs settings.new.backend ≡ true }
-    ensures stands { (B.device bench.new).is_on ≡ true → StandsOn K.mounted_on K.stands (B.device bench.new) settings.new.backend }
+    ensures stands { let e = B.device bench.new in
+        e.is_on ≡ true → StandsOn K.mounted_on K.stands e settings.new.backend }
 {
     let before = bench.spent();
     let end = settings.save_one(bench, name, value.as_slice(), steps);
@@ -73,22 +78,27 @@ pub(crate) fn set_setting<K: Backend, B: Bench, L: Ledger>(
 pub(crate) fn delete_setting<K: Backend, B: Bench, L: Ledger>(
     bench: &mut B,
     settings: &mut Settings<K>,
+    map: &FlashMap,
     area: &Area,
     name: &Name,
     steps: &mut Steps<L>,
 ) -> Answer
+    requires map { IsServedMap K.serves map.now (B.device bench.old) }
     requires on { (B.device bench.old).is_on ≡ true }
+    requires active { area.now ≡ active_area map.now (B.device bench.old) }
     requires area { K.mounted_on settings.old.backend ≡ area.now }
     requires lawful { IsLawfulFor (B.device bench.old).banks area.now }
     requires serves { K.serves area.now (geometry_of (B.device bench.old) area.now) }
     requires up { K.runs settings.old.backend ≡ true }
     requires stands { StandsOn K.mounted_on K.stands (B.device bench.old) settings.old.backend }
 
-    ensures done { CarriedBeside K.contents K.room K.chance K.tears area.now (Del name.now) result (B.device bench.old) (B.device bench.new) }
+    ensures done { let d = B.device bench.old in
+        DoneBeside (meanings K.contents K.room K.chance K.tears) map.now (Del name.now) result d (B.device bench.new) }
     ensures sound { on K.damage (B.device bench.new) area.now ≡ None }
     ensures area { K.mounted_on settings.new.backend ≡ area.now }
     ensures ready { (B.device bench.new).is_on ≡ true → K.runs settings.new.backend ≡ true }
-    ensures stands { (B.device bench.new).is_on ≡ true → StandsOn K.mounted_on K.stands (B.device bench.new) settings.new.backend }
+    ensures stands { let e = B.device bench.new in
+        e.is_on ≡ true → StandsOn K.mounted_on K.stands e settings.new.backend }
 {
     let before = bench.spent();
     let end = settings.delete(bench, name, steps);

@@ -1,11 +1,14 @@
-//! A session on the settings of one area, over any backend: the lines of a script without handlers, each with its answer, one at
-//! a time or all. An image without a selector has one such area.
+//! A session on the settings of a map of areas, over any backend: the lines of a script, each with its answer, one at a time or
+//! all. One area of the map is active, as its selector says; a migration moves the settings to the next one.
 #![tactic(auto)]
 
 mod answers;
+mod areas;
 mod changing;
 mod fault;
+mod handling;
 mod mounting;
+mod moving;
 mod planning;
 mod running;
 mod session;

@@ -1,16 +1,17 @@
 // Plans of losses.
 ghost use Rattle.std.specs.Prelude.{◌≡◌};
 ghost use Rattle.script_lines.specs.declared.line.Line.TheVariants.{Cut, Uncut};
-ghost use Rattle.session.specs.OneArea.{CarriedBeside};
+ghost use Rattle.session.specs.OnMap.{DoneBeside, meanings};
 
 use backend_api::Backend;
-use flash_map::Area;
+use flash_map::FlashMap;
 use flash_sim::{Bench, Flash};
 use script_lines::Answer;
 
 // Plans a loss of power.
-pub(crate) fn plan_loss<K: Backend, B: Bench>(bench: &mut B, area: &Area, units: u64) -> Answer
-    ensures done { CarriedBeside K.contents K.room K.chance K.tears area.now (Cut units) result (B.device bench.old) (B.device bench.new) }
+pub(crate) fn plan_loss<K: Backend, B: Bench>(bench: &mut B, map: &FlashMap, units: u64) -> Answer
+    ensures done { let d = B.device bench.old in
+        DoneBeside (meanings K.contents K.room K.chance K.tears) map.now (Cut units) result d (B.device bench.new) }
     ensures same { B.device bench.new ≡ record (B.device bench.old) { plan = (B.device bench.new).plan } }
 {
     bench.arm(units);
@@ -18,8 +19,9 @@ pub(crate) fn plan_loss<K: Backend, B: Bench>(bench: &mut B, area: &Area, units:
 }
 
 // Drops that plan.
-pub(crate) fn drop_plan<K: Backend, B: Bench>(bench: &mut B, area: &Area) -> Answer
-    ensures done { CarriedBeside K.contents K.room K.chance K.tears area.now Uncut result (B.device bench.old) (B.device bench.new) }
+pub(crate) fn drop_plan<K: Backend, B: Bench>(bench: &mut B, map: &FlashMap) -> Answer
+    ensures done { let d = B.device bench.old in
+        DoneBeside (meanings K.contents K.room K.chance K.tears) map.now Uncut result d (B.device bench.new) }
     ensures same { B.device bench.new ≡ record (B.device bench.old) { plan = (B.device bench.new).plan } }
 {
     bench.disarm();

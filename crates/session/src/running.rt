@@ -1,45 +1,54 @@
 // All lines of a script.
-ghost use Rattle.std.specs.Prelude.{◌≡◌, ◌∷◌, true, All, None, OnOk};
-ghost use Rattle.flash_map.specs.Area.{geometry_of, value_limit};
-ghost use Rattle.flash_map.specs.Lawful.{IsLawfulFor};
-ghost use Rattle.flash_map.specs.On.{on, HoldsOn};
+ghost use Rattle.std.specs.Prelude.{◌≡◌, ◌∷◌, true, All, None, IfErr, OnOk};
+ghost use Rattle.handlers.specs.Registry.{registered};
 ghost use Rattle.script_lines.specs.declared.line.Line.TheVariants.{Mount};
-ghost use Rattle.session.specs.OneArea.{IsServed, RunEnds};
+ghost use Rattle.settings_core.specs.Saving.{AreLawful};
+ghost use Rattle.session.specs.declared.fault.SessionFault.TheVariants.{NoMemory};
+ghost use Rattle.session.specs.OnMap.{IsAtRest, IsFresh, IsServed, IsServedMap, RunEnds, damage_in, kinds, limit_of, meanings, moment};
 
 use crate::answers::Answers;
 use crate::fault::SessionFault;
 use crate::session::Session;
 use backend_api::Backend;
-use flash_map::Area;
+use flash_map::FlashMap;
 use flash_sim::{Bench, Flash, Steps};
+use handlers::{Handler, Registry};
 use script_lines::Line;
 use std::alloc::Global;
 use std::sync::ledger::Ledger;
 
-/// Mounts an area, carries out lines without handlers one after another, and gives the answers to the mount and to each line.
-/// With power on after these a mount of the area would have nothing to do. An area without damage has none afterwards, whatever
-/// the result.
+/// Mounts a map, carries out lines one after another, and gives the answers to the mount and to each line. The handlers of the
+/// pool hold nothing; those that lines register go from it into the registry. With power on after the lines a mount of the map
+/// would have nothing to do. A map without damage has none afterwards, whatever the result.
 ///
 /// # Errors
-/// `Damaged` exactly where the area is damaged, but for want of memory: the bench is then as before, but that power is on. `NoMemory`:
-/// the bench is then what the first lines have made of it, but that a mount behind them may have turned power on.
+/// `Damaged` with the damage that a mount found, which a map without damage does not show. `NoMemory`. The bench is then what the
+/// first lines have made of it, but that the next one, a mount or a migration, may have begun.
 pub fn run_lines<K: Backend, B: Bench, L: Ledger>(
     alloc: Global,
     lines: &[Line],
     bench: &mut B,
-    area: &Area,
+    map: &FlashMap,
+    mut pool: Vec<Box<dyn Handler>>,
+    registry: &mut Registry,
     steps: &mut Steps<L>,
 ) -> Result<Answers, SessionFault>
-    requires lawful { IsLawfulFor (B.device bench.old).banks area.now }
-    requires serves { K.serves area.now (geometry_of (B.device bench.old) area.now) }
-    requires lines { All (IsServed (value_limit area.now)) lines.now }
+    requires map { IsServedMap K.serves map.now (B.device bench.old) }
+    requires lines { All (IsServed (limit_of map.now)) lines.now }
+    requires pool { All (IsFresh state) pool.items }
+    requires registry { AreLawful (limit_of map.now) (registered state registry.old) }
 
     ensures ends { let d = B.device bench.old in let e = B.device bench.new in
-        RunEnds K.contents K.room K.chance K.tears K.damage area.now (Mount ∷ lines.now) d e result }
-    ensures undamaged { on K.damage (B.device bench.old) area.now ≡ None → on K.damage (B.device bench.new) area.now ≡ None }
-    ensures rests { OnOk result ((B.device bench.new).is_on ≡ true → HoldsOn K.rests (B.device bench.new) area.now) }
+        RunEnds (meanings K.contents K.room K.chance K.tears) K.damage map.now (Mount ∷ lines.now)
+        (moment d (registered state registry.old) (kinds state pool.items)) e (registered state registry.new) result }
+    ensures undamaged { let d = B.device bench.old in let e = B.device bench.new in
+        damage_in K.damage map.now d ≡ None → damage_in K.damage map.now e ≡ None }
+    ensures serves { let d = B.device bench.old in
+        damage_in K.damage map.now d ≡ None → IfErr result (λ fault. fault ≡ NoMemory) }
+    ensures rests { let e = B.device bench.new in
+        OnOk result (e.is_on ≡ true → IsAtRest K.rests map.now e) }
 {
-    let opened = Session::<K>::open(alloc, bench, area, steps);
+    let opened = Session::<K>::open(alloc, bench, map, steps);
     let (mut session, first) = match opened {
         Ok(opened) => opened,
         Err(fault) => return Err(fault),
@@ -50,7 +59,7 @@ pub fn run_lines<K: Backend, B: Bench, L: Ledger>(
         Err(_) => return Err(SessionFault::NoMemory),
     }
     for line in lines {
-        let answer = match session.carry_out(alloc, line, bench, steps) {
+        let answer = match session.carry_out(alloc, line, bench, map, &mut pool, registry, steps) {
             Ok(answer) => answer,
             Err(fault) => return Err(fault),
         };

@@ -1,109 +1,142 @@
 // A session, and carrying out one line in it.
-ghost use Rattle.std.specs.Prelude.{◌≡◌, true, false, None, IfOk, IfErr, OnErr, OnOk};
+ghost use Rattle.std.specs.Prelude.{◌≡◌, true, false, None, Some, All, IfOk, IfErr, OnErr, OnOk};
 ghost use Rattle.flash_map.specs.Area.{geometry_of, value_limit};
 ghost use Rattle.flash_map.specs.Lawful.{IsLawfulFor};
-ghost use Rattle.flash_map.specs.On.{on, HoldsOn, StandsOn};
+ghost use Rattle.flash_map.specs.On.{on, StandsOn};
+ghost use Rattle.handlers.specs.Registry.{registered};
 ghost use Rattle.script_lines.specs.declared.answer.Answer.TheVariants.{Done};
-ghost use Rattle.script_lines.specs.declared.line.Line.TheVariants.{Mount};
+ghost use Rattle.script_lines.specs.declared.line.Line.TheVariants.{Mount, Migrate};
 ghost use Rattle.session_table.specs.Step.{needs_power};
-ghost use Rattle.session.specs.OneArea.{CarriedBeside, IsReady, IsServed, LineStops};
+ghost use Rattle.settings_core.specs.Saving.{AreLawful};
+ghost use Rattle.session.specs.declared.fault.SessionFault.TheVariants.{NoMemory as OutOfMemory};
+ghost use Rattle.session.specs.Mounting.{down};
+ghost use Rattle.session.specs.OnMap.{CarriedBeside, DoneWithin, IsAtRest, IsFresh, IsReady, IsServed, IsServedMap, LineCarried, LineStops, active_area, damage_in, is_local, kinds, limit_of, meanings, moment, takes_memory};
 
+use crate::areas::area_at;
 use crate::changing::{delete_setting, set_setting};
 use crate::fault::SessionFault;
-use crate::mounting::mount_settings;
+use crate::handling::with_handlers;
+use crate::mounting::{answered, mount_map};
+use crate::moving::move_settings;
 use crate::planning::{drop_plan, plan_loss};
 use crate::telling::{get_setting, tell_all, tell_settings};
 use backend_api::Backend;
-use flash_map::Area;
+use flash_map::{Area, FlashMap};
 use flash_sim::{Bench, Flash, NoMemory, Steps};
+use handlers::{Handler, Registry};
+use migrator::Selector;
 use script_lines::{Answer, Line};
 use settings_core::Settings;
 use std::alloc::Global;
 use std::sync::ledger::Ledger;
 
-/// A session on the settings of one area, which has no other to move to. It carries out lines without handlers.
+/// A session on the settings of a map, of which one area is active.
 #[derive(Drop)]
 pub struct Session<K: Backend> {
-    area: Area,
-    // none once a mount lost power
-    settings: Option<Settings<K>>,
+    // where the map has one
+    pub(crate) selector: Option<Selector>,
+    // on the active area; none once a mount lost power
+    pub(crate) settings: Option<Settings<K>>,
+    // its place in the map
+    pub(crate) active: usize,
 }
 
 impl<K: Backend> Session<K> {
-    /// Mounts the area, and gives the session with the answer to that mount. A mount of an area that rests spends nothing. An
-    /// area without damage has none afterwards, whatever the result.
-    ///
-    /// # Errors
-    /// `Damaged` exactly where the area is damaged, but for want of memory: the bench is then as before, but that power is on.
-    /// `NoMemory`: the bench is then as before, but that power may be on.
-    pub fn open<B: Bench, L: Ledger>(
-        alloc: Global,
-        bench: &mut B,
-        area: &Area,
-        steps: &mut Steps<L>,
-    ) -> Result<(Session<K>, Answer), SessionFault>
-        requires lawful { IsLawfulFor (B.device bench.old).banks area.now }
-        requires serves { K.serves area.now (geometry_of (B.device bench.old) area.now) }
-
-        ensures done { IfOk result (λ opened. CarriedBeside K.contents K.room K.chance K.tears area.now Mount opened.1 (B.device bench.old) (B.device bench.new)) }
-        ensures sound { OnOk result (on K.damage (B.device bench.old) area.now ≡ None) }
-        ensures undamaged { on K.damage (B.device bench.old) area.now ≡ None → on K.damage (B.device bench.new) area.now ≡ None }
-        ensures rests { HoldsOn K.rests (B.device bench.old) area.now → IfOk result (λ opened. opened.1 ≡ Done 0) }
-        ensures stops { IfErr result (λ fault. LineStops (on K.damage (B.device bench.old) area.now) Mount (B.device bench.old) (B.device bench.new) fault) }
-        ensures area { IfOk result (λ opened. opened.0.area ≡ area.now) }
-        ensures ready { IfOk result (λ opened. IsReady K.mounted_on K.stands K.runs (B.device bench.new) area.now opened.0.settings) }
+    // No settings, as after a loss in a mount.
+    pub(crate) fn down() -> Session<K>
+        ensures { result ≡ down }
     {
-        let mut settings = None;
-        match mount_settings(alloc, bench, area, &mut settings, steps) {
-            Ok(answer) => {
-                let session = Session {
-                    area: area.copy(),
-                    settings,
-                };
-                Ok((session, answer))
-            }
-            Err(fault) => Err(fault),
+        Session {
+            selector: None,
+            settings: None,
+            active: 0,
         }
     }
 
-    /// Carries out a line without handlers. With power off every line but `mount`, `cut` and `uncut` answers `off`. A mount
-    /// of an area that rests spends nothing. An area without damage has none afterwards, whatever the result.
+    /// Turns power on, mounts the selector, where the map has one, and settings on the active area, and gives the session with the
+    /// answer to that mount. It spends nothing where the map is at rest, and else at most the erases that are due in the selector and
+    /// the most units of a mount of the active area (`mount_bound`). A map without damage has none afterwards, whatever the result.
     ///
     /// # Errors
-    /// `Damaged` exactly where the line is a mount and the area is damaged, but for want of memory: the bench is then as before,
-    /// but that power is on. `NoMemory`: the bench is then as before, but that a mount may have turned power on. After either the
-    /// session has to be opened anew.
+    /// `Damaged` with the damage that the map shows. `NoMemory`. The bench is then as before, but that power is on, and that the
+    /// selector may have been mounted.
+    pub fn open<B: Bench, L: Ledger>(
+        alloc: Global,
+        bench: &mut B,
+        map: &FlashMap,
+        steps: &mut Steps<L>,
+    ) -> Result<(Session<K>, Answer), SessionFault>
+        requires map { IsServedMap K.serves map.now (B.device bench.old) }
+
+        ensures done { IfOk result (λ opened. let d = B.device bench.old in let e = B.device bench.new in
+            CarriedBeside (meanings K.contents K.room K.chance K.tears) K.damage map.now Mount opened.1 d e) }
+        ensures undamaged { let d = B.device bench.old in let e = B.device bench.new in
+            damage_in K.damage map.now d ≡ None → damage_in K.damage map.now e ≡ None }
+        ensures rests { let d = B.device bench.old in
+            IsAtRest K.rests map.now d → IfOk result (λ opened. opened.1 ≡ Done 0) }
+        ensures stops { let d = B.device bench.old in let e = B.device bench.new in
+            IfErr result (λ fault. LineStops K.damage map.now Mount d e fault) }
+        ensures ready { IfOk result (λ opened. let e = B.device bench.new in
+            IsReady K.mounted_on K.stands K.runs map.now e opened.0.selector opened.0.active opened.0.settings) }
+    {
+        bench.restore();
+        let before = bench.spent();
+        let mounted = mount_map(alloc, bench, map, steps);
+        let units = bench.spent() - before;
+        answered(units, mounted)
+    }
+
+    /// Carries out a line. With power off every line but `mount`, `cut` and `uncut` answers `off`. A mount of a map at rest
+    /// spends nothing, and no mount spends more than its bound (`mount_bound`). A map without damage has none afterwards, whatever
+    /// the result.
+    ///
+    /// # Errors
+    /// `Damaged` where the line is a mount, with the damage that the map shows. `NoMemory` where a line that takes memory was begun,
+    /// which `set`, `del`, `save`, `commit`, `cut`, `uncut` and a line that answers `off` are not: the bench is then as before, but
+    /// that a mount has turned power on and may have mounted the selector, and that a migration may have changed the target and the
+    /// selector, which names the same area. After either the session has to be opened anew.
     pub fn carry_out<B: Bench, L: Ledger>(
         &mut self,
         alloc: Global,
         line: &Line,
         bench: &mut B,
+        map: &FlashMap,
+        pool: &mut Vec<Box<dyn Handler>>,
+        registry: &mut Registry,
         steps: &mut Steps<L>,
     ) -> Result<Answer, SessionFault>
-        requires lawful { IsLawfulFor (B.device bench.old).banks self.old.area }
-        requires serves { K.serves self.old.area (geometry_of (B.device bench.old) self.old.area) }
-        requires ready { IsReady K.mounted_on K.stands K.runs (B.device bench.old) self.old.area self.old.settings }
-        requires line { IsServed (value_limit self.old.area) line.now }
+        requires map { IsServedMap K.serves map.now (B.device bench.old) }
+        requires ready { let d = B.device bench.old in
+            IsReady K.mounted_on K.stands K.runs map.now d self.old.selector self.old.active self.old.settings }
+        requires line { IsServed (limit_of map.now) line.now }
+        requires pool { All (IsFresh state) pool.old.items }
+        requires registry { AreLawful (limit_of map.now) (registered state registry.old) }
 
-        ensures done { IfOk result (λ answer. CarriedBeside K.contents K.room K.chance K.tears self.old.area line.now answer (B.device bench.old) (B.device bench.new)) }
-        ensures sound { line.now ≡ Mount → OnOk result (on K.damage (B.device bench.old) self.old.area ≡ None) }
-        ensures undamaged { on K.damage (B.device bench.old) self.old.area ≡ None → on K.damage (B.device bench.new) self.old.area ≡ None }
-        ensures rests { line.now ≡ Mount → HoldsOn K.rests (B.device bench.old) self.old.area → IfOk result (λ answer. answer ≡ Done 0) }
-        ensures stops { IfErr result (λ fault. LineStops (on K.damage (B.device bench.old) self.old.area) line.now (B.device bench.old) (B.device bench.new) fault) }
-        ensures area { self.new.area ≡ self.old.area }
-        ensures ready { OnOk result (IsReady K.mounted_on K.stands K.runs (B.device bench.new) self.old.area self.new.settings) }
+        ensures done { let m = meanings K.contents K.room K.chance K.tears in IfOk result (λ answer.
+            LineCarried m K.damage map.now line.now answer
+            (moment (B.device bench.old) (registered state registry.old) (kinds state pool.old.items))
+            (moment (B.device bench.new) (registered state registry.new) (kinds state pool.new.items))) }
+        ensures undamaged { let d = B.device bench.old in let e = B.device bench.new in
+            damage_in K.damage map.now d ≡ None → damage_in K.damage map.now e ≡ None }
+        ensures rests { let d = B.device bench.old in
+            line.now ≡ Mount → IsAtRest K.rests map.now d → IfOk result (λ answer. answer ≡ Done 0) }
+        ensures stops { let d = B.device bench.old in let e = B.device bench.new in
+            IfErr result (λ fault. LineStops K.damage map.now line.now d e fault) }
+        ensures ready { let e = B.device bench.new in
+            OnOk result (IsReady K.mounted_on K.stands K.runs map.now e self.new.selector self.new.active self.new.settings) }
+        ensures pool { All (IsFresh state) pool.new.items }
+        ensures registry { AreLawful (limit_of map.now) (registered state registry.new) }
     {
         if !needs_power(line) {
-            return self.without_power(alloc, line, bench, steps);
+            return self.without_power(alloc, line, bench, map, steps);
         }
-        match &mut self.settings {
-            Some(settings) if bench.is_on() => {
-                match with_power(alloc, line, bench, &self.area, settings, steps) {
-                    Ok(answer) => Ok(answer),
-                    Err(_) => Err(SessionFault::NoMemory),
-                }
-            }
-            _ => Ok(Answer::Off),
+        if !bench.is_on() {
+            return Ok(Answer::Off);
+        }
+        if is_local(line) {
+            self.on_active(alloc, line, bench, map, pool, registry, steps)
+        } else {
+            self.migrate(alloc, bench, map, steps)
         }
     }
 
@@ -113,26 +146,143 @@ impl<K: Backend> Session<K> {
         alloc: Global,
         line: &Line,
         bench: &mut B,
+        map: &FlashMap,
         steps: &mut Steps<L>,
     ) -> Result<Answer, SessionFault>
-        requires lawful { IsLawfulFor (B.device bench.old).banks self.old.area }
-        requires serves { K.serves self.old.area (geometry_of (B.device bench.old) self.old.area) }
-        requires ready { IsReady K.mounted_on K.stands K.runs (B.device bench.old) self.old.area self.old.settings }
+        requires map { IsServedMap K.serves map.now (B.device bench.old) }
+        requires ready { let d = B.device bench.old in
+            IsReady K.mounted_on K.stands K.runs map.now d self.old.selector self.old.active self.old.settings }
         requires needs { needs_power line.now ≡ false }
 
-        ensures done { IfOk result (λ answer. CarriedBeside K.contents K.room K.chance K.tears self.old.area line.now answer (B.device bench.old) (B.device bench.new)) }
-        ensures sound { line.now ≡ Mount → OnOk result (on K.damage (B.device bench.old) self.old.area ≡ None) }
-        ensures undamaged { on K.damage (B.device bench.old) self.old.area ≡ None → on K.damage (B.device bench.new) self.old.area ≡ None }
-        ensures rests { line.now ≡ Mount → HoldsOn K.rests (B.device bench.old) self.old.area → IfOk result (λ answer. answer ≡ Done 0) }
-        ensures stops { IfErr result (λ fault. LineStops (on K.damage (B.device bench.old) self.old.area) line.now (B.device bench.old) (B.device bench.new) fault) }
-        ensures area { self.new.area ≡ self.old.area }
-        ensures ready { OnOk result (IsReady K.mounted_on K.stands K.runs (B.device bench.new) self.old.area self.new.settings) }
+        ensures done { IfOk result (λ answer. let d = B.device bench.old in let e = B.device bench.new in
+            CarriedBeside (meanings K.contents K.room K.chance K.tears) K.damage map.now line.now answer d e) }
+        ensures undamaged { let d = B.device bench.old in let e = B.device bench.new in
+            damage_in K.damage map.now d ≡ None → damage_in K.damage map.now e ≡ None }
+        ensures rests { let d = B.device bench.old in
+            line.now ≡ Mount → IsAtRest K.rests map.now d → IfOk result (λ answer. answer ≡ Done 0) }
+        ensures stops { let d = B.device bench.old in let e = B.device bench.new in
+            IfErr result (λ fault. LineStops K.damage map.now line.now d e fault) }
+        ensures ready { let e = B.device bench.new in
+            OnOk result (IsReady K.mounted_on K.stands K.runs map.now e self.new.selector self.new.active self.new.settings) }
     {
         match line {
-            Line::Mount => mount_settings(alloc, bench, &self.area, &mut self.settings, steps),
-            Line::Cut { units } => Ok(plan_loss::<K, B>(bench, &self.area, *units)),
-            Line::Uncut => Ok(drop_plan::<K, B>(bench, &self.area)),
+            Line::Mount => self.mount(alloc, bench, map, steps),
+            Line::Cut { units } => Ok(plan_loss::<K, B>(bench, map, *units)),
+            Line::Uncut => Ok(drop_plan::<K, B>(bench, map)),
             _ => unreachable!(),
+        }
+    }
+
+    // Mounts the map anew.
+    fn mount<B: Bench, L: Ledger>(
+        &mut self,
+        alloc: Global,
+        bench: &mut B,
+        map: &FlashMap,
+        steps: &mut Steps<L>,
+    ) -> Result<Answer, SessionFault>
+        requires map { IsServedMap K.serves map.now (B.device bench.old) }
+
+        ensures done { IfOk result (λ answer. let d = B.device bench.old in let e = B.device bench.new in
+            CarriedBeside (meanings K.contents K.room K.chance K.tears) K.damage map.now Mount answer d e) }
+        ensures undamaged { let d = B.device bench.old in let e = B.device bench.new in
+            damage_in K.damage map.now d ≡ None → damage_in K.damage map.now e ≡ None }
+        ensures rests { let d = B.device bench.old in
+            IsAtRest K.rests map.now d → IfOk result (λ answer. answer ≡ Done 0) }
+        ensures stops { let d = B.device bench.old in let e = B.device bench.new in
+            IfErr result (λ fault. LineStops K.damage map.now Mount d e fault) }
+        ensures ready { let e = B.device bench.new in
+            OnOk result (IsReady K.mounted_on K.stands K.runs map.now e self.new.selector self.new.active self.new.settings) }
+    {
+        match Session::open(alloc, bench, map, steps) {
+            Ok((session, answer)) => {
+                *self = session;
+                Ok(answer)
+            }
+            Err(fault) => Err(fault),
+        }
+    }
+
+    // Moves the settings to the next area, with power on.
+    fn migrate<B: Bench, L: Ledger>(
+        &mut self,
+        alloc: Global,
+        bench: &mut B,
+        map: &FlashMap,
+        steps: &mut Steps<L>,
+    ) -> Result<Answer, SessionFault>
+        requires map { IsServedMap K.serves map.now (B.device bench.old) }
+        requires on { (B.device bench.old).is_on ≡ true }
+        requires ready { let d = B.device bench.old in
+            IsReady K.mounted_on K.stands K.runs map.now d self.old.selector self.old.active self.old.settings }
+
+        ensures done { IfOk result (λ answer. let d = B.device bench.old in let e = B.device bench.new in
+            CarriedBeside (meanings K.contents K.room K.chance K.tears) K.damage map.now Migrate answer d e) }
+        ensures undamaged { let d = B.device bench.old in let e = B.device bench.new in
+            damage_in K.damage map.now d ≡ None → damage_in K.damage map.now e ≡ None }
+        ensures stops { let d = B.device bench.old in let e = B.device bench.new in
+            IfErr result (λ fault. LineStops K.damage map.now Migrate d e fault) }
+        ensures ready { let e = B.device bench.new in
+            OnOk result (IsReady K.mounted_on K.stands K.runs map.now e self.new.selector self.new.active self.new.settings) }
+    {
+        match (&mut self.selector, &mut self.settings) {
+            (Some(selector), Some(settings)) => {
+                let active = &mut self.active;
+                match move_settings(alloc, bench, map, selector, active, settings, steps) {
+                    Ok(answer) => Ok(answer),
+                    Err(_) => Err(SessionFault::NoMemory),
+                }
+            }
+            (None, Some(_)) => Ok(Answer::NoTarget),
+            _ => unreachable!(),
+        }
+    }
+
+    // Carries out a line on the active area, with power on.
+    fn on_active<B: Bench, L: Ledger>(
+        &mut self,
+        alloc: Global,
+        line: &Line,
+        bench: &mut B,
+        map: &FlashMap,
+        pool: &mut Vec<Box<dyn Handler>>,
+        registry: &mut Registry,
+        steps: &mut Steps<L>,
+    ) -> Result<Answer, SessionFault>
+        requires map { IsServedMap K.serves map.now (B.device bench.old) }
+        requires on { (B.device bench.old).is_on ≡ true }
+        requires local { is_local line.now ≡ true }
+        requires ready { let d = B.device bench.old in
+            IsReady K.mounted_on K.stands K.runs map.now d self.old.selector self.old.active self.old.settings }
+        requires line { IsServed (limit_of map.now) line.now }
+        requires pool { All (IsFresh state) pool.old.items }
+        requires registry { AreLawful (limit_of map.now) (registered state registry.old) }
+
+        ensures done { let m = meanings K.contents K.room K.chance K.tears in IfOk result (λ answer.
+            DoneWithin m map.now line.now answer
+            (moment (B.device bench.old) (registered state registry.old) (kinds state pool.old.items))
+            (moment (B.device bench.new) (registered state registry.new) (kinds state pool.new.items))) }
+        ensures undamaged { let d = B.device bench.old in let e = B.device bench.new in
+            damage_in K.damage map.now d ≡ None → damage_in K.damage map.now e ≡ None }
+        ensures none { OnErr result (B.device bench.new ≡ B.device bench.old) }
+        ensures takes { OnErr result (takes_memory line.now ≡ true) }
+        ensures memory { IfErr result (λ fault. fault ≡ OutOfMemory) }
+        ensures ready { let e = B.device bench.new in
+            OnOk result (IsReady K.mounted_on K.stands K.runs map.now e self.new.selector self.new.active self.new.settings) }
+        ensures pool { All (IsFresh state) pool.new.items }
+        ensures registry { AreLawful (limit_of map.now) (registered state registry.new) }
+    {
+        match &mut self.settings {
+            Some(settings) => {
+                let area = area_at(map, self.active);
+                match with_power(
+                    alloc, line, bench, map, &area, settings, pool, registry, steps,
+                ) {
+                    Ok(answer) => Ok(answer),
+                    Err(_) => Err(SessionFault::NoMemory),
+                }
+            }
+            None => unreachable!(),
         }
     }
 }
@@ -144,38 +294,74 @@ fn needs_power(line: &Line) -> bool
     !matches!(line, Line::Mount | Line::Cut { .. } | Line::Uncut)
 }
 
-// Carries out a line that needs power, with power on.
+// Whether it needs power, and changes no area but the active one.
+fn is_local(line: &Line) -> bool
+    ensures { result ≡ is_local line.now }
+{
+    needs_power(line) && !matches!(line, Line::Migrate)
+}
+
+// Carries out a line on the active area, with power on.
 fn with_power<K: Backend, B: Bench, L: Ledger>(
     alloc: Global,
     line: &Line,
     bench: &mut B,
+    map: &FlashMap,
     area: &Area,
     settings: &mut Settings<K>,
+    pool: &mut Vec<Box<dyn Handler>>,
+    registry: &mut Registry,
     steps: &mut Steps<L>,
 ) -> Result<Answer, NoMemory>
+    requires map { IsServedMap K.serves map.now (B.device bench.old) }
     requires on { (B.device bench.old).is_on ≡ true }
-    requires needs { needs_power line.now ≡ true }
+    requires local { is_local line.now ≡ true }
+    requires active { area.now ≡ active_area map.now (B.device bench.old) }
     requires area { K.mounted_on settings.old.backend ≡ area.now }
     requires lawful { IsLawfulFor (B.device bench.old).banks area.now }
     requires serves { K.serves area.now (geometry_of (B.device bench.old) area.now) }
     requires up { K.runs settings.old.backend ≡ true }
     requires stands { StandsOn K.mounted_on K.stands (B.device bench.old) settings.old.backend }
-    requires line { IsServed (value_limit area.now) line.now }
+    requires limit { value_limit area.now ≡ limit_of map.now }
+    requires line { IsServed (limit_of map.now) line.now }
+    requires pool { All (IsFresh state) pool.old.items }
+    requires registry { AreLawful (limit_of map.now) (registered state registry.old) }
 
-    ensures done { IfOk result (λ answer. CarriedBeside K.contents K.room K.chance K.tears area.now line.now answer (B.device bench.old) (B.device bench.new)) }
-    ensures undamaged { on K.damage (B.device bench.old) area.now ≡ None → on K.damage (B.device bench.new) area.now ≡ None }
+    ensures done { let m = meanings K.contents K.room K.chance K.tears in IfOk result (λ answer.
+        DoneWithin m map.now line.now answer
+        (moment (B.device bench.old) (registered state registry.old) (kinds state pool.old.items))
+        (moment (B.device bench.new) (registered state registry.new) (kinds state pool.new.items))) }
+    ensures sound { let d = B.device bench.old in let e = B.device bench.new in
+        on K.damage d area.now ≡ None → on K.damage e area.now ≡ None }
     ensures none { OnErr result (B.device bench.new ≡ B.device bench.old) }
+    ensures takes { OnErr result (takes_memory line.now ≡ true) }
     ensures area { K.mounted_on settings.new.backend ≡ area.now }
     ensures ready { (B.device bench.new).is_on ≡ true → K.runs settings.new.backend ≡ true }
-    ensures stands { (B.device bench.new).is_on ≡ true → StandsOn K.mounted_on K.stands (B.device bench.new) settings.new.backend }
+    ensures stands { let e = B.device bench.new in
+        e.is_on ≡ true → StandsOn K.mounted_on K.stands e settings.new.backend }
+    ensures pool { All (IsFresh state) pool.new.items }
+    ensures registry { AreLawful (limit_of map.now) (registered state registry.new) }
 {
     match line {
-        Line::Set { name, value } => Ok(set_setting(bench, settings, area, name, value, steps)),
-        Line::Del { name } => Ok(delete_setting(bench, settings, area, name, steps)),
-        Line::Get { name } => get_setting(alloc, bench, settings, area, name, steps),
-        Line::Direct { subtree } => tell_settings(alloc, bench, settings, area, subtree, steps),
-        Line::Names => tell_all(alloc, bench, settings, area, steps),
-        Line::Migrate => Ok(Answer::NoTarget),
+        Line::Set { name, value } => Ok(set_setting(
+            bench, settings, map, area, name, value, steps,
+        )),
+        Line::Del { name } => Ok(delete_setting(bench, settings, map, area, name, steps)),
+        Line::Get { name } => get_setting(alloc, bench, settings, map, area, name, steps),
+        Line::Direct { subtree } => tell_settings(
+            alloc, bench, settings, map, area, subtree, steps,
+        ),
+        Line::Names => tell_all(alloc, bench, settings, map, area, steps),
+        Line::Register { .. }
+        | Line::Load { .. }
+        | Line::Save { .. }
+        | Line::Commit
+        | Line::RunSet { .. }
+        | Line::RunGet { .. } => {
+            with_handlers(
+                alloc, line, bench, map, area, settings, pool, registry, steps,
+            )
+        }
         _ => unreachable!(),
     }
 }

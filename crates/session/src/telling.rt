@@ -4,10 +4,10 @@ ghost use Rattle.flash_map.specs.Lawful.{IsLawfulFor};
 ghost use Rattle.flash_map.specs.On.{on, StandsOn};
 ghost use Rattle.script_lines.specs.declared.line.Line.TheVariants.{Get, Direct, Names};
 ghost use Rattle.session.specs.Lists.{pairs_under};
-ghost use Rattle.session.specs.OneArea.{CarriedBeside};
+ghost use Rattle.session.specs.OnMap.{DoneBeside, active_area, meanings};
 
 use backend_api::Backend;
-use flash_map::Area;
+use flash_map::{Area, FlashMap};
 use flash_sim::{Bench, Flash, NoMemory, Steps};
 use handlers::ValueView;
 use script_lines::{Answer, Bytes, Label, Pair, Pairs};
@@ -52,17 +52,20 @@ pub(crate) fn get_setting<K: Backend, B: Bench, L: Ledger>(
     alloc: Global,
     bench: &B,
     settings: &Settings<K>,
+    map: &FlashMap,
     area: &Area,
     name: &Name,
     steps: &mut Steps<L>,
 ) -> Result<Answer, NoMemory>
     requires on { (B.device bench.now).is_on ≡ true }
+    requires active { area.now ≡ active_area map.now (B.device bench.now) }
     requires area { K.mounted_on settings.now.backend ≡ area.now }
     requires lawful { IsLawfulFor (B.device bench.now).banks area.now }
     requires up { K.runs settings.now.backend ≡ true }
     requires stands { StandsOn K.mounted_on K.stands (B.device bench.now) settings.now.backend }
 
-    ensures { IfOk result (λ answer. CarriedBeside K.contents K.room K.chance K.tears area.now (Get name.now) answer (B.device bench.now) (B.device bench.now)) }
+    ensures { IfOk result (λ answer. let d = B.device bench.now in
+        DoneBeside (meanings K.contents K.room K.chance K.tears) map.now (Get name.now) answer d d) }
 {
     match settings.get(bench, name, steps) {
         Ok(Some(bytes)) => {
@@ -104,17 +107,20 @@ pub(crate) fn tell_settings<K: Backend, B: Bench, L: Ledger>(
     alloc: Global,
     bench: &B,
     settings: &Settings<K>,
+    map: &FlashMap,
     area: &Area,
     subtree: &Option<Name>,
     steps: &mut Steps<L>,
 ) -> Result<Answer, NoMemory>
     requires on { (B.device bench.now).is_on ≡ true }
+    requires active { area.now ≡ active_area map.now (B.device bench.now) }
     requires area { K.mounted_on settings.now.backend ≡ area.now }
     requires lawful { IsLawfulFor (B.device bench.now).banks area.now }
     requires up { K.runs settings.now.backend ≡ true }
     requires stands { StandsOn K.mounted_on K.stands (B.device bench.now) settings.now.backend }
 
-    ensures { IfOk result (λ answer. CarriedBeside K.contents K.room K.chance K.tears area.now (Direct subtree.now) answer (B.device bench.now) (B.device bench.now)) }
+    ensures { IfOk result (λ answer. let d = B.device bench.now in
+        DoneBeside (meanings K.contents K.room K.chance K.tears) map.now (Direct subtree.now) answer d d) }
 {
     let pairs = settings_under(alloc, bench, settings, area, subtree.as_ref(), steps)?;
     Ok(Answer::Direct { pairs })
@@ -140,16 +146,19 @@ pub(crate) fn tell_all<K: Backend, B: Bench, L: Ledger>(
     alloc: Global,
     bench: &B,
     settings: &Settings<K>,
+    map: &FlashMap,
     area: &Area,
     steps: &mut Steps<L>,
 ) -> Result<Answer, NoMemory>
     requires on { (B.device bench.now).is_on ≡ true }
+    requires active { area.now ≡ active_area map.now (B.device bench.now) }
     requires area { K.mounted_on settings.now.backend ≡ area.now }
     requires lawful { IsLawfulFor (B.device bench.now).banks area.now }
     requires up { K.runs settings.now.backend ≡ true }
     requires stands { StandsOn K.mounted_on K.stands (B.device bench.now) settings.now.backend }
 
-    ensures { IfOk result (λ answer. CarriedBeside K.contents K.room K.chance K.tears area.now Names answer (B.device bench.now) (B.device bench.now)) }
+    ensures { IfOk result (λ answer. let d = B.device bench.now in
+        DoneBeside (meanings K.contents K.room K.chance K.tears) map.now Names answer d d) }
 {
     let active = label_of(alloc, area)?;
     let pairs = settings_under(alloc, bench, settings, area, None, steps)?;

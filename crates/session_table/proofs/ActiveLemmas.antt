@@ -11,7 +11,7 @@ use Rattle.script_lines.specs.declared.answer.SaveEnd.TheVariants.{Whole, NoSpac
 use Rattle.handlers.specs.declared.handler.HandlerKind.{HandlerKind}
 use Rattle.backend_api.specs.Commands.{Command}
 use Rattle.session_table.specs.Commands.{commands_of}
-use Rattle.session_table.specs.Rules.{Rules, target}
+use Rattle.session_table.specs.Rules.{Rules}
 use Rattle.session_table.specs.State.{State}
 use Rattle.session_table.specs.Step.{Step, Answers, CommandsLost, Changes, Saves, Gets, Tells, TellsAll, Registers, Loads, Commits, Offers, Asks, Mounts, Arms, MovesTo}
 use Rattle.session_table.specs.Bench.{worked_on, actives_after}
@@ -112,10 +112,10 @@ line_active r Migrate answer old new is other = absurd (false≢true (sym other)
 -- where a migration leads
 record IsTarget (r : Rules) (old new : State) : Type 0 where
   pub to : ℕ
-  pub is : target r old.active ≡ Some to
+  pub is : r.target old.active ≡ Some to
   pub active : new.active ≡ to
 
-moved : (r : Rules) (to : ℕ) (answer : Answer) (old new : State) → target r old.active ≡ Some to → MovesTo r to answer old new → (new.active ≡ old.active) ⊎ IsTarget r old new
+moved : (r : Rules) (to : ℕ) (answer : Answer) (old new : State) → r.target old.active ≡ Some to → MovesTo r to answer old new → (new.active ≡ old.active) ⊎ IsTarget r old new
 moved r to (Done units) old new at is = inr (record { to = to; is = at; active = ap (λ (s : State). s.active) is.1 })
 moved r to (TooMany units) old new at is = inl (active old new is.3)
 moved r to (NoSpace units need live) old new at is = inl (active old new is.3)
@@ -126,12 +126,12 @@ moved r to answer old new at none = absurd none
 stays : (actives : List ℕ) (old new : State) → new.active ≡ old.active → Contains actives old.active → Contains actives new.active
 stays actives old new same has = subst (λ (a : ℕ). Contains actives a) (sym same) has
 
-leads : (r : Rules) (actives : List ℕ) (old new : State) → IsTarget r old new → Contains actives old.active → Contains (filter_map (target r) actives) new.active
-leads r actives old new found has = subst (λ (a : ℕ). Contains (filter_map (target r) actives) a) (sym found.active) (given_of (target r) actives old.active found.to has found.is)
+leads : (r : Rules) (actives : List ℕ) (old new : State) → IsTarget r old new → Contains actives old.active → Contains (filter_map r.target actives) new.active
+leads r actives old new found has = subst (λ (a : ℕ). Contains (filter_map r.target actives) a) (sym found.active) (given_of r.target actives old.active found.to has found.is)
 
-stays_or_leads : (r : Rules) (actives : List ℕ) (old new : State) → (new.active ≡ old.active) ⊎ IsTarget r old new → Contains actives old.active → Contains (actives ++ filter_map (target r) actives) new.active
-stays_or_leads r actives old new (inl same) has = Contains-append_left actives (filter_map (target r) actives) new.active (stays actives old new same has)
-stays_or_leads r actives old new (inr to) has = Contains-append_right actives (filter_map (target r) actives) new.active (leads r actives old new to has)
+stays_or_leads : (r : Rules) (actives : List ℕ) (old new : State) → (new.active ≡ old.active) ⊎ IsTarget r old new → Contains actives old.active → Contains (actives ++ filter_map r.target actives) new.active
+stays_or_leads r actives old new (inl same) has = Contains-append_left actives (filter_map r.target actives) new.active (stays actives old new same has)
+stays_or_leads r actives old new (inr to) has = Contains-append_right actives (filter_map r.target actives) new.active (leads r actives old new to has)
 
 -- the active area is one of those that may be
 pub goes_on : (r : Rules) (line : Line) (answer : Answer) (old new : State) (actives : List ℕ) → Step r line answer old new → Contains actives old.active → Contains (actives_after r line answer actives) new.active
@@ -154,5 +154,5 @@ works_within r selector (Delete name) answer a actives has = one_within a active
 works_within r selector (Save subtree) answer a actives has = one_within a actives has
 works_within r selector Mount answer a actives has = beside_within selector (a ∷ []) actives (one_within a actives has)
 works_within r selector Migrate NoTarget a actives has = λ x is. is
-works_within r selector Migrate answer a actives has = beside_within selector (filter_map (target r) (a ∷ [])) (filter_map (target r) actives) (given_within (target r) a actives has)
+works_within r selector Migrate answer a actives has = beside_within selector (filter_map r.target (a ∷ [])) (filter_map r.target actives) (given_within r.target a actives has)
 works_within r selector line answer a actives has = λ x is. is

@@ -20,7 +20,7 @@ use Rattle.backend_api.specs.Map.{Map}
 use Rattle.settings_core.specs.Deliveries.{Delivery, delivery, is_taken, settings_under}
 use Rattle.session_table.specs.Commands.{commands_of, all_puts, StopsForNames}
 use Rattle.session_table.specs.Follows.{Follows}
-use Rattle.session_table.specs.Rules.{Rules, target}
+use Rattle.session_table.specs.Rules.{Rules}
 use Rattle.session_table.specs.State.{State, IsOn}
 use Rattle.session_table.specs.Step.{Step, Answers, Changes, Saves, Gets, Tells, TellsAll, Registers, Loads, Commits, Offers, Asks, Mounts, Arms, Migrates, MovesTo, told, as_pair, deliveries_of, is_registered, without_first, held_for, needs_power}
 use Rattle.session_table.specs.Plain.{Outcome, ComesOut, without_units, is_plain, free_count, all_free, carried_out, plain_change, plain_save, plain_taking, plain_register, plain_load, plain_offer, plain_asked, plain_move, plain_on, plain as plain_of, plain_answers, plain_state, value_or_absent}
@@ -79,7 +79,7 @@ module _ (r : Rules) where
   save_plain commands (Lost units chance) old new is plain = absurd (false≢true plain)
   save_plain commands answer old new none plain = absurd none
 
-  move_plain : (to : ℕ) (answer : Answer) (old new : State) → target r old.active ≡ Some to → MovesTo r to answer old new → is_plain answer ≡ true → ComesOut (plain_move r (Some to) old) answer new
+  move_plain : (to : ℕ) (answer : Answer) (old new : State) → r.target old.active ≡ Some to → MovesTo r to answer old new → is_plain answer ≡ true → ComesOut (plain_move r (Some to) old) answer new
   move_plain to (Done units) old new at is plain =
       by_true (all_free (r.room to) empty (all_puts old.settings)) (record { answer = Done 0; state = record old { active = to } }) (record { answer = TooMany 0; state = old }) (Done units) new
       (all_are_free (r.room to) empty (all_puts old.settings) is.0) (refl, is.1)
@@ -90,10 +90,10 @@ module _ (r : Rules) where
   move_plain to (Lost units chance) old new at is plain = absurd (false≢true plain)
   move_plain to answer old new at none plain = absurd none
 
-  to_target : (answer : Answer) (old new : State) → (to : ℕ) × (target r old.active ≡ Some to) × MovesTo r to answer old new → is_plain answer ≡ true → ComesOut (plain_move r (target r old.active) old) answer new
+  to_target : (answer : Answer) (old new : State) → (to : ℕ) × (r.target old.active ≡ Some to) × MovesTo r to answer old new → is_plain answer ≡ true → ComesOut (plain_move r (r.target old.active) old) answer new
   to_target answer old new is plain = subst (λ (o : Option ℕ). ComesOut (plain_move r o old) answer new) (sym is.1) (move_plain is.0 answer old new is.1 is.2 plain)
 
-  migrate_plain : (answer : Answer) (old new : State) → Migrates r answer old new → is_plain answer ≡ true → ComesOut (plain_move r (target r old.active) old) answer new
+  migrate_plain : (answer : Answer) (old new : State) → Migrates r answer old new → is_plain answer ≡ true → ComesOut (plain_move r (r.target old.active) old) answer new
   migrate_plain NoTarget old new is plain = subst (λ (o : Option ℕ). ComesOut (plain_move r o old) NoTarget new) (sym is.0) (refl, is.1)
   migrate_plain answer old new is plain = to_target answer old new is plain
 

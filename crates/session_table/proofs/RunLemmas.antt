@@ -8,6 +8,7 @@ use Rattle.flash_sim.specs.declared.flash.Bank.{Bank}
 use Rattle.flash_map.specs.declared.area.Area.{Area}
 use Rattle.flash_map.specs.Touches.{IsIn, IsInSome}
 use Rattle.flash_map.proofs.Plans.{counted_counted}
+use Rattle.migrator.specs.Active.{active_on}
 use Rattle.script_lines.specs.declared.line.Line.{Line}
 use Rattle.script_lines.specs.declared.answer.Answer.{Answer}
 use Rattle.script_lines.specs.Plan.{units_of, is_lost, losses_in, Planned, plan_through, PlansNoLoss}
@@ -86,7 +87,7 @@ module _ (m : Meanings) (areas : List Area) where
         tail.1 ∙ ap (λ (plan : Plan). plan_through plan lines answers) (runs.1.accounts.plan mid),
       )
 
-  keeps_of : (banks : List Bank) (lines : List Line) (answers : List Answer) (actives : List ℕ) (old new : Moment) → old.device.banks ≡ banks → Contains actives (m.active areas old.device)
+  keeps_of : (banks : List Bank) (lines : List Line) (answers : List Answer) (actives : List ℕ) (old new : Moment) → old.device.banks ≡ banks → Contains actives (active_on areas old.device)
       → Follows (LineDone m areas) lines answers old new → Keeps (map (area_at areas) (all_worked_on (rules_of m areas banks 0) (places_of is_selector areas) lines answers actives)) old.device new.device
   keeps_of banks [] [] actives old new is has same = subst (λ (s : Moment). Keeps [] old.device s.device) (sym same) (keeps_same [] old.device)
   keeps_of banks [] (answer ∷ answers) actives old new is has none = absurd none
@@ -95,14 +96,14 @@ module _ (m : Meanings) (areas : List Area) where
       let mid : Moment = runs.0 in
       let r : Rules = rules_of m areas banks 0 in
       let sel : List ℕ = places_of is_selector areas in
-      let active : ℕ = m.active areas old.device in
+      let active : ℕ = active_on areas old.device in
       let next : List ℕ = actives_after r line answer actives in
       let front : List ℕ = worked_on r sel line answer actives in
       let back : List ℕ = all_worked_on r sel lines answers next in
       let last : ℕ = mid.device.spent in
       let one = subst (λ (b : List Bank). Keeps (map (area_at areas) (worked_on (rules_of m areas b 0) sel line answer (active ∷ []))) old.device mid.device) is runs.1.keeps in
       let head = keeps_within (area_at areas) (worked_on r sel line answer (active ∷ [])) front old.device mid.device (works_within r sel line answer active actives has) one in
-      let goes = subst (λ (b : List Bank). Contains (actives_after (rules_of m areas b last) line answer actives) (m.active areas mid.device)) is
+      let goes = subst (λ (b : List Bank). Contains (actives_after (rules_of m areas b last) line answer actives) (active_on areas mid.device)) is
       (goes_on (rules_of m areas old.device.banks last) line answer (state_of m areas old) (state_of m areas mid) actives (runs.1.step last (omega arith)) has) in
       let tail = keeps_of banks lines answers next mid new (runs.1.keeps.banks ∙ is) goes runs.2 in
       keeps_both (map (area_at areas) (front ++ back)) old.device mid.device new.device
@@ -133,7 +134,7 @@ module _ (m : Meanings) (areas : List Area) where
     spent = summed (LineDone m areas) (λ s. s.device.spent) units_of (λ line answer a b done. done.accounts.spent) lines answers old new runs;
     losses = losses_of lines answers old new runs;
     planned = λ counts. planned_of lines answers old new counts runs;
-    keeps = keeps_of old.device.banks lines answers (m.active areas old.device ∷ []) old new refl (0, omega arith, refl) runs;
+    keeps = keeps_of old.device.banks lines answers (active_on areas old.device ∷ []) old new refl (0, omega arith, refl) runs;
     unplanned = unplanned_of lines answers old new runs;
     chance = chance_of lines answers old new runs;
   }

@@ -10,6 +10,8 @@ use Rattle.flash_map.specs.declared.area.Geometry.{Geometry}
 use Rattle.flash_map.specs.declared.area.Role.{Role}
 use Rattle.flash_map.specs.declared.area.Role.TheVariants.{Sel}
 use Rattle.flash_map.specs.Touches.{SameOutside}
+use Rattle.migrator.specs.Active.{active_on}
+use Rattle.migrator.specs.Areas.{target}
 use Rattle.handlers.specs.declared.handler.HandlerKind.{HandlerKind}
 use Rattle.handlers.specs.Registry.{Registered}
 use Rattle.backend_api.specs.Commands.{Command}
@@ -22,7 +24,7 @@ use Rattle.script_lines.specs.declared.answer.Answer.{Answer}
 use Rattle.script_lines.specs.declared.answer.Answer.TheVariants.{Done, Lost, Off, NoTarget}
 use Rattle.script_lines.specs.Plan.{units_of, is_lost, units_in, losses_in, Allows, plan_after, Planned, plan_through, PlansNoLoss}
 use Rattle.session_table.specs.Follows.{Follows}
-use Rattle.session_table.specs.Rules.{Rules, IsCounted, target}
+use Rattle.session_table.specs.Rules.{Rules, IsCounted}
 use Rattle.session_table.specs.State.{State}
 use Rattle.session_table.specs.Step.{Step}
 
@@ -32,8 +34,6 @@ pub record Meanings : Type 1 where
   pub room : Area → Geometry → Room
   pub chance : Area → Geometry → List (List ℕ) → Loss → Bool
   pub tears : Area → Geometry → Command → ℕ → Map → Map → Type 0
-  -- the place of the active area, by the bytes of the selector
-  pub active : List Area → Device → ℕ
 
 -- ---- areas
 
@@ -43,10 +43,6 @@ area_at areas place = slice_index_or areas place (record { label = record { byte
 abbrev pub is_selector : Role → Bool
 is_selector Sel = true
 is_selector role = false
-
-abbrev pub has_settings : Role → Bool
-has_settings Sel = false
-has_settings role = true
 
 -- the places of the areas of a role like this
 abbrev pub places_of : (Role → Bool) → List Area → List ℕ
@@ -58,7 +54,7 @@ geometry_in banks area = record { unit = (bank_at banks area.bank).unit; sector 
 -- the numbers of these areas, where the count of units is so much in the end
 abbrev pub rules_of : Meanings → List Area → List Bank → ℕ → Rules
 rules_of m areas banks last = record {
-  stores = places_of has_settings areas;
+  target = target areas;
   label = λ place. (area_at areas place).label.bytes;
   geometry = λ place. geometry_in banks (area_at areas place);
   room = λ place. m.room (area_at areas place) (geometry_in banks (area_at areas place));
@@ -76,11 +72,11 @@ pub record Moment : Type 0 where
 
 abbrev pub state_of : Meanings → List Area → Moment → State
 state_of m areas now = record {
-  settings = on m.contents now.device (area_at areas (m.active areas now.device));
+  settings = on m.contents now.device (area_at areas (active_on areas now.device));
   is_on = now.device.is_on;
   registry = now.registry;
   pool = now.pool;
-  active = m.active areas now.device;
+  active = active_on areas now.device;
 }
 
 -- ---- which areas change
@@ -93,13 +89,13 @@ worked_on r selector (Delete name) answer actives = actives
 worked_on r selector (Save subtree) answer actives = actives
 worked_on r selector Mount answer actives = selector ++ actives
 worked_on r selector Migrate NoTarget actives = []
-worked_on r selector Migrate answer actives = selector ++ filter_map (target r) actives
+worked_on r selector Migrate answer actives = selector ++ filter_map r.target actives
 worked_on r selector line answer actives = []
 
 -- those of the areas that may be active then
 abbrev pub actives_after : Rules → Line → Answer → List ℕ → List ℕ
-actives_after r Migrate (Done units) actives = filter_map (target r) actives
-actives_after r Migrate (Lost units chance) actives = actives ++ filter_map (target r) actives
+actives_after r Migrate (Done units) actives = filter_map r.target actives
+actives_after r Migrate (Lost units chance) actives = actives ++ filter_map r.target actives
 actives_after r line answer actives = actives
 
 abbrev pub all_worked_on : Rules → List ℕ → List Line → List Answer → List ℕ → List ℕ
@@ -138,13 +134,13 @@ pub record ShowsChance (m : Meanings) (area : Area) (chance : Bool) (d : Device)
 abbrev pub TellsChance : Meanings → List Area → Line → Answer → Device → Type 0
 TellsChance m areas Mount answer d = ⊤
 TellsChance m areas Migrate answer d = ⊤
-TellsChance m areas line (Lost units chance) d = ShowsChance m (area_at areas (m.active areas d)) chance d
+TellsChance m areas line (Lost units chance) d = ShowsChance m (area_at areas (active_on areas d)) chance d
 TellsChance m areas line answer d = ⊤
 
 pub record LineDone (m : Meanings) (areas : List Area) (line : Line) (answer : Answer) (old new : Moment) : Type 0 where
   pub step : (last : ℕ) → new.device.spent ≤ last → Step (rules_of m areas old.device.banks last) line answer (state_of m areas old) (state_of m areas new)
   pub accounts : Accounts line answer old.device new.device
-  pub keeps : Keeps (map (area_at areas) (worked_on (rules_of m areas old.device.banks 0) (places_of is_selector areas) line answer (m.active areas old.device ∷ []))) old.device new.device
+  pub keeps : Keeps (map (area_at areas) (worked_on (rules_of m areas old.device.banks 0) (places_of is_selector areas) line answer (active_on areas old.device ∷ []))) old.device new.device
   pub chance : TellsChance m areas line answer new.device
 
 -- ---- a run
@@ -161,6 +157,6 @@ pub record Runs (m : Meanings) (areas : List Area) (lines : List Line) (answers 
   pub spent : old.device.spent + units_in answers ≡ new.device.spent
   pub losses : new.device.losses ≡ counted old.device.losses (losses_in answers)
   pub planned : IsCounted new.device.spent → Planned old.device.plan lines answers × (new.device.plan ≡ plan_through old.device.plan lines answers)
-  pub keeps : Keeps (map (area_at areas) (all_worked_on (rules_of m areas old.device.banks 0) (places_of is_selector areas) lines answers (m.active areas old.device ∷ []))) old.device new.device
+  pub keeps : Keeps (map (area_at areas) (all_worked_on (rules_of m areas old.device.banks 0) (places_of is_selector areas) lines answers (active_on areas old.device ∷ []))) old.device new.device
   pub unplanned : All PlansNoLoss lines → StaysUnplanned old.device new.device
   pub chance : TellsLastChance m areas lines answers new.device

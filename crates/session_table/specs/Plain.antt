@@ -16,7 +16,7 @@ use Rattle.settings_core.specs.Carrying.{is_too_many}
 use Rattle.settings_core.specs.Committing.{commit_all}
 use Rattle.settings_core.specs.Deliveries.{Delivery, delivery, deliver, deliver_all, is_taken, settings_under}
 use Rattle.session_table.specs.Commands.{commands_of, all_puts}
-use Rattle.session_table.specs.Rules.{Rules, target}
+use Rattle.session_table.specs.Rules.{Rules}
 use Rattle.session_table.specs.State.{State}
 use Rattle.session_table.specs.Step.{told, as_pair, is_registered, without_first, deliveries_of, give, held_for, needs_power}
 
@@ -124,7 +124,7 @@ plain_on r (RunGet name) s = record { answer = plain_asked (held_for s.registry 
 plain_on r Mount s = record { answer = Done 0; state = record s { is_on = true } }
 plain_on r (Cut units) s = record { answer = Done 0; state = s }
 plain_on r Uncut s = record { answer = Done 0; state = s }
-plain_on r Migrate s = plain_move r (target r s.active) s
+plain_on r Migrate s = plain_move r (r.target s.active) s
 
 abbrev pub plain : Rules → Line → State → Outcome
 plain r line s = if needs_power line && not s.is_on then record { answer = Off; state = s } else plain_on r line s

@@ -1,14 +1,13 @@
 -- What the table of answers knows of a flash: the numbers of its areas, each by its place in the map. It knows no byte.
-use Rattle.std.specs.Prelude.{ℕ, ◌-◌, ◌^◌, ◌<◌, nat_lt, List, find, Option}
-use Rattle.std.specs.Option.{option_or}
+use Rattle.std.specs.Prelude.{ℕ, ◌-◌, ◌^◌, ◌<◌, List, Option}
 use Rattle.flash_map.specs.declared.area.Geometry.{Geometry}
 use Rattle.backend_api.specs.Commands.{Command}
 use Rattle.backend_api.specs.Map.{Map}
 use Rattle.backend_api.specs.Room.{Room}
 
 pub record Rules : Type 1 where
-  -- the places of the areas for settings, in the order of the map
-  pub stores : List ℕ
+  -- the place of the area to which the settings of the area at a place would go; none where there is no other for settings
+  pub target : ℕ → Option ℕ
   pub label : ℕ → List ℕ
   pub geometry : ℕ → Geometry
   pub room : ℕ → Room
@@ -20,7 +19,3 @@ pub record Rules : Type 1 where
 -- this count of units is not at its end
 abbrev pub IsCounted : ℕ → Type 0
 IsCounted spent = spent < 2 ^ 64 - 1
-
--- the next of the areas for settings, round the end of the map; none where there is no other
-abbrev pub target : Rules → ℕ → Option ℕ
-target r active = option_or (find (λ place. nat_lt active place) r.stores) (find (λ place. nat_lt place active) r.stores)

@@ -25,7 +25,7 @@ use Rattle.settings_core.specs.Saving.{more_pairs}
 use Rattle.settings_core.specs.Deliveries as deliveries
 use Rattle.settings_core.specs.Deliveries.{Delivery, delivery, delivered, deliver, deliver_all, is_taken, settings_under}
 use Rattle.session_table.specs.Commands.{commands_of, all_puts, StopsForNames, StopsForPower, StopsTorn}
-use Rattle.session_table.specs.Rules.{Rules, IsCounted, target}
+use Rattle.session_table.specs.Rules.{Rules, IsCounted}
 use Rattle.session_table.specs.State.{State, IsOn, IsOff}
 
 -- ---- changing settings
@@ -174,8 +174,8 @@ MovesTo r to (Lost units false) old new =
 MovesTo r to answer old new = ⊥
 
 abbrev pub Migrates : Rules → Answer → State → State → Type 0
-Migrates r NoTarget old new = (target r old.active ≡ None) × (new ≡ old)
-Migrates r answer old new = (to : ℕ) × (target r old.active ≡ Some to) × MovesTo r to answer old new
+Migrates r NoTarget old new = (r.target old.active ≡ None) × (new ≡ old)
+Migrates r answer old new = (to : ℕ) × (r.target old.active ≡ Some to) × MovesTo r to answer old new
 
 -- ---- all lines
 

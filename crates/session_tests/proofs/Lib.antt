@@ -1,2 +1,1 @@
-pub mod TestBank
 pub mod TestLemmas

@@ -1,5 +1,5 @@
-//! Tests of sessions on one area.
+//! Tests of sessions on a map of areas.
 #![tactic(auto)]
 
 #[cfg(test)]
-mod sessions;
+mod rows;

@@ -1,5 +1,5 @@
 // Committing handlers.
-ghost use Rattle.std.specs.Prelude.{◌≡◌, ◌<◌, length, get_or, option_map};
+ghost use Rattle.std.specs.Prelude.{⊤, ◌≡◌, ◌<◌, length, get_or, option_map};
 ghost use Rattle.handlers.specs.Registry.{registered, nobody};
 ghost use Rattle.settings_core.specs.Committing.{is_under, commit_all};
 
@@ -7,7 +7,10 @@ use handlers::Registry;
 use setting_name::Name;
 
 /// Commits, in the order of registration, each handler whose own subtree matches the given one; all without one.
+// Its `requires` asks nothing. A function that has one is proved only where it makes no boxes of its own, so that no caller
+// in another crate is said to hide some.
 pub fn commit(registry: &mut Registry, subtree: Option<&Name>)
+    requires { ⊤ }
     ensures { registered state registry.new ≡ commit_all (option_map (λ name. name.now) subtree.entry) (registered state registry.old) }
 {
     let mut i = 0;

@@ -1,5 +1,5 @@
 // Setting and getting values of handlers at run time.
-ghost use Rattle.std.specs.Prelude.{◌≡◌};
+ghost use Rattle.std.specs.Prelude.{⊤, ◌≡◌};
 ghost use Rattle.handlers.specs.Registry.{registered};
 ghost use Rattle.settings_core.specs.Runtime.{RuntimeSetEnds, RuntimeGetEnds};
 
@@ -28,12 +28,15 @@ pub struct NoHandler;
 /// # Errors
 /// `NoHandler` exactly where no subtree matches the name; `Rejected` exactly where the handler does not accept the value;
 /// `NoMemory` only where it does. Nothing changes then.
+// Its `requires` asks nothing. A function that has one is proved only where it makes no boxes of its own, so that no caller
+// in another crate is said to hide some.
 pub fn runtime_set(
     alloc: Global,
     registry: &mut Registry,
     name: &Name,
     value: &[u8],
 ) -> Result<(), RuntimeFault>
+    requires { ⊤ }
     ensures { RuntimeSetEnds (registered state registry.old) (registered state registry.new) name.now value.now result }
 {
     let Some(place) = registry.best(name) else {

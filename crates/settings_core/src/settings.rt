@@ -3,8 +3,10 @@ ghost use Rattle.std.specs.Prelude.{◌≡◌, ◌∷◌, [], not, true, None, I
 ghost use Rattle.flash_map.specs.Area.{geometry_of};
 ghost use Rattle.flash_map.specs.Faults.{mount_lost};
 ghost use Rattle.flash_map.specs.Lawful.{IsLawfulFor};
+ghost use Rattle.flash_map.specs.Spending.{SpendsAtMost};
 ghost use Rattle.flash_map.specs.Touches.{Touches};
 ghost use Rattle.backend_api.specs.Ends.{MountEnds};
+ghost use Rattle.backend_api.specs.Room.{mount_units};
 ghost use Rattle.flash_map.specs.On.{on, HoldsOn, StandsOn};
 ghost use Rattle.settings_core.specs.Reading.{GetEnds};
 
@@ -26,7 +28,7 @@ pub struct Settings<K: Backend> {
 }
 
 impl<K: Backend> Settings<K> {
-    /// Mounts a backend on an area. The map stays, also where power is lost.
+    /// Mounts a backend on an area. The map stays, also where power is lost. Units and erases are those of `Backend::mount`.
     ///
     /// # Errors
     /// Those of `Backend::mount`.
@@ -44,6 +46,7 @@ impl<K: Backend> Settings<K> {
         ensures sound { on K.damage (F.device flash.old) area ≡ None → on K.damage (F.device flash.new) area ≡ None }
         ensures keeps { on K.damage (F.device flash.old) area ≡ None → on K.contents (F.device flash.new) area ≡ on K.contents (F.device flash.old) area }
         ensures rests { HoldsOn K.rests (F.device flash.old) area → F.device flash.new ≡ F.device flash.old }
+        ensures at_most { let d = F.device flash.old in SpendsAtMost d (F.device flash.new) (mount_units (geometry_of d area)) }
         ensures area { IfOk result (λ settings. K.mounted_on settings.backend ≡ area) }
         ensures stands { IfOk result (λ settings. StandsOn K.mounted_on K.stands (F.device flash.new) settings.backend) }
         ensures up { IfOk result (λ settings. K.runs settings.backend ≡ true) }

@@ -5,8 +5,12 @@ pub mod CopyLoop
 pub mod Damages
 pub mod EntryReads
 pub mod Examples
+pub mod LastPlaces
+pub mod LastTables
 pub mod LiveSum
 pub mod MountLemmas
+pub mod MountUnits
+pub mod NextClasses
 pub mod NextIds
 pub mod PlacedLemmas
 pub mod PlacedReads

@@ -1,6 +1,7 @@
 pub mod Area
 pub mod Collecting
 pub mod Ends
+pub mod Latest
 pub mod OnStore
 pub mod Parts
 pub mod Sought

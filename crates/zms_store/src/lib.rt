@@ -3,6 +3,7 @@
 
 #[tactic(auto, using(flash_map::proofs::Touches::then))]
 mod collecting;
+mod latest;
 mod laws;
 mod lookup;
 mod mounting;
@@ -15,6 +16,7 @@ mod walking;
 #[tactic(auto, using(flash_map::proofs::Touches::then))]
 mod writing;
 
+pub use latest::LastSlots;
 pub use laws::parts_of_list;
 pub use sector::Placed;
 pub use store::Zms;

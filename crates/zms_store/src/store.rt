@@ -1,7 +1,7 @@
 // The store, mounting, and closing with a collection.
-ghost use Rattle.std.specs.Prelude.{◌≡◌, ◌∷◌, [], true, false, is_err, OnOk, OnErr};
-ghost use Rattle.flash_map.specs.Area.{sectors_of};
-ghost use Rattle.flash_map.specs.Spending.{SpendsBetween};
+ghost use Rattle.std.specs.Prelude.{◌≡◌, ◌*◌, ◌/◌, ◌∷◌, [], true, false, is_err, OnOk, OnErr};
+ghost use Rattle.flash_map.specs.Area.{sector_size, sectors_of};
+ghost use Rattle.flash_map.specs.Spending.{SpendsAtMost, SpendsBetween};
 ghost use Rattle.flash_map.specs.Touches.{Touches};
 ghost use Rattle.ring_laws.specs.Area.{is_blank_at};
 ghost use Rattle.zms_store.specs.Area.{reading};
@@ -31,7 +31,7 @@ pub struct Zms {
 impl Zms {
     /// Reads the area and carries out what a loss of power left undone: the emptying of a collected sector, which takes
     /// one to three units, or a whole collection. Where neither was cut, nothing is programmed. The items stay, also where
-    /// power is lost. It takes no memory yet.
+    /// power is lost. Whatever the result, it programs at most twice the units of a sector. It takes no memory yet.
     ///
     /// # Errors
     /// `Damaged`, and then nothing was programmed; `PowerLost`. Never `NoMemory`.
@@ -44,6 +44,7 @@ impl Zms {
         requires { IsZmsArea (F.device flash.old).banks area }
         ensures touches { Touches (area ∷ []) (F.device flash.old) (F.device flash.new) (mount_lost result) }
         ensures ends { MountEnds (F.device flash.old) (F.device flash.new) area result }
+        ensures at_most { let d = F.device flash.old in SpendsAtMost d (F.device flash.new) (2 * (sector_size d area / 16)) }
     {
         match scan(flash, &area, steps) {
             Err(damaged) => Err(MountFault::Damaged(damaged)),

@@ -256,8 +256,10 @@ fn walks<B: Bench, L: Ledger, R: Abort>(rt: &R, bench: &B, zms: &Zms, steps: &mu
 fn ids<B: Bench, L: Ledger, R: Abort>(rt: &R, bench: &B, zms: &Zms, steps: &mut Steps<L>)
     requires stands { StandsOn (B.device bench.now) zms.now }
 {
+    let last = zms.last_slots(bench, steps);
     let mut after = None;
     for id in [3, 7, 9] {
+        assert_eq!(rt; zms.next_by(bench, &last, after, steps), Some(id));
         after = zms.next_id(bench, after, steps);
         assert_eq!(rt; after, Some(id));
     }

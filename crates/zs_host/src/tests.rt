@@ -48,6 +48,8 @@ fn memory(rt: HostRuntime) -> Result<(), Fail> {
 
 const NAME: &str = "zs_host_test.bin";
 
+const TAKEN: &str = "zs_host_test.bin.part";
+
 #[test]
 fn real_files(rt: HostRuntime) -> Result<(), Fail> {
     let alloc = rt.alloc();
@@ -85,6 +87,17 @@ fn real_files(rt: HostRuntime) -> Result<(), Fail> {
         Some(HostFault::Failed)
     );
     assert_eq!(rt; host.faults(), 2);
+    // Where its other name is taken by a folder, a file can't be written, and what stood there stands.
+    fs::create_dir(&rt, TAKEN)?;
+    assert_eq!(rt;
+        host.write_whole(alloc, NAME, b"def").err(),
+        Some(HostFault::Failed)
+    );
+    fs::remove_dir(&rt, TAKEN)?;
+    assert_eq!(rt;
+        host.read_whole(alloc, NAME, 3)?.as_slice(),
+        b"abc".as_slice()
+    );
     fs::remove_file(&rt, NAME)?;
     Ok(())
 }

@@ -11,7 +11,7 @@ put_new-requires-clause-few g c =
     group-free (value_limit area) (on g.S.ItemStore.contents (g.F.Flash.device c.args.flash.now) area) c.args.name.now c.requires.clean c.in-Some-free_place.free c.in-Some-free_place.ensures.place
 
 -- there is none
-pub returns-in-None-free_place-clause-ends : goal.returns-in-None-free_place-clause-ends
-returns-in-None-free_place-clause-ends g c =
+pub returns-clause-ends : goal.returns-clause-ends
+returns-clause-ends g c =
     let area = g.S.ItemStore.mounted_on c.args.store.now in
     (group-full (value_limit area) (on g.S.ItemStore.contents (g.F.Flash.device c.args.flash.now) area) c.args.name.now c.requires.clean c.in-None.ensures.place c.in-None-free_place.ensures.place, refl)

@@ -7,7 +7,7 @@ use Rattle.nvs_store.specs.Scans.{reading}
 use Rattle.nvs_store.proofs.Appending.{open_is}
 use Rattle.nvs_store.proofs.FoundLemmas.{among}
 use Rattle.nvs_store.proofs.MountLemmas.{length-sectors}
-use Rattle.nvs_gc.proofs.LastSlots.{tells_all}
+use Rattle.nvs_gc.proofs.LastTables.{tells_all}
 use Rattle.nvs_gc.proofs.latest.last_slots.Goals as goal
 
 pub overflow_add-older : goal.overflow_add-older

@@ -4,7 +4,7 @@ use Rattle.flash_sim.specs.Device.{Device}
 use Rattle.flash_map.specs.Area.{unit_of, sectors_of}
 use Rattle.nvs_store.proofs.FoundLemmas.{among}
 use Rattle.nvs_gc.specs.Latest.{Tells}
-use Rattle.nvs_gc.proofs.LastSlots.{tells_sector}
+use Rattle.nvs_gc.proofs.LastTables.{tells_sector}
 use Rattle.nvs_gc.proofs.latest.note_among.Goals as goal
 
 pub loop-place-init : goal.loop-place-init

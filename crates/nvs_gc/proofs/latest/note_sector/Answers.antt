@@ -7,7 +7,7 @@ use Rattle.nvs_store.specs.Scans.{found_at}
 use Rattle.nvs_store.proofs.Lookups.{used_inside, entries_to, entries_to_used}
 use Rattle.nvs_store.proofs.SlotReads.{slot_size_bounds}
 use Rattle.nvs_gc.specs.Latest.{Tells}
-use Rattle.nvs_gc.proofs.LastSlots.{tells_slot}
+use Rattle.nvs_gc.proofs.LastTables.{tells_slot}
 use Rattle.nvs_gc.proofs.latest.note_sector.Goals as goal
 
 pub loop-slot-init : goal.loop-slot-init

@@ -5,7 +5,7 @@ use Rattle.nvs_store.specs.declared.scan.Found.{Found}
 use Rattle.nvs_store.specs.Sector.{slot_at, counting_entry}
 use Rattle.nvs_store.specs.Scans.{found_at}
 use Rattle.nvs_gc.specs.Latest.{Tells}
-use Rattle.nvs_gc.proofs.LastSlots.{tells_one, tells_same, found_place}
+use Rattle.nvs_gc.proofs.LastTables.{tells_one, tells_same, found_place}
 use Rattle.nvs_gc.proofs.latest.note_slot.Goals as goal
 
 pub returns-in-None : goal.returns-in-None

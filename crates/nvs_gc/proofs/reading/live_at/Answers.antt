@@ -3,7 +3,7 @@ use Rattle.std.specs.Option.{option_map}
 use Rattle.flash_map.specs.Area.{sector_at}
 use Rattle.nvs_store.specs.Sector.{slot_at, counting_entry}
 use Rattle.nvs_store.specs.Scans.{found_at}
-use Rattle.nvs_gc.proofs.LastSlots.{live_is}
+use Rattle.nvs_gc.proofs.LastTables.{live_is}
 use Rattle.nvs_gc.proofs.reading.live_at.Goals as goal
 
 pub returns-then-is_live : goal.returns-then-is_live

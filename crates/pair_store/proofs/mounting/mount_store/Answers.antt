@@ -1,12 +1,18 @@
-use Rattle.std.proofs.Common.{◌≡◌, ◌∷◌, [], true, refl, sym, ap, subst, ◌∙◌}
-use Rattle.std.specs.FinMap.{get}
+use Rattle.std.proofs.Common.{◌≡◌, ◌*◌, ◌∷◌, [], true, None, refl, sym, ap, subst, ◌∙◌, inr}
+use Rattle.std.specs.FinMap.{get, len}
 use Rattle.flash_sim.specs.Device.{Device}
 use Rattle.flash_map.specs.declared.area.Area.{Area}
+use Rattle.flash_map.specs.declared.area.Geometry.{Geometry}
+use Rattle.flash_map.specs.Area.{geometry_of}
+use Rattle.flash_map.specs.Spending.{SpendsAtMost}
 use Rattle.flash_map.specs.Touches.{Touches}
 use Rattle.flash_map.proofs.Touches.{then}
 use Rattle.flash_map.specs.On.{on}
 use Rattle.pair_laws.specs.Items.{Items}
-use Rattle.pair_store.specs.Strays.{KeepsEach}
+use Rattle.backend_api.specs.Room.{removal_units}
+use Rattle.pair_store.specs.Strays.{KeepsEach, OnlyRemoves}
+use Rattle.pair_store.proofs.RemovalUnits.{store-mounted, all-removed}
+use Rattle.pair_store.proofs.SpendSteps.{geometry-stays}
 use Rattle.item_pairs.specs.Pairs.{HasNoStrays}
 use Rattle.pair_store.proofs.mounting.mount_store.Goals as goal
 
@@ -70,3 +76,61 @@ returns-in-Err-remove_strays-clause-rests g c = λ rest none.
 
 pub returns-in-Err-clause-kept : goal.returns-in-Err-clause-kept
 returns-in-Err-clause-kept g c = λ none id is. ap (λ (m : Items). get m id) (c.in-Err.ensures.keeps none)
+
+pub returns-in-Ok-remove_strays-clause-at_most : goal.returns-in-Ok-remove_strays-clause-at_most
+returns-in-Ok-remove_strays-clause-at_most g c =
+    let d : Device = g.F.Flash.device c.args.flash.now in
+    let e : Device = g.F.Flash.device c.mount.new.flash in
+    let f : Device = g.F.Flash.device c.remove_strays.new.flash in
+    let own : Area = c.args.area in
+    let on_it : g.S.ItemStore.mounted_on c.in-Ok.store ≡ own = c.in-Ok.ensures.on in
+    let none : on g.S.ItemStore.damage d own ≡ None = c.in-Ok.ensures.ends in
+    let keeps : on g.S.ItemStore.contents e own ≡ on g.S.ItemStore.contents d own = c.in-Ok.ensures.keeps none in
+    let few = g.met.S.ItemStore.few d own (g.met.F.Flash.is_lawful c.args.flash.now) c.requires.lawful c.requires.serves in
+    all-removed (geometry_of d own) d e f (len (on g.S.ItemStore.contents d own)) few c.in-Ok.ensures.at_most
+    (subst (λ (k : Geometry). SpendsAtMost e f (len (on g.S.ItemStore.contents d own) * removal_units k)) (geometry-stays d e own c.in-Ok.ensures.touches.banks)
+    (subst (λ (m : Items). SpendsAtMost e f (len m * removal_units (geometry_of e own))) keeps
+    (subst (λ (x : Area). SpendsAtMost e f (len (on g.S.ItemStore.contents e x) * removal_units (geometry_of e x))) on_it c.remove_strays.ensures.at_most)))
+
+pub returns-in-Err-remove_strays-clause-at_most : goal.returns-in-Err-remove_strays-clause-at_most
+returns-in-Err-remove_strays-clause-at_most g c =
+    let d : Device = g.F.Flash.device c.args.flash.now in
+    let e : Device = g.F.Flash.device c.mount.new.flash in
+    let f : Device = g.F.Flash.device c.remove_strays.new.flash in
+    let own : Area = c.args.area in
+    let on_it : g.S.ItemStore.mounted_on c.in-Ok.store ≡ own = c.in-Ok.ensures.on in
+    let none : on g.S.ItemStore.damage d own ≡ None = c.in-Ok.ensures.ends in
+    let keeps : on g.S.ItemStore.contents e own ≡ on g.S.ItemStore.contents d own = c.in-Ok.ensures.keeps none in
+    let few = g.met.S.ItemStore.few d own (g.met.F.Flash.is_lawful c.args.flash.now) c.requires.lawful c.requires.serves in
+    all-removed (geometry_of d own) d e f (len (on g.S.ItemStore.contents d own)) few c.in-Ok.ensures.at_most
+    (subst (λ (k : Geometry). SpendsAtMost e f (len (on g.S.ItemStore.contents d own) * removal_units k)) (geometry-stays d e own c.in-Ok.ensures.touches.banks)
+    (subst (λ (m : Items). SpendsAtMost e f (len m * removal_units (geometry_of e own))) keeps
+    (subst (λ (x : Area). SpendsAtMost e f (len (on g.S.ItemStore.contents e x) * removal_units (geometry_of e x))) on_it c.remove_strays.ensures.at_most)))
+
+pub returns-in-Err-clause-at_most : goal.returns-in-Err-clause-at_most
+returns-in-Err-clause-at_most g c = store-mounted (geometry_of (g.F.Flash.device c.args.flash.now) c.args.area) (g.F.Flash.device c.args.flash.now) (g.F.Flash.device c.mount.new.flash) c.in-Err.ensures.at_most
+
+pub returns-in-Ok-remove_strays-clause-gone : goal.returns-in-Ok-remove_strays-clause-gone
+returns-in-Ok-remove_strays-clause-gone g c = λ none.
+    let d : Device = g.F.Flash.device c.args.flash.now in
+    let e : Device = g.F.Flash.device c.mount.new.flash in
+    let f : Device = g.F.Flash.device c.remove_strays.new.flash in
+    let own : Area = c.args.area in
+    let on_it : g.S.ItemStore.mounted_on c.in-Ok.store ≡ own = c.in-Ok.ensures.on in
+    let keeps : on g.S.ItemStore.contents e own ≡ on g.S.ItemStore.contents d own = c.in-Ok.ensures.keeps none in
+    subst (λ (m : Items). OnlyRemoves m (on g.S.ItemStore.contents f own)) keeps
+    (subst (λ (x : Area). OnlyRemoves (on g.S.ItemStore.contents e x) (on g.S.ItemStore.contents f x)) on_it c.remove_strays.ensures.gone)
+
+pub returns-in-Err-remove_strays-clause-gone : goal.returns-in-Err-remove_strays-clause-gone
+returns-in-Err-remove_strays-clause-gone g c = λ none.
+    let d : Device = g.F.Flash.device c.args.flash.now in
+    let e : Device = g.F.Flash.device c.mount.new.flash in
+    let f : Device = g.F.Flash.device c.remove_strays.new.flash in
+    let own : Area = c.args.area in
+    let on_it : g.S.ItemStore.mounted_on c.in-Ok.store ≡ own = c.in-Ok.ensures.on in
+    let keeps : on g.S.ItemStore.contents e own ≡ on g.S.ItemStore.contents d own = c.in-Ok.ensures.keeps none in
+    subst (λ (m : Items). OnlyRemoves m (on g.S.ItemStore.contents f own)) keeps
+    (subst (λ (x : Area). OnlyRemoves (on g.S.ItemStore.contents e x) (on g.S.ItemStore.contents f x)) on_it c.remove_strays.ensures.gone)
+
+pub returns-in-Err-clause-gone : goal.returns-in-Err-clause-gone
+returns-in-Err-clause-gone g c = λ none id. inr (ap (λ (m : Items). get m id) (c.in-Err.ensures.keeps none))

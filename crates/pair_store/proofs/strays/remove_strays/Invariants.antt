@@ -1,8 +1,12 @@
 use Rattle.std.proofs.Common.{◌≡◌, ◌<◌, ◌∷◌, [], false, None}
 use Rattle.std.specs.Prelude.{IfSome}
+use Rattle.flash_map.specs.Area.{geometry_of}
 use Rattle.flash_map.specs.Touches.{Touches}
-use Rattle.flash_map.specs.On.{on, StandsOn}
+use Rattle.flash_map.specs.On.{on, HoldsOn, StandsOn}
 use Rattle.item_pairs.specs.Pairs.{settings_in, HasNoStrays}
+use Rattle.backend_api.specs.Room.{removal_units}
+use Rattle.pair_store.specs.Strays.{OnlyRemoves, SpendsPerItem}
+use Rattle.pair_store.proofs.RemovedSteps.{StaysAhead}
 use Rattle.pair_store.proofs.SoFar.{HasNoneBefore, ids_left}
 use Rattle.pair_store.proofs.StraySteps.{StaysEach}
 use Rattle.pair_store.proofs.strays.remove_strays.Given as goal
@@ -16,11 +20,15 @@ invariant-loop-at g l =
       touches : Touches (own ∷ []) a b false;
       area : g.S.ItemStore.mounted_on l.store ≡ own;
       stands : StandsOn g.S.ItemStore.mounted_on g.S.ItemStore.stands b l.store;
+      tells : HoldsOn (g.S.ItemStore.tells l.index) b (g.S.ItemStore.mounted_on l.store);
       sound : on g.S.ItemStore.damage b own ≡ None;
       keeps : settings_in (g.N.Numbers.numbers own) (on g.S.ItemStore.contents b own) ≡ settings_in (g.N.Numbers.numbers own) (on g.S.ItemStore.contents a own);
       kept : StaysEach (g.N.Numbers.numbers own) (on g.S.ItemStore.contents a own) (on g.S.ItemStore.contents b own);
+      gone : OnlyRemoves (on g.S.ItemStore.contents a own) (on g.S.ItemStore.contents b own);
+      ahead : StaysAhead (on g.S.ItemStore.contents a own) (on g.S.ItemStore.contents b own) l.at;
       same : HasNoStrays (g.N.Numbers.numbers own) (on g.S.ItemStore.contents a own) → b ≡ a;
       so_far : HasNoneBefore (g.N.Numbers.numbers own) (on g.S.ItemStore.contents b own) l.at;
+      per_item : SpendsPerItem (removal_units (geometry_of a own)) a b (on g.S.ItemStore.contents a own) (on g.S.ItemStore.contents b own);
       known : IfSome l.at (λ id. id < g.N.Numbers.top);
     }
 

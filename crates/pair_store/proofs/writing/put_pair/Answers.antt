@@ -28,6 +28,15 @@ returns-in-Err-clause-ends g c =
     value-fails (g.S.ItemStore.price k) (g.S.ItemStore.cap k) own.sectors (on g.S.ItemStore.contents a own) c.args.first c.args.second c.args.name.now c.args.value.now (Unit {0}) a b (on g.S.ItemStore.contents b own) c.in-Err.fault
     (λ same. ap (λ (d : Device). on g.S.ItemStore.contents d own) same) c.in-Err.ensures.ends
 
+pub returns-in-Ok-delete-clause-touches : goal.returns-in-Ok-delete-clause-touches
+returns-in-Ok-delete-clause-touches g c =
+    let b : Device = g.F.Flash.device c.write.new.flash in
+    let e : Device = g.F.Flash.device c.write-2.new.flash in
+    let f : Device = g.F.Flash.device c.delete.new.flash in
+    then c.in-Ok.ensures.touches
+    (then (subst (λ (x : Area). Touches (x ∷ []) b e false) c.in-Ok.ensures.area (subst (λ (w : WriteFault). Touches (g.S.ItemStore.mounted_on c.write.new.self ∷ []) b e (write_lost {T = Unit {0}} (Err w))) c.in-Err-TooLong.field-0-is c.in-Err-TooLong.ensures.touches))
+    (subst (λ (x : Area). Touches (x ∷ []) e f false) (c.in-Err-TooLong.ensures.area ∙ c.in-Ok.ensures.area) c.in-Ok-delete.ensures.touches))
+
 pub returns-in-Ok-delete-clause-ends : goal.returns-in-Ok-delete-clause-ends
 returns-in-Ok-delete-clause-ends g c =
     let a : Device = g.F.Flash.device c.args.flash.now in

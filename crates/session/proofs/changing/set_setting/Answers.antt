@@ -8,9 +8,11 @@ use Rattle.settings_core.specs.Carrying.{command_of}
 use Rattle.script_lines.specs.declared.line.Line.TheVariants.{Set}
 use Rattle.script_lines.specs.declared.answer.Answer.TheVariants.{Done, NoSpace as Full, TooMany, Lost}
 use Rattle.session_table.specs.Bench.{geometry_in}
-use Rattle.session.proofs.LineLemmas.{CarriedAt, ended, set_by_ok, set_by_many, set_by_full, set_by_lost}
+use Rattle.session.proofs.LineLemmas.{CarriedAt, ended, told_at, set_by_ok, set_by_many, set_by_full, set_by_lost}
 use Rattle.flash_map.specs.declared.area.Area.{Area}
 use Rattle.flash_map.specs.On.{on}
+use Rattle.session.specs.OnMap.{active_area}
+use Rattle.session.proofs.ActiveAreas.{active_beside}
 use Rattle.session.proofs.changing.set_setting.Goals as goal
 
 pub spells_another-requires-clause-lawful : goal.spells_another-requires-clause-lawful
@@ -25,10 +27,11 @@ returns-in-Ok-clause-done g c =
     let new = g.B.Flash.device c.save_one-end.new.flash in
     let up = g.K.Backend.runs c.args.settings.now.backend in
     let bytes = c.as_slice.result.now in
-    let here = ended g.K.Backend.contents g.K.Backend.room g.K.Backend.chance g.K.Backend.tears old new (command_of c.args.name.now bytes ∷ []) up (g.K.Backend.mounted_on c.args.settings.now.backend) c.args.area.now c.save_one-end.result (Ok c.in-Ok.field-0) c.requires.area c.in-Ok.is
+    let here = ended g.K.Backend.contents g.K.Backend.room g.K.Backend.chance g.K.Backend.tears old new (command_of c.args.name.now bytes ∷ []) up (g.K.Backend.mounted_on c.args.settings.now.backend) (active_area c.args.map.now old) c.save_one-end.result (Ok c.in-Ok.field-0) (c.requires.area ∙ c.requires.active) c.in-Ok.is
     (record { touches = c.save_one-end.ensures.touches; at_most = c.save_one-end.ensures.at_most; count = c.save_one-end.ensures.ends.0; ends = c.save_one-end.ensures.ends.1 }) in
-    λ registry pool. subst (λ (value : List ℕ). CarriedAt g.K.Backend.contents g.K.Backend.room g.K.Backend.chance g.K.Backend.tears registry pool c.args.area.now (Set c.args.name.now value) (Done (c.spent.result - c.spent-before.result)) old new) c.as_slice.ensures
-    (set_by_ok g.K.Backend.contents g.K.Backend.room g.K.Backend.chance g.K.Backend.tears registry pool c.args.area.now c.args.name.now bytes old new c.requires.on up c.spent-before.result c.spent.result c.spent-before.ensures c.spent.ensures c.in-Ok.field-0 here)
+    let stays = active_beside g.K.Backend.serves c.args.map.now old new c.requires.map (g.met.B.Flash.is_lawful c.args.bench.now) (g.met.B.Flash.is_lawful c.save_one-end.new.flash) here.touches.banks here.touches.outside in
+    λ registry pool. subst (λ (value : List ℕ). CarriedAt g.K.Backend.contents g.K.Backend.room g.K.Backend.chance g.K.Backend.tears registry pool c.args.map.now (Set c.args.name.now value) (Done (c.spent.result - c.spent-before.result)) old new) c.as_slice.ensures
+    (set_by_ok g.K.Backend.contents g.K.Backend.room g.K.Backend.chance g.K.Backend.tears registry pool c.args.map.now c.args.name.now bytes old new c.requires.on stays up c.spent-before.result c.spent.result c.spent-before.ensures c.spent.ensures c.in-Ok.field-0 here)
 
 pub returns-in-Err-NoSpace-clause-done : goal.returns-in-Err-NoSpace-clause-done
 returns-in-Err-NoSpace-clause-done g c =
@@ -38,10 +41,11 @@ returns-in-Err-NoSpace-clause-done g c =
     let bytes = c.as_slice.result.now in
     let which : c.in-Err-NoSpace.field-0 ≡ NoSpace c.in-Err-NoSpace.need c.in-Err-NoSpace.live = rw c.in-Err-NoSpace.is at c.in-Err-NoSpace.field-0-is in
     let end : c.save_one-end.result ≡ Err (NoSpace c.in-Err-NoSpace.need c.in-Err-NoSpace.live) = c.in-Err-NoSpace.is ∙ ap (λ (fault : SaveFault). Err fault) which in
-    let here = ended g.K.Backend.contents g.K.Backend.room g.K.Backend.chance g.K.Backend.tears old new (command_of c.args.name.now bytes ∷ []) up (g.K.Backend.mounted_on c.args.settings.now.backend) c.args.area.now c.save_one-end.result (Err (NoSpace c.in-Err-NoSpace.need c.in-Err-NoSpace.live)) c.requires.area end
+    let here = ended g.K.Backend.contents g.K.Backend.room g.K.Backend.chance g.K.Backend.tears old new (command_of c.args.name.now bytes ∷ []) up (g.K.Backend.mounted_on c.args.settings.now.backend) (active_area c.args.map.now old) c.save_one-end.result (Err (NoSpace c.in-Err-NoSpace.need c.in-Err-NoSpace.live)) (c.requires.area ∙ c.requires.active) end
     (record { touches = c.save_one-end.ensures.touches; at_most = c.save_one-end.ensures.at_most; count = c.save_one-end.ensures.ends.0; ends = c.save_one-end.ensures.ends.1 }) in
-    λ registry pool. subst (λ (value : List ℕ). CarriedAt g.K.Backend.contents g.K.Backend.room g.K.Backend.chance g.K.Backend.tears registry pool c.args.area.now (Set c.args.name.now value) (Full (c.spent.result - c.spent-before.result) c.in-Err-NoSpace.need c.in-Err-NoSpace.live) old new) c.as_slice.ensures
-    (set_by_full g.K.Backend.contents g.K.Backend.room g.K.Backend.chance g.K.Backend.tears registry pool c.args.area.now c.args.name.now bytes old new c.requires.on up c.spent-before.result c.spent.result c.spent-before.ensures c.spent.ensures c.in-Err-NoSpace.need c.in-Err-NoSpace.live here)
+    let stays = active_beside g.K.Backend.serves c.args.map.now old new c.requires.map (g.met.B.Flash.is_lawful c.args.bench.now) (g.met.B.Flash.is_lawful c.save_one-end.new.flash) here.touches.banks here.touches.outside in
+    λ registry pool. subst (λ (value : List ℕ). CarriedAt g.K.Backend.contents g.K.Backend.room g.K.Backend.chance g.K.Backend.tears registry pool c.args.map.now (Set c.args.name.now value) (Full (c.spent.result - c.spent-before.result) c.in-Err-NoSpace.need c.in-Err-NoSpace.live) old new) c.as_slice.ensures
+    (set_by_full g.K.Backend.contents g.K.Backend.room g.K.Backend.chance g.K.Backend.tears registry pool c.args.map.now c.args.name.now bytes old new c.requires.on stays up c.spent-before.result c.spent.result c.spent-before.ensures c.spent.ensures c.in-Err-NoSpace.need c.in-Err-NoSpace.live here)
 
 pub returns-in-Err-TooManyNames-clause-done : goal.returns-in-Err-TooManyNames-clause-done
 returns-in-Err-TooManyNames-clause-done g c =
@@ -51,10 +55,11 @@ returns-in-Err-TooManyNames-clause-done g c =
     let bytes = c.as_slice.result.now in
     let which : c.in-Err-TooManyNames.field-0 ≡ TooManyNames = rw c.in-Err-TooManyNames.is at c.in-Err-TooManyNames.field-0-is in
     let end : c.save_one-end.result ≡ Err (TooManyNames) = c.in-Err-TooManyNames.is ∙ ap (λ (fault : SaveFault). Err fault) which in
-    let here = ended g.K.Backend.contents g.K.Backend.room g.K.Backend.chance g.K.Backend.tears old new (command_of c.args.name.now bytes ∷ []) up (g.K.Backend.mounted_on c.args.settings.now.backend) c.args.area.now c.save_one-end.result (Err TooManyNames) c.requires.area end
+    let here = ended g.K.Backend.contents g.K.Backend.room g.K.Backend.chance g.K.Backend.tears old new (command_of c.args.name.now bytes ∷ []) up (g.K.Backend.mounted_on c.args.settings.now.backend) (active_area c.args.map.now old) c.save_one-end.result (Err TooManyNames) (c.requires.area ∙ c.requires.active) end
     (record { touches = c.save_one-end.ensures.touches; at_most = c.save_one-end.ensures.at_most; count = c.save_one-end.ensures.ends.0; ends = c.save_one-end.ensures.ends.1 }) in
-    λ registry pool. subst (λ (value : List ℕ). CarriedAt g.K.Backend.contents g.K.Backend.room g.K.Backend.chance g.K.Backend.tears registry pool c.args.area.now (Set c.args.name.now value) (TooMany (c.spent.result - c.spent-before.result)) old new) c.as_slice.ensures
-    (set_by_many g.K.Backend.contents g.K.Backend.room g.K.Backend.chance g.K.Backend.tears registry pool c.args.area.now c.args.name.now bytes old new c.requires.on up c.spent-before.result c.spent.result c.spent-before.ensures c.spent.ensures here)
+    let stays = active_beside g.K.Backend.serves c.args.map.now old new c.requires.map (g.met.B.Flash.is_lawful c.args.bench.now) (g.met.B.Flash.is_lawful c.save_one-end.new.flash) here.touches.banks here.touches.outside in
+    λ registry pool. subst (λ (value : List ℕ). CarriedAt g.K.Backend.contents g.K.Backend.room g.K.Backend.chance g.K.Backend.tears registry pool c.args.map.now (Set c.args.name.now value) (TooMany (c.spent.result - c.spent-before.result)) old new) c.as_slice.ensures
+    (set_by_many g.K.Backend.contents g.K.Backend.room g.K.Backend.chance g.K.Backend.tears registry pool c.args.map.now c.args.name.now bytes old new c.requires.on stays up c.spent-before.result c.spent.result c.spent-before.ensures c.spent.ensures here)
 
 pub returns-in-Err-PowerLost-clause-done : goal.returns-in-Err-PowerLost-clause-done
 returns-in-Err-PowerLost-clause-done g c =
@@ -64,10 +69,12 @@ returns-in-Err-PowerLost-clause-done g c =
     let bytes = c.as_slice.result.now in
     let which : c.in-Err-PowerLost.field-0 ≡ PowerLost = rw c.in-Err-PowerLost.is at c.in-Err-PowerLost.field-0-is in
     let end : c.save_one-end.result ≡ Err (PowerLost) = c.in-Err-PowerLost.is ∙ ap (λ (fault : SaveFault). Err fault) which in
-    let here = ended g.K.Backend.contents g.K.Backend.room g.K.Backend.chance g.K.Backend.tears old new (command_of c.args.name.now bytes ∷ []) up (g.K.Backend.mounted_on c.args.settings.now.backend) c.args.area.now c.save_one-end.result (Err PowerLost) c.requires.area end
+    let here = ended g.K.Backend.contents g.K.Backend.room g.K.Backend.chance g.K.Backend.tears old new (command_of c.args.name.now bytes ∷ []) up (g.K.Backend.mounted_on c.args.settings.now.backend) (active_area c.args.map.now old) c.save_one-end.result (Err PowerLost) (c.requires.area ∙ c.requires.active) end
     (record { touches = c.save_one-end.ensures.touches; at_most = c.save_one-end.ensures.at_most; count = c.save_one-end.ensures.ends.0; ends = c.save_one-end.ensures.ends.1 }) in
-    λ registry pool. subst (λ (value : List ℕ). CarriedAt g.K.Backend.contents g.K.Backend.room g.K.Backend.chance g.K.Backend.tears registry pool c.args.area.now (Set c.args.name.now value) (Lost (c.spent.result - c.spent-before.result) c.spells_another.result) old new) c.as_slice.ensures
-    (set_by_lost g.K.Backend.contents g.K.Backend.room g.K.Backend.chance g.K.Backend.tears registry pool c.args.area.now c.args.name.now bytes old new c.requires.on up c.spent-before.result c.spent.result c.spent-before.ensures c.spent.ensures c.spells_another.result c.spells_another.ensures here)
+    let stays = active_beside g.K.Backend.serves c.args.map.now old new c.requires.map (g.met.B.Flash.is_lawful c.args.bench.now) (g.met.B.Flash.is_lawful c.save_one-end.new.flash) here.touches.banks here.touches.outside in
+    let tells = told_at g.K.Backend.chance new c.args.area.now (active_area c.args.map.now old) c.spells_another.result c.requires.active c.spells_another.ensures in
+    λ registry pool. subst (λ (value : List ℕ). CarriedAt g.K.Backend.contents g.K.Backend.room g.K.Backend.chance g.K.Backend.tears registry pool c.args.map.now (Set c.args.name.now value) (Lost (c.spent.result - c.spent-before.result) c.spells_another.result) old new) c.as_slice.ensures
+    (set_by_lost g.K.Backend.contents g.K.Backend.room g.K.Backend.chance g.K.Backend.tears registry pool c.args.map.now c.args.name.now bytes old new c.requires.on stays up c.spent-before.result c.spent.result c.spent-before.ensures c.spent.ensures c.spells_another.result tells here)
 
 pub returns-in-Ok-clause-sound : goal.returns-in-Ok-clause-sound
 returns-in-Ok-clause-sound g c = subst (λ (a : Area). on g.K.Backend.damage (g.B.Flash.device c.save_one-end.new.flash) a ≡ None) c.requires.area (c.save_one-end.ensures.sound c.requires.up)

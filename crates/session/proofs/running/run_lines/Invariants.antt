@@ -1,6 +1,7 @@
-use Rattle.std.proofs.Common.{◌≡◌, None}
-use Rattle.flash_map.specs.On.{on}
-use Rattle.session.specs.OneArea.{IsReady}
+use Rattle.std.proofs.Common.{◌≡◌, All}
+use Rattle.handlers.specs.Registry.{registered}
+use Rattle.settings_core.specs.Saving.{AreLawful}
+use Rattle.session.specs.OnMap.{IsFresh, IsReady, kinds, limit_of, meanings, moment}
 use Rattle.session.proofs.FoldLemmas.{RanTo}
 use Rattle.session.proofs.running.run_lines.Given as goal
 
@@ -8,9 +9,9 @@ abbrev pub invariant-loop-line : goal.invariant-loop-line
 invariant-loop-line g l =
     let first = g.B.Flash.device l.fn.bench in
     let now = g.B.Flash.device l.bench in
-    RanTo g.K.Backend.contents g.K.Backend.room g.K.Backend.chance g.K.Backend.tears l.area l.lines l.line-index l.answers first now
+    RanTo (meanings g.K.Backend.contents g.K.Backend.room g.K.Backend.chance g.K.Backend.tears) g.K.Backend.damage l.map l.lines l.line-index l.answers
+    (moment first (registered (λ b. (goal.Handler-dyn g (b.vtable, b.value)).state b.value) l.fn.registry) (kinds (λ b. (goal.Handler-dyn g (b.vtable, b.value)).state b.value) l.fn.pool.items)) (moment now (registered (λ b. (goal.Handler-dyn g (b.vtable, b.value)).state b.value) l.registry) (kinds (λ b. (goal.Handler-dyn g (b.vtable, b.value)).state b.value) l.pool.items))
     × (now.banks ≡ first.banks)
-    × (l.session.area ≡ l.area)
-    × IsReady g.K.Backend.mounted_on g.K.Backend.stands g.K.Backend.runs now l.area l.session.settings
-    × (on g.K.Backend.damage first l.area ≡ None)
-    × (on g.K.Backend.damage now l.area ≡ None)
+    × IsReady g.K.Backend.mounted_on g.K.Backend.stands g.K.Backend.runs l.map now l.session.selector l.session.active l.session.settings
+    × All (IsFresh (λ b. (goal.Handler-dyn g (b.vtable, b.value)).state b.value)) l.pool.items
+    × AreLawful (limit_of l.map) (registered (λ b. (goal.Handler-dyn g (b.vtable, b.value)).state b.value) l.registry)

@@ -3,4 +3,4 @@ use Rattle.session_table.proofs.PowerLemmas.{run_power}
 use Rattle.session_table.proofs.laws.power_follows_losses.Goals as goal
 
 pub returns : goal.returns
-returns g c = λ areas banks last active lines answers old new runs. run_power (rules_of (record { contents = g.K.Backend.contents; room = g.K.Backend.room; chance = g.K.Backend.chance; tears = g.K.Backend.tears; active = active }) areas banks last) lines answers old new runs
+returns g c = λ areas banks last lines answers old new runs. run_power (rules_of (record { contents = g.K.Backend.contents; room = g.K.Backend.room; chance = g.K.Backend.chance; tears = g.K.Backend.tears }) areas banks last) lines answers old new runs

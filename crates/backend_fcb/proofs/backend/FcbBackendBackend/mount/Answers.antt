@@ -12,6 +12,7 @@ use Rattle.settings_laws.specs.Numbers.{reserve}
 use Rattle.std.specs.Option.{option_map}
 use Rattle.backend_fcb.specs.Reading.{first_overfull}
 use Rattle.backend_fcb.specs.Standing.{IsReady, damage_on}
+use Rattle.backend_fcb.proofs.MountUnits.{mount-most}
 use Rattle.backend_fcb.proofs.Ends.{ring-area, ready-stands, damage-none, overfull-not}
 use Rattle.backend_fcb.proofs.PutsCosts.{overfull_at, undamaged-kept}
 use Rattle.backend_fcb.proofs.backend.FcbBackendBackend.mount.Goals as goal
@@ -88,3 +89,15 @@ returns-in-Err-finish-clause-few g c =
     let d : Device = g.F.Flash.device c.args.flash.now in
     let e : Device = g.F.Flash.device c.finish.new.flash in
     subst (λ (x : Area). SpendsAtMost d e (erases_on d x)) c.in-Ok.ensures.ring.0 c.in-Err-finish.ensures.bound
+
+pub returns-in-Ok-finish-clause-at_most : goal.returns-in-Ok-finish-clause-at_most
+returns-in-Ok-finish-clause-at_most g c =
+    let d : Device = g.F.Flash.device c.args.flash.now in
+    let e : Device = g.F.Flash.device c.finish.new.flash in
+    mount-most d c.args.area c.requires.lawful e (erases_on d c.args.area, omega arith, subst (λ (x : Area). Spends d e (erases_on d x)) c.in-Ok.ensures.ring.0 c.in-Ok-finish.ensures.units)
+
+pub returns-in-Err-finish-clause-at_most : goal.returns-in-Err-finish-clause-at_most
+returns-in-Err-finish-clause-at_most g c =
+    let d : Device = g.F.Flash.device c.args.flash.now in
+    let e : Device = g.F.Flash.device c.finish.new.flash in
+    mount-most d c.args.area c.requires.lawful e (subst (λ (x : Area). SpendsAtMost d e (erases_on d x)) c.in-Ok.ensures.ring.0 c.in-Err-finish.ensures.bound)

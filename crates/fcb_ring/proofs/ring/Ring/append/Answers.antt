@@ -1,4 +1,4 @@
-use Rattle.std.proofs.Common.{◌≡◌, ℕ, ◌+◌, true, false, not, length, ap, sym, subst, ◌∙◌, arith}
+use Rattle.std.proofs.Common.{◌≡◌, ℕ, ◌+◌, Bool, true, false, not, length, ap, sym, subst, ◌∙◌, arith}
 use Rattle.std.proofs.lemmas.Bool.{or_left, or_right, not_from_false}
 use Rattle.flash_sim.specs.Device.{Device}
 use Rattle.flash_map.specs.declared.area.Geometry.{Geometry}
@@ -8,6 +8,7 @@ use Rattle.flash_map.specs.Units.{padded}
 use Rattle.flash_map.proofs.Rounding.{padding}
 use Rattle.fcb_ring.specs.declared.ring.Ring.{Ring}
 use Rattle.fcb_ring.specs.Changing.{kept_room, is_too_long, has_room, is_scratch_left, newest_place, next_place, EndsWithRecord, AddsRecord, CutAppend}
+use Rattle.fcb_ring.specs.Gains.{CutRing}
 use Rattle.fcb_ring.specs.Writing.{record_cost}
 use Rattle.fcb_ring.proofs.AreaLemmas.{has_size}
 use Rattle.fcb_ring.proofs.AppendLemmas.{adds-here, ready-used, more-free, units-here, place-here, place-next, units-next, goes-here}
@@ -195,3 +196,27 @@ returns-in-Ok-put_in_next-clause-end g c =
     let room : has_room unit size ring kept len ≡ false =
     sym (c.has_room.ensures ∙ ap (λ (x : Geometry). has_room x.unit x.sector ring c.kept_room-kept.result len) c.geometry-geometry.ensures ∙ ap (λ (k : ℕ). has_room unit size ring k len) c.kept_room-kept.ensures) ∙ c.if-has_room.false in
     c.in-Ok-put_in_next.ensures.end ∙ ap (λ (n : ℕ). n + record_cost unit len) (place-next (has_room unit size ring kept len) ring.end (padded unit 8) room)
+
+pub returns-in-Err-clause-torn : goal.returns-in-Err-clause-torn
+returns-in-Err-clause-torn g c lost on =
+    let d : Device = g.F.Flash.device c.args.flash.now in
+    let ring : Ring = c.args.self.now in
+    let unit : ℕ = unit_of d ring.area in
+    let size : ℕ = sector_size d ring.area in
+    let len : ℕ = length c.args.body.now in
+    let kept : ℕ = kept_room ring c.args.into_reserve in
+    let room : has_room unit size ring kept len ≡ true =
+    sym (c.has_room.ensures ∙ ap (λ (x : Geometry). has_room x.unit x.sector ring c.kept_room-kept.result len) c.geometry-geometry.ensures ∙ ap (λ (k : ℕ). has_room unit size ring k len) c.kept_room-kept.ensures) ∙ c.if-has_room.true in
+    subst (λ (b : Bool). CutRing b d (g.F.Flash.device c.put_record.new.flash) ring c.args.body.now) (sym room) (c.in-Err.ensures.torn on)
+
+pub returns-in-Err-put_in_next-clause-torn : goal.returns-in-Err-put_in_next-clause-torn
+returns-in-Err-put_in_next-clause-torn g c lost on =
+    let d : Device = g.F.Flash.device c.args.flash.now in
+    let ring : Ring = c.args.self.now in
+    let unit : ℕ = unit_of d ring.area in
+    let size : ℕ = sector_size d ring.area in
+    let len : ℕ = length c.args.body.now in
+    let kept : ℕ = kept_room ring c.args.into_reserve in
+    let room : has_room unit size ring kept len ≡ false =
+    sym (c.has_room.ensures ∙ ap (λ (x : Geometry). has_room x.unit x.sector ring c.kept_room-kept.result len) c.geometry-geometry.ensures ∙ ap (λ (k : ℕ). has_room unit size ring k len) c.kept_room-kept.ensures) ∙ c.if-has_room.false in
+    subst (λ (b : Bool). CutRing b d (g.F.Flash.device c.put_in_next.new.flash) ring c.args.body.now) (sym room) (c.in-Err-put_in_next.ensures.torn on)

@@ -12,7 +12,7 @@ use Rattle.fcb_ring.specs.Writing.{header_image}
 use Rattle.fcb_ring.proofs.AreaLemmas.{has_size, count-sectors}
 use Rattle.fcb_ring.proofs.OpenLemmas.{open-place}
 use Rattle.fcb_ring.proofs.RecordLemmas.{header_fits}
-use Rattle.fcb_ring.proofs.OpeningLemmas.{header-16, header-front, can-header, opened-stands, opened-list, opened-fresh, lost-list, header-loss, header-spends, header-most}
+use Rattle.fcb_ring.proofs.OpeningLemmas.{header-16, header-front, can-header, opened-stands, opened-list, opened-fresh, opened-empty, lost-list, lost-form, header-loss, header-spends, header-most}
 use Rattle.fcb_ring.proofs.OthersLemmas.{others_set}
 use Rattle.fcb_ring.proofs.ring.Ring.open_next.Goals as goal
 
@@ -162,3 +162,32 @@ returns-clause-others g c =
 pub returns-in_err-area_program-clause-others : goal.returns-in_err-area_program-clause-others
 returns-in_err-area_program-clause-others g c =
     others_set (g.F.Flash.device c.args.flash.now) (g.F.Flash.device c.area_program.new.flash) c.args.self.now.area c.place-place.result (next_place c.args.self.now) _ c.place-place.ensures.value c.in_err-area_program.ensures.part.2
+
+pub returns-in_err-area_program-clause-form : goal.returns-in_err-area_program-clause-form
+returns-in_err-area_program-clause-form g c =
+    let d : Device = g.F.Flash.device c.args.flash.now in
+    let ring : Ring = c.args.self.now in
+    let lawful = g.met.F.Flash.is_lawful c.args.flash.now in
+    let id : ℕ = c.next_id-id.result in
+    let unit : ℕ = unit_of d ring.area in
+    let end-is : c.padded-end.result ≡ padded unit 8 = c.padded-end.ensures.value ∙ ap (λ (x : Geometry). padded x.unit 8) c.geometry-unit.ensures in
+    let header : List ℕ = take c.padded-end.result c.header_image-header.result in
+    let is : header ≡ header_image unit id =
+    ap (take c.padded-end.result) c.header_image-header.ensures ∙ ap (λ (n : ℕ). take n (header_image 16 id)) end-is ∙ header-front unit id (has_size d ring.area lawful c.requires.stands.area).is_unit in
+    let new : Device = g.F.Flash.device c.area_program.new.flash in
+    on_err c.from_residual.result
+    (lost-form d ring lawful c.requires.stands c.requires.ready id c.next_id-id.ensures c.place-place.result c.place-place.ensures.value header is new c.in_err-area_program.ensures.touches.banks c.in_err-area_program.ensures.part)
+
+pub returns-clause-empty : goal.returns-clause-empty
+returns-clause-empty g c =
+    let d : Device = g.F.Flash.device c.args.flash.now in
+    let ring : Ring = c.args.self.now in
+    let lawful = g.met.F.Flash.is_lawful c.args.flash.now in
+    let id : ℕ = c.next_id-id.result in
+    let unit : ℕ = unit_of d ring.area in
+    let end-is : c.padded-end.result ≡ padded unit 8 = c.padded-end.ensures.value ∙ ap (λ (x : Geometry). padded x.unit 8) c.geometry-unit.ensures in
+    let header : List ℕ = take c.padded-end.result c.header_image-header.result in
+    let is : header ≡ header_image unit id =
+    ap (take c.padded-end.result) c.header_image-header.ensures ∙ ap (λ (n : ℕ). take n (header_image 16 id)) end-is ∙ header-front unit id (has_size d ring.area lawful c.requires.stands.area).is_unit in
+    let new : Device = g.F.Flash.device c.area_program.new.flash in
+    opened-empty d ring lawful c.requires.stands c.requires.ready id c.next_id-id.ensures c.place-place.result c.place-place.ensures.value header is new c.in_ok-area_program.ensures.touches.banks c.args.next c.requires.fits c.in_ok-area_program.ensures.written

@@ -1,4 +1,4 @@
-use Rattle.std.proofs.Common.{◌≡◌, ◌≤◌, ◌+◌, ℕ, true, false, length, inl, ◌∷◌, [], ap, sym, subst, ◌∙◌, arith}
+use Rattle.std.proofs.Common.{◌≡◌, ◌≤◌, ◌+◌, ℕ, true, false, length, inl, inr, ◌∷◌, [], ap, sym, subst, ◌∙◌, arith}
 use Rattle.flash_sim.specs.Device.{Device}
 use Rattle.flash_sim.specs.declared.flash.TheConstants.{PROGRAM_LIMIT}
 use Rattle.flash_map.specs.Area.{unit_of, sector_size}
@@ -10,7 +10,7 @@ use Rattle.fcb_ring.specs.declared.ring.Ring.{Ring}
 use Rattle.fcb_ring.specs.Changing.{EndsWithRecord}
 use Rattle.fcb_ring.specs.Standing.{is_finished}
 use Rattle.fcb_ring.specs.Writing.{record_cost}
-use Rattle.fcb_ring.proofs.AppendLemmas.{is_err_by, unit-after, size-after, adds-after, cut-after, others-after, opened-place, spends-both, most-first, most-both}
+use Rattle.fcb_ring.proofs.AppendLemmas.{is_err_by, unit-after, size-after, adds-after, cut-after, gains-after, torn-after, others-after, opened-place, spends-both, most-first, most-both}
 use Rattle.fcb_ring.proofs.ring.Ring.put_in_next.Goals as goal
 
 pub put_record-requires-clause-writes : goal.put_record-requires-clause-writes
@@ -137,3 +137,25 @@ returns-clause-end g c =
     let ok = c.in_ok-open_next.ensures in
     let unit : unit_of b c.open_next.new.self.area ≡ unit_of a c.args.self.now.area = unit-after a b c.args.self.now.area c.open_next.new.self.area ok.touches.banks ok.area in
     c.in_ok-put_record.ensures.end ∙ ap (λ (u : ℕ). c.open_next.new.self.end + record_cost u len) unit ∙ ap (λ (n : ℕ). n + record_cost (unit_of a c.args.self.now.area) len) ok.end
+
+pub returns-in_err-open_next-clause-torn : goal.returns-in_err-open_next-clause-torn
+returns-in_err-open_next-clause-torn g c =
+    let lost = c.in_err-open_next.ensures in
+    on_err c.from_residual.result (λ on. inl (record { loss = lost.lost on; form = lost.form }))
+
+pub returns-in_err-put_record-clause-torn : goal.returns-in_err-put_record-clause-torn
+returns-in_err-put_record-clause-torn g c =
+    let a : Device = g.F.Flash.device c.args.flash.now in
+    let b : Device = g.F.Flash.device c.open_next.new.flash in
+    let d : Device = g.F.Flash.device c.put_record.new.flash in
+    let ok = c.in_ok-open_next.ensures in
+    on_err c.from_residual-in_err-put_record.result
+    (λ on. inr (torn-after a b d c.args.self.now c.open_next.new.self c.args.body.now ok.area ok.oldest ok.used ok.empty (c.in_err-put_record.ensures.torn (ok.touches.ends.on ∙ on))))
+
+pub returns-clause-gains : goal.returns-clause-gains
+returns-clause-gains g c =
+    let a : Device = g.F.Flash.device c.args.flash.now in
+    let b : Device = g.F.Flash.device c.open_next.new.flash in
+    let d : Device = g.F.Flash.device c.put_record.new.flash in
+    let ok = c.in_ok-open_next.ensures in
+    gains-after a b d c.args.self.now c.open_next.new.self c.args.body.now ok.area ok.oldest ok.used ok.empty c.in_ok-put_record.ensures.gains

@@ -8,7 +8,7 @@ use Rattle.fcb_ring.specs.Changing.{newest_place}
 use Rattle.fcb_ring.specs.Writing.{record_image}
 use Rattle.fcb_ring.proofs.AreaLemmas.{has_size, count-sectors}
 use Rattle.fcb_ring.proofs.NewestLemmas.{run-within}
-use Rattle.fcb_ring.proofs.PuttingLemmas.{can-record, record-long, put-stands-on, puts-record, record-spends, record-most, record-cut, record-kept, record-full, record-lost, record-written, record-stands}
+use Rattle.fcb_ring.proofs.PuttingLemmas.{can-record, record-long, put-stands-on, puts-record, record-gains, record-spends, record-most, record-cut, record-kept, record-full, record-lost, record-torn, record-written, record-stands}
 use Rattle.fcb_ring.proofs.OthersLemmas.{others_set}
 use Rattle.fcb_ring.proofs.ring.Ring.put_record.Goals as goal
 
@@ -165,3 +165,25 @@ returns-clause-ends_with g c =
     let new : Device = g.F.Flash.device c.area_program.new.flash in
     record-stands d ring lawful c.requires.stands c.requires.writes c.requires.some c.args.body.now c.requires.short c.requires.fits new c.in_ok-area_program.ensures.touches.banks c.place-place.result bytes c.place-place.ensures.value is c.in_ok-area_program.ensures.written (ring.end + c.len.result)
     (ap (λ (n : ℕ). ring.end + n) (c.len.ensures.value ∙ sym (ap length c.as_slice.ensures.value)))
+
+pub returns-in_err-area_program-clause-torn : goal.returns-in_err-area_program-clause-torn
+returns-in_err-area_program-clause-torn g c =
+    let d : Device = g.F.Flash.device c.args.flash.now in
+    let ring : Ring = c.args.self.now in
+    let lawful = g.met.F.Flash.is_lawful c.args.flash.now in
+    let bytes : List ℕ = c.as_slice.result.now in
+    let is : bytes ≡ record_image (unit_of d ring.area) c.args.body.now =
+    c.as_slice.ensures.value ∙ c.record_image-record.ensures ∙ ap (λ (x : Geometry). record_image x.unit c.args.body.now) c.geometry-unit.ensures in
+    let new : Device = g.F.Flash.device c.area_program.new.flash in
+    on_err c.from_residual.result (record-torn d ring lawful c.requires.stands c.requires.writes c.requires.some c.args.body.now c.requires.short c.requires.fits new c.in_err-area_program.ensures.touches.banks c.place-place.result bytes c.place-place.ensures.value is c.in_err-area_program.ensures.lost)
+
+pub returns-clause-gains : goal.returns-clause-gains
+returns-clause-gains g c =
+    let d : Device = g.F.Flash.device c.args.flash.now in
+    let ring : Ring = c.args.self.now in
+    let lawful = g.met.F.Flash.is_lawful c.args.flash.now in
+    let bytes : List ℕ = c.as_slice.result.now in
+    let is : bytes ≡ record_image (unit_of d ring.area) c.args.body.now =
+    c.as_slice.ensures.value ∙ c.record_image-record.ensures ∙ ap (λ (x : Geometry). record_image x.unit c.args.body.now) c.geometry-unit.ensures in
+    let new : Device = g.F.Flash.device c.area_program.new.flash in
+    record-gains d ring lawful c.requires.stands c.requires.writes c.requires.some c.args.body.now c.requires.short c.requires.fits new c.in_ok-area_program.ensures.touches.banks c.place-place.result bytes c.place-place.ensures.value is c.in_ok-area_program.ensures.written

@@ -1,25 +1,37 @@
-use Rattle.std.proofs.Common.{sym, subst, ◌≡◌, None}
+use Rattle.std.proofs.Common.{sym, subst}
 use Rattle.std.specs.Prelude.{IfOk}
 use Rattle.script_lines.specs.declared.line.Line.{Line}
-use Rattle.session.specs.OneArea.{CarriedBeside}
-use Rattle.flash_sim.specs.Device.{Device}
-use Rattle.flash_map.specs.On.{on}
+use Rattle.script_lines.specs.declared.line.Line.TheVariants.{Cut, Uncut}
+use Rattle.session.specs.OnMap.{CarriedBeside, meanings}
+use Rattle.session.proofs.ReadyLemmas.{carried_as, cut_is_none, uncut_is_none, ready_planned, undamaged_planned}
 use Rattle.session.proofs.session.Session.without_power.Goals as goal
 
 pub returns-in-Mount-clause-done : goal.returns-in-Mount-clause-done
 returns-in-Mount-clause-done g c =
-    subst (λ (line : Line). IfOk c.mount_settings.result (λ answer. CarriedBeside g.K.Backend.contents g.K.Backend.room g.K.Backend.chance g.K.Backend.tears c.args.self.now.area line answer (g.B.Flash.device c.args.bench.now) (g.B.Flash.device c.mount_settings.new.bench))) (sym c.in-Mount.is) c.mount_settings.ensures.done
+    subst (λ (line : Line). IfOk c.mount.result (λ answer. CarriedBeside (meanings g.K.Backend.contents g.K.Backend.room g.K.Backend.chance g.K.Backend.tears) g.K.Backend.damage c.args.map.now line answer (g.B.Flash.device c.args.bench.now) (g.B.Flash.device c.mount.new.bench))) (sym c.in-Mount.is) c.mount.ensures.done
 
 pub returns-in-Cut-clause-done : goal.returns-in-Cut-clause-done
 returns-in-Cut-clause-done g c =
-    subst (λ (line : Line). CarriedBeside g.K.Backend.contents g.K.Backend.room g.K.Backend.chance g.K.Backend.tears c.args.self.now.area line c.plan_loss.result (g.B.Flash.device c.args.bench.now) (g.B.Flash.device c.plan_loss.new.bench)) (sym c.in-Cut.is) c.plan_loss.ensures.done
+    carried_as (meanings g.K.Backend.contents g.K.Backend.room g.K.Backend.chance g.K.Backend.tears) g.K.Backend.damage c.args.map.now c.args.line.now (g.B.Flash.device c.args.bench.now) (g.B.Flash.device c.plan_loss.new.bench) (Cut c.in-Cut.units) c.plan_loss.result c.in-Cut.is (cut_is_none c.in-Cut.units)
+    (undamaged_planned g.K.Backend.mounted_on g.K.Backend.stands g.K.Backend.runs g.K.Backend.damage c.args.map.now (g.B.Flash.device c.args.bench.now) (g.B.Flash.device c.plan_loss.new.bench).plan (g.B.Flash.device c.plan_loss.new.bench) c.plan_loss.ensures.same) c.plan_loss.ensures.done
+
+pub returns-in-Cut-clause-undamaged : goal.returns-in-Cut-clause-undamaged
+returns-in-Cut-clause-undamaged g c =
+    undamaged_planned g.K.Backend.mounted_on g.K.Backend.stands g.K.Backend.runs g.K.Backend.damage c.args.map.now (g.B.Flash.device c.args.bench.now) (g.B.Flash.device c.plan_loss.new.bench).plan (g.B.Flash.device c.plan_loss.new.bench) c.plan_loss.ensures.same
+
+pub returns-in-Cut-clause-ready : goal.returns-in-Cut-clause-ready
+returns-in-Cut-clause-ready g c =
+    ready_planned g.K.Backend.mounted_on g.K.Backend.stands g.K.Backend.runs g.K.Backend.damage c.args.map.now (g.B.Flash.device c.args.bench.now) (g.B.Flash.device c.plan_loss.new.bench).plan (g.B.Flash.device c.plan_loss.new.bench) c.args.self.now.selector c.args.self.now.active c.args.self.now.settings c.plan_loss.ensures.same c.requires.ready
 
 pub returns-in-Uncut-clause-done : goal.returns-in-Uncut-clause-done
 returns-in-Uncut-clause-done g c =
-    subst (λ (line : Line). CarriedBeside g.K.Backend.contents g.K.Backend.room g.K.Backend.chance g.K.Backend.tears c.args.self.now.area line c.drop_plan.result (g.B.Flash.device c.args.bench.now) (g.B.Flash.device c.drop_plan.new.bench)) (sym c.in-Uncut.is) c.drop_plan.ensures.done
-
-pub returns-in-Cut-clause-undamaged : goal.returns-in-Cut-clause-undamaged
-returns-in-Cut-clause-undamaged g c = λ was. subst (λ (d : Device). on g.K.Backend.damage d c.args.self.now.area ≡ None) (sym c.plan_loss.ensures.same) was
+    carried_as (meanings g.K.Backend.contents g.K.Backend.room g.K.Backend.chance g.K.Backend.tears) g.K.Backend.damage c.args.map.now c.args.line.now (g.B.Flash.device c.args.bench.now) (g.B.Flash.device c.drop_plan.new.bench) Uncut c.drop_plan.result c.in-Uncut.is uncut_is_none
+    (undamaged_planned g.K.Backend.mounted_on g.K.Backend.stands g.K.Backend.runs g.K.Backend.damage c.args.map.now (g.B.Flash.device c.args.bench.now) (g.B.Flash.device c.drop_plan.new.bench).plan (g.B.Flash.device c.drop_plan.new.bench) c.drop_plan.ensures.same) c.drop_plan.ensures.done
 
 pub returns-in-Uncut-clause-undamaged : goal.returns-in-Uncut-clause-undamaged
-returns-in-Uncut-clause-undamaged g c = λ was. subst (λ (d : Device). on g.K.Backend.damage d c.args.self.now.area ≡ None) (sym c.drop_plan.ensures.same) was
+returns-in-Uncut-clause-undamaged g c =
+    undamaged_planned g.K.Backend.mounted_on g.K.Backend.stands g.K.Backend.runs g.K.Backend.damage c.args.map.now (g.B.Flash.device c.args.bench.now) (g.B.Flash.device c.drop_plan.new.bench).plan (g.B.Flash.device c.drop_plan.new.bench) c.drop_plan.ensures.same
+
+pub returns-in-Uncut-clause-ready : goal.returns-in-Uncut-clause-ready
+returns-in-Uncut-clause-ready g c =
+    ready_planned g.K.Backend.mounted_on g.K.Backend.stands g.K.Backend.runs g.K.Backend.damage c.args.map.now (g.B.Flash.device c.args.bench.now) (g.B.Flash.device c.drop_plan.new.bench).plan (g.B.Flash.device c.drop_plan.new.bench) c.args.self.now.selector c.args.self.now.active c.args.self.now.settings c.drop_plan.ensures.same c.requires.ready

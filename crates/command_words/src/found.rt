@@ -1,0 +1,104 @@
+// The command that a parse found.
+ghost use Rattle.std.specs.Prelude.{◌≡◌, Some, IfOk, codes};
+ghost use Rattle.clap.specs.Walk.{rows_of};
+ghost use Rattle.clap.specs.Words.{found_of, subcommand_rows_of};
+ghost use Rattle.command_words.specs.Forms.{FindsIn};
+
+use crate::commands::Command;
+use crate::operands::{line_count, store_kind};
+use clap::ArgMatches;
+use std::alloc::{AllocError, Global};
+
+fn found_build<'a>(operands: &ArgMatches<'a>) -> Option<Command<'a>>
+    ensures { FindsIn (Some (codes "build", rows_of (found_of operands.now))) result }
+{
+    Some(Command::Build {
+        out: operands.get_str("OUT")?,
+        spec: operands.get_str("SPEC")?,
+    })
+}
+
+fn found_run<'a>(operands: &ArgMatches<'a>) -> Option<Command<'a>>
+    ensures { FindsIn (Some (codes "run", rows_of (found_of operands.now))) result }
+{
+    Some(Command::Run {
+        image: operands.get_str("IMAGE")?,
+        script: operands.get_str("SCRIPT")?,
+        out: operands.get_str("OUT")?,
+    })
+}
+
+fn found_dump<'a>(operands: &ArgMatches<'a>) -> Option<Command<'a>>
+    ensures { FindsIn (Some (codes "dump", rows_of (found_of operands.now))) result }
+{
+    Some(Command::Dump {
+        image: operands.get_str("IMAGE")?,
+    })
+}
+
+fn found_migrate<'a>(operands: &ArgMatches<'a>) -> Option<Command<'a>>
+    ensures { FindsIn (Some (codes "migrate", rows_of (found_of operands.now))) result }
+{
+    Some(Command::Migrate {
+        image: operands.get_str("IMAGE")?,
+        out: operands.get_str("OUT")?,
+    })
+}
+
+fn found_gen<'a>(
+    alloc: Global,
+    operands: &ArgMatches<'a>,
+) -> Result<Option<Command<'a>>, AllocError>
+    ensures { IfOk result (FindsIn (Some (codes "gen", rows_of (found_of operands.now)))) }
+{
+    let Some(out) = operands.get_str("OUT") else {
+        return Ok(None);
+    };
+    let Some(backend) = operands.get_str("BACKEND") else {
+        return Ok(None);
+    };
+    let Some(n) = operands.get_str("N") else {
+        return Ok(None);
+    };
+    let Some(backend) = store_kind(backend) else {
+        return Ok(None);
+    };
+    let Some(n) = line_count(alloc, n)? else {
+        return Ok(None);
+    };
+    Ok(Some(Command::Gen { out, backend, n }))
+}
+
+fn found_log<'a>(operands: &ArgMatches<'a>) -> Option<Command<'a>>
+    ensures { FindsIn (Some (codes "log", rows_of (found_of operands.now))) result }
+{
+    Some(Command::Log {
+        image: operands.get_str("IMAGE")?,
+        script: operands.get_str("SCRIPT")?,
+        out: operands.get_str("OUT")?,
+    })
+}
+
+/// The command that a parse found, if it found one.
+///
+/// # Errors
+/// Want of memory alone.
+pub fn found_command<'a>(
+    alloc: Global,
+    matches: &ArgMatches<'a>,
+) -> Result<Option<Command<'a>>, AllocError>
+    ensures { IfOk result (FindsIn (subcommand_rows_of matches.now)) }
+{
+    let Some((name, operands)) = matches.subcommand() else {
+        return Ok(None);
+    };
+    match name {
+        "build" => Ok(found_build(operands)),
+        "run" => Ok(found_run(operands)),
+        "dump" => Ok(found_dump(operands)),
+        "migrate" => Ok(found_migrate(operands)),
+        "gen" => found_gen(alloc, operands),
+        "log" => Ok(found_log(operands)),
+        _ => Ok(None),
+    }
+}

@@ -1,0 +1,36 @@
+// Operands that are more than text: kinds of stores and numbers of lines.
+ghost use Rattle.std.specs.Prelude.{◌≡◌, IfOk, MatchOption};
+ghost use Rattle.command_words.specs.Commands.{store_word};
+ghost use Rattle.command_words.specs.Operands.{IsLineCount, IsNoLineCount, IsNoStoreWord};
+
+use crate::commands::{MOST_LINES, StoreKind};
+use std::alloc::{AllocError, Global};
+use text_parts::read_number;
+
+// Numbers of lines end here.
+const LINES_END: u64 = MOST_LINES as u64 + 1;
+
+/// The kind of store that the word names.
+pub fn store_kind(word: &str) -> Option<StoreKind>
+    ensures { MatchOption result (IsNoStoreWord word.now) (λ kind. word.now ≡ store_word kind) }
+{
+    match word {
+        "nvs" => Some(StoreKind::Nvs),
+        "zms" => Some(StoreKind::Zms),
+        "fcb" => Some(StoreKind::Fcb),
+        _ => None,
+    }
+}
+
+/// The number of lines that the word is, in decimal without a sign or leading zeros; none where it is not 1 to `MOST_LINES`.
+///
+/// # Errors
+/// Want of memory alone.
+pub fn line_count(alloc: Global, word: &str) -> Result<Option<u32>, AllocError>
+    ensures { IfOk result (λ found. MatchOption found (IsNoLineCount word.now) (IsLineCount word.now)) }
+{
+    match read_number(alloc, word.as_bytes(), LINES_END)? {
+        Some(0) | None => Ok(None),
+        Some(n) => Ok(Some(n as u32)),
+    }
+}

@@ -1,0 +1,13 @@
+pub mod ItemLemmas
+pub mod PartLemmas
+pub mod KeptLemmas
+pub mod MountSteps
+pub mod PutSteps
+pub mod GrownSteps
+pub mod FrontLemmas
+pub mod EndLemmas
+pub mod DropSteps
+pub mod CountSteps
+pub mod FullLemmas
+pub mod LogSteps
+pub mod ScriptLemmas

@@ -1,0 +1,46 @@
+use Rattle.std.proofs.Common.{[], ◌∷◌, true, false, subst}
+use Rattle.flash_map.specs.Touches.{Touches}
+use Rattle.flash_map.specs.declared.area.Area.{Area}
+use Rattle.flash_map.proofs.PieceLemmas.{on_err}
+use Rattle.flash_map.proofs.Touches.{then}
+use Rattle.fcb_ring.proofs.AppendLemmas.{is_err_by}
+use Rattle.event_ring.proofs.DropSteps.{dropped-all, dropped-not, opened-not}
+use Rattle.event_ring.proofs.dropping.drop_oldest.Goals as goal
+
+pub returns-clause-touches : goal.returns-clause-touches
+returns-clause-touches g c =
+    then c.in_ok-begin_collect.ensures.touches
+    (subst (λ (x : Area). Touches (x ∷ []) (g.F.Flash.device c.begin_collect.new.flash) (g.F.Flash.device c.end_collect.new.flash) false) c.in_ok-begin_collect.ensures.begun.area c.in_ok-end_collect.ensures.touches)
+
+pub returns-in_err-end_collect-clause-touches : goal.returns-in_err-end_collect-clause-touches
+returns-in_err-end_collect-clause-touches g c =
+    let d = g.F.Flash.device c.args.flash.now in
+    let e = g.F.Flash.device c.end_collect.new.flash in
+    is_err_by c.from_residual-in_err-end_collect.result (λ b. Touches (c.args.ring.now.area ∷ []) d e b) c.from_residual-in_err-end_collect.ensures.0
+    (then c.in_ok-begin_collect.ensures.touches
+    (subst (λ (x : Area). Touches (x ∷ []) (g.F.Flash.device c.begin_collect.new.flash) e true) c.in_ok-begin_collect.ensures.begun.area c.in_err-end_collect.ensures.touches))
+
+pub returns-clause-dropped : goal.returns-clause-dropped
+returns-clause-dropped g c =
+    let d = g.F.Flash.device c.args.flash.now in
+    let m = g.F.Flash.device c.begin_collect.new.flash in
+    let e = g.F.Flash.device c.end_collect.new.flash in
+    let ends = c.in_ok-end_collect.ensures in
+    dropped-all d m c.args.ring.now c.begin_collect.new.self (g.met.F.Flash.is_lawful c.args.flash.now) (g.met.F.Flash.is_lawful c.begin_collect.new.flash) c.requires.mounted c.requires.left c.in_ok-begin_collect.ensures.begun
+    e c.end_collect.new.self (g.met.F.Flash.is_lawful c.end_collect.new.flash) ends.touches.banks ends.others ends.area ends.reserve ends.stands ends.ready ends.end ends.ends ends.units
+
+pub returns-in_err-end_collect-clause-stopped : goal.returns-in_err-end_collect-clause-stopped
+returns-in_err-end_collect-clause-stopped g c =
+    let d = g.F.Flash.device c.args.flash.now in
+    let m = g.F.Flash.device c.begin_collect.new.flash in
+    let e = g.F.Flash.device c.end_collect.new.flash in
+    let ends = c.in_err-end_collect.ensures in
+    on_err c.from_residual-in_err-end_collect.result
+    (dropped-not d m c.args.ring.now c.begin_collect.new.self (g.met.F.Flash.is_lawful c.args.flash.now) (g.met.F.Flash.is_lawful c.begin_collect.new.flash) c.requires.mounted c.requires.left c.in_ok-begin_collect.ensures.begun
+    e c.end_collect.new.self (g.met.F.Flash.is_lawful c.end_collect.new.flash) ends.touches.banks ends.same c.in_ok-begin_collect.ensures.touches.ends.on ends.list ends.down ends.lost ends.bound)
+
+pub returns-in_err-begin_collect-clause-stopped : goal.returns-in_err-begin_collect-clause-stopped
+returns-in_err-begin_collect-clause-stopped g c =
+    on_err c.from_residual.result
+    (opened-not (g.F.Flash.device c.args.flash.now) (g.F.Flash.device c.begin_collect.new.flash) c.args.ring.now c.begin_collect.new.self (g.met.F.Flash.is_lawful c.args.flash.now) (g.met.F.Flash.is_lawful c.begin_collect.new.flash) c.requires.mounted
+    c.in_err-begin_collect.ensures.stopped c.in_err-begin_collect.ensures.form)

@@ -1,0 +1,120 @@
+-- What an append makes of a log: it drops the records of the oldest sector, or none, and then adds its own.
+use Rattle.std.specs.Prelude.{◌≡◌, ◌⊎◌, ℕ, ◌+◌, ◌-◌, ◌<◌, ◌≤◌, Bool, true, false, not, ◌&&◌, ◌||◌, List, [], ◌∷◌, ◌++◌, length, take, replicate, Some, None, Result, Ok, Err, ◌==◌, nat_lt, if◌then◌else◌}
+use Rattle.flash_sim.specs.Device.{Device}
+use Rattle.flash_sim.specs.declared.flash.Loss.{Loss}
+use Rattle.flash_map.specs.declared.area.Area.{Area}
+use Rattle.flash_map.specs.Area.{unit_of, value_limit}
+use Rattle.flash_map.specs.Spending.{Spends, SpendsAtMost}
+use Rattle.fcb_ring.specs.declared.ring.Ring.{Ring}
+use Rattle.fcb_ring.specs.Chance.{chance_on}
+use Rattle.fcb_ring.specs.Changing.{header_units, cost_on, record_units, stays_for, is_scratch_left, units_for}
+use Rattle.fcb_ring.specs.Standing.{is_up, ring_damage}
+use Rattle.fcb_ring.specs.Writing.{record_cost}
+use Rattle.event_ring.specs.declared.appending.LogFault.{LogFault}
+use Rattle.event_ring.specs.declared.appending.LogFault.TheVariants.{TooLong, PowerLost}
+use Rattle.event_ring.specs.Items.{Item, Whole, Torn, items_on, items_in, log_of, log_on, cost_in}
+use Rattle.event_ring.specs.Room.{room_on, IsFilled}
+use Rattle.event_ring.specs.Standing.{IsOpen}
+
+-- the body is empty, or longer than a value may be
+abbrev pub is_too_long : Area → ℕ → Bool
+is_too_long area len = (len == 0) || nat_lt (value_limit area) len
+
+-- the answer says that power was lost
+abbrev pub lost_in : {T : Type 0} → Result T LogFault → Bool
+lost_in (Ok dropped) = false
+lost_in (Err TooLong) = false
+lost_in (Err PowerLost) = true
+
+-- ---- what is dropped
+
+-- The record does not fit behind those of the newest sector, and no sector but the scratch one is free.
+abbrev pub drops_for : Device → Ring → List ℕ → Bool
+drops_for d ring body = not (stays_for d ring body 0) && is_scratch_left ring
+
+-- then the items of the oldest sector are dropped, and else none
+abbrev pub dropped_for : Device → Ring → List ℕ → List Item
+dropped_for d ring body = if drops_for d ring body then items_in d ring.area ring.oldest else []
+
+-- The items are those that are dropped, no more than a sector has room for, and behind them these.
+pub record Keeps (d : Device) (ring : Ring) (body : List ℕ) (rest : List Item) : Type 0 where
+  pub items : items_on d ring.area ≡ dropped_for d ring body ++ rest
+  pub one_sector : cost_in d ring.area (dropped_for d ring body) ≤ room_on d ring.area
+
+-- the units of a drop: the header of the scratch sector, and the erase of the oldest
+abbrev pub drop_units : Device → Area → ℕ
+drop_units d area = header_units d area + 1
+
+-- those of the append
+abbrev pub append_units : Device → Ring → List ℕ → ℕ
+append_units d ring body =
+    if drops_for d ring body then drop_units d ring.area + record_units d ring.area (length body)
+    else units_for d ring body 0
+
+-- ---- how it ends
+
+-- The record stands whole behind what was kept, and just so many records that check were dropped. So the log has one body
+-- more, and the items cost as much more as the record does.
+pub record Adds (old new : Device) (before after : Ring) (body : List ℕ) (dropped : ℕ) : Type 0 where
+  pub rest : List Item
+  pub kept : Keeps old before body rest
+  pub count : dropped ≡ length (log_of (dropped_for old before body))
+  pub items : items_on new before.area ≡ rest ++ Whole body ∷ []
+  pub log : log_on new before.area ≡ log_of rest ++ body ∷ []
+  pub cost :
+      cost_in new before.area (items_on new before.area)
+      ≡ cost_in old before.area rest + cost_on old before.area (length body)
+  pub is_open : IsOpen new after
+  pub undamaged : ring_damage new before.area ≡ None
+  pub filled : IsFilled old before.area → IsFilled new before.area
+  pub units : Spends old new (append_units old before body)
+
+-- the front of a body, with FF behind it to its length
+abbrev pub torn_body : List ℕ → ℕ → List ℕ
+torn_body body n = take n body ++ replicate (length body - n) 0xFF
+
+-- The items after a loss: as before; or without what was dropped; or then with a torn one of the record's cost, or with the
+-- record. Or, by chance, with a record whose body is a front of this one, but not all, and then FF to its length.
+abbrev pub LeavesItems : Bool → ℕ → List Item → List Item → List ℕ → List Item → Type 0
+LeavesItems true unit before rest body after =
+    (n : ℕ) × (n < length body) × (after ≡ rest ++ Whole (torn_body body n) ∷ [])
+LeavesItems false unit before rest body after =
+    (after ≡ before) ⊎ (after ≡ rest) ⊎ (after ≡ rest ++ Torn (record_cost unit (length body)) ∷ [])
+    ⊎ (after ≡ rest ++ Whole body ∷ [])
+
+-- The log then: as before; or without what was dropped; or then with the record. Or, by chance, with a front of its body, but not
+-- all, and then FF to its length.
+abbrev pub LeavesLog : Bool → List (List ℕ) → List (List ℕ) → List ℕ → List (List ℕ) → Type 0
+LeavesLog true before rest body after =
+    (n : ℕ) × (n < length body) × (after ≡ rest ++ torn_body body n ∷ [])
+LeavesLog false before rest body after = (after ≡ before) ⊎ (after ≡ rest) ⊎ (after ≡ rest ++ body ∷ [])
+
+-- the items that a loss leaves tell the log
+abbrev pub ItemsTellLog : Type 0
+ItemsTellLog =
+    (by_chance : Bool) (unit : ℕ) (before rest : List Item) (body : List ℕ) (after : List Item)
+    → LeavesItems by_chance unit before rest body after
+    → LeavesLog by_chance (log_of before) (log_of rest) body (log_of after)
+
+pub record IsCut (old new : Device) (area : Area) (rest : List Item) (body : List ℕ) : Type 0 where
+  pub loss : Loss
+  pub last : new.last_loss ≡ Some loss
+  pub items : LeavesItems (chance_on new area loss) (unit_of new area) (items_on old area) rest body (items_on new area)
+
+-- power was off, or was lost in the append
+pub record Loses (old new : Device) (before after : Ring) (body : List ℕ) : Type 0 where
+  pub rest : List Item
+  pub kept : Keeps old before body rest
+  pub cut : old.is_on ≡ true → IsCut old new before.area rest body
+  pub down : is_up after.stage ≡ false
+  pub undamaged : ring_damage new before.area ≡ None
+  pub filled : IsFilled old before.area → IsFilled new before.area
+  pub units : SpendsAtMost old new (append_units old before body)
+
+abbrev pub LogAppends : Device → Device → Ring → Ring → List ℕ → Result ℕ LogFault → Type 0
+LogAppends old new before after body (Ok dropped) =
+    (is_too_long before.area (length body) ≡ false) × Adds old new before after body dropped
+LogAppends old new before after body (Err TooLong) =
+    (is_too_long before.area (length body) ≡ true) × (new ≡ old) × (after ≡ before)
+LogAppends old new before after body (Err PowerLost) =
+    (is_too_long before.area (length body) ≡ false) × Loses old new before after body

@@ -1,0 +1,108 @@
+// Appending records.
+ghost use Rattle.std.specs.Prelude.{◌≡◌, ◌∷◌, [], true, false, length};
+ghost use Rattle.flash_map.specs.Touches.{Touches};
+ghost use Rattle.fcb_ring.specs.Changing.{append_lost, is_scratch_left, stays_for};
+ghost use Rattle.event_ring.specs.Appending.{is_too_long, lost_in, LogAppends};
+ghost use Rattle.event_ring.specs.Dropping.{PutEnds};
+ghost use Rattle.event_ring.specs.Room.{IsFilled};
+ghost use Rattle.event_ring.specs.Standing.{IsOpen};
+
+use crate::dropping::drop_oldest;
+use crate::event_log::EventLog;
+use fcb_ring::{AppendFault, Ring};
+use flash_map::Area;
+use flash_sim::{Flash, Steps};
+use std::sync::ledger::Ledger;
+
+/// Why a record was not appended.
+#[derive(Clone, Copy, Debug, PartialEq, Eq)]
+pub enum LogFault {
+    /// The body is empty, or longer than a value of the area may be. Nothing changed.
+    TooLong,
+    /// Power was off, or was lost in the call.
+    PowerLost,
+}
+
+// Whether a body of this length is empty, or longer than a value may be.
+fn is_too_long(area: &Area, len: usize) -> bool
+    ensures { result ≡ is_too_long area.now len }
+{
+    len == 0 || len > area.value_limit() as usize
+}
+
+// Puts a record behind the others, where it fits or another sector than the scratch one is free.
+fn put<F: Flash>(ring: &mut Ring, flash: &mut F, body: &[u8]) -> Result<(), AppendFault>
+    requires mounted { IsOpen (F.device flash.old) ring.old }
+    requires short { is_too_long ring.old.area (length body.now) ≡ false }
+
+    ensures touches { Touches (ring.old.area ∷ []) (F.device flash.old) (F.device flash.new) (append_lost result) }
+    ensures area { ring.new.area ≡ ring.old.area }
+    ensures ends { PutEnds (F.device flash.old) (F.device flash.new) ring.old ring.new body.now result }
+{
+    ring.append(flash, body, false)
+}
+
+// Drops the records of the oldest sector, and puts a record, which then fits.
+#[tactic(auto, using(flash_map::proofs::Touches::then))]
+fn drop_and_put<F: Flash, L: Ledger>(
+    ring: &mut Ring,
+    flash: &mut F,
+    body: &[u8],
+    steps: &mut Steps<L>,
+) -> Result<u32, LogFault>
+    requires mounted { IsOpen (F.device flash.old) ring.old }
+    requires short { is_too_long ring.old.area (length body.now) ≡ false }
+    requires no_room { stays_for (F.device flash.old) ring.old body.now 0 ≡ false }
+    requires left { is_scratch_left ring.old ≡ true }
+
+    ensures touches { Touches (ring.old.area ∷ []) (F.device flash.old) (F.device flash.new) (lost_in result) }
+    ensures area { ring.new.area ≡ ring.old.area }
+    ensures ends { LogAppends (F.device flash.old) (F.device flash.new) ring.old ring.new body.now result }
+    ensures filled { let area = ring.old.area in
+        IsFilled (F.device flash.old) area → IsFilled (F.device flash.new) area }
+{
+    let Ok(dropped) = drop_oldest(ring, flash, steps) else {
+        return Err(LogFault::PowerLost);
+    };
+    match put(ring, flash, body) {
+        Ok(()) => Ok(dropped),
+        Err(AppendFault::PowerLost) => Err(LogFault::PowerLost),
+        Err(AppendFault::TooLong) => unreachable!(),
+        Err(AppendFault::Full) => unreachable!(),
+    }
+}
+
+impl EventLog {
+    /// Adds a record with this body, and gives how many records that check were dropped for it. Only where the record does
+    /// not fit the newest sector and no sector but the scratch one is free, the oldest sector is dropped first.
+    ///
+    /// # Errors
+    /// `TooLong` exactly where the body is empty or longer than a value of the area may be; nothing changes then. After
+    /// `PowerLost` the log is down: its items are as before, or without what was dropped, or then with a torn one of the
+    /// record's cost, or with the record, or, where the record's first units with FF behind them check by chance, with a
+    /// record whose body is a front of the body, but not all of it, and then FF to its length. After every answer, where no
+    /// sector but the newest had room for the longest record, none has.
+    pub fn append<F: Flash, L: Ledger>(
+        &mut self,
+        flash: &mut F,
+        body: &[u8],
+        steps: &mut Steps<L>,
+    ) -> Result<u32, LogFault>
+        requires { IsOpen (F.device flash.old) self.old.ring }
+        ensures touches { Touches (self.old.ring.area ∷ []) (F.device flash.old) (F.device flash.new) (lost_in result) }
+        ensures area { self.new.ring.area ≡ self.old.ring.area }
+        ensures ends { LogAppends (F.device flash.old) (F.device flash.new) self.old.ring self.new.ring body.now result }
+        ensures filled { let area = self.old.ring.area in
+            IsFilled (F.device flash.old) area → IsFilled (F.device flash.new) area }
+    {
+        if is_too_long(self.ring.area(), body.len()) {
+            return Err(LogFault::TooLong);
+        }
+        match put(&mut self.ring, flash, body) {
+            Ok(()) => Ok(0),
+            Err(AppendFault::PowerLost) => Err(LogFault::PowerLost),
+            Err(AppendFault::TooLong) => unreachable!(),
+            Err(AppendFault::Full) => drop_and_put(&mut self.ring, flash, body, steps),
+        }
+    }
+}

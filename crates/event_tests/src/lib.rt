@@ -1,0 +1,5 @@
+//! Tests of logs.
+#![tactic(auto)]
+
+#[cfg(test)]
+mod logs;

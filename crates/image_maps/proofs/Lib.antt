@@ -1,0 +1,4 @@
+pub mod BlankLemmas
+pub mod LineLemmas
+pub mod MapLemmas
+pub mod ServedLemmas

@@ -1,0 +1,4 @@
+pub mod Blank
+pub mod Held
+pub mod Laws
+pub mod Lines

@@ -1,0 +1,5 @@
+pub mod Held
+pub mod Labels
+pub mod ScriptText
+pub mod Served
+pub mod Endings

@@ -1,0 +1,22 @@
+//! Plays: scripts of lines on the settings of an image, on a bench that may lose power at any unit.
+#![tactic(auto)]
+
+mod building;
+mod inputs;
+mod loading;
+mod outcome;
+mod playing;
+mod plays;
+mod reading;
+mod refusing;
+mod stops;
+mod telling;
+
+pub use building::build;
+pub use loading::file_left;
+pub use outcome::{OutFile, Outcome};
+pub use playing::play;
+pub use plays::{Output, Play, Source, Start, Telling};
+pub use reading::{read_image_file, read_script_text};
+pub use refusing::{USAGE, refusal_line};
+pub use stops::{Refusal, Stop};

@@ -1,0 +1,78 @@
+-- When a command is carried out, unless the host fails or memory runs out.
+use Rattle.std.specs.Prelude.{◌≡◌, ⊤, ℕ, None, IsSome, List}
+use Rattle.flash_map.specs.declared.area.Area.{Area}
+use Rattle.zs_host.specs.Outside.{Outside}
+use Rattle.handlers.specs.declared.handler.HandlerKind.{HandlerKind}
+use Rattle.command_words.specs.Commands.{IsCommand, IsNoCommand}
+use Rattle.command_words.specs.declared.commands.Command.{Command}
+use Rattle.command_words.specs.declared.commands.StoreKind.{StoreKind}
+use Rattle.session.specs.OnMap.{limit_of}
+use Rattle.script_lines.specs.declared.line.Line.{Line}
+use Rattle.image_file.specs.Format.{Plain}
+use Rattle.image_file.specs.Spec.{IsSpec}
+use Rattle.image_maps.specs.Laws.{unserved}
+use Rattle.flash_map.specs.Area.{value_limit}
+use Rattle.log_lines.specs.declared.line.Line.{Line as LogLine}
+use Rattle.image_logs.specs.Inputs.{HasLines}
+use Rattle.image_logs.specs.Plays.{OpensLog, damage_in}
+use Rattle.image_plays.specs.declared.plays.Play.{Play}
+use Rattle.image_plays.specs.declared.plays.Start.TheVariants.{Blank}
+use Rattle.image_plays.specs.declared.stops.Refusal.{Refusal}
+use Rattle.image_plays.specs.Images.{HasAreas, damage_of}
+use Rattle.image_plays.specs.Inputs.{BeginsWith, LacksStart, PlaysLines, blank_spec}
+use Rattle.image_plays.specs.Stages.{Stage, Stores}
+use Rattle.image_tool.specs.declared.status.Status.{Status}
+use Rattle.image_tool.specs.declared.status.Status.TheVariants as status
+use Rattle.image_tool.specs.declared.tasks.Task.{Task}
+use Rattle.image_tool.specs.declared.tasks.Task.TheVariants.{Build, Plays, Log}
+use Rattle.image_tool.specs.Tasks.{task_of}
+use Rattle.image_tool.specs.Tool.{ToolEnds, any_stores}
+
+-- The host tells its files, and the play begins with an image: stores work on all of its areas, it shows no damage, and there
+-- are lines to play. Lists of the areas of one image differ in the unused room of their labels alone.
+pub record IsSound (k : Stores) (play : Play) (host : Outside) : Type 0 where
+  pub tells : IsSome host.files
+  pub image : Plain
+  pub begins : BeginsWith play.start host image
+  pub served : (areas : List Area) → HasAreas image areas → unserved image.banks areas ≡ None
+  pub undamaged : (areas : List Area) → HasAreas image areas → damage_of k areas image ≡ None
+  pub reads : (areas : List Area) → HasAreas image areas → (lines : List Line) × PlaysLines play.source (limit_of areas) host lines
+
+-- The host tells its files, and IMAGE is an image with a log, which shows no damage, and SCRIPT has lines to play.
+pub record IsSoundLog (name script : List ℕ) (host : Outside) : Type 0 where
+  pub tells : IsSome host.files
+  pub image : Plain
+  pub area : Area
+  pub opens : OpensLog name host image area
+  pub undamaged : damage_in image area ≡ None
+  pub lines : List LogLine
+  pub reads : HasLines (value_limit area) host script lines
+
+-- what the task works on is sound
+abbrev pub IsSoundTask : Stores → Task → Outside → Type 0
+IsSoundTask k (Build out spec) host = (image : Plain) × IsSpec spec.now image
+IsSoundTask k (Plays play) host = IsSound k play host
+IsSoundTask k (Log image script out) host = IsSoundLog image.now script.now host
+
+-- done, but where the host failed or memory ran out
+abbrev pub IsCarriedOut : Status → Type 0
+IsCarriedOut status.Done = ⊤
+IsCarriedOut status.HostFault = ⊤
+IsCarriedOut status.NoMemory = ⊤
+IsCarriedOut status.Usage = ⊥
+IsCarriedOut status.BadScript = ⊥
+IsCarriedOut status.BadImage = ⊥
+IsCarriedOut status.NoFile = ⊥
+
+-- Words that are a command on what is sound are not refused.
+abbrev pub SoundIsCarriedOut : Type 0
+SoundIsCarriedOut = (kinds : List HandlerKind) (words : List (List ℕ)) (host host' : Outside) (old new : Stage) (result : Status)
+    → (IsNoCommand words → ⊥) → ((c : Command) → IsCommand words c → IsSoundTask any_stores (task_of c) host)
+    → ToolEnds any_stores kinds words host host' old new result → IsCarriedOut result
+
+-- The word of each blank image on which a generated script runs is lawful, so `gen` is never refused for it.
+abbrev pub BlanksAreLawful : Type 0
+BlanksAreLawful = (kind : StoreKind) → (image : Plain) × IsSpec (blank_spec kind) image
+
+abbrev pub BlanksAreNotRefused : Type 0
+BlanksAreNotRefused = (kind : StoreKind) (host : Outside) (refusal : Refusal) → LacksStart (Blank kind) host refusal → ⊥

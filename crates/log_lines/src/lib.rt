@@ -1,0 +1,16 @@
+//! The lines of a script on an application log, the texts of their answers, and the plan of a loss through them.
+#![tactic(auto)]
+
+mod answer;
+mod bodies;
+mod line;
+mod plan;
+mod reading;
+mod script;
+
+pub use answer::{Answer, answer_text};
+pub use bodies::Bodies;
+pub use line::Line;
+pub use plan::{is_lost, units_of};
+pub use script::{each_is_read, one_meaning, read_script};
+pub use script_lines::{Bytes, LineWhy, ScriptFault};

@@ -1,0 +1,10 @@
+pub mod AccountLemmas
+pub mod FoldLemmas
+pub mod HistoryLemmas
+pub mod LineLemmas
+pub mod MountLemmas
+pub mod PutLemmas
+pub mod ReachLemmas
+pub mod RunLemmas
+pub mod ServedLemmas
+pub mod WalkSteps

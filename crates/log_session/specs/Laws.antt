@@ -1,0 +1,67 @@
+-- What the table says of runs.
+use Rattle.std.specs.Prelude.{ℕ, ◌-◌, ◌*◌, ◌<◌, List, ◌++◌, map}
+use Rattle.std.specs.List.{All}
+use Rattle.flash_sim.specs.Bank.{IsLawful}
+use Rattle.flash_sim.specs.Device.{Device}
+use Rattle.flash_map.specs.declared.area.Area.{Area}
+use Rattle.flash_map.specs.declared.area.Geometry.{Geometry}
+use Rattle.event_ring.specs.Items.{items_on, cost_in}
+use Rattle.event_ring.specs.Room.{room_on, longest_on}
+use Rattle.event_ring.specs.Scripts.{IsReached}
+use Rattle.script_lines.specs.Script.{IsScript}
+use Rattle.session_table.specs.Follows.{Follows}
+use Rattle.log_lines.specs.Line.{log_forms, row_of}
+use Rattle.log_lines.specs.declared.line.Line.{Line}
+use Rattle.log_lines.specs.declared.line.Line.TheVariants.{Put}
+use Rattle.log_lines.specs.declared.answer.Answer.{Answer}
+use Rattle.log_lines.specs.declared.answer.Answer.TheVariants.{Appended}
+use Rattle.log_session.specs.History.{IsAfterDrops, PowerStep}
+use Rattle.log_session.specs.LineDone.{IsServed, LineDone, Runs}
+use Rattle.log_session.specs.Step.{State, Step}
+
+-- wherever power is lost, the log holds every acknowledged record that no drop took, in order, and behind it what lost appends left
+abbrev pub HoldsAcknowledged : Type 0
+HoldsAcknowledged =
+    (geometry : Geometry) (last : ℕ) (lines : List Line) (answers : List Answer) (old new : State)
+    → Follows (Step geometry last) lines answers old new → IsAfterDrops geometry last lines answers old new
+
+-- power is off from a line in which it was lost to the next mount that answers `ok`
+abbrev pub LosesPower : Type 0
+LosesPower =
+    (geometry : Geometry) (last : ℕ) (lines : List Line) (answers : List Answer) (old new : State)
+    → Follows (Step geometry last) lines answers old new → Follows PowerStep lines answers old.is_on new.is_on
+
+-- two runs in a row are one
+abbrev pub RunsInRow : Type 0
+RunsInRow =
+    (geometry : Geometry) (last : ℕ) (lines more : List Line) (answers others : List Answer) (old mid new : State)
+    → Follows (Step geometry last) lines answers old mid → Follows (Step geometry last) more others mid new
+    → Follows (Step geometry last) (lines ++ more) (answers ++ others) old new
+
+-- a run of a bench, line by line, follows the table, its counts and its plan are those that its answers say, and no byte changed
+-- outside the area
+abbrev pub LinesMakeRuns : Type 0
+LinesMakeRuns =
+    (area : Area) (lines : List Line) (answers : List Answer) (old new : Device)
+    → Follows (LineDone area) lines answers old new → Runs area lines answers old new
+
+-- the lines of a text have bodies within the limit
+abbrev pub LinesAreServed : Type 0
+LinesAreServed =
+    (limit : ℕ) (text : List ℕ) (lines : List Line)
+    → IsScript log_forms limit text (map row_of lines) → All (IsServed limit) lines
+
+-- Lines that are carried out one by one on an area that mounts and appends reached from a blank one are mounts and appends too.
+abbrev pub RunsReach : Type 0
+RunsReach =
+    (area : Area) (lines : List Line) (answers : List Answer) (old new : Device)
+    → IsReached area old → Follows (LineDone area) lines answers old new → IsReached area new
+
+-- On such an area a line drops records only where the items cost more than all sectors but one have room for, less the longest
+-- record in each.
+abbrev pub DropsWhereFull : Type 0
+DropsWhereFull =
+    (area : Area) (body : List ℕ) (units dropped : ℕ) (old new : Device)
+    → IsReached area old → IsLawful old.banks old.bytes → LineDone area (Put body) (Appended units dropped) old new
+    → 0 < dropped
+    → (area.sectors - 1) * (room_on old area - longest_on old area) < cost_in old area (items_on old area)

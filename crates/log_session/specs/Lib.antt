@@ -1,0 +1,6 @@
+pub mod Step
+pub mod LineDone
+pub mod Standing
+pub mod Running
+pub mod History
+pub mod Laws

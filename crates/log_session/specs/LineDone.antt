@@ -1,0 +1,125 @@
+-- What lines make of a bench.
+use Rattle.std.specs.Prelude.{◌≡◌, ℕ, ◌+◌, ◌≤◌, ⊤, Bool, true, false, List, [], ◌∷◌, length, None, Some, Result, Ok, Err, if◌then◌else◌, All}
+use Rattle.flash_sim.specs.Device.{Device, Never, counted}
+use Rattle.flash_sim.specs.declared.flash.Loss.{Loss}
+use Rattle.flash_map.specs.declared.area.Area.{Area}
+use Rattle.flash_map.specs.Area.{geometry_of}
+use Rattle.flash_map.specs.Touches.{SameOutside, Touches}
+use Rattle.fcb_ring.specs.declared.ring.Ring.{Ring}
+use Rattle.fcb_ring.specs.Chance.{chance_on}
+use Rattle.fcb_ring.specs.Standing.{erases_on, ring_damage}
+use Rattle.event_ring.specs.declared.appending.LogFault.{LogFault}
+use Rattle.event_ring.specs.declared.appending.LogFault.TheVariants.{PowerLost}
+use Rattle.event_ring.specs.Appending.{LogAppends}
+use Rattle.event_ring.specs.Items.{log_on}
+use Rattle.event_ring.specs.Standing.{IsOpen, KeepsItems}
+use Rattle.script_lines.specs.Plan.Replan.{keeps as keeps_plan}
+use Rattle.session_table.specs.Follows.{Follows}
+use Rattle.log_lines.specs.declared.line.Line.{Line}
+use Rattle.log_lines.specs.declared.line.Line.TheVariants.{Put, Records, Mount}
+use Rattle.log_lines.specs.declared.answer.Answer.{Answer}
+use Rattle.log_lines.specs.declared.answer.Answer.TheVariants.{Appended, Lost}
+use Rattle.log_lines.specs.Plan.{units_of, is_lost, units_in, losses_in, replan, Allows, plan_after, Planned, plan_through, PlansNoLoss}
+use Rattle.log_session.specs.Step.{State, Step, IsCounted}
+
+-- the state that the flash's bytes and power are
+abbrev pub state_of : Area → Device → State
+state_of area d = record { log = log_on d area; is_on = d.is_on }
+
+-- a line's body is one that an area takes whose values have at most so many bytes
+abbrev pub IsServed : ℕ → Line → Type 0
+IsServed limit (Put body) = (1 ≤ length body) × (length body ≤ limit)
+IsServed limit line = ⊤
+
+abbrev pub turned_on : Device → Device
+turned_on d = record d { is_on = true }
+
+-- a mount turns power on first
+abbrev pub powered_for : Line → Device → Device
+powered_for Mount d = turned_on d
+powered_for line d = d
+
+-- the banks, the count of loads, and each byte outside the area
+pub record Keeps (area : Area) (old new : Device) : Type 0 where
+  pub banks : new.banks ≡ old.banks
+  pub loads : new.loads ≡ old.loads
+  pub outside : SameOutside (area ∷ []) old new
+
+-- on a flash that tells that no loss is planned none comes, and none is planned afterwards
+abbrev pub StaysUnplanned : Device → Device → Type 0
+StaysUnplanned old new = old.plan ≡ Never → (new.plan ≡ Never) × (new.losses ≡ old.losses)
+
+-- counts and plan
+pub record Accounts (line : Line) (answer : Answer) (old new : Device) : Type 0 where
+  pub spent : old.spent + units_of answer ≡ new.spent
+  pub losses : new.losses ≡ counted old.losses (if is_lost answer then 1 else 0)
+  pub allows : IsCounted new.spent → Allows old.plan answer
+  pub plan : IsCounted new.spent → new.plan ≡ plan_after old.plan line answer
+  pub unplanned : PlansNoLoss line → StaysUnplanned old new
+
+-- the bench shows whether the units that were put before the loss spell another record
+pub record ShowsChance (area : Area) (chance : Bool) (d : Device) : Type 0 where
+  pub loss : Loss
+  pub last : d.last_loss ≡ Some loss
+  pub is : chance ≡ chance_on d area loss
+
+-- at the loss of an append alone
+abbrev pub TellsChance : Area → Line → Answer → Device → Type 0
+TellsChance area (Put body) (Lost units chance) d = ShowsChance area chance d
+TellsChance area line answer d = ⊤
+
+-- the log that stood open on the area appended the body, and ended so
+pub record AppendsOn (area : Area) (body : List ℕ) (end : Result ℕ LogFault) (old new : Device) : Type 0 where
+  pub before : Ring
+  pub after : Ring
+  pub is_open : IsOpen old before
+  pub same_area : before.area ≡ area
+  pub ends : LogAppends old new before after body end
+
+-- A record is put as the log appends it: a front is dropped only where the record does not fit and no sector but one is free.
+abbrev pub PutsBy : Area → Line → Answer → Device → Device → Type 0
+PutsBy area (Put body) (Appended units dropped) old new = AppendsOn area body (Ok dropped) old new
+PutsBy area (Put body) (Lost units chance) old new = AppendsOn area body (Err PowerLost) old new
+PutsBy area line answer old new = ⊤
+
+-- An area that shows no damage is mounted: the erases that it wants are carried out, no more of them where power is lost, and all
+-- items stay, the torn ones too.
+pub record MountsBy (area : Area) (answer : Answer) (old new : Device) : Type 0 where
+  pub undamaged : ring_damage old area ≡ None
+  pub at_most : units_of answer ≤ erases_on old area
+  pub all : is_lost answer ≡ false → IsCounted new.spent → units_of answer ≡ erases_on old area
+  pub items : KeepsItems old new area
+
+-- the plan alone may differ
+abbrev pub SameButPlan : Device → Device → Type 0
+SameButPlan old new = new ≡ record old { plan = new.plan }
+
+-- A line was carried out by the table. But for the plan, the bench was touched in the area alone: a loss of power lies in it, and
+-- without a unit no byte changed. A line on the plan changes nothing else, and one that tells the records changes nothing.
+pub record LineDone (area : Area) (line : Line) (answer : Answer) (old new : Device) : Type 0 where
+  pub step : (last : ℕ) → new.spent ≤ last → Step (geometry_of old area) last line answer (state_of area old) (state_of area new)
+  pub accounts : Accounts line answer old new
+  pub keeps : Keeps area old new
+  pub touches : replan line ≡ keeps_plan → Touches (area ∷ []) (powered_for line old) new (is_lost answer)
+  pub puts : PutsBy area line answer old new
+  pub mounts : line ≡ Mount → MountsBy area answer old new
+  pub tells : line ≡ Records → new ≡ old
+  pub plans : (replan line ≡ keeps_plan → ⊥) → SameButPlan old new
+  pub chance : TellsChance area line answer new
+
+-- at the loss of the last line
+abbrev pub TellsLastChance : Area → List Line → List Answer → Device → Type 0
+TellsLastChance area [] answers d = ⊤
+TellsLastChance area (line ∷ lines) [] d = ⊤
+TellsLastChance area (line ∷ []) (answer ∷ []) d = TellsChance area line answer d
+TellsLastChance area (line ∷ lines) (answer ∷ answers) d = TellsLastChance area lines answers d
+
+-- a whole run of lines
+pub record Runs (area : Area) (lines : List Line) (answers : List Answer) (old new : Device) : Type 0 where
+  pub session : Follows (Step (geometry_of old area) new.spent) lines answers (state_of area old) (state_of area new)
+  pub spent : old.spent + units_in answers ≡ new.spent
+  pub losses : new.losses ≡ counted old.losses (losses_in answers)
+  pub planned : IsCounted new.spent → Planned old.plan lines answers × (new.plan ≡ plan_through old.plan lines answers)
+  pub keeps : Keeps area old new
+  pub unplanned : All PlansNoLoss lines → StaysUnplanned old new
+  pub chance : TellsLastChance area lines answers new

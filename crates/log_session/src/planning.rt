@@ -1,0 +1,26 @@
+// Plans of losses.
+ghost use Rattle.log_lines.specs.declared.line.Line.TheVariants.{Cut, Uncut};
+ghost use Rattle.log_session.specs.LineDone.{LineDone};
+ghost use Rattle.std.specs.Prelude.{◌≡◌};
+
+use flash_map::Area;
+use flash_sim::{Bench, Flash};
+use log_lines::Answer;
+
+// Plans a loss of power.
+pub(crate) fn plan_loss<B: Bench>(bench: &mut B, area: &Area, units: u64) -> Answer
+    ensures done { LineDone area.now (Cut units) result (B.device bench.old) (B.device bench.new) }
+    ensures same { B.device bench.new ≡ record (B.device bench.old) { plan = (B.device bench.new).plan } }
+{
+    bench.arm(units);
+    Answer::Done { units: 0 }
+}
+
+// Drops that plan.
+pub(crate) fn drop_plan<B: Bench>(bench: &mut B, area: &Area) -> Answer
+    ensures done { LineDone area.now Uncut result (B.device bench.old) (B.device bench.new) }
+    ensures same { B.device bench.new ≡ record (B.device bench.old) { plan = (B.device bench.new).plan } }
+{
+    bench.disarm();
+    Answer::Done { units: 0 }
+}

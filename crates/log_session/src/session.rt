@@ -1,0 +1,151 @@
+// A session, and carrying out one line in it.
+ghost use Rattle.std.specs.Prelude.{◌≡◌, true, None, IfOk, IfErr, OnErr, OnOk};
+ghost use Rattle.fcb_ring.specs.Standing.{IsRingArea, erases_on, ring_damage};
+ghost use Rattle.flash_map.specs.Area.{value_limit};
+ghost use Rattle.log_lines.specs.declared.answer.Answer.TheVariants.{Done};
+ghost use Rattle.log_lines.specs.declared.line.Line.TheVariants.{Mount, Records};
+ghost use Rattle.log_session.specs.LineDone.{IsServed, LineDone};
+ghost use Rattle.log_session.specs.Standing.{IsMounted, IsReady, IsSound, ShowsDamage};
+
+use crate::appending::put_record;
+use crate::mounting::mount;
+use crate::planning::{drop_plan, plan_loss};
+use crate::telling::tell_records;
+use event_ring::EventLog;
+use flash_map::{Area, Damaged};
+use flash_sim::{Bench, Flash, NoMemory, Steps};
+use log_lines::{Answer, Line};
+use std::alloc::Global;
+use std::sync::ledger::Ledger;
+
+/// A session on the log of one area.
+#[derive(Drop)]
+pub struct LogSession {
+    pub(crate) area: Area,
+    // none once a mount lost power
+    pub(crate) log: Option<EventLog>,
+}
+
+impl LogSession {
+    /// Turns power on, mounts the log of an area, and gives the session with the answer to that mount. A mount of an area at
+    /// rest spends nothing. It takes no memory.
+    ///
+    /// # Errors
+    /// The damage that the area shows; the bench is then as before, but that power is on.
+    pub fn open<B: Bench, L: Ledger>(
+        bench: &mut B,
+        area: &Area,
+        steps: &mut Steps<L>,
+    ) -> Result<(LogSession, Answer), Damaged>
+        requires { IsRingArea (B.device bench.old).banks area.now }
+
+        ensures done { IfOk result (λ opened.
+            LineDone area.now Mount opened.1 (B.device bench.old) (B.device bench.new)) }
+        ensures ready { IfOk result (λ opened. IsReady (B.device bench.new) opened.0) }
+        ensures area { IfOk result (λ opened. opened.0.area ≡ area.now) }
+        ensures before { OnOk result (ring_damage (B.device bench.old) area.now ≡ None) }
+        ensures rests { erases_on (B.device bench.old) area.now ≡ 0
+            → IfOk result (λ opened. opened.1 ≡ Done 0) }
+        ensures damaged { IfErr result (λ damaged.
+            ShowsDamage area.now (B.device bench.old) (B.device bench.new) damaged) }
+    {
+        match mount(bench, area, steps) {
+            Ok(mounted) => {
+                let session = LogSession {
+                    area: area.copy(),
+                    log: mounted.log,
+                };
+                Ok((session, mounted.answer))
+            }
+            Err(damaged) => Err(damaged),
+        }
+    }
+
+    /// Carries out a line. With power off `put` and `all` answer `off`. A mount of an area at rest spends nothing, and each mount
+    /// that is not cut succeeds.
+    ///
+    /// # Errors
+    /// `NoMemory`, where the line is `all` and power is on; nothing changed then.
+    pub fn carry_out<B: Bench, L: Ledger>(
+        &mut self,
+        alloc: Global,
+        line: &Line,
+        bench: &mut B,
+        steps: &mut Steps<L>,
+    ) -> Result<Answer, NoMemory>
+        requires ready { IsReady (B.device bench.old) self.old }
+        requires line { IsServed (value_limit self.old.area) line.now }
+
+        ensures done { IfOk result (λ answer.
+            LineDone self.old.area line.now answer (B.device bench.old) (B.device bench.new)) }
+        ensures ready { IsReady (B.device bench.new) self.new }
+        ensures area { self.new.area ≡ self.old.area }
+        ensures rests { line.now ≡ Mount → erases_on (B.device bench.old) self.old.area ≡ 0
+            → IfOk result (λ answer. answer ≡ Done 0) }
+        ensures same { OnErr result (B.device bench.new ≡ B.device bench.old) }
+        ensures memory { OnErr result ((line.now ≡ Records) × ((B.device bench.old).is_on ≡ true)) }
+    {
+        let area = self.area.copy();
+        run_line(alloc, line, bench, &area, &mut self.log, steps)
+    }
+}
+
+// Mounts anew an area that is not damaged.
+fn mount_again<B: Bench, L: Ledger>(
+    bench: &mut B,
+    area: &Area,
+    log: &mut Option<EventLog>,
+    steps: &mut Steps<L>,
+) -> Answer
+    requires { IsSound (B.device bench.old) area.now }
+
+    ensures done { LineDone area.now Mount result (B.device bench.old) (B.device bench.new) }
+    ensures sound { IsSound (B.device bench.new) area.now }
+    ensures mounted { IsMounted (B.device bench.new) area.now log.new }
+    ensures rests { erases_on (B.device bench.old) area.now ≡ 0 → result ≡ Done 0 }
+{
+    match mount(bench, area, steps) {
+        Ok(mounted) => {
+            *log = mounted.log;
+            mounted.answer
+        }
+        Err(_) => unreachable!(),
+    }
+}
+
+// Carries out a line on an area that is not damaged, with the log that was mounted on it.
+fn run_line<B: Bench, L: Ledger>(
+    alloc: Global,
+    line: &Line,
+    bench: &mut B,
+    area: &Area,
+    log: &mut Option<EventLog>,
+    steps: &mut Steps<L>,
+) -> Result<Answer, NoMemory>
+    requires sound { IsSound (B.device bench.old) area.now }
+    requires mounted { IsMounted (B.device bench.old) area.now log.old }
+    requires line { IsServed (value_limit area.now) line.now }
+
+    ensures done { IfOk result (λ answer.
+        LineDone area.now line.now answer (B.device bench.old) (B.device bench.new)) }
+    ensures sound { IsSound (B.device bench.new) area.now }
+    ensures mounted { IsMounted (B.device bench.new) area.now log.new }
+    ensures rests { line.now ≡ Mount → erases_on (B.device bench.old) area.now ≡ 0
+        → IfOk result (λ answer. answer ≡ Done 0) }
+    ensures same { OnErr result (B.device bench.new ≡ B.device bench.old) }
+    ensures memory { OnErr result ((line.now ≡ Records) × ((B.device bench.old).is_on ≡ true)) }
+{
+    match line {
+        Line::Put { body } => match log {
+            Some(log) if bench.is_on() => Ok(put_record(bench, log, area, body, steps)),
+            _ => Ok(Answer::Off),
+        },
+        Line::Records => match log {
+            Some(log) if bench.is_on() => tell_records(alloc, bench, log, area, steps),
+            _ => Ok(Answer::Off),
+        },
+        Line::Mount => Ok(mount_again(bench, area, log, steps)),
+        Line::Cut { units } => Ok(plan_loss(bench, area, *units)),
+        Line::Uncut => Ok(drop_plan(bench, area)),
+    }
+}

@@ -1,0 +1,5 @@
+//! Tests of scripts on a log.
+#![tactic(auto)]
+
+#[cfg(test)]
+mod scripts;

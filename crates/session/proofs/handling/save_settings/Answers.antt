@@ -1,0 +1,117 @@
+-- each end of the call makes its answer
+use Rattle.std.proofs.Common.{◌≡◌, ℕ, ◌-◌, List, ◌∷◌, [], Option, Ok, Err, ap, subst, sym, ◌∙◌}
+use Rattle.std.specs.Prelude.{option_map}
+use Rattle.flash_sim.specs.declared.flash.Bank.{Bank}
+use Rattle.flash_map.specs.declared.area.Area.{Area}
+use Rattle.flash_map.specs.Area.{value_limit}
+use Rattle.flash_map.specs.Lawful.{IsLawfulFor}
+use Rattle.flash_map.specs.On.{on}
+use Rattle.flash_map.specs.Touches.{Touches}
+use Rattle.backend_api.specs.Commands.{puts_of}
+use Rattle.handlers.specs.Registry.{registered}
+use Rattle.settings_core.specs.Carrying.{save_lost}
+use Rattle.settings_core.specs.Saving.{AreLawful, exported}
+use Rattle.settings_core.specs.declared.writing.SaveFault.{SaveFault}
+use Rattle.settings_core.specs.declared.writing.SaveFault.TheVariants.{NoSpace, TooManyNames, PowerLost}
+use Rattle.script_lines.specs.declared.line.Line.TheVariants.{Save}
+use Rattle.script_lines.specs.declared.answer.Answer.TheVariants.{Lost, Saved}
+use Rattle.script_lines.specs.declared.answer.SaveEnd.TheVariants.{Whole, NoSpace as NoRoom, TooMany}
+use Rattle.session.specs.OnMap.{DoneWithin, active_area, meanings, moment}
+use Rattle.session.proofs.ActiveArea.{active-lawful, active-limit, active-stays}
+use Rattle.session.proofs.SaveLemmas.{ended, units-are, saved-whole, saved-many, saved-full, saved-lost}
+use Rattle.session.proofs.handling.save_settings.Goals as goal
+
+pub save-saved-requires-clause-lawful : goal.save-saved-requires-clause-lawful
+save-saved-requires-clause-lawful g c =
+    let d = g.B.Flash.device c.args.bench.now in
+    subst (λ (a : Area). IsLawfulFor d.banks a) (sym (c.requires.mounted ∙ c.requires.area)) (active-lawful g.K.Backend.serves c.args.map.now d c.requires.map)
+
+pub save-saved-requires-clause-settings : goal.save-saved-requires-clause-settings
+save-saved-requires-clause-settings g c =
+    let d = g.B.Flash.device c.args.bench.now in
+    let hs = registered (λ b. (goal.Handler-dyn g (b.vtable, b.value)).state b.value) c.args.registry.now in
+    subst (λ (limit : ℕ). AreLawful limit hs) (sym (ap value_limit (c.requires.mounted ∙ c.requires.area) ∙ active-limit g.K.Backend.serves c.args.map.now d c.requires.map)) c.requires.registry
+
+pub spells_another-requires-clause-lawful : goal.spells_another-requires-clause-lawful
+spells_another-requires-clause-lawful g c =
+    let d = g.B.Flash.device c.args.bench.now in
+    subst (λ (banks : List Bank). IsLawfulFor banks c.args.area.now) (sym c.save-saved.ensures.touches.banks)
+    (subst (λ (a : Area). IsLawfulFor d.banks a) (sym c.requires.area) (active-lawful g.K.Backend.serves c.args.map.now d c.requires.map))
+
+pub returns-in-Ok-clause-done : goal.returns-in-Ok-clause-done
+returns-in-Ok-clause-done g c =
+    let old = g.B.Flash.device c.args.bench.now in
+    let new = g.B.Flash.device c.save-saved.new.flash in
+    let hs = registered (λ b. (goal.Handler-dyn g (b.vtable, b.value)).state b.value) c.args.registry.now in
+    let asked = option_map (λ name. name.now) c.as_ref.result in
+    let areas = c.args.map.now in
+    let at : g.K.Backend.mounted_on c.args.settings.now.backend ≡ active_area areas old = c.requires.mounted ∙ c.requires.area in
+    let touches : Touches (active_area areas old ∷ []) old new (save_lost c.save-saved.result.end) = subst (λ (a : Area). Touches (a ∷ []) old new (save_lost c.save-saved.result.end)) at c.save-saved.ensures.touches in
+    let stays = active-stays g.K.Backend.serves areas old c.requires.map new (save_lost c.save-saved.result.end) (g.met.B.Flash.is_lawful c.args.bench.now) (g.met.B.Flash.is_lawful c.save-saved.new.flash) touches in
+    let up = g.K.Backend.runs c.args.settings.now.backend in
+    let units = c.spent.result - c.spent-before.result in
+    let spent = units-are c.spent-before.result c.spent.result old.spent new.spent c.spent-before.ensures c.spent.ensures in
+    let here = ended g.K.Backend.contents g.K.Backend.room g.K.Backend.chance g.K.Backend.tears old new (puts_of (exported asked hs)) c.save-saved.result.pairs up (g.K.Backend.mounted_on c.args.settings.now.backend) (active_area areas old) c.save-saved.result.end (Ok c.in-Ok.field-0) at c.in-Ok.is
+    (record { touches = c.save-saved.ensures.touches; count = c.save-saved.ensures.ends.0; ends = c.save-saved.ensures.ends.1; pairs_are = c.save-saved.ensures.ends.2 }) in
+    λ pool. subst (λ (subtree : Option (List ℕ)). DoneWithin (meanings g.K.Backend.contents g.K.Backend.room g.K.Backend.chance g.K.Backend.tears) areas (Save subtree) (Saved c.save-saved.result.pairs units Whole) (moment old hs pool) (moment new hs pool)) c.as_ref.ensures.value
+    (saved-whole g.K.Backend.contents g.K.Backend.room g.K.Backend.chance g.K.Backend.tears areas hs pool asked old new c.requires.on stays up c.save-saved.result.pairs units spent c.in-Ok.field-0 here)
+
+pub returns-in-Err-NoSpace-clause-done : goal.returns-in-Err-NoSpace-clause-done
+returns-in-Err-NoSpace-clause-done g c =
+    let old = g.B.Flash.device c.args.bench.now in
+    let new = g.B.Flash.device c.save-saved.new.flash in
+    let hs = registered (λ b. (goal.Handler-dyn g (b.vtable, b.value)).state b.value) c.args.registry.now in
+    let asked = option_map (λ name. name.now) c.as_ref.result in
+    let areas = c.args.map.now in
+    let at : g.K.Backend.mounted_on c.args.settings.now.backend ≡ active_area areas old = c.requires.mounted ∙ c.requires.area in
+    let touches : Touches (active_area areas old ∷ []) old new (save_lost c.save-saved.result.end) = subst (λ (a : Area). Touches (a ∷ []) old new (save_lost c.save-saved.result.end)) at c.save-saved.ensures.touches in
+    let stays = active-stays g.K.Backend.serves areas old c.requires.map new (save_lost c.save-saved.result.end) (g.met.B.Flash.is_lawful c.args.bench.now) (g.met.B.Flash.is_lawful c.save-saved.new.flash) touches in
+    let up = g.K.Backend.runs c.args.settings.now.backend in
+    let units = c.spent.result - c.spent-before.result in
+    let spent = units-are c.spent-before.result c.spent.result old.spent new.spent c.spent-before.ensures c.spent.ensures in
+    let which : c.in-Err-NoSpace.field-0 ≡ (NoSpace c.in-Err-NoSpace.need c.in-Err-NoSpace.live) = rw c.in-Err-NoSpace.is at c.in-Err-NoSpace.field-0-is in
+    let end : c.save-saved.result.end ≡ Err (NoSpace c.in-Err-NoSpace.need c.in-Err-NoSpace.live) = c.in-Err-NoSpace.is ∙ ap (λ (fault : SaveFault). Err fault) which in
+    let here = ended g.K.Backend.contents g.K.Backend.room g.K.Backend.chance g.K.Backend.tears old new (puts_of (exported asked hs)) c.save-saved.result.pairs up (g.K.Backend.mounted_on c.args.settings.now.backend) (active_area areas old) c.save-saved.result.end (Err (NoSpace c.in-Err-NoSpace.need c.in-Err-NoSpace.live)) at end
+    (record { touches = c.save-saved.ensures.touches; count = c.save-saved.ensures.ends.0; ends = c.save-saved.ensures.ends.1; pairs_are = c.save-saved.ensures.ends.2 }) in
+    λ pool. subst (λ (subtree : Option (List ℕ)). DoneWithin (meanings g.K.Backend.contents g.K.Backend.room g.K.Backend.chance g.K.Backend.tears) areas (Save subtree) (Saved c.save-saved.result.pairs units (NoRoom c.in-Err-NoSpace.need c.in-Err-NoSpace.live)) (moment old hs pool) (moment new hs pool)) c.as_ref.ensures.value
+    (saved-full g.K.Backend.contents g.K.Backend.room g.K.Backend.chance g.K.Backend.tears areas hs pool asked old new c.requires.on stays up c.save-saved.result.pairs units spent c.in-Err-NoSpace.need c.in-Err-NoSpace.live here)
+
+pub returns-in-Err-TooManyNames-clause-done : goal.returns-in-Err-TooManyNames-clause-done
+returns-in-Err-TooManyNames-clause-done g c =
+    let old = g.B.Flash.device c.args.bench.now in
+    let new = g.B.Flash.device c.save-saved.new.flash in
+    let hs = registered (λ b. (goal.Handler-dyn g (b.vtable, b.value)).state b.value) c.args.registry.now in
+    let asked = option_map (λ name. name.now) c.as_ref.result in
+    let areas = c.args.map.now in
+    let at : g.K.Backend.mounted_on c.args.settings.now.backend ≡ active_area areas old = c.requires.mounted ∙ c.requires.area in
+    let touches : Touches (active_area areas old ∷ []) old new (save_lost c.save-saved.result.end) = subst (λ (a : Area). Touches (a ∷ []) old new (save_lost c.save-saved.result.end)) at c.save-saved.ensures.touches in
+    let stays = active-stays g.K.Backend.serves areas old c.requires.map new (save_lost c.save-saved.result.end) (g.met.B.Flash.is_lawful c.args.bench.now) (g.met.B.Flash.is_lawful c.save-saved.new.flash) touches in
+    let up = g.K.Backend.runs c.args.settings.now.backend in
+    let units = c.spent.result - c.spent-before.result in
+    let spent = units-are c.spent-before.result c.spent.result old.spent new.spent c.spent-before.ensures c.spent.ensures in
+    let which : c.in-Err-TooManyNames.field-0 ≡ TooManyNames = rw c.in-Err-TooManyNames.is at c.in-Err-TooManyNames.field-0-is in
+    let end : c.save-saved.result.end ≡ Err TooManyNames = c.in-Err-TooManyNames.is ∙ ap (λ (fault : SaveFault). Err fault) which in
+    let here = ended g.K.Backend.contents g.K.Backend.room g.K.Backend.chance g.K.Backend.tears old new (puts_of (exported asked hs)) c.save-saved.result.pairs up (g.K.Backend.mounted_on c.args.settings.now.backend) (active_area areas old) c.save-saved.result.end (Err TooManyNames) at end
+    (record { touches = c.save-saved.ensures.touches; count = c.save-saved.ensures.ends.0; ends = c.save-saved.ensures.ends.1; pairs_are = c.save-saved.ensures.ends.2 }) in
+    λ pool. subst (λ (subtree : Option (List ℕ)). DoneWithin (meanings g.K.Backend.contents g.K.Backend.room g.K.Backend.chance g.K.Backend.tears) areas (Save subtree) (Saved c.save-saved.result.pairs units TooMany) (moment old hs pool) (moment new hs pool)) c.as_ref.ensures.value
+    (saved-many g.K.Backend.contents g.K.Backend.room g.K.Backend.chance g.K.Backend.tears areas hs pool asked old new c.requires.on stays up c.save-saved.result.pairs units spent here)
+
+pub returns-in-Err-PowerLost-clause-done : goal.returns-in-Err-PowerLost-clause-done
+returns-in-Err-PowerLost-clause-done g c =
+    let old = g.B.Flash.device c.args.bench.now in
+    let new = g.B.Flash.device c.save-saved.new.flash in
+    let hs = registered (λ b. (goal.Handler-dyn g (b.vtable, b.value)).state b.value) c.args.registry.now in
+    let asked = option_map (λ name. name.now) c.as_ref.result in
+    let areas = c.args.map.now in
+    let at : g.K.Backend.mounted_on c.args.settings.now.backend ≡ active_area areas old = c.requires.mounted ∙ c.requires.area in
+    let touches : Touches (active_area areas old ∷ []) old new (save_lost c.save-saved.result.end) = subst (λ (a : Area). Touches (a ∷ []) old new (save_lost c.save-saved.result.end)) at c.save-saved.ensures.touches in
+    let stays = active-stays g.K.Backend.serves areas old c.requires.map new (save_lost c.save-saved.result.end) (g.met.B.Flash.is_lawful c.args.bench.now) (g.met.B.Flash.is_lawful c.save-saved.new.flash) touches in
+    let up = g.K.Backend.runs c.args.settings.now.backend in
+    let units = c.spent.result - c.spent-before.result in
+    let spent = units-are c.spent-before.result c.spent.result old.spent new.spent c.spent-before.ensures c.spent.ensures in
+    let which : c.in-Err-PowerLost.field-0 ≡ PowerLost = rw c.in-Err-PowerLost.is at c.in-Err-PowerLost.field-0-is in
+    let end : c.save-saved.result.end ≡ Err PowerLost = c.in-Err-PowerLost.is ∙ ap (λ (fault : SaveFault). Err fault) which in
+    let here = ended g.K.Backend.contents g.K.Backend.room g.K.Backend.chance g.K.Backend.tears old new (puts_of (exported asked hs)) c.save-saved.result.pairs up (g.K.Backend.mounted_on c.args.settings.now.backend) (active_area areas old) c.save-saved.result.end (Err PowerLost) at end
+    (record { touches = c.save-saved.ensures.touches; count = c.save-saved.ensures.ends.0; ends = c.save-saved.ensures.ends.1; pairs_are = c.save-saved.ensures.ends.2 }) in
+    λ pool. subst (λ (subtree : Option (List ℕ)). DoneWithin (meanings g.K.Backend.contents g.K.Backend.room g.K.Backend.chance g.K.Backend.tears) areas (Save subtree) (Lost units c.spells_another.result) (moment old hs pool) (moment new hs pool)) c.as_ref.ensures.value
+    (saved-lost g.K.Backend.contents g.K.Backend.room g.K.Backend.chance g.K.Backend.tears areas hs pool asked old new c.requires.on stays up c.save-saved.result.pairs units spent c.spells_another.result (λ loss last. c.spells_another.ensures loss last ∙ ap (λ (a : Area). on g.K.Backend.chance new a loss) c.requires.area) here)

@@ -1,0 +1,37 @@
+use Rattle.std.proofs.Common.{◌≡◌, true, false, refl, rules}
+use Rattle.script_lines.specs.declared.line.Line.TheVariants.{Migrate}
+use Rattle.script_lines.specs.declared.answer.Answer.TheVariants.{Off}
+use Rattle.session_table.specs.Step.{needs_power}
+use Rattle.session.specs.OnMap.{is_local, meanings}
+use Rattle.session.proofs.QuietLemmas.{off}
+use Rattle.session.proofs.ReadyLemmas.{carried, carried_if, carried_if_beside, mount_needs_none, mount_not_local, not_local, stops_unchanged}
+use Rattle.session.proofs.session.Session.carry_out.Goals as goal
+
+pub returns-then-not-needs_power-clause-done : goal.returns-then-not-needs_power-clause-done
+returns-then-not-needs_power-clause-done g c =
+    carried_if_beside (meanings g.K.Backend.contents g.K.Backend.room g.K.Backend.chance g.K.Backend.tears) g.K.Backend.damage c.args.map.now c.args.line.now c.args.line.now (g.B.Flash.device c.args.bench.now) (g.B.Flash.device c.without_power.new.bench) _ _ refl c.without_power.result c.without_power.ensures.done
+
+pub returns-then-not-is_on-clause-done : goal.returns-then-not-is_on-clause-done
+returns-then-not-is_on-clause-done g c =
+    let d = g.B.Flash.device c.args.bench.now in
+    let needs : needs_power c.args.line.now ≡ true = search rules in
+    let dark : d.is_on ≡ false = search rules in
+    carried (meanings g.K.Backend.contents g.K.Backend.room g.K.Backend.chance g.K.Backend.tears) g.K.Backend.damage c.args.map.now c.args.line.now d d Off (mount_needs_none c.args.line.now needs) (λ was. was)
+    (off g.K.Backend.contents g.K.Backend.room g.K.Backend.chance g.K.Backend.tears c.args.map.now d c.args.line.now dark needs) _ _
+
+pub returns-then-is_local-clause-done : goal.returns-then-is_local-clause-done
+returns-then-is_local-clause-done g c =
+    let local : is_local c.args.line.now ≡ true = search rules in
+    carried_if (meanings g.K.Backend.contents g.K.Backend.room g.K.Backend.chance g.K.Backend.tears) g.K.Backend.damage c.args.map.now c.args.line.now (g.B.Flash.device c.args.bench.now) (g.B.Flash.device c.on_active.new.bench) c.on_active.result _ _ _ _ (mount_not_local c.args.line.now local) c.on_active.ensures.undamaged c.on_active.ensures.done
+
+pub returns-else-is_local-clause-done : goal.returns-else-is_local-clause-done
+returns-else-is_local-clause-done g c =
+    let needs : needs_power c.args.line.now ≡ true = search rules in
+    let local : is_local c.args.line.now ≡ false = search rules in
+    carried_if_beside (meanings g.K.Backend.contents g.K.Backend.room g.K.Backend.chance g.K.Backend.tears) g.K.Backend.damage c.args.map.now c.args.line.now Migrate (g.B.Flash.device c.args.bench.now) (g.B.Flash.device c.migrate.new.bench) _ _ (not_local c.args.line.now needs local) c.migrate.result c.migrate.ensures.done
+
+pub returns-then-is_local-clause-stops : goal.returns-then-is_local-clause-stops
+returns-then-is_local-clause-stops g c =
+    let local : is_local c.args.line.now ≡ true = search rules in
+    let powered : (g.B.Flash.device c.args.bench.now).is_on ≡ true = search rules in
+    stops_unchanged g.K.Backend.damage c.args.map.now c.args.line.now (g.B.Flash.device c.args.bench.now) (g.B.Flash.device c.on_active.new.bench) c.on_active.result local powered c.on_active.ensures.memory c.on_active.ensures.takes c.on_active.ensures.none

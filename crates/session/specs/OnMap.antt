@@ -1,0 +1,286 @@
+-- A session on the settings of a map of areas, of which one is active.
+use Rattle.std.specs.Prelude.{◌≡◌, ◌⊎◌, ℕ, ◌+◌, ◌≤◌, ⊤, Bool, true, false, not, List, [], ◌∷◌, ◌++◌, length, map, find, Option, Some, None, Result, Ok, Err, unwrap_or, option_map}
+use Rattle.std.specs.List.{range_with_len, slice_get}
+use Rattle.std.specs.Option.{ForSome, option_or, option_map_or}
+use Rattle.flash_sim.specs.Device.{Device}
+use Rattle.flash_sim.specs.declared.flash.Loss.{Loss}
+use Rattle.flash_map.specs.declared.area.Area.{Area}
+use Rattle.flash_map.specs.declared.area.Geometry.{Geometry}
+use Rattle.flash_map.specs.declared.faults.Damaged.{Damaged}
+use Rattle.flash_map.specs.Area.{geometry_of, value_limit}
+use Rattle.flash_map.specs.On.{on, HoldsOn, StandsOn}
+use Rattle.flash_map.specs.Spending.{Spends}
+use Rattle.flash_map.specs.Touches.{Touches}
+use Rattle.fcb_ring.specs.Standing.{erases_on}
+use Rattle.handlers.specs.declared.handler.HandlerKind.{HandlerKind}
+use Rattle.handlers.specs.Held.{HandlerState, fresh}
+use Rattle.handlers.specs.Registry.{Registered}
+use Rattle.backend_api.specs.Commands.{Command}
+use Rattle.backend_api.specs.Map.{Map}
+use Rattle.backend_api.specs.Room.{Room, mount_units}
+use Rattle.migrator.specs.declared.selecting.Selector.{Selector}
+use Rattle.migrator.specs.Active.{active_on, selector_damage_on}
+use Rattle.migrator.specs.Areas.{IsLawfulMap, is_store, is_store_at, first_store, selector_of, target}
+use Rattle.migrator.specs.Choosing.{IsOpen}
+use Rattle.migrator.specs.Migrating.{worked_on}
+use Rattle.settings_core.specs.declared.settings.Settings.{Settings}
+use Rattle.script_lines.specs.declared.line.Line.{Line}
+use Rattle.script_lines.specs.declared.line.Line.TheVariants.{Set, Del, Register, Load, Save, Commit, RunSet, RunGet, Mount, Cut, Uncut, Migrate}
+use Rattle.script_lines.specs.declared.answer.Answer.{Answer}
+use Rattle.script_lines.specs.Plan.{is_lost, replan, units_of}
+use Rattle.script_lines.specs.Plan.Replan.{keeps}
+use Rattle.session_table.specs.Bench.{Meanings, Moment, LineDone, Runs, area_at, is_selector, places_of, rules_of}
+use Rattle.session_table.specs.Bench.{worked_on as places_worked_on}
+use Rattle.session_table.specs.Follows.{Follows}
+use Rattle.session_table.specs.Step.{needs_power}
+use Rattle.session.specs.declared.fault.SessionFault.{SessionFault}
+use Rattle.session.specs.declared.fault.SessionFault.TheVariants.{Damaged as IsDamaged, NoMemory}
+
+-- what the bytes of areas mean to a backend
+abbrev pub meanings : (Area → Geometry → List (List ℕ) → Map) → (Area → Geometry → Room) → (Area → Geometry → List (List ℕ) → Loss → Bool) → (Area → Geometry → Command → ℕ → Map → Map → Type 0) → Meanings
+meanings contents room chance tears = record { contents = contents; room = room; chance = chance; tears = tears }
+
+-- a bench, with the handlers that are registered and the kinds of those that are left
+abbrev pub moment : Device → List Registered → List HandlerKind → Moment
+moment d registry pool = record { device = d; registry = registry; pool = pool }
+
+module _ {B : Type 0} where
+  -- the kinds of handlers
+  abbrev pub kinds : (B → HandlerState) → List B → List HandlerKind
+  kinds state pool = map (λ b. (state b).kind) pool
+
+  -- a handler that holds nothing and was never committed
+  abbrev pub IsFresh : (B → HandlerState) → B → Type 0
+  IsFresh state b = state b ≡ fresh (state b).kind
+
+-- ---- maps
+
+abbrev pub active_area : List Area → Device → Area
+active_area areas d = area_at areas (active_on areas d)
+
+-- how many bytes a value may have; all areas of a map allow the same
+abbrev pub limit_of : List Area → ℕ
+limit_of areas = value_limit (area_at areas (first_store areas))
+
+-- The map is one that an image may have: its areas are lawful, each that stores settings is served, there is one, and it is the
+-- only one where there is no selector.
+pub record IsServedMap (serves : Area → Geometry → Type 0) (areas : List Area) (d : Device) : Type 0 where
+  pub lawful : IsLawfulMap d.banks areas
+  pub served : (place : ℕ) (area : Area) → slice_get areas place ≡ Some area → is_store area ≡ true → serves area (geometry_of d area)
+  pub some : is_store_at areas (first_store areas) ≡ true
+  pub one : selector_of areas ≡ None → target areas (first_store areas) ≡ None
+
+-- a line's value is one that the areas take
+abbrev pub IsServed : ℕ → Line → Type 0
+IsServed limit (Set name value) = length value ≤ limit
+IsServed limit (RunSet name value) = (1 ≤ length value) × (length value ≤ limit)
+IsServed limit line = ⊤
+
+-- ---- damage
+
+-- the place of the selector's area, the first that stores no settings; none where there is none
+abbrev pub selector_found : List Area → Option ℕ
+selector_found areas = find (λ place. not (is_store_at areas place)) (range_with_len 0 (length areas))
+
+abbrev pub selector_place : List Area → ℕ
+selector_place areas = unwrap_or (selector_found areas) 0
+
+-- the damage that the selector shows, with its place
+abbrev pub selector_damage : List Area → Device → Option (ℕ × Damaged)
+selector_damage areas d = option_map (λ damaged. (selector_place areas, damaged)) (selector_damage_on areas d)
+
+-- and that of the active area
+abbrev pub active_damage : (Area → Geometry → List (List ℕ) → Option Damaged) → List Area → Device → Option (ℕ × Damaged)
+active_damage damage areas d = option_map (λ damaged. (active_on areas d, damaged)) (on damage d (active_area areas d))
+
+-- the damage that a mount of the map finds: the selector's, and where it shows none that of the active area
+abbrev pub damage_in : (Area → Geometry → List (List ℕ) → Option Damaged) → List Area → Device → Option (ℕ × Damaged)
+damage_in damage areas d = option_or (selector_damage areas d) (active_damage damage areas d)
+
+-- the selector's area, where there is one
+abbrev pub selectors : List Area → List Area
+selectors areas = option_map_or (λ area. area ∷ []) (selector_of areas) []
+
+abbrev pub turned_on : Device → Device
+turned_on d = record d { is_on = true }
+
+-- A mount found no damage; or it found none in the selector, and power was lost in the selector's area.
+abbrev pub FindsNone : (Area → Geometry → List (List ℕ) → Option Damaged) → List Area → Answer → Device → Device → Type 0
+FindsNone damage areas answer old new =
+    (selector_damage_on areas old ≡ None)
+    × ((active_damage damage areas old ≡ None) ⊎ ((is_lost answer ≡ true) × Touches (selectors areas) (turned_on old) new true))
+
+-- a mount has nothing to do, neither in the selector's area nor in the active one
+pub record IsAtRest (rests : Area → Geometry → List (List ℕ) → Type 0) (areas : List Area) (d : Device) : Type 0 where
+  pub selector : (area : Area) → selector_of areas ≡ Some area → erases_on d area ≡ 0
+  pub active : HoldsOn rests d (active_area areas d)
+
+-- the erases that are due in the selector's area, where there is one
+abbrev pub selector_erases : List Area → Device → ℕ
+selector_erases areas d = option_map_or (λ area. erases_on d area) (selector_of areas) 0
+
+-- the most units and erases of a mount: the selector's erases, and the most of a mount of the active area
+abbrev pub mount_bound : List Area → Device → ℕ
+mount_bound areas d = selector_erases areas d + mount_units (geometry_of d (active_area areas d))
+
+-- ---- one line
+
+-- a mount turns power on first
+abbrev pub powered_for : Line → Device → Device
+powered_for Mount d = turned_on d
+powered_for line d = d
+
+-- the areas that a line works on
+abbrev pub areas_worked_on : Meanings → List Area → Line → Answer → Device → List Area
+areas_worked_on m areas line answer d =
+    map (area_at areas)
+    (places_worked_on (rules_of m areas d.banks 0) (places_of is_selector areas) line answer (active_on areas d ∷ []))
+
+-- A line that leaves the plan of losses to its units touched the bench only in the areas that it works on: a loss of power lies
+-- in one of them, and without a unit no byte changed.
+abbrev pub TouchesWorked : Meanings → List Area → Line → Answer → Device → Device → Type 0
+TouchesWorked m areas line answer old new =
+    replan line ≡ keeps → Touches (areas_worked_on m areas line answer old) (powered_for line old) new (is_lost answer)
+
+-- A line was carried out by the table, and touched the bench only where it works.
+pub record DoneWithin (m : Meanings) (areas : List Area) (line : Line) (answer : Answer) (old new : Moment) : Type 0 where
+  pub done : LineDone m areas line answer old new
+  pub touches : TouchesWorked m areas line answer old.device new.device
+
+-- A line was carried out by the table, and touched the bench only where it works; a mount, also one that was cut, found no damage
+-- and kept within its bound; and where the map shows no damage it shows none afterwards.
+pub record LineCarried (m : Meanings) (damage : Area → Geometry → List (List ℕ) → Option Damaged) (areas : List Area) (line : Line) (answer : Answer) (old new : Moment) : Type 0 where
+  pub done : LineDone m areas line answer old new
+  pub touches : TouchesWorked m areas line answer old.device new.device
+  pub finds : line ≡ Mount → FindsNone damage areas answer old.device new.device
+  pub few : line ≡ Mount → units_of answer ≤ mount_bound areas old.device
+  pub undamaged : damage_in damage areas old.device ≡ None → damage_in damage areas new.device ≡ None
+
+-- the handlers, which may be any, stayed
+abbrev pub DoneBeside : Meanings → List Area → Line → Answer → Device → Device → Type 0
+DoneBeside m areas line answer old new =
+    (registry : List Registered) (pool : List HandlerKind) → DoneWithin m areas line answer (moment old registry pool) (moment new registry pool)
+
+abbrev pub CarriedBeside : Meanings → (Area → Geometry → List (List ℕ) → Option Damaged) → List Area → Line → Answer → Device → Device → Type 0
+CarriedBeside m damage areas line answer old new =
+    (registry : List Registered) (pool : List HandlerKind) → LineCarried m damage areas line answer (moment old registry pool) (moment new registry pool)
+
+-- it needs power, and changes no area but the active one
+abbrev pub is_local : Line → Bool
+is_local Mount = false
+is_local (Cut units) = false
+is_local Uncut = false
+is_local Migrate = false
+is_local line = true
+
+-- it is about handlers
+abbrev pub is_handled : Line → Bool
+is_handled (Register subtree kind) = true
+is_handled (Load subtree) = true
+is_handled (Save subtree) = true
+is_handled Commit = true
+is_handled (RunSet name value) = true
+is_handled (RunGet name) = true
+is_handled line = false
+
+-- Power was turned on, and the selector, which shows no damage, was mounted: what a choice that was cut left to do was done.
+pub record OpensSelector (areas : List Area) (old new : Device) : Type 0 where
+  pub selector : Area
+  pub is : selector_of areas ≡ Some selector
+  pub sound : selector_damage_on areas old ≡ None
+  pub touches : Touches (selectors areas) (turned_on old) new false
+  pub units : Spends (turned_on old) new (erases_on old selector)
+  pub active : active_on areas new ≡ active_on areas old
+
+-- power was turned on, and the selector, where the map has one, may have been mounted
+abbrev pub BeginsMount : List Area → Device → Device → Type 0
+BeginsMount areas old new = (new ≡ turned_on old) ⊎ OpensSelector areas old new
+
+-- The target and the selector may have changed; the active area is the same.
+pub record BeginsMove (areas : List Area) (old new : Device) : Type 0 where
+  pub selector : Area
+  pub is : selector_of areas ≡ Some selector
+  pub touches : Touches (worked_on areas selector (active_on areas old)) old new false
+  pub active : active_on areas new ≡ active_on areas old
+
+-- carrying it out takes memory
+abbrev pub takes_memory : Line → Bool
+takes_memory (Set name value) = false
+takes_memory (Del name) = false
+takes_memory (Save subtree) = false
+takes_memory Commit = false
+takes_memory (Cut units) = false
+takes_memory Uncut = false
+takes_memory line = true
+
+-- What a line for which memory was wanting leaves of the bench: a mount and a migration have begun, and no other line changed it.
+abbrev pub BeginsLine : List Area → Line → Device → Device → Type 0
+BeginsLine areas Mount old new = BeginsMount areas old new
+BeginsLine areas Migrate old new = BeginsMove areas old new
+BeginsLine areas line old new = new ≡ old
+
+-- Why a line was not carried out: a mount found the damage that the map shows; or memory was wanting for a line that takes some,
+-- with power on where the line needs it.
+abbrev pub LineStops : (Area → Geometry → List (List ℕ) → Option Damaged)
+    → List Area → Line → Device → Device → SessionFault → Type 0
+LineStops damage areas line old new (IsDamaged place damaged) =
+    (line ≡ Mount) × (damage_in damage areas old ≡ Some (place, damaged)) × BeginsMount areas old new
+LineStops damage areas line old new NoMemory =
+    (takes_memory line ≡ true) × (needs_power line ≡ true → old.is_on ≡ true) × BeginsLine areas line old new
+
+-- ---- between two lines
+
+-- the selector is open, where the map has one
+pub record HasSelector (areas : List Area) (d : Device) (selector : Option Selector) : Type 0 where
+  pub selected : selector_of areas ≡ option_map (λ s. s.ring.area) selector
+  pub opened : ForSome selector (λ s. IsOpen d s.ring)
+
+-- Settings stand on the active area, which is at this place, and the selector is open, where the map has one.
+pub record StandsOnMap {K : Type 0} (mounted_on : K → Area) (stands : K → Geometry → List (List ℕ) → Type 0) (runs : K → Bool)
+    (areas : List Area) (d : Device) (selector : Option Selector) (active : ℕ) (settings : Settings K) : Type 0 where
+  pub is_active : active ≡ active_on areas d
+  pub there : slice_get areas active ≡ Some (mounted_on settings.backend)
+  pub up : runs settings.backend ≡ true
+  pub standing : StandsOn mounted_on stands d settings.backend
+  pub selects : HasSelector areas d selector
+
+-- where power is on
+abbrev pub IsReady : {K : Type 0} → (K → Area) → (K → Geometry → List (List ℕ) → Type 0) → (K → Bool)
+    → List Area → Device → Option Selector → ℕ → Option (Settings K) → Type 0
+IsReady mounted_on stands runs areas d selector active None = d.is_on ≡ false
+IsReady mounted_on stands runs areas d selector active (Some settings) =
+    d.is_on ≡ true → StandsOnMap mounted_on stands runs areas d selector active settings
+
+-- ---- all lines
+
+-- Lines were carried out one after another, and as a whole they follow the table, and the counts, the plan and the bytes of the
+-- bench are those that the answers say.
+pub record Ran (m : Meanings) (damage : Area → Geometry → List (List ℕ) → Option Damaged) (areas : List Area) (lines : List Line) (answers : List Answer) (old new : Moment) : Type 0 where
+  pub in_turn : Follows (LineCarried m damage areas) lines answers old new
+  pub whole : Runs m areas lines answers old new
+
+-- lines were carried out, and memory was wanting to keep the answer to the last of them
+abbrev pub LacksAnswer : List Line → Device → Device → SessionFault → Type 0
+LacksAnswer front old new fault = (1 ≤ length front) × (fault ≡ NoMemory) × (new ≡ old)
+
+-- Behind the lines of the front the next one stopped; or memory was wanting for the answer to the line before.
+abbrev pub StopsAt : (Area → Geometry → List (List ℕ) → Option Damaged)
+    → List Area → List Line → List Line → Device → Device → SessionFault → Type 0
+StopsAt damage areas front [] old new fault = LacksAnswer front old new fault
+StopsAt damage areas front (line ∷ lines) old new fault =
+    LacksAnswer front old new fault ⊎ LineStops damage areas line old new fault
+
+-- The first lines were carried out, and then a line stopped.
+pub record RunStops (m : Meanings) (damage : Area → Geometry → List (List ℕ) → Option Damaged) (areas : List Area) (lines : List Line) (old : Moment) (new : Device) (fault : SessionFault) : Type 0 where
+  pub front : List Line
+  pub rest : List Line
+  pub are : lines ≡ front ++ rest
+  pub answers : List Answer
+  pub mid : Moment
+  pub runs : Ran m damage areas front answers old mid
+  pub stops : StopsAt damage areas front rest mid.device new fault
+
+-- How lines end: all were carried out, with these answers, on this bench and these handlers; or one stopped.
+abbrev pub RunEnds : Meanings → (Area → Geometry → List (List ℕ) → Option Damaged) → List Area → List Line → Moment → Device → List Registered → Result (List Answer) SessionFault → Type 0
+RunEnds m damage areas lines old new registry (Ok answers) = (left : List HandlerKind) × Ran m damage areas lines answers old (moment new registry left)
+RunEnds m damage areas lines old new registry (Err fault) = RunStops m damage areas lines old new fault

@@ -1,0 +1,76 @@
+// Moving all settings to the next area.
+ghost use Rattle.std.specs.Prelude.{◌≡◌, true, None, Some, IfOk, OnErr, OnOk};
+ghost use Rattle.script_lines.specs.declared.line.Line.TheVariants.{Migrate};
+ghost use Rattle.session.specs.Moving.{answer_to};
+ghost use Rattle.session.specs.OnMap.{BeginsMove, DoneBeside, IsReady, IsServedMap, StandsOnMap, damage_in, meanings};
+
+use backend_api::Backend;
+use flash_map::FlashMap;
+use flash_sim::{Bench, Flash, NoMemory, Steps};
+use migrator::{MigrateFault, Selector, migrate};
+use script_lines::Answer;
+use settings_core::Settings;
+use std::alloc::Global;
+use std::sync::ledger::Ledger;
+
+// Moves all settings to the next area, where the map has a selector.
+pub(crate) fn move_settings<K: Backend, B: Bench, L: Ledger>(
+    alloc: Global,
+    bench: &mut B,
+    map: &FlashMap,
+    selector: &mut Selector,
+    active: &mut usize,
+    settings: &mut Settings<K>,
+    steps: &mut Steps<L>,
+) -> Result<Answer, NoMemory>
+    requires map { IsServedMap K.serves map.now (B.device bench.old) }
+    requires on { (B.device bench.old).is_on ≡ true }
+    requires ready { let d = B.device bench.old in
+        StandsOnMap K.mounted_on K.stands K.runs map.now d (Some selector.old) active.old settings.old }
+
+    ensures done { IfOk result (λ answer. let d = B.device bench.old in
+        DoneBeside (meanings K.contents K.room K.chance K.tears) map.now Migrate answer d (B.device bench.new)) }
+    ensures sound { damage_in K.damage map.now (B.device bench.new) ≡ None }
+    ensures stops { OnErr result (BeginsMove map.now (B.device bench.old) (B.device bench.new)) }
+    ensures ready { let e = B.device bench.new in
+        OnOk result (IsReady K.mounted_on K.stands K.runs map.now e (Some selector.new) active.new (Some settings.new)) }
+{
+    let before = bench.spent();
+    let end = migrate(
+        alloc,
+        bench,
+        map,
+        selector,
+        settings.backend(),
+        *active,
+        steps,
+    );
+    let units = bench.spent() - before;
+    match end {
+        Ok((backend, place)) => {
+            *settings = Settings::of(backend);
+            *active = place;
+            Ok(Answer::Done { units })
+        }
+        Err(fault) => match answer_to(fault, units) {
+            Some(answer) => Ok(answer),
+            None => Err(NoMemory),
+        },
+    }
+}
+
+// The answer where the settings were not moved, by the units that were spent; none for want of memory.
+fn answer_to(fault: MigrateFault, units: u64) -> Option<Answer>
+    ensures { result ≡ answer_to fault units }
+{
+    match fault {
+        MigrateFault::NoTarget => Some(Answer::NoTarget),
+        MigrateFault::NoSpace { need, live } => Some(Answer::NoSpace { units, need, live }),
+        MigrateFault::TooManyNames => Some(Answer::TooMany { units }),
+        MigrateFault::PowerLost => Some(Answer::Lost {
+            units,
+            chance: false,
+        }),
+        MigrateFault::NoMemory => None,
+    }
+}

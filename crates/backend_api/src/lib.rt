@@ -9,6 +9,3 @@ mod names;
 pub use backend::{Backend, SetFault};
 pub use laws::{follow_commands, rebuild_settings, walk_names};
 pub use names::is_behind;
-
-#[cfg(test)]
-mod tests;

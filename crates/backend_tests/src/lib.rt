@@ -1,9 +1,7 @@
-//! Tests of settings over items, and over any store.
+//! Tests of settings over each store.
 #![tactic(auto)]
 
 #[cfg(test)]
-mod over_any;
+mod rows;
 #[cfg(test)]
-mod over_nvs;
-#[cfg(test)]
-mod over_zms;
+mod stores;

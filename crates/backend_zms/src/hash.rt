@@ -8,10 +8,10 @@ const BASIS: u32 = 2_166_136_261;
 const PRIME: u32 = 16_777_619;
 // The bits of the hash that are the group of a name.
 const GROUP_BITS: u32 = 0xFFF0;
-// How many ids of names a group has.
-pub(crate) const GROUP_SIZE: u32 = 16;
-// The first id of a name.
-pub(crate) const FIRST: u32 = 0x8000_0000;
+/// How many ids of names a group has.
+pub const GROUP_SIZE: u32 = 16;
+/// The first id of a name.
+pub const FIRST: u32 = 0x8000_0000;
 // From the id of a name to that of its value.
 pub(crate) const STEP: u32 = 0x4000_0000;
 
@@ -24,9 +24,9 @@ fn hash(bytes: &[u8]) -> u32
     })
 }
 
-// The first of the ids that a name may have.
+/// The first of the ids that a name may have: that of its hash's group.
 #[tactic(auto, unfolding(crate::specs::Hash::group_of))]
-pub(crate) fn first_of(name: &[u8]) -> u32
+pub fn first_of(name: &[u8]) -> u32
     ensures first { result ≡ first_of name.now }
     ensures above { FIRST ≤ result }
     ensures below { result ≤ FIRST + GROUP_BITS }

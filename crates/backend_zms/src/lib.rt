@@ -8,3 +8,4 @@ mod numbers;
 mod putting;
 
 pub use backend::ZmsBackend;
+pub use hash::{FIRST, GROUP_SIZE, first_of};

@@ -14,7 +14,7 @@ use Rattle.clap.proofs.OnLiterals.{clap_on_literals}
 use Rattle.command_words.specs.Commands.{IsCommand, IsNoCommand, asks_for_help, is_operand, name_of, operands_of}
 use Rattle.command_words.specs.Forms.{FindsIn, IsFound, form, image_tool, operand_names, values_at}
 use Rattle.command_words.specs.declared.commands.Command.{Command}
-use Rattle.command_words.specs.declared.commands.Command.TheVariants.{Build, Run, Dump, Migrate, Gen, Log}
+use Rattle.command_words.specs.declared.commands.Command.TheVariants.{Build, Run, Dump, Migrate, Gen, Log, Mirror}
 use Rattle.command_words.proofs.OperandWalk.{first_of_all, rest_of_all}
 use Rattle.command_words.proofs.FormWalk.{IsEntered, began_with, entered_form, fault_of_form, fault_of_operands, operand_rows, operands_fault, rows_of_operands, takes_one}
 
@@ -40,6 +40,7 @@ entered_for (Dump image) = record { met = refl; no_help = refl; form = refl; qui
 entered_for (Migrate image out) = record { met = refl; no_help = refl; form = refl; quiet = refl }
 entered_for (Gen out backend n) = record { met = refl; no_help = refl; form = refl; quiet = refl }
 entered_for (Log image script out) = record { met = refl; no_help = refl; form = refl; quiet = refl }
+entered_for (Mirror image script out) = record { met = refl; no_help = refl; form = refl; quiet = refl }
 
 named_for : (c : Command) → (form_for c).name ≡ name_of c
 named_for c = refl
@@ -51,6 +52,7 @@ ones_for (Dump image) = refl
 ones_for (Migrate image out) = refl
 ones_for (Gen out backend n) = refl
 ones_for (Log image script out) = refl
+ones_for (Mirror image script out) = refl
 
 -- the form takes its operands
 taken_for : (c : Command) → operands_fault (form_for c) (operands_of c) ≡ []
@@ -61,6 +63,7 @@ taken_for (Dump image) = refl
 taken_for (Migrate image out) = refl
 taken_for (Gen out backend n) = refl
 taken_for (Log image script out) = refl
+taken_for (Mirror image script out) = refl
 
 -- words that a form takes are the values of its operands, in their order
 abbrev ReadsAll : Text → List Text → Type 0
@@ -111,6 +114,14 @@ log_read (a ∷ b ∷ []) none = cc
 log_read (a ∷ b ∷ c ∷ []) none = refl
 log_read (a ∷ b ∷ c ∷ d ∷ more) none = cc
 
+mirror_read : ReadsAll (codes "mirror") (codes "IMAGE" ∷ codes "SCRIPT" ∷ codes "OUT" ∷ [])
+unfolding clap_on_literals
+mirror_read [] none = cc
+mirror_read (a ∷ []) none = cc
+mirror_read (a ∷ b ∷ []) none = cc
+mirror_read (a ∷ b ∷ c ∷ []) none = refl
+mirror_read (a ∷ b ∷ c ∷ d ∷ more) none = cc
+
 read_for : (c : Command) (words : List Text) → operands_fault (form_for c) words ≡ []
     → values_at (operand_names (name_of c)) (operand_rows (form_for c) words) ≡ map (λ word. Some word) words
 read_for (Build out spec) words none = build_read words none
@@ -119,6 +130,7 @@ read_for (Dump image) words none = dump_read words none
 read_for (Migrate image out) words none = migrate_read words none
 read_for (Gen out backend n) words none = gen_read words none
 read_for (Log image script out) words none = log_read words none
+read_for (Mirror image script out) words none = mirror_read words none
 
 -- ---- both ways
 
@@ -189,6 +201,7 @@ command_operands words c w = ap (list_all is_operand) w.written ∙ named c (ope
     named (Migrate image out) operands h = h
     named (Gen out backend n) operands h = h
     named (Log image script out) operands h = h
+    named (Mirror image script out) operands h = h
 
 pub command_no_help : (words : List Text) (c : Command) → IsCommand words c → asks_for_help words ≡ false
 command_no_help words c w = ap asks_for_help w.written ∙ named c
@@ -200,6 +213,7 @@ command_no_help words c w = ap asks_for_help w.written ∙ named c
     named (Migrate image out) = refl
     named (Gen out backend n) = refl
     named (Log image script out) = refl
+    named (Mirror image script out) = refl
 
 -- ---- what a parse says of the words
 

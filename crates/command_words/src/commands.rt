@@ -51,4 +51,11 @@ pub enum Command<'a> {
         script: &'a str,
         out: &'a str,
     },
+    /// Runs the script in the file `script` on the two store areas of the image in the file `image`, which hold one map of
+    /// settings between them, and writes the image into `out`.
+    Mirror {
+        image: &'a str,
+        script: &'a str,
+        out: &'a str,
+    },
 }

@@ -79,6 +79,16 @@ fn found_log<'a>(operands: &ArgMatches<'a>) -> Option<Command<'a>>
     })
 }
 
+fn found_mirror<'a>(operands: &ArgMatches<'a>) -> Option<Command<'a>>
+    ensures { FindsIn (Some (codes "mirror", rows_of (found_of operands.now))) result }
+{
+    Some(Command::Mirror {
+        image: operands.get_str("IMAGE")?,
+        script: operands.get_str("SCRIPT")?,
+        out: operands.get_str("OUT")?,
+    })
+}
+
 /// The command that a parse found, if it found one.
 ///
 /// # Errors
@@ -99,6 +109,7 @@ pub fn found_command<'a>(
         "migrate" => Ok(found_migrate(operands)),
         "gen" => found_gen(alloc, operands),
         "log" => Ok(found_log(operands)),
+        "mirror" => Ok(found_mirror(operands)),
         _ => Ok(None),
     }
 }

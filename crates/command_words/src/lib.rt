@@ -6,8 +6,6 @@ mod forms;
 mod found;
 mod operands;
 mod reading;
-#[cfg(test)]
-mod tests;
 
 pub use commands::{Command, MOST_LINES, StoreKind};
 pub use reading::{one_command, read_words};

@@ -1,9 +1,7 @@
-//! Tests of rings and of settings over them.
+//! Tests of rings of records, and of logs on them.
 #![tactic(auto)]
 
 #[cfg(test)]
+mod logs;
+#[cfg(test)]
 mod rings;
-#[cfg(test)]
-mod settings;
-#[cfg(test)]
-mod settings_losses;

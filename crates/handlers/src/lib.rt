@@ -12,6 +12,3 @@ pub use handler::{Handler, HandlerKind, SetRefusal, ValueView};
 pub use kinds::{CounterHandler, LevelHandler, TableHandler};
 pub use laws::{longest_is_best, subtrees_stay};
 pub use registry::{RegisterFault, Registry, RegistryOf};
-
-#[cfg(test)]
-mod tests;

@@ -62,7 +62,7 @@ rises (pair ∷ next ∷ pairs) sorted =
       rises (next ∷ pairs) (rest_of (below_all by_bytes pair.0 (next ∷ pairs)) (is_sorted by_bytes (next ∷ pairs)) sorted),
     )
 
-names_rise : (settings : Map) → Rise (map as_pair (entries settings))
+pub names_rise : (settings : Map) → Rise (map as_pair (entries settings))
 names_rise settings = rises (entries settings) (entries_sorted settings)
 
 -- ---- the label of a store area

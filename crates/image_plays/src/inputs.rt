@@ -62,8 +62,11 @@ fn read_start<'a, H: Host>(
     }
 }
 
-// Refuses an image with an area on which no store works.
-fn serve<'a>(image: Image) -> Result<Image, Stop<'a>>
+/// The image, where a store works on each of its areas.
+///
+/// # Errors
+/// Refused where no store works on an area, the first such.
+pub fn serve<'a>(image: Image) -> Result<Image, Stop<'a>>
     ensures { MakesOr (λ served. (served ≡ image) × (unserved image.banks.items image.map ≡ None))
         (IsUnbuilt image.banks.items image.map) result }
 {

@@ -13,9 +13,10 @@ mod stops;
 mod telling;
 
 pub use building::build;
-pub use loading::file_left;
+pub use inputs::serve;
+pub use loading::{file_left, longest_value};
 pub use outcome::{OutFile, Outcome};
-pub use playing::play;
+pub use playing::{label_at, play};
 pub use plays::{Output, Play, Source, Start, Telling};
 pub use reading::{read_image_file, read_script_text};
 pub use refusing::{USAGE, refusal_line};

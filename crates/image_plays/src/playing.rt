@@ -35,8 +35,8 @@ use std::marker::Brand;
 use std::sync::ledger::{Blank, Ledger};
 use zs_host::Host;
 
-// The label of the area at this place.
-fn label_at(areas: &FlashMap, place: usize) -> ArrayString<8>
+/// The label of the area at this place; none where there is no area.
+pub fn label_at(areas: &FlashMap, place: usize) -> ArrayString<8>
     ensures { result.bytes ≡ (area_at areas.now place).label.bytes }
 {
     match areas.at(place) {

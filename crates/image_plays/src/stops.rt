@@ -28,10 +28,16 @@ pub enum Refusal<'a> {
     },
     /// The image is not exactly one area, for FCB.
     NoLog,
+    /// The image is not exactly two areas for settings, each for NVS or ZMS, and their selector.
+    NoMirror,
     /// A mount found the bytes of the area with this label damaged.
     BadArea {
         label: ArrayString<8>,
         damage: Damaged,
+    },
+    /// The settings of two areas that hold one map between them do not fit the area with this label.
+    Unfit {
+        label: ArrayString<8>,
     },
     /// The first line of the script that is refused, counted from 1, or 0 for the whole.
     BadScript {

@@ -1,13 +1,13 @@
 -- How a task ends, from what was prepared and what was printed and written.
 use Rattle.std.proofs.Common.{◌≡◌, ◌⊎◌, ℕ, List, [], ◌∷◌, arith, Option, Some, None, Result, Ok, Err, inl, inr, refl, sym, ap, subst, ◌∙◌}
-use Rattle.std.specs.Prelude.{MatchOption}
+use Rattle.std.specs.Prelude.{MatchOption, slice_index}
 use Rattle.zs_host.specs.Outside.{Outside, Files, SameBut, failed, printed_more}
 use Rattle.handlers.specs.declared.handler.HandlerKind.{HandlerKind}
 use Rattle.image_plays.specs.declared.plays.Output.{Output}
 use Rattle.image_plays.specs.declared.plays.Output.TheVariants.{Nowhere, Into}
 use Rattle.image_plays.specs.declared.plays.Play.{Play}
 use Rattle.image_plays.specs.declared.stops.Refusal.{Refusal}
-use Rattle.image_plays.specs.declared.stops.Refusal.TheVariants.{BadSpec, NoFile, BadFile, Unbuilt, NoLog, BadArea, BadScript}
+use Rattle.image_plays.specs.declared.stops.Refusal.TheVariants.{BadSpec, NoFile, BadFile, Unbuilt, NoLog, NoMirror, BadArea, Unfit, BadScript}
 use Rattle.image_plays.specs.Inputs.{out_of}
 use Rattle.command_words.specs.Commands.{IsCommand, IsNoCommand, name_of, operands_of}
 use Rattle.command_words.specs.declared.commands.Command.TheVariants as command
@@ -17,6 +17,7 @@ use Rattle.image_plays.specs.declared.stops.Stop.{Stop}
 use Rattle.image_plays.specs.declared.stops.Stop.TheVariants.{Refused, HostFailed, NoMemory}
 use Rattle.std.specs.Borrow.{Bor}
 use Rattle.image_logs.specs.Plays.{LogPlayEnds}
+use Rattle.image_mirrors.specs.Plays.{MirrorPlayEnds}
 use Rattle.image_plays.specs.Plays.{File, WritesLeft, file_of}
 use Rattle.image_file.specs.Format.{Plain}
 use Rattle.image_plays.specs.Refusals.{line_of}
@@ -24,7 +25,7 @@ use Rattle.image_plays.specs.Stages.{Stage, Stores}
 use Rattle.image_tool.specs.declared.status.Status.{Status}
 use Rattle.image_tool.specs.declared.status.Status.TheVariants as status
 use Rattle.image_tool.specs.declared.tasks.Task.{Task}
-use Rattle.image_tool.specs.declared.tasks.Task.TheVariants.{Build, Plays, Log}
+use Rattle.image_tool.specs.declared.tasks.Task.TheVariants.{Build, Plays, Log, Mirror}
 use Rattle.image_tool.specs.Tasks.{Causes, Does, Prepares, task_of}
 use Rattle.image_tool.specs.Telling.{Delivers, DeliversOnly, PrintsFront, Reports}
 use Rattle.image_tool.specs.Tool.{MayWrite, OnlyFile, TaskEnds, ToolEnds, out_file, status_of}
@@ -49,7 +50,9 @@ module _ (k : Stores) (kinds : List HandlerKind) (task : Task) (host host' : Out
   refused_ends (BadFile at why) causes is = (BadFile at why, causes, refl, is)
   refused_ends (Unbuilt label) causes is = (Unbuilt label, causes, refl, is)
   refused_ends NoLog causes is = (NoLog, causes, refl, is)
+  refused_ends NoMirror causes is = (NoMirror, causes, refl, is)
   refused_ends (BadArea label damage) causes is = (BadArea label damage, causes, refl, is)
+  refused_ends (Unfit label) causes is = (Unfit label, causes, refl, is)
   refused_ends (BadScript n why) causes is = (BadScript n why, causes, refl, is)
 
   pub reported : (refusal : Refusal) (result : Status) → Causes k kinds task host old new refusal → Reports host host' (line_of refusal) (status_of refusal) result → TaskEnds k kinds task host host' old new result
@@ -101,6 +104,7 @@ module _ (k : Stores) (kinds : List HandlerKind) (host0 host host' : Outside) (o
   wrote (Build out spec) text file does only = subst (λ (f : Option File). DeliversOnly f host host') does.0.writes only
   wrote (Plays play) text file does only = play_wrote k kinds (Plays play) host host' old new play.output _ file does.writes only
   wrote (Log image script out) text file does only = subst (λ (f : Option File). DeliversOnly f host host') does.0.writes.2 only
+  wrote (Mirror image script out) text file does only = subst (λ (f : Option File). DeliversOnly f host host') does.0.writes.2 only
 
 -- ---- a play on a log
 
@@ -110,6 +114,15 @@ log_prepared k kinds image script out host host' old new (Ok outcome) ends same 
 log_prepared k kinds image script out host host' old new (Err (Refused refusal)) ends same = ((ends.0, same), ends.1)
 log_prepared k kinds image script out host host' old new (Err HostFailed) ends same = ((inl ends.0, same), ends.1)
 log_prepared k kinds image script out host host' old new (Err NoMemory) ends same = ((ends.0, same), ends.1)
+
+-- ---- a play on a mirror
+
+pub mirror_prepared : (k : Stores) (kinds : List HandlerKind) (image script out : Bor (List ℕ)) (host host' : Outside) (old new : Stage) (result : Result Outcome Stop)
+    → MirrorPlayEnds image.now script.now out.now host host' old.bench new.bench result → new.registry ≡ old.registry → Prepares k kinds (Mirror image script out) host host' old new result
+mirror_prepared k kinds image script out host host' old new (Ok outcome) ends same = ((ends.0, same), ends.1)
+mirror_prepared k kinds image script out host host' old new (Err (Refused refusal)) ends same = ((ends.0, same), ends.1)
+mirror_prepared k kinds image script out host host' old new (Err HostFailed) ends same = ((inl ends.0, same), ends.1)
+mirror_prepared k kinds image script out host host' old new (Err NoMemory) ends same = ((ends.0, same), ends.1)
 
 -- ---- words that are a command
 
@@ -126,36 +139,49 @@ same_out (command.Build out spec) (command.Dump image') names operands = let sam
 same_out (command.Build out spec) (command.Migrate image' out') names operands = let same : 98 ≡ 109 = ap first names in absurd (omega (arith, same))
 same_out (command.Build out spec) (command.Gen out' backend' n') names operands = let same : 98 ≡ 103 = ap first names in absurd (omega (arith, same))
 same_out (command.Build out spec) (command.Log image' script' out') names operands = let same : 98 ≡ 108 = ap first names in absurd (omega (arith, same))
+same_out (command.Build out spec) (command.Mirror image' script' out') names operands = let same : 98 ≡ 109 = ap first names in absurd (omega (arith, same))
 same_out (command.Run image script out) (command.Build out' spec') names operands = let same : 114 ≡ 98 = ap first names in absurd (omega (arith, same))
 same_out (command.Run image script out) (command.Run image' script' out') names operands = let same : out.now ≡ out'.now = cc in ap Some same
 same_out (command.Run image script out) (command.Dump image') names operands = let same : 114 ≡ 100 = ap first names in absurd (omega (arith, same))
 same_out (command.Run image script out) (command.Migrate image' out') names operands = let same : 114 ≡ 109 = ap first names in absurd (omega (arith, same))
 same_out (command.Run image script out) (command.Gen out' backend' n') names operands = let same : 114 ≡ 103 = ap first names in absurd (omega (arith, same))
 same_out (command.Run image script out) (command.Log image' script' out') names operands = let same : 114 ≡ 108 = ap first names in absurd (omega (arith, same))
+same_out (command.Run image script out) (command.Mirror image' script' out') names operands = let same : 114 ≡ 109 = ap first names in absurd (omega (arith, same))
 same_out (command.Dump image) (command.Build out' spec') names operands = let same : 100 ≡ 98 = ap first names in absurd (omega (arith, same))
 same_out (command.Dump image) (command.Run image' script' out') names operands = let same : 100 ≡ 114 = ap first names in absurd (omega (arith, same))
 same_out (command.Dump image) (command.Dump image') names operands = refl
 same_out (command.Dump image) (command.Migrate image' out') names operands = let same : 100 ≡ 109 = ap first names in absurd (omega (arith, same))
 same_out (command.Dump image) (command.Gen out' backend' n') names operands = let same : 100 ≡ 103 = ap first names in absurd (omega (arith, same))
 same_out (command.Dump image) (command.Log image' script' out') names operands = let same : 100 ≡ 108 = ap first names in absurd (omega (arith, same))
+same_out (command.Dump image) (command.Mirror image' script' out') names operands = let same : 100 ≡ 109 = ap first names in absurd (omega (arith, same))
 same_out (command.Migrate image out) (command.Build out' spec') names operands = let same : 109 ≡ 98 = ap first names in absurd (omega (arith, same))
 same_out (command.Migrate image out) (command.Run image' script' out') names operands = let same : 109 ≡ 114 = ap first names in absurd (omega (arith, same))
 same_out (command.Migrate image out) (command.Dump image') names operands = let same : 109 ≡ 100 = ap first names in absurd (omega (arith, same))
 same_out (command.Migrate image out) (command.Migrate image' out') names operands = let same : out.now ≡ out'.now = cc in ap Some same
 same_out (command.Migrate image out) (command.Gen out' backend' n') names operands = let same : 109 ≡ 103 = ap first names in absurd (omega (arith, same))
 same_out (command.Migrate image out) (command.Log image' script' out') names operands = let same : 109 ≡ 108 = ap first names in absurd (omega (arith, same))
+same_out (command.Migrate image out) (command.Mirror image' script' out') names operands = let same : 103 ≡ 114 = ap (λ (word : List ℕ). slice_index word 2) names in absurd (omega (arith, same))
 same_out (command.Gen out backend n) (command.Build out' spec') names operands = let same : 103 ≡ 98 = ap first names in absurd (omega (arith, same))
 same_out (command.Gen out backend n) (command.Run image' script' out') names operands = let same : 103 ≡ 114 = ap first names in absurd (omega (arith, same))
 same_out (command.Gen out backend n) (command.Dump image') names operands = let same : 103 ≡ 100 = ap first names in absurd (omega (arith, same))
 same_out (command.Gen out backend n) (command.Migrate image' out') names operands = let same : 103 ≡ 109 = ap first names in absurd (omega (arith, same))
 same_out (command.Gen out backend n) (command.Gen out' backend' n') names operands = let same : out.now ≡ out'.now = cc in ap Some same
 same_out (command.Gen out backend n) (command.Log image' script' out') names operands = let same : 103 ≡ 108 = ap first names in absurd (omega (arith, same))
+same_out (command.Gen out backend n) (command.Mirror image' script' out') names operands = let same : 103 ≡ 109 = ap first names in absurd (omega (arith, same))
 same_out (command.Log image script out) (command.Build out' spec') names operands = let same : 108 ≡ 98 = ap first names in absurd (omega (arith, same))
 same_out (command.Log image script out) (command.Run image' script' out') names operands = let same : 108 ≡ 114 = ap first names in absurd (omega (arith, same))
 same_out (command.Log image script out) (command.Dump image') names operands = let same : 108 ≡ 100 = ap first names in absurd (omega (arith, same))
 same_out (command.Log image script out) (command.Migrate image' out') names operands = let same : 108 ≡ 109 = ap first names in absurd (omega (arith, same))
 same_out (command.Log image script out) (command.Gen out' backend' n') names operands = let same : 108 ≡ 103 = ap first names in absurd (omega (arith, same))
 same_out (command.Log image script out) (command.Log image' script' out') names operands = let same : out.now ≡ out'.now = cc in ap Some same
+same_out (command.Log image script out) (command.Mirror image' script' out') names operands = let same : 108 ≡ 109 = ap first names in absurd (omega (arith, same))
+same_out (command.Mirror image script out) (command.Build out' spec') names operands = let same : 109 ≡ 98 = ap first names in absurd (omega (arith, same))
+same_out (command.Mirror image script out) (command.Run image' script' out') names operands = let same : 109 ≡ 114 = ap first names in absurd (omega (arith, same))
+same_out (command.Mirror image script out) (command.Dump image') names operands = let same : 109 ≡ 100 = ap first names in absurd (omega (arith, same))
+same_out (command.Mirror image script out) (command.Migrate image' out') names operands = let same : 114 ≡ 103 = ap (λ (word : List ℕ). slice_index word 2) names in absurd (omega (arith, same))
+same_out (command.Mirror image script out) (command.Gen out' backend' n') names operands = let same : 109 ≡ 103 = ap first names in absurd (omega (arith, same))
+same_out (command.Mirror image script out) (command.Log image' script' out') names operands = let same : 109 ≡ 108 = ap first names in absurd (omega (arith, same))
+same_out (command.Mirror image script out) (command.Mirror image' script' out') names operands = let same : out.now ≡ out'.now = cc in ap Some same
 
 module _ (words : List (List ℕ)) (field : Option Command) (found command : Command) (field_is : field ≡ Some found) (found_is : command ≡ found)
     (read : MatchOption field (IsNoCommand words) (IsCommand words)) where

@@ -5,3 +5,4 @@ pub mod Pool
 pub mod Sound
 pub mod SoundFiles
 pub mod SoundLog
+pub mod SoundMirror

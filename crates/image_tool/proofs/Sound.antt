@@ -17,7 +17,7 @@ use Rattle.image_plays.specs.declared.plays.Source.TheVariants.{Script, Names, M
 use Rattle.image_plays.specs.declared.plays.Start.{Start}
 use Rattle.image_plays.specs.declared.plays.Start.TheVariants.{File, Blank}
 use Rattle.image_plays.specs.declared.stops.Refusal.{Refusal}
-use Rattle.image_plays.specs.declared.stops.Refusal.TheVariants.{BadSpec, NoFile, BadFile, Unbuilt, NoLog, BadArea, BadScript}
+use Rattle.image_plays.specs.declared.stops.Refusal.TheVariants.{BadSpec, NoFile, BadFile, Unbuilt, NoLog, NoMirror, BadArea, Unfit, BadScript}
 use Rattle.image_plays.specs.Images.{HasAreas, damage_of}
 use Rattle.image_plays.specs.Inputs.{BeginsWith, HasUnbuilt, LacksSource, LacksStart, PlaysLines, blank_spec}
 use Rattle.image_plays.specs.Plays.{IsDamage, LacksLines, Refuses}
@@ -26,12 +26,13 @@ use Rattle.image_plays.specs.Stages.{Stage, Stores}
 use Rattle.image_tool.specs.declared.status.Status.{Status}
 use Rattle.image_tool.specs.declared.status.Status.TheVariants as status
 use Rattle.image_tool.specs.declared.tasks.Task.{Task}
-use Rattle.image_tool.specs.declared.tasks.Task.TheVariants.{Build, Plays, Log}
+use Rattle.image_tool.specs.declared.tasks.Task.TheVariants.{Build, Plays, Log, Mirror}
 use Rattle.image_tool.specs.Complete.{IsCarriedOut, IsSound, IsSoundTask, SoundIsCarriedOut}
 use Rattle.image_tool.specs.Tasks.{Causes}
 use Rattle.image_tool.specs.Tool.{TaskEnds, any_stores}
 use Rattle.image_tool.proofs.SoundFiles.{has_image, never_long, never_missing, same_file, same_image, some_none}
 use Rattle.image_tool.proofs.SoundLog.{log_is_not_refused}
+use Rattle.image_tool.proofs.SoundMirror.{mirror_is_not_refused}
 
 module _ (host : Outside) (tells : IsSome host.files) (name : List ℕ) where
   has_script : (limit : ℕ) (lines : List Line) (refusal : Refusal) → HasScript limit host name lines → LacksScript limit host name refusal → ⊥
@@ -44,7 +45,9 @@ module _ (host : Outside) (tells : IsSome host.files) (name : List ℕ) where
   has_script limit lines (BadFile at why) has lacks = lacks
   has_script limit lines (Unbuilt label) has lacks = lacks
   has_script limit lines NoLog has lacks = lacks
+  has_script limit lines NoMirror has lacks = lacks
   has_script limit lines (BadArea label damage) has lacks = lacks
+  has_script limit lines (Unfit label) has lacks = lacks
 
 -- ---- plays
 
@@ -75,7 +78,9 @@ module _ (k : Stores) (kinds : List HandlerKind) (play : Play) (host : Outside) 
   built (NoFile word) has = has.unbuilt
   built (BadFile at why) has = has.unbuilt
   built NoLog has = has.unbuilt
+  built NoMirror has = has.unbuilt
   built (BadArea label damage) has = has.unbuilt
+  built (Unfit label) has = has.unbuilt
   built (BadScript n why) has = has.unbuilt
 
   lined : (refusal : Refusal) → LacksLines play host refusal → ⊥
@@ -93,6 +98,8 @@ module _ (k : Stores) (kinds : List HandlerKind) (play : Play) (host : Outside) 
   whole (BadFile at why) finds = finds
   whole (Unbuilt label) finds = finds
   whole NoLog finds = finds
+  whole NoMirror finds = finds
+  whole (Unfit label) finds = finds
   whole (BadScript n why) finds = finds
 
   never_refused : (refusal : Refusal) → Refuses k kinds play host old new refusal → ⊥
@@ -108,6 +115,7 @@ module _ (k : Stores) (kinds : List HandlerKind) (host host' : Outside) (old new
   no_cause (Build out spec) refusal (image, is) (lacks, _) = no_bad_item spec.now image lacks.1 is lacks.2
   no_cause (Plays play) refusal sound causes = never_refused k kinds play host old new sound refusal causes
   no_cause (Log image script out) refusal sound causes = log_is_not_refused image.now script.now host old.bench new.bench sound refusal causes.0
+  no_cause (Mirror image script out) refusal sound causes = mirror_is_not_refused image.now script.now host old.bench new.bench sound refusal causes.0
 
   carried_out : (task : Task) (result : Status) → IsSoundTask k task host → TaskEnds k kinds task host host' old new result → IsCarriedOut result
   carried_out task status.Done sound ends = tt

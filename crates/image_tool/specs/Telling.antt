@@ -10,7 +10,7 @@ abbrev pub delivered : Outside → List ℕ → Option File → Outside
 delivered host text None = printed_more host text
 delivered host text (Some file) = written (printed_more host text) file.0 file.1
 
--- a front of these bytes was printed, and all else is as before
+-- so many of these bytes were printed, from the first one on, and all else is as before
 abbrev pub PrintsFront : Outside → Outside → List ℕ → Type 0
 PrintsFront old new text = (count : ℕ) × (new ≡ printed_more old (take count text))
 

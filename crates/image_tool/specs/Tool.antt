@@ -5,7 +5,7 @@ use Rattle.handlers.specs.declared.handler.HandlerKind.{HandlerKind}
 use Rattle.command_words.specs.Commands.{IsCommand, IsNoCommand}
 use Rattle.command_words.specs.declared.commands.Command.{Command}
 use Rattle.image_plays.specs.declared.stops.Refusal.{Refusal}
-use Rattle.image_plays.specs.declared.stops.Refusal.TheVariants.{BadSpec, NoFile, BadFile, Unbuilt, NoLog, BadArea, BadScript}
+use Rattle.image_plays.specs.declared.stops.Refusal.TheVariants.{BadSpec, NoFile, BadFile, Unbuilt, NoLog, NoMirror, BadArea, Unfit, BadScript}
 use Rattle.image_plays.specs.Inputs.{out_of}
 use Rattle.image_plays.specs.Plays.{File}
 use Rattle.image_plays.specs.Refusals.{line_of, usage_line}
@@ -14,7 +14,7 @@ use Rattle.image_plays.specs.Stages.{Stage, Stores, stores}
 use Rattle.image_tool.specs.declared.status.Status.{Status}
 use Rattle.image_tool.specs.declared.status.Status.TheVariants as status
 use Rattle.image_tool.specs.declared.tasks.Task.{Task}
-use Rattle.image_tool.specs.declared.tasks.Task.TheVariants.{Build, Plays, Log}
+use Rattle.image_tool.specs.declared.tasks.Task.TheVariants.{Build, Plays, Log, Mirror}
 use Rattle.image_tool.specs.Tasks.{Causes, Does, StopsAt, task_of}
 use Rattle.image_tool.specs.Telling.{DeliversPart, PrintsFront, delivered}
 
@@ -28,16 +28,18 @@ status_of (NoFile word) = status.NoFile
 status_of (BadFile at reason) = status.BadImage
 status_of (Unbuilt label) = status.BadImage
 status_of NoLog = status.BadImage
+status_of NoMirror = status.BadImage
 status_of (BadArea label damage) = status.BadImage
+status_of (Unfit label) = status.BadImage
 status_of (BadScript n reason) = status.BadScript
 
 -- ---- a task that was not done; `from` is the outside of before, with one more fault where the host failed
 
--- a front of the line of a refusal, which has its cause, was printed
+-- the line of a refusal, which has its cause, was printed, whole or only its beginning
 abbrev pub TellsRefusal : Stores → List HandlerKind → Task → Outside → Outside → Outside → Stage → Stage → Type 0
 TellsRefusal k kinds task from host host' old new = (refusal : Refusal) × Causes k kinds task host old new refusal × PrintsFront from host' (line_of refusal)
 
--- a front of the text was printed; or all of it, and OUT may hold anything
+-- the text was printed, whole or only its beginning; or it was printed whole, and OUT may hold anything
 abbrev pub TellsPart : Stores → List HandlerKind → Task → Outside → Outside → Outside → Stage → Stage → Type 0
 TellsPart k kinds task from host host' old new =
     (text : List ℕ) × (file : Option File) × Does k kinds task host old new text file × DeliversPart from host' text file
@@ -70,7 +72,7 @@ TaskEnds k kinds task host host' old new status.NoFile = IsRefused k kinds task 
 TaskEnds k kinds task host host' old new status.BadScript = IsRefused k kinds task host host' old new status.BadScript
 TaskEnds k kinds task host host' old new status.BadImage = IsRefused k kinds task host host' old new status.BadImage
 
--- the words are no command: the usage line was printed, or a front of it
+-- the words are no command: the usage line was printed, whole or only its beginning
 abbrev pub NoCommandEnds : Outside → Outside → Status → Type 0
 NoCommandEnds host host' status.Usage = host' ≡ printed_more host usage_line
 NoCommandEnds host host' status.HostFault = PrintsFront (failed host) host' usage_line
@@ -101,6 +103,7 @@ abbrev pub out_file : Task → Option (List ℕ)
 out_file (Build out spec) = Some out.now
 out_file (Plays play) = out_of play.output
 out_file (Log image script out) = Some out.now
+out_file (Mirror image script out) = Some out.now
 
 -- of files at most this one changed
 abbrev pub OnlyFile : Option (List ℕ) → Outside → Outside → Type 0

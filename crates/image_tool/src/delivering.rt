@@ -54,7 +54,9 @@ fn status_of(refusal: &Refusal<'_>) -> Status
         Refusal::BadFile { .. }
         | Refusal::Unbuilt { .. }
         | Refusal::NoLog
-        | Refusal::BadArea { .. } => Status::BadImage,
+        | Refusal::NoMirror
+        | Refusal::BadArea { .. }
+        | Refusal::Unfit { .. } => Status::BadImage,
         Refusal::BadScript { .. } => Status::BadScript,
     }
 }

@@ -23,9 +23,14 @@ const LONG: &str = "version=2,bank=erasing/4/4096/2,area=nvs/main/0/0/2";
 const ALL: &str =
     "bank=erasing/4/512/6,bank=rewritable/16/512/2,area=nvs/n/0/0/2,area=fcb/f/0/2/2,area=zms/z/1/0/2,area=sel/s/0/4/2";
 
+// Two areas that hold one map between them, and their selector.
+const MIRROR: &str = "bank=erasing/4/512/6,area=nvs/p/0/0/2,area=nvs/q/0/2/2,area=sel/s/0/4/2";
+
 const RUN: &str = "run x.img s.txt y.img";
 
 const RUN_LOG: &str = "log x.img s.txt y.img";
+
+const RUN_MIRROR: &str = "mirror x.img s.txt y.img";
 
 // Carries out one command.
 fn ends<B: Bench>(
@@ -45,7 +50,7 @@ fn ends<B: Bench>(
 fn spelled(alloc: Global, text: &str) -> Result<String, AllocError> {
     let mut all = String::from_str(alloc, text)?;
     for byte in ["11", "22", "33", "44", "55", "66", "77", "88", "99"] {
-        for count in [100, 180, 253, 256, 257, 2048] {
+        for count in [100, 160, 180, 253, 256, 257, 2048] {
             let short = format!(in alloc; "{byte}*{count} ")?;
             let digits = byte.repeat(alloc, count)?;
             all = all.replace(alloc, short.as_str(), digits.as_str())?;
@@ -73,7 +78,7 @@ struct Row {
     left: &'static [(usize, u8)],
 }
 
-static ROWS: [Row; 28] = [
+static ROWS: [Row; 31] = [
     Row {
         spec: NVS,
         script: "set a 01\nget a\n",
@@ -293,6 +298,30 @@ static ROWS: [Row; 28] = [
             record 55*100 \nrecord 66*100 \nrecord 77*100 \nrecord 88*100 \nlog 4\n",
         left: &[(36, 0xFF), (1060, 0xEE), (1068, 0xFF)],
     },
+    // room for the settings in each of two areas, whatever is put
+    Row {
+        spec: MIRROR,
+        script: "set a 01\nset b 22*180 \nset b 22*160 \n",
+        commands: RUN_MIRROR,
+        printed: "ok 0\nok 18\nnospace 0\nok 96\n",
+        left: &[],
+    },
+    // the area that has a setting that was cut is replaced
+    Row {
+        spec: MIRROR,
+        script: "cut 12\nset a 01\nblank p\nmount\nget a\nnames\n",
+        commands: RUN_MIRROR,
+        printed: "ok 0\nok 0\nlost 12\nok 0\nok 5\nnone\n{\"active\":\"q\",\"names\":{}}\n",
+        left: &[],
+    },
+    // a mount that repairs the other area is cut
+    Row {
+        spec: MIRROR,
+        script: "set a 01\ncut 0\nset a 02\nblank p\ncut 8\nmount\nblank q\nmount\nget a\n",
+        commands: RUN_MIRROR,
+        printed: "ok 0\nok 18\nok 0\nlost 0\nok 0\nok 0\nlost 8\nnotyet\nok 10\nvalue 01\n",
+        left: &[],
+    },
 ];
 
 #[test]
@@ -335,7 +364,7 @@ const PASSES_FENCE: &[(usize, usize, u8)] = &[
     (539, 1, 0x49),
 ];
 
-static REFUSED: [Refused; 20] = [
+static REFUSED: [Refused; 22] = [
     Refused {
         spec: NVS,
         script: "",
@@ -449,6 +478,25 @@ static REFUSED: [Refused; 20] = [
         command: RUN_LOG,
         status: 4,
         printed: "bad image: no log\n",
+    },
+    // an image without a mirror: one of three store areas has no place in it
+    Refused {
+        spec: ALL,
+        script: "",
+        put: &[],
+        size: 4192,
+        command: RUN_MIRROR,
+        status: 4,
+        printed: "bad image: no mirror\n",
+    },
+    Refused {
+        spec: MIRROR,
+        script: "blank P\n",
+        put: &[],
+        size: 3140,
+        command: RUN_MIRROR,
+        status: 3,
+        printed: "bad script: line 1: Name\n",
     },
     // lines that are refused
     Refused {

@@ -5,6 +5,3 @@ mod cache;
 pub mod laws;
 
 pub use cache::Cache;
-
-#[cfg(test)]
-mod tests;

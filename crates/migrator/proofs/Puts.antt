@@ -30,7 +30,7 @@ fold-take [] m i x at = absurd (none-some x at)
 fold-take (e ∷ es) m zero x at = ap (λ (y : Pair). applied m (put_of y)) (some-same e x at)
 fold-take (e ∷ es) m (suc i) x at = fold-take es (applied m (put_of e)) i x at
 
-earlier : (es : List Pair) (i : ℕ) (y : Pair) → slice_get es (suc i) ≡ Some y → (x : Pair) × (slice_get es i ≡ Some x)
+pub earlier : (es : List Pair) (i : ℕ) (y : Pair) → slice_get es (suc i) ≡ Some y → (x : Pair) × (slice_get es i ≡ Some x)
 earlier [] i y at = absurd (none-some y at)
 earlier (e ∷ es) zero y at = (e, refl)
 earlier (e ∷ es) (suc i) y at = earlier es i y at
@@ -39,7 +39,7 @@ first-key : (es : List Pair) (x : Pair) → slice_get es 0 ≡ Some x → Some x
 first-key [] x at = absurd (none-some x at)
 first-key (e ∷ es) x at = sym (ap (λ (y : Pair). Some y.0) (some-same e x at))
 
-key-at : (es : List Pair) (i : ℕ) (x : Pair) → slice_get es i ≡ Some x → slice_get (map (λ e. e.0) es) i ≡ Some x.0
+pub key-at : (es : List Pair) (i : ℕ) (x : Pair) → slice_get es i ≡ Some x → slice_get (map (λ e. e.0) es) i ≡ Some x.0
 key-at es i x at = slice_get-map (λ (e : Pair). e.0) es i ∙ ap (option_map (λ (e : Pair). e.0)) at
 
 has-at : (es : List Pair) (i : ℕ) (x : Pair) → slice_get es i ≡ Some x → has_key es x.0 ≡ true
@@ -55,7 +55,7 @@ apart-first e es x i sorted at =
       | inr apart ↦ apart
     ]
 
-find-at : (es : List Pair) → T (maps.is_sorted cmp es) → (i : ℕ) (x : Pair) → slice_get es i ≡ Some x → maps.find cmp x.0 es ≡ Some x.1
+pub find-at : (es : List Pair) → T (maps.is_sorted cmp es) → (i : ℕ) (x : Pair) → slice_get es i ≡ Some x → maps.find cmp x.0 es ≡ Some x.1
 find-at [] sorted i x at = absurd (none-some x at)
 find-at (e ∷ es) sorted zero x at =
     let same = some-same e x at in

@@ -14,8 +14,8 @@ fn stores(role: Role) -> bool
     }
 }
 
-// Whether the area at this index stores settings.
-pub(crate) fn is_store_at(map: &FlashMap, index: usize) -> bool
+/// Whether the area at this index stores settings; where there is no area, it does not.
+pub fn is_store_at(map: &FlashMap, index: usize) -> bool
     ensures { result ≡ is_store_at map.now index }
 {
     match map.at(index) {
@@ -54,8 +54,8 @@ pub fn target(map: &FlashMap, active: usize) -> Option<usize>
     }
 }
 
-// A copy of the area at this index.
-pub(crate) fn area_at(map: &FlashMap, index: usize) -> Area
+/// A copy of the area at this index.
+pub fn area_at(map: &FlashMap, index: usize) -> Area
     requires { index < length map.now }
     ensures { slice_get map.now index ≡ Some result }
 {

@@ -104,8 +104,13 @@ fn moved_as<K: Backend>(
     }
 }
 
-// Erases an area, mounts a store on it, and puts all settings into it. The source stays as it is.
-fn fill<F: Flash, K: Backend, L: Ledger>(
+/// Erases an area, mounts a store on it, and puts all settings of another store into it, in the byte order of their names. The
+/// source stays as it is.
+///
+/// # Errors
+/// `TooManyNames` and `NoSpace` where the area has no place for a setting beside those of lesser names, `NoMemory`, `PowerLost`:
+/// the area may then have any settings. Never `NoTarget`.
+pub fn fill<F: Flash, K: Backend, L: Ledger>(
     alloc: Global,
     from: &K,
     flash: &mut F,

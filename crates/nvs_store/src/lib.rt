@@ -13,9 +13,10 @@ mod slots;
 
 pub use calls::{append, copy_entry, put_close, put_done};
 pub use entry::{Entry, SPECIAL_ID, decode_entry, encode_entry};
-pub use geometry::{blank_scan, capacity, cost, fits};
+pub use geometry::{blank_scan, capacity, cost, fits, slot_size};
 pub use lookup::{find, walk};
 pub use mounting::mount_scan;
 pub use places::{is_blank, is_closed};
 pub use scan::{Found, Placed, Redo, Scan, is_hidden};
+pub use sector::{find_in, scan_sector};
 pub use slots::{counting_entry, used_count};

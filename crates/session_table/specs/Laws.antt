@@ -23,8 +23,9 @@ abbrev pub HoldsAcknowledged : Rules → Type 0
 HoldsAcknowledged r = (lines : List Line) (answers : List Answer) (old new : State) → Follows (Step r) lines answers old new → All (λ answer. is_torn answer ≡ false) answers
     → IsAfterPrefix r lines answers old new
 
--- Wherever power is lost, the settings are those after what became of the commands: all of a line that was done, as many as a refused
--- save tells, and a front of those of each line in which power was lost, behind which one may have been torn by chance.
+-- Wherever power is lost, the settings are those after what became of the commands: all of a line that was done were carried out; of a
+-- save that was refused, the first ones, as many as it tells; of a line in which power was lost, the first so many, and the one behind
+-- them may have been torn by chance.
 abbrev pub TellsDeeds : Rules → Type 0
 TellsDeeds r = (lines : List Line) (answers : List Answer) (old new : State) → Follows (Step r) lines answers old new → IsAfterDeeds r lines answers old new
 

@@ -37,7 +37,7 @@ pub record CommandsDone (r : Rules) (commands : List Command) (units : ℕ) (old
   pub some : ¬ (commands ≡ []) → IsCounted r.last → 0 < units
   pub state : new ≡ record old { settings = all_applied old.settings commands }
 
--- Power is off, and some front of the commands is carried out; by chance what the units of the next one spell, too.
+-- Power is off, and the first so many of the commands are carried out; by chance what the units of the next one spell, too.
 abbrev pub CommandsLost : Rules → List Command → Bool → State → State → Type 0
 CommandsLost r commands false old new = StopsForPower (r.room old.active) commands old.settings new.settings × (new ≡ record old { settings = new.settings; is_on = false })
 CommandsLost r commands true old new = StopsTorn (r.room old.active) (r.tears old.active) commands old.settings new.settings × (new ≡ record old { settings = new.settings; is_on = false })

@@ -26,7 +26,7 @@ abbrev pub DoAll : Rules → List Deed → Map → Map → Type 0
 DoAll r [] old new = new ≡ old
 DoAll r (deed ∷ deeds) old new = (mid : Map) × Does r deed old mid × DoAll r deeds mid new
 
--- a front of the commands was carried out, and the next one was torn
+-- the first so many of the commands were carried out, and the next one was torn
 pub record TornAt (place : ℕ) (commands : List Command) (deeds : List Deed) : Type 0 where
   pub front : List Command
   pub at : Command

@@ -17,16 +17,16 @@ pub fn units_are_open<K: Backend>()
 {}
 
 /// Wherever power is lost, the settings are those after commands of the lines in their order: all of each line that was
-/// done, as many as a refused save tells, and a front of each line in which power was lost; but where units spelt another
-/// record by chance.
+/// done, as many as a refused save tells, and the first so many of each line in which power was lost; but where units spelt
+/// another record by chance.
 pub fn acknowledged_commands_stand<K: Backend>()
     ensures { (areas : List Area) (banks : List Bank) (last : ℕ) →
         HoldsAcknowledged (rules_of (record { contents = K.contents; room = K.room; chance = K.chance; tears = K.tears }) areas banks last) }
 {}
 
 /// Wherever power is lost, the settings are those after what became of the commands of the lines, in their order: all of
-/// each line that was done, as many as a refused save tells, and a front of each line in which power was lost; by chance the
-/// one behind that front was torn.
+/// each line that was done, as many as a refused save tells, and the first so many of each line in which power was lost; by
+/// chance the one behind these was torn.
 pub fn torn_commands_tell<K: Backend>()
     ensures { (areas : List Area) (banks : List Bank) (last : ℕ) →
         TellsDeeds (rules_of (record { contents = K.contents; room = K.room; chance = K.chance; tears = K.tears }) areas banks last) }

@@ -1,1 +1,3 @@
+pub mod LogBed
+pub mod TestBeds
 pub mod TestLemmas

@@ -1,4 +1,4 @@
--- The maps of the tests are maps that an image may have.
+-- The map of the tests is one that an image may have.
 use Rattle.std.proofs.Common.{◌≡◌, ℕ, zero, suc, true, List, [], ◌∷◌, Some, refl, sym, ap, subst, ◌∙◌, arith}
 use Rattle.std.specs.List.{slice_get}
 use Rattle.std.proofs.lemmas.Option.{none-some}
@@ -11,12 +11,10 @@ use Rattle.flash_map.specs.declared.area.Role.TheVariants.{Nvs, Sel}
 use Rattle.flash_map.specs.declared.area.TheConstants.{VALUE_LIMIT}
 use Rattle.any_backend.specs.ByRole.{any_serves}
 use Rattle.migrator.specs.Areas.{IsLawfulMap, first_store, is_store, is_store_at, selector_of}
-use Rattle.migrator_tests.specs.Beds.{IsBed, bed_banks, placed}
-use Rattle.migrator_tests.proofs.TestBeds.{areas-lawful, areas-selector, bed-lawful, bed-served}
+use Rattle.session_tests.specs.Beds.{IsBed, bed_banks, placed}
+use Rattle.session_tests.proofs.TestBeds.{areas-lawful, areas-selector, bed-lawful, bed-served}
 use Rattle.session.specs.OnMap.{limit_of}
 use Rattle.session_tests.specs.Maps.{IsTestMap}
-
--- ---- an area of each store, and the selector's
 
 module _ (areas : List Area) (is : IsBed areas) where
   four-some : is_store_at areas (first_store areas) ≡ true
@@ -38,38 +36,3 @@ module _ (areas : List Area) (is : IsBed areas) where
     };
     limit = four-limit;
   }
-
--- ---- one area
-
-module _ (label : Area) where
-  abbrev alone : List Area
-  alone = placed label Nvs 0 0 ∷ []
-
-  alone-is : (i : ℕ) (area : Area) → slice_get alone i ≡ Some area → (i ≡ 0) × (placed label Nvs 0 0 ≡ area)
-  alone-is zero area at = (refl, cc)
-  alone-is (suc i) area at = absurd (none-some area at)
-
-  alone-lawful : IsLawfulMap bed_banks alone
-  alone-lawful = record {
-    few = omega arith;
-    each = λ i area at. subst (IsLawfulFor bed_banks) (alone-is i area at).1 ((areas-lawful label label label label).each 0 (placed label Nvs 0 0) refl);
-    apart = λ i j area other at other_at not. absurd (not ((alone-is i area at).0 ∙ sym (alone-is j other other_at).0));
-    versions = λ i j area other at other_at. ap (λ (a : Area). a.version) (sym (alone-is i area at).1 ∙ (alone-is j other other_at).1);
-  }
-
-  alone-served : (d : Device) (i : ℕ) (area : Area) → slice_get alone i ≡ Some area → is_store area ≡ true → any_serves area (geometry_of d area)
-  alone-served d i area at store = subst (λ (a : Area). any_serves a (geometry_of d a)) (alone-is i area at).1 tt
-
-  alone-map : IsTestMap alone
-  alone-map = record {
-    served = λ d banks. record {
-      lawful = subst (λ (all : List Bank). IsLawfulMap all alone) (sym banks) alone-lawful;
-      served = alone-served d;
-      some = refl;
-      one = λ none. refl;
-    };
-    limit = refl;
-  }
-
-  pub one-map : (areas : List Area) → areas ≡ alone → IsTestMap areas
-  one-map areas are = subst IsTestMap (sym are) alone-map

@@ -1,1 +1,2 @@
+pub mod Beds
 pub mod Maps

@@ -1,5 +1,9 @@
-//! Tests of sessions on a map of areas.
+//! Tests of migrations, of sessions on a map of areas, and of scripts on a log.
 #![tactic(auto)]
 
+#[cfg(test)]
+mod log_scripts;
+#[cfg(test)]
+mod migrations;
 #[cfg(test)]
 mod rows;

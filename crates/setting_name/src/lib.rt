@@ -5,6 +5,3 @@ pub mod laws;
 mod name;
 
 pub use name::{Name, NameFault};
-
-#[cfg(test)]
-mod tests;

@@ -1,17 +1,14 @@
 // Committing handlers.
-ghost use Rattle.std.specs.Prelude.{⊤, ◌≡◌, ◌<◌, length, get_or, option_map};
-ghost use Rattle.handlers.specs.Registry.{registered, nobody};
+ghost use Rattle.std.specs.Prelude.{◌≡◌, ◌<◌, length, get_or, option_map};
+ghost use Rattle.handlers.specs.Registry.{nobody};
 ghost use Rattle.settings_core.specs.Committing.{is_under, commit_all};
 
-use handlers::Registry;
+use crate::placed::PlacedHandlers;
 use setting_name::Name;
 
 /// Commits, in the order of registration, each handler whose own subtree matches the given one; all without one.
-// Its `requires` asks nothing. A function that has one is proved only where it makes no boxes of its own, so that no caller
-// in another crate is said to hide some.
-pub fn commit(registry: &mut Registry, subtree: Option<&Name>)
-    requires { ⊤ }
-    ensures { registered state registry.new ≡ commit_all (option_map (λ name. name.now) subtree.entry) (registered state registry.old) }
+pub fn commit<H: PlacedHandlers>(registry: &mut H, subtree: Option<&Name>)
+    ensures { H.placed registry.new ≡ commit_all (option_map (λ name. name.now) subtree.entry) (H.placed registry.old) }
 {
     let mut i = 0;
     while i < registry.len() {
@@ -23,9 +20,13 @@ pub fn commit(registry: &mut Registry, subtree: Option<&Name>)
 }
 
 // Whether the subtree of the handler at this place matches the given one.
-pub(crate) fn is_place_under(registry: &Registry, i: usize, subtree: Option<&Name>) -> bool
-    requires { i < length (registered state registry.now) }
-    ensures { result ≡ is_under (option_map (λ name. name.now) subtree.entry) (get_or (registered state registry.now) i nobody).subtree }
+pub(crate) fn is_place_under<H: PlacedHandlers>(
+    registry: &H,
+    i: usize,
+    subtree: Option<&Name>,
+) -> bool
+    requires { i < length (H.placed registry.now) }
+    ensures { result ≡ is_under (option_map (λ name. name.now) subtree.entry) (get_or (H.placed registry.now) i nobody).subtree }
 {
     match registry.subtree(i) {
         Some(own) => is_under(own, subtree),

@@ -5,6 +5,7 @@ ghost use Rattle.setting_name.specs.Match.{matched_rest};
 ghost use Rattle.handlers.specs.Registry.{registered, nobody};
 ghost use Rattle.settings_core.specs.Deliveries.{DeliverEnds, OfferEnds};
 
+use crate::placed::PlacedHandlers;
 use crate::report::Report;
 use flash_sim::NoMemory;
 use handlers::{Registry, SetRefusal, ValueView};
@@ -43,9 +44,9 @@ pub(crate) fn offer<R: Report>(
     }
 }
 
-pub(crate) fn subtree_at(registry: &Registry, place: usize) -> Name
-    requires { place < length (registered state registry.now) }
-    ensures { result ≡ (get_or (registered state registry.now) place nobody).subtree }
+pub(crate) fn subtree_at<H: PlacedHandlers>(registry: &H, place: usize) -> Name
+    requires { place < length (H.placed registry.now) }
+    ensures { result ≡ (get_or (H.placed registry.now) place nobody).subtree }
 {
     match registry.subtree(place) {
         Some(subtree) => subtree.copy(),
@@ -60,15 +61,15 @@ pub(crate) fn rest_of<'a>(name: &'a Name, subtree: &Name) -> &'a [u8]
 }
 
 // Whether the handler took the value.
-pub(crate) fn deliver_at(
+pub(crate) fn deliver_at<H: PlacedHandlers>(
     alloc: Global,
-    registry: &mut Registry,
+    registry: &mut H,
     place: usize,
     rest: &[u8],
     value: &[u8],
 ) -> Result<bool, NoMemory>
-    requires { place < length (registered state registry.old) }
-    ensures { DeliverEnds (registered state registry.old) (registered state registry.new) (record { place = place; rest = rest.now; value = value.now }) result }
+    requires { place < length (H.placed registry.old) }
+    ensures { DeliverEnds (H.placed registry.old) (H.placed registry.new) (record { place = place; rest = rest.now; value = value.now }) result }
 {
     match registry.set_at(alloc, place, rest, ValueView::of(value)) {
         Ok(()) => Ok(true),

@@ -1,9 +1,10 @@
 // Setting and getting values of handlers at run time.
-ghost use Rattle.std.specs.Prelude.{⊤, ◌≡◌};
+ghost use Rattle.std.specs.Prelude.{◌≡◌};
 ghost use Rattle.handlers.specs.Registry.{registered};
 ghost use Rattle.settings_core.specs.Runtime.{RuntimeSetEnds, RuntimeGetEnds};
 
 use crate::offering::{deliver_at, rest_of, subtree_at};
+use crate::placed::PlacedHandlers;
 use crate::saving::handler_at;
 use handlers::Registry;
 use setting_name::Name;
@@ -28,16 +29,13 @@ pub struct NoHandler;
 /// # Errors
 /// `NoHandler` exactly where no subtree matches the name; `Rejected` exactly where the handler does not accept the value;
 /// `NoMemory` only where it does. Nothing changes then.
-// Its `requires` asks nothing. A function that has one is proved only where it makes no boxes of its own, so that no caller
-// in another crate is said to hide some.
-pub fn runtime_set(
+pub fn runtime_set<H: PlacedHandlers>(
     alloc: Global,
-    registry: &mut Registry,
+    registry: &mut H,
     name: &Name,
     value: &[u8],
 ) -> Result<(), RuntimeFault>
-    requires { ⊤ }
-    ensures { RuntimeSetEnds (registered state registry.old) (registered state registry.new) name.now value.now result }
+    ensures { RuntimeSetEnds (H.placed registry.old) (H.placed registry.new) name.now value.now result }
 {
     let Some(place) = registry.best(name) else {
         return Err(RuntimeFault::NoHandler);

@@ -5,8 +5,6 @@ ghost use Rattle.std.specs.Prelude.{◌≡◌, ◌≢◌, ◌<◌, ◌∷◌, []
 ghost use Rattle.text_parts.specs.Parts.{parts, parts_of};
 
 mod numbers;
-#[cfg(test)]
-mod tests;
 
 pub use numbers::read_number;
 

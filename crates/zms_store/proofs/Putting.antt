@@ -66,7 +66,7 @@ spare : (t : Bool) → cond t 2 3 * 16 + cond t 16 0 ≡ 48
 spare true = refl
 spare false = refl
 
-fits-costs : (b : List ℕ) (len : ℕ) → is_sound b ≡ true → stored_cost cost (pairs b) ≤ capacity (length b) → fits b len ≡ true → stored_cost cost (pairs b) + cond (eqb len 0) 0 (cost len) ≤ capacity (length b)
+pub fits-costs : (b : List ℕ) (len : ℕ) → is_sound b ≡ true → stored_cost cost (pairs b) ≤ capacity (length b) → fits b len ≡ true → stored_cost cost (pairs b) + cond (eqb len 0) 0 (cost len) ≤ capacity (length b)
 fits-costs b len sound costs fitting =
     elim (cases_eq len 0) [
       | inl none ↦ let own = cond-true (eqb len 0) 0 (cost len) (eq-eqb len 0 none) in omega arith

@@ -18,5 +18,7 @@ mod writing;
 
 pub use latest::LastSlots;
 pub use laws::parts_of_list;
-pub use sector::Placed;
+pub use mounting::scan;
+pub use places::marks_at;
+pub use sector::{Marks, Placed, find_in};
 pub use store::Zms;

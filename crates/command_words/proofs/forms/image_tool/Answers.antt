@@ -33,5 +33,7 @@ returns c =
     c.in_ok-subcommand-4.ensures c.in_ok-migrate.ensures.local dump c.in_ok-migrate.ensures.shape in
     let generate = with_form c.in_ok-subcommand-4.field-0 c.in_ok-generate.generate c.in_ok-subcommand-5.field-0 _ (form (codes "gen") (codes "OUT" ∷ codes "BACKEND" ∷ codes "N" ∷ []))
     c.in_ok-subcommand-5.ensures c.in_ok-generate.ensures.local migrate c.in_ok-generate.ensures.shape in
-    last_form c.in_ok-subcommand-5.field-0 c.in_ok-log.log c.subcommand-6.result _ (form (codes "log") (codes "IMAGE" ∷ codes "SCRIPT" ∷ codes "OUT" ∷ []))
-    c.subcommand-6.ensures c.in_ok-log.ensures.local generate c.in_ok-log.ensures.shape
+    let log = with_form c.in_ok-subcommand-5.field-0 c.in_ok-log.log c.in_ok-subcommand-6.field-0 _ (form (codes "log") (codes "IMAGE" ∷ codes "SCRIPT" ∷ codes "OUT" ∷ []))
+    c.in_ok-subcommand-6.ensures c.in_ok-log.ensures.local generate c.in_ok-log.ensures.shape in
+    last_form c.in_ok-subcommand-6.field-0 c.in_ok-mirror.mirror c.subcommand-7.result _ (form (codes "mirror") (codes "IMAGE" ∷ codes "SCRIPT" ∷ codes "OUT" ∷ []))
+    c.subcommand-7.ensures c.in_ok-mirror.ensures.local log c.in_ok-mirror.ensures.shape

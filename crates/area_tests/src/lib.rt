@@ -1,7 +1,0 @@
-//! Tests of areas and image files.
-#![tactic(auto)]
-
-#[cfg(test)]
-mod areas;
-#[cfg(test)]
-mod images;

@@ -1,4 +1,0 @@
-use Rattle.backend_tests.proofs.over_any.settings_over_any_store.Given as goal
-
-abbrev pub ghosts-exercise : goal.ghosts-exercise
-ghosts-exercise g a = record { name = a.blank.name; parts = a.blank.parts }

@@ -1,0 +1,9 @@
+use Rattle.std.proofs.Common.{◌≡◌}
+use Rattle.any_backend.specs.Standing.{IsReady}
+use Rattle.backend_tests.proofs.stores.plays.Given as goal
+
+abbrev pub invariant-loop-call : goal.invariant-loop-call
+invariant-loop-call g l = record {
+  ready : IsReady (g.B.Flash.device l.bench) l.backend;
+  banks : (g.B.Flash.device l.bench).banks ≡ (g.B.Flash.device l.fn.bench).banks;
+}

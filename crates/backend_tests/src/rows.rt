@@ -1,0 +1,284 @@
+// What another reading of the same rules says of calls on two sectors of 512 bytes.
+
+// A name; the byte and the length of the value that it is given, a delete where the length is 0; the units that are spent;
+// need and live where there is no space.
+pub(crate) type Call = (&'static [u8], u8, usize, u64, Option<(u64, u64)>);
+
+// A name, and the byte and the length of its value.
+pub(crate) type Left = (&'static [u8], u8, usize);
+
+// Calls on an area that is erased but for these bytes from a place on, and the names that are left, in order.
+pub(crate) struct Play {
+    pub(crate) at: usize,
+    pub(crate) bytes: &'static [u8],
+    pub(crate) calls: &'static [Call],
+    pub(crate) left: &'static [Left],
+}
+
+// Power is lost after so many units of a set, where `a` has so many bytes 11 before. How many units the next mount spends, whether
+// the loss spells another record by chance, and the value that the name has then, none where it is empty.
+pub(crate) struct Cut {
+    pub(crate) held: usize,
+    pub(crate) name: &'static [u8],
+    pub(crate) value: &'static [u8],
+    pub(crate) units: u64,
+    pub(crate) mount: u64,
+    pub(crate) chance: bool,
+    pub(crate) left: &'static [u8],
+}
+
+const N: &[u8] = &[b'n'; 64];
+
+const M: &[u8] = &[b'm'; 64];
+
+pub(crate) static NVS: [Play; 5] = [
+    Play {
+        at: 0,
+        bytes: b"",
+        calls: &[
+            (b"a", 0, 0, 0, None),
+            (b"a", 1, 1, 9, None),
+            (b"a", 1, 1, 0, None),
+            (b"a", 0, 0, 4, None),
+        ],
+        left: &[],
+    },
+    Play {
+        at: 0,
+        bytes: b"",
+        calls: &[
+            (b"b", 1, 1, 9, None),
+            (b"c", 2, 1, 9, None),
+            (b"a", 3, 1, 9, None),
+            (b"c", 0, 0, 4, None),
+            (b"b/x", 4, 1, 6, None),
+        ],
+        left: &[(b"a", 3, 1), (b"b", 1, 1), (b"b/x", 4, 1)],
+    },
+    // the last set collects
+    Play {
+        at: 0,
+        bytes: b"",
+        calls: &[
+            (b"a", 0x11, 100, 33, None),
+            (b"a", 0x22, 100, 27, None),
+            (b"a", 0x33, 100, 27, None),
+            (b"a", 0x44, 100, 27, None),
+            (b"a", 0x55, 100, 65, None),
+        ],
+        left: &[(b"a", 0x55, 100)],
+    },
+    Play {
+        at: 0,
+        bytes: b"",
+        calls: &[
+            (b"a", 0x11, 256, 72, None),
+            (b"b", 0x22, 256, 80, Some((276, 288))),
+            (b"a", 0, 0, 4, None),
+            (b"b", 0x22, 256, 77, None),
+        ],
+        left: &[(b"b", 0x22, 256)],
+    },
+    // the value fits, its name does not
+    Play {
+        at: 0,
+        bytes: b"",
+        calls: &[
+            (b"a", 0x11, 256, 72, None),
+            (b"b", 0x22, 180, 253, Some((200, 288))),
+        ],
+        left: &[(b"a", 0x11, 256)],
+    },
+];
+
+pub(crate) static NVS_CUTS: [Cut; 2] = [
+    Cut {
+        held: 0,
+        name: b"a",
+        value: &[1],
+        units: 6,
+        mount: 2,
+        chance: false,
+        left: b"",
+    },
+    Cut {
+        held: 256,
+        name: b"b",
+        value: &[1; 180],
+        units: 252,
+        mount: 126,
+        chance: false,
+        left: b"",
+    },
+];
+
+pub(crate) static ZMS: [Play; 4] = [
+    Play {
+        at: 0,
+        bytes: b"",
+        calls: &[(b"a", 7, 8, 3, None), (b"a", 7, 8, 0, None)],
+        left: &[(b"a", 7, 8)],
+    },
+    Play {
+        at: 0,
+        bytes: b"",
+        calls: &[
+            (b"b", 1, 1, 3, None),
+            (b"a", 1, 1, 2, None),
+            (b"b", 0, 0, 2, None),
+            (b"b/x", 0x11, 9, 3, None),
+        ],
+        left: &[(b"a", 1, 1), (b"b/x", 0x11, 9)],
+    },
+    // the last set collects
+    Play {
+        at: 0,
+        bytes: b"",
+        calls: &[
+            (b"a", 0x11, 100, 10, None),
+            (b"a", 0x22, 100, 8, None),
+            (b"a", 0x33, 100, 8, None),
+            (b"a", 0x44, 100, 26, None),
+        ],
+        left: &[(b"a", 0x44, 100)],
+    },
+    // the empty entry of cycle 1, and the name of an earlier cycle, which the first set hides
+    Play {
+        at: 448,
+        bytes: b"\xCA\x01\x01\0\x20\x29\0\x80\x61\0\0\0\0\0\0\0\
+            \xFF\xFF\xFF\xFF\xFF\xFF\xFF\xFF\xFF\xFF\xFF\xFF\xFF\xFF\xFF\xFF\
+            \xFF\xFF\xFF\xFF\xFF\xFF\xFF\xFF\xFF\xFF\xFF\xFF\xFF\xFF\xFF\xFF\
+            \x61\x01\xFF\xFF\xFF\xFF\xFF\xFF\0\0\0\0\0\0\0\0",
+        calls: &[(b"a", 1, 1, 3, None)],
+        left: &[(b"a", 1, 1)],
+    },
+];
+
+pub(crate) static ZMS_CUTS: [Cut; 3] = [
+    Cut {
+        held: 0,
+        name: b"a",
+        value: &[1, 2, 3, 4, 5, 6, 7, 8],
+        units: 0,
+        mount: 0,
+        chance: false,
+        left: b"",
+    },
+    Cut {
+        held: 0,
+        name: b"a",
+        value: &[1, 2, 3, 4, 5, 6, 7, 8],
+        units: 1,
+        mount: 0,
+        chance: false,
+        left: b"",
+    },
+    Cut {
+        held: 0,
+        name: b"a",
+        value: &[1, 2, 3, 4, 5, 6, 7, 8],
+        units: 2,
+        mount: 1,
+        chance: false,
+        left: b"",
+    },
+];
+
+pub(crate) static FCB: [Play; 4] = [
+    Play {
+        at: 0,
+        bytes: b"",
+        calls: &[
+            (b"b", 1, 1, 5, None),
+            (b"a", 1, 1, 3, None),
+            (b"b", 0, 0, 3, None),
+            (b"a", 1, 1, 0, None),
+        ],
+        left: &[(b"a", 1, 1)],
+    },
+    // the last set collects
+    Play {
+        at: 0,
+        bytes: b"",
+        calls: &[
+            (b"a", 0x11, 100, 30, None),
+            (b"a", 0x22, 100, 28, None),
+            (b"a", 0x33, 100, 28, None),
+            (b"a", 0x44, 100, 59, None),
+        ],
+        left: &[(b"a", 0x44, 100)],
+    },
+    // records that are no settings are passed over
+    Play {
+        at: 0,
+        bytes: b"\xEE\xEE\xFF\xC0\x01\xFF\x00\x00\
+            \x03\xFF\xFF\xFFa=\x01\xFF\x52\xFF\xFF\xFF\
+            \x01\xFF\xFF\xFFa\xFF\xFF\xFF\xE2\xFF\xFF\xFF\
+            \x02\xFF\xFF\xFF=\x01\xFF\xFF\xEA\xFF\xFF\xFF\
+            \x03\xFF\xFF\xFFb=\x02\xFF\xE6\xFF\xFF\xFF\
+            \x03\xFF\xFF\xFFb==\xFF\x5B\xFF\xFF\xFF",
+        calls: &[],
+        left: &[(b"a", 1, 1), (b"b", b'=', 1)],
+    },
+    // the longest name with the longest value
+    Play {
+        at: 0,
+        bytes: b"",
+        calls: &[
+            (N, 0x22, 256, 85, None),
+            (M, 0x22, 256, 86, Some((332, 332))),
+        ],
+        left: &[(N, 0x22, 256)],
+    },
+];
+
+pub(crate) static FCB_CUTS: [Cut; 3] = [
+    Cut {
+        held: 0,
+        name: b"a",
+        value: &[0, 0xA4, 1, 2, 3, 4],
+        units: 3,
+        mount: 0,
+        chance: false,
+        left: b"",
+    },
+    Cut {
+        held: 0,
+        name: b"a",
+        value: &[0, 0xA4, 1, 2, 3, 4],
+        units: 4,
+        mount: 0,
+        chance: true,
+        left: &[0, 0xA4, 0xFF, 0xFF, 0xFF, 0xFF],
+    },
+    Cut {
+        held: 0,
+        name: b"a",
+        value: &[0, 0xA4, 1, 2, 3, 4],
+        units: 5,
+        mount: 0,
+        chance: false,
+        left: b"",
+    },
+];
+
+// The longest name with the longest value, in units of 8 and of 16 bytes.
+pub(crate) static FCB_LONG: [Play; 1] = [Play {
+    at: 0,
+    bytes: b"",
+    calls: &[
+        (N, 0x22, 256, 44, None),
+        (M, 0x22, 256, 45, Some((344, 344))),
+    ],
+    left: &[(N, 0x22, 256)],
+}];
+
+pub(crate) static FCB_LONGER: [Play; 1] = [Play {
+    at: 0,
+    bytes: b"",
+    calls: &[
+        (N, 0x22, 256, 24, None),
+        (M, 0x22, 256, 25, Some((368, 368))),
+    ],
+    left: &[(N, 0x22, 256)],
+}];

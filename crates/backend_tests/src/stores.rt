@@ -1,0 +1,368 @@
+ghost use Rattle.std.specs.Prelude.{◌≡◌, ◌<◌, ◌≤◌, ◌∷◌, [], false, length, IfOk, OnOk, vec_len};
+ghost use Rattle.flash_map.specs.Area.{geometry_of};
+ghost use Rattle.flash_map.specs.Lawful.{IsLawfulFor, HasKind, HasUnit};
+ghost use Rattle.flash_map.specs.Units.{IsUnit};
+ghost use Rattle.backend_api.specs.Ends.{set_lost};
+ghost use Rattle.any_backend.specs.ByRole.{any_serves, serves_as};
+ghost use Rattle.any_backend.specs.Standing.{IsReady};
+
+use crate::rows::{
+    Call, Cut, FCB, FCB_CUTS, FCB_LONG, FCB_LONGER, Left, NVS, NVS_CUTS, Play, ZMS, ZMS_CUTS,
+};
+use any_backend::*;
+use arrayvec::ArrayString;
+use backend_api::{Backend, SetFault};
+use flash_map::{Area, Role};
+use flash_sim::{Bank, Bench, FlatSim, Kind, Steps};
+use setting_name::Name;
+use std::alloc::{AllocError, Global};
+use std::marker::Brand;
+use std::process::Abort;
+use std::sync::ledger::{Blank, Ledger};
+use std::test::Fail;
+
+// Two sectors of 512 bytes that are erased but for these bytes from a place on.
+fn image(alloc: Global, at: usize, bytes: &[u8]) -> Result<Vec<u8>, AllocError>
+    ensures { IfOk result (λ image. vec_len image ≡ 1024) }
+{
+    let mut image = vec![in alloc; 255u8; 1024]?;
+    for (place, byte) in image.iter_mut().skip(at).zip(bytes) {
+        *place = *byte;
+    }
+    Ok(image)
+}
+
+fn load<B: Bench>(
+    alloc: Global,
+    bench: &mut B,
+    kind: Kind,
+    unit: u32,
+    image: Vec<u8>,
+) -> Result<(), Fail>
+    requires unit { IsUnit unit }
+    requires long { vec_len image ≡ 1024 }
+    ensures { OnOk result ((B.device bench.new).banks ≡ (record { kind = kind; unit = unit; sector = 512; count = 2 }) ∷ []) }
+{
+    let bank = Bank {
+        kind,
+        unit,
+        sector: 512,
+        count: 2,
+    };
+    let banks = vec![in alloc; bank]?;
+    let bytes = vec![in alloc; image]?;
+    bench.load(alloc, banks, bytes)?;
+    Ok(())
+}
+
+// An area for a store of this role on these bytes.
+fn bed<B: Bench>(
+    alloc: Global,
+    bench: &mut B,
+    role: Role,
+    kind: Kind,
+    unit: u32,
+    image: Vec<u8>,
+) -> Result<Area, Fail>
+    requires kind { HasKind role kind }
+    requires unit { HasUnit role unit }
+    requires serves { serves_as role kind }
+    requires long { vec_len image ≡ 1024 }
+    ensures lawful { IfOk result (λ area. IsLawfulFor (B.device bench.new).banks area) }
+    ensures serves { IfOk result (λ area. any_serves area (geometry_of (B.device bench.new) area)) }
+{
+    load(alloc, bench, kind, unit, image)?;
+    Ok(Area::new(ArrayString::new(), role, 0, 0, 2, 1))
+}
+
+// A backend on an area.
+fn mounted<B: Bench, L: Ledger>(
+    alloc: Global,
+    bench: &mut B,
+    area: &Area,
+    steps: &mut Steps<L>,
+) -> Result<AnyBackend, Fail>
+    requires lawful { IsLawfulFor (B.device bench.old).banks area.now }
+    requires serves { any_serves area.now (geometry_of (B.device bench.old) area.now) }
+    ensures ready { IfOk result (λ backend. IsReady (B.device bench.new) backend) }
+    ensures banks { OnOk result ((B.device bench.new).banks ≡ (B.device bench.old).banks) }
+{
+    let backend = AnyBackend::mount(alloc, bench, area.copy(), steps)?;
+    Ok(backend)
+}
+
+fn put<B: Bench, L: Ledger>(
+    backend: &mut AnyBackend,
+    bench: &mut B,
+    name: &Name,
+    value: &[u8],
+    steps: &mut Steps<L>,
+) -> Result<(), SetFault>
+    requires ready { IsReady (B.device bench.old) backend.old }
+    requires some { 0 < length value.now }
+    requires short { length value.now ≤ 256 }
+    ensures ready { set_lost result ≡ false → IsReady (B.device bench.new) backend.new }
+    ensures banks { (B.device bench.new).banks ≡ (B.device bench.old).banks }
+{
+    backend.set(bench, name, value, steps)
+}
+
+// Gives a name this value; need and live where there is no space.
+fn set<B: Bench, L: Ledger>(
+    backend: &mut AnyBackend,
+    bench: &mut B,
+    name: &Name,
+    value: &[u8],
+    steps: &mut Steps<L>,
+) -> Result<Option<(u64, u64)>, Fail>
+    requires ready { IsReady (B.device bench.old) backend.old }
+    requires some { 0 < length value.now }
+    requires short { length value.now ≤ 256 }
+    ensures ready { OnOk result (IsReady (B.device bench.new) backend.new) }
+    ensures banks { OnOk result ((B.device bench.new).banks ≡ (B.device bench.old).banks) }
+{
+    match put(backend, bench, name, value, steps) {
+        Ok(()) => Ok(None),
+        Err(SetFault::NoSpace { need, live }) => Ok(Some((need, live))),
+        Err(SetFault::TooManyNames) => Err(Fail::from(SetFault::TooManyNames)),
+        Err(SetFault::PowerLost) => Err(Fail::from(SetFault::PowerLost)),
+    }
+}
+
+// Takes a name's value away.
+fn delete<B: Bench, L: Ledger>(
+    backend: &mut AnyBackend,
+    bench: &mut B,
+    name: &Name,
+    steps: &mut Steps<L>,
+) -> Result<(), Fail>
+    requires { IsReady (B.device bench.old) backend.old }
+    ensures ready { OnOk result (IsReady (B.device bench.new) backend.new) }
+    ensures banks { OnOk result ((B.device bench.new).banks ≡ (B.device bench.old).banks) }
+{
+    backend.delete(bench, name, steps)?;
+    Ok(())
+}
+
+// Gives a name so many bytes, or takes its value away where there are none.
+fn carry_out<B: Bench, L: Ledger>(
+    backend: &mut AnyBackend,
+    bench: &mut B,
+    name: &[u8],
+    byte: u8,
+    len: usize,
+    steps: &mut Steps<L>,
+) -> Result<Option<(u64, u64)>, Fail>
+    requires { IsReady (B.device bench.old) backend.old }
+    ensures ready { OnOk result (IsReady (B.device bench.new) backend.new) }
+    ensures banks { OnOk result ((B.device bench.new).banks ≡ (B.device bench.old).banks) }
+{
+    let name = Name::read(name)?;
+    if len == 0 {
+        delete(backend, bench, &name, steps)?;
+        return Ok(None);
+    }
+    set(backend, bench, &name, &[byte; 256][..len.min(256)], steps)
+}
+
+fn agrees<B: Bench, L: Ledger, R: Abort>(
+    rt: &R,
+    backend: &mut AnyBackend,
+    bench: &mut B,
+    call: &Call,
+    steps: &mut Steps<L>,
+) -> Result<(), Fail>
+    requires { IsReady (B.device bench.old) backend.old }
+    ensures ready { OnOk result (IsReady (B.device bench.new) backend.new) }
+    ensures banks { OnOk result ((B.device bench.new).banks ≡ (B.device bench.old).banks) }
+{
+    let (name, byte, len, units, no_space) = *call;
+    let start = bench.spent();
+    let answer = carry_out(backend, bench, name, byte, len, steps)?;
+    let spent = bench.spent().saturating_sub(start);
+    assert_eq!(rt; (answer, spent), (no_space, units));
+    Ok(())
+}
+
+// These are all names, in order, with their values.
+fn shows<B: Bench, L: Ledger, R: Abort>(
+    rt: &R,
+    backend: &AnyBackend,
+    bench: &B,
+    left: &[Left],
+    steps: &mut Steps<L>,
+) -> Result<(), Fail>
+    requires { IsReady (B.device bench.now) backend.now }
+{
+    let mut after = None;
+    for (name, byte, len) in left {
+        let wanted = Name::read(name)?;
+        let Some(found) = backend.next_name(bench, after.as_ref(), steps) else {
+            return Err(Fail::new("a name is wanting"));
+        };
+        assert!(rt; found.bytes() == *name);
+        let value = [*byte; 256];
+        let got = backend.get(bench, &wanted, steps);
+        assert!(rt; got == Some(&value[..(*len).min(256)]));
+        after = Some(wanted);
+    }
+    assert!(rt; backend.next_name(bench, after.as_ref(), steps).is_none());
+    Ok(())
+}
+
+// The calls one after another, a mount of what is left, and a format of it.
+fn plays<B: Bench, L: Ledger, R: Abort>(
+    rt: &R,
+    alloc: Global,
+    bench: &mut B,
+    area: &Area,
+    play: &Play,
+    steps: &mut Steps<L>,
+) -> Result<(), Fail>
+    requires lawful { IsLawfulFor (B.device bench.old).banks area.now }
+    requires serves { any_serves area.now (geometry_of (B.device bench.old) area.now) }
+{
+    let mut backend = mounted(alloc, bench, area, steps)?;
+    for call in play.calls {
+        agrees(rt, &mut backend, bench, call, steps)?;
+    }
+    let backend = mounted(alloc, bench, area, steps)?;
+    shows(rt, &backend, bench, play.left, steps)?;
+    AnyBackend::format(bench, area, steps)?;
+    let backend = mounted(alloc, bench, area, steps)?;
+    shows(rt, &backend, bench, &[], steps)
+}
+
+// Whether the last loss spells another record.
+fn by_chance<B: Bench, L: Ledger>(bench: &B, area: &Area, steps: &mut Steps<L>) -> bool
+    requires lawful { IsLawfulFor (B.device bench.now).banks area.now }
+    requires serves { any_serves area.now (geometry_of (B.device bench.now) area.now) }
+{
+    match bench.last_loss() {
+        Some(loss) => AnyBackend::chance(bench, area, loss, steps),
+        None => false,
+    }
+}
+
+// Loses power in a set.
+fn loses<B: Bench, L: Ledger, R: Abort>(
+    rt: &R,
+    backend: &mut AnyBackend,
+    bench: &mut B,
+    cut: &Cut,
+    steps: &mut Steps<L>,
+) -> Result<(), Fail>
+    requires { IsReady (B.device bench.old) backend.old }
+    ensures banks { OnOk result ((B.device bench.new).banks ≡ (B.device bench.old).banks) }
+{
+    let name = Name::read(cut.name)?;
+    if cut.value.is_empty() || cut.value.len() > 256 {
+        return Err(Fail::new("no value of a row"));
+    }
+    let start = bench.spent();
+    bench.arm(cut.units);
+    let lost = put(backend, bench, &name, cut.value, steps);
+    assert!(rt; lost == Err(SetFault::PowerLost) && !backend.is_up());
+    assert_eq!(rt; bench.spent().saturating_sub(start), cut.units);
+    Ok(())
+}
+
+// What the next mount spends and finds.
+fn finds<B: Bench, L: Ledger, R: Abort>(
+    rt: &R,
+    alloc: Global,
+    bench: &mut B,
+    area: &Area,
+    cut: &Cut,
+    steps: &mut Steps<L>,
+) -> Result<(), Fail>
+    requires lawful { IsLawfulFor (B.device bench.old).banks area.now }
+    requires serves { any_serves area.now (geometry_of (B.device bench.old) area.now) }
+{
+    assert_eq!(rt; by_chance(bench, area, steps), cut.chance);
+    bench.restore();
+    let start = bench.spent();
+    let backend = mounted(alloc, bench, area, steps)?;
+    assert_eq!(rt; bench.spent().saturating_sub(start), cut.mount);
+    let got = backend.get(bench, &Name::read(cut.name)?, steps);
+    assert!(rt; got.unwrap_or(b"") == cut.left);
+    Ok(())
+}
+
+// The rows of a store of this role on such a bank.
+fn of_role<B: Bench, L: Ledger, R: Abort>(
+    rt: &R,
+    alloc: Global,
+    bench: &mut B,
+    role: Role,
+    kind: Kind,
+    unit: u32,
+    rows: &[Play],
+    steps: &mut Steps<L>,
+) -> Result<(), Fail>
+    requires kind { HasKind role kind }
+    requires unit { HasUnit role unit }
+    requires serves { serves_as role kind }
+{
+    for play in rows {
+        let image = image(alloc, play.at, play.bytes)?;
+        let area = bed(alloc, bench, role, kind, unit, image)?;
+        plays(rt, alloc, bench, &area, play, steps)?;
+    }
+    Ok(())
+}
+
+fn cuts_of_role<B: Bench, L: Ledger, R: Abort>(
+    rt: &R,
+    alloc: Global,
+    bench: &mut B,
+    role: Role,
+    kind: Kind,
+    unit: u32,
+    cuts: &[Cut],
+    steps: &mut Steps<L>,
+) -> Result<(), Fail>
+    requires kind { HasKind role kind }
+    requires unit { HasUnit role unit }
+    requires serves { serves_as role kind }
+{
+    for cut in cuts {
+        let image = image(alloc, 0, b"")?;
+        let area = bed(alloc, bench, role, kind, unit, image)?;
+        let mut backend = mounted(alloc, bench, &area, steps)?;
+        carry_out(&mut backend, bench, b"a", 0x11, cut.held, steps)?;
+        loses(rt, &mut backend, bench, cut, steps)?;
+        finds(rt, alloc, bench, &area, cut, steps)?;
+    }
+    Ok(())
+}
+
+fn exercise<B: Bench, L: Ledger, R: Abort>(
+    rt: &R,
+    alloc: Global,
+    bench: &mut B,
+    blank: Blank,
+) -> Result<(), Fail>
+    requires name { blank.name ≡ L.name }
+    requires parts { blank.parts ≡ L.parts }
+    requires some { 0 < L.parts }
+{
+    let mut steps = Steps::<L>::new(blank);
+    let (nvs, zms, fcb) = (Role::Nvs, Role::Zms, Role::Fcb);
+    let (erasing, rewritable) = (Kind::Erasing, Kind::Rewritable);
+    of_role(rt, alloc, bench, nvs, erasing, 4, &NVS, &mut steps)?;
+    of_role(rt, alloc, bench, zms, rewritable, 16, &ZMS, &mut steps)?;
+    of_role(rt, alloc, bench, fcb, erasing, 4, &FCB, &mut steps)?;
+    of_role(rt, alloc, bench, fcb, erasing, 8, &FCB_LONG, &mut steps)?;
+    of_role(rt, alloc, bench, fcb, erasing, 16, &FCB_LONGER, &mut steps)?;
+    cuts_of_role(rt, alloc, bench, nvs, erasing, 4, &NVS_CUTS, &mut steps)?;
+    cuts_of_role(rt, alloc, bench, zms, rewritable, 16, &ZMS_CUTS, &mut steps)?;
+    cuts_of_role(rt, alloc, bench, fcb, erasing, 4, &FCB_CUTS, &mut steps)
+}
+
+#[test]
+fn settings_over_each_store(rt: HostRuntime) -> Result<(), Fail> {
+    let alloc = rt.alloc();
+    let mut sim = FlatSim::new(alloc);
+    exercise::<FlatSim, Brand, HostRuntime>(&rt, alloc, &mut sim, Blank::new(1))
+}

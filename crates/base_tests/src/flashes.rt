@@ -1,0 +1,70 @@
+ghost use Rattle.std.specs.Prelude.{◌≡◌, ◌<◌, ◌∷◌, ◌++◌, [], OnOk, replicate};
+ghost use Rattle.flash_sim.specs.Device.{loaded};
+
+use flash_sim::{At, Bank, Bench, FlatSim, Kind, PowerLost, SparseSim, Steps};
+use std::alloc::Global;
+use std::marker::Brand;
+use std::process::Abort;
+use std::sync::ledger::{Blank, Ledger};
+use std::test::Fail;
+
+const SMALL: Bank = Bank {
+    kind: Kind::Erasing,
+    unit: 4,
+    sector: 16,
+    count: 2,
+};
+
+// Two sectors, the first of which is erased.
+fn load<B: Bench>(alloc: Global, bench: &mut B) -> Result<(), Fail>
+    ensures { OnOk result (B.device bench.new ≡ loaded (B.device bench.old) (SMALL ∷ []) ((replicate 16 255 ++ replicate 16 7) ∷ [])) }
+{
+    let banks = vec![in alloc; SMALL]?;
+    let mut bank = vec![in alloc; 255u8; 16]?;
+    bank.extend_from_slice(&[7; 16])?;
+    bench.load(alloc, banks, vec![in alloc; bank]?)?;
+    Ok(())
+}
+
+// A cut program, power back, what stands there, and an erase: the sector is FF, and the other one is as it was loaded.
+fn exercise<B: Bench, L: Ledger, R: Abort>(
+    rt: &R,
+    alloc: Global,
+    bench: &mut B,
+    blank: Blank,
+) -> Result<(), Fail>
+    requires name { blank.name ≡ L.name }
+    requires parts { blank.parts ≡ L.parts }
+    requires some { 0 < L.parts }
+{
+    let mut steps = Steps::<L>::new(blank);
+    load(alloc, bench)?;
+    bench.arm(1);
+    let at = At { bank: 0, offset: 4 };
+    let cut = bench.program(at, &[1, 2, 3, 4, 5, 6, 7, 8]);
+    assert_eq!(rt; cut, Err(PowerLost));
+    assert!(rt; !bench.is_on());
+    bench.restore();
+    assert!(rt; bench.view(at, 8, &mut steps) == [1, 2, 3, 4, 255, 255, 255, 255].as_slice());
+    bench.erase(0, 0)?;
+    assert_eq!(rt; (bench.spent(), bench.losses(), bench.loads()), (2, 1, 1));
+    let bytes = bench.snapshot(alloc)?;
+    let first = bytes.first().ok_or("one bank was loaded")?;
+    assert!(rt; first[..16] == [255; 16]);
+    assert!(rt; first[16..] == [7; 16]);
+    Ok(())
+}
+
+#[test]
+fn loses_power(rt: HostRuntime) -> Result<(), Fail> {
+    let alloc = rt.alloc();
+    let mut sim = FlatSim::new(alloc);
+    exercise::<FlatSim, Brand, HostRuntime>(&rt, alloc, &mut sim, Blank::new(1))
+}
+
+#[test]
+fn sparse_loses_power(rt: HostRuntime) -> Result<(), Fail> {
+    let alloc = rt.alloc();
+    let mut sim = SparseSim::new(alloc);
+    exercise::<SparseSim, Brand, HostRuntime>(&rt, alloc, &mut sim, Blank::new(1))
+}

@@ -1,0 +1,60 @@
+// The two hosts, each called once for each of its answers.
+use std::fs;
+use std::test::Fail;
+use zs_host::{Host, HostFault, MemHost, RealHost};
+
+#[test]
+fn memory(rt: HostRuntime) -> Result<(), Fail> {
+    let alloc = rt.alloc();
+    let mut host = MemHost::new(alloc);
+    host.put_file(alloc, "a", b"123")?;
+    host.write_whole(alloc, "b", b"67")?;
+    host.print(alloc, b"8")?;
+    host.print(alloc, b"9")?;
+    host.fail_call(2)?;
+    for (limit, fault) in [
+        (2, Some(HostFault::TooLong)),
+        (3, Some(HostFault::Failed)),
+        (3, None),
+    ] {
+        assert_eq!(rt; host.read_whole(alloc, "a", limit).err(), fault);
+    }
+    assert_eq!(rt; host.faults(), 1);
+    assert!(rt; host.file("b") == Some(b"67".as_slice()));
+    assert!(rt; host.printed() == b"89".as_slice());
+    Ok(())
+}
+
+const NAME: &str = "zs_host_test.bin";
+
+const TAKEN: &str = "zs_host_test.bin.part";
+
+#[test]
+fn real_files(rt: HostRuntime) -> Result<(), Fail> {
+    let alloc = rt.alloc();
+    let _ = fs::remove_file(&rt, NAME);
+    let mut host = RealHost::new(&rt);
+    host.write_whole(alloc, NAME, vec![in alloc; 7u8; 10000]?.as_slice())?;
+    assert_eq!(rt; host.read_whole(alloc, NAME, 10000)?.len(), 10000);
+    host.write_whole(alloc, NAME, b"abc")?;
+    // A folder can be opened and not read.
+    for (name, limit, fault) in [
+        ("zs_host_none.bin", 9, HostFault::Missing),
+        (NAME, 2, HostFault::TooLong),
+        (".", 9, HostFault::Failed),
+    ] {
+        assert_eq!(rt; host.read_whole(alloc, name, limit).err(), Some(fault));
+    }
+    // A file in no folder can't be written, nor one whose other name is taken by a folder; what stood there stands.
+    fs::create_dir(&rt, TAKEN)?;
+    for name in ["no_folder/a", NAME] {
+        let written = host.write_whole(alloc, name, b"def");
+        assert_eq!(rt; written.err(), Some(HostFault::Failed));
+    }
+    fs::remove_dir(&rt, TAKEN)?;
+    assert!(rt; host.read_whole(alloc, NAME, 3)?.as_slice() == b"abc".as_slice());
+    host.print(alloc, b"printed\n")?;
+    assert_eq!(rt; host.faults(), 3);
+    fs::remove_file(&rt, NAME)?;
+    Ok(())
+}

@@ -1,5 +1,0 @@
-//! Tests of logs.
-#![tactic(auto)]
-
-#[cfg(test)]
-mod logs;

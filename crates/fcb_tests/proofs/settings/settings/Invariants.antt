@@ -1,4 +1,0 @@
-use Rattle.fcb_tests.proofs.settings.settings.Given as goal
-
-abbrev pub ghosts-exercise : goal.ghosts-exercise
-ghosts-exercise g a = record { name = a.blank.name; parts = a.blank.parts }

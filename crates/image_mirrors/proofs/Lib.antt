@@ -1,0 +1,5 @@
+pub mod AreaLemmas
+pub mod InputLemmas
+pub mod TellLemmas
+pub mod SoundLemmas
+pub mod Endings

@@ -1,0 +1,54 @@
+// Entries and sectors as bytes.
+use flash_map::Geometry;
+use flash_sim::Kind;
+use nvs_store::*;
+
+const SMALL_AREA: Geometry = Geometry {
+    unit: 4,
+    sector: 512,
+    sectors: 2,
+    kind: Kind::Erasing,
+};
+
+fn entry(id: u16, offset: u16, len: u16) -> Entry {
+    Entry {
+        id,
+        offset,
+        len,
+        part: 0xFF,
+    }
+}
+
+#[test]
+fn entry_bytes(rt: HostRuntime) {
+    let rows = [
+        (entry(0x8000, 0, 2), [0x00, 0x80, 0, 0, 2, 0, 0xFF, 0x8D]),
+        (
+            entry(0xFFFF, 480, 0),
+            [0xFF, 0xFF, 0xE0, 1, 0, 0, 0xFF, 0x71],
+        ),
+        (entry(1, 0, 1), [1, 0, 0, 0, 1, 0, 0xFF, 0x03]),
+    ];
+    for (entry, bytes) in rows {
+        assert!(rt; encode_entry(&entry) == bytes);
+        assert_eq!(rt; decode_entry(&bytes), Some(entry));
+    }
+    let wrong = [0xFF, 0xFF, 0xE0, 1, 0, 0, 0xFF, 0x70];
+    assert_eq!(rt; decode_entry(&wrong), None);
+}
+
+#[test]
+fn room(rt: HostRuntime) {
+    let room = (cost(4, 256), cost(16, 1), capacity(4, 512));
+    assert_eq!(rt; room, (264, 32, 480));
+    let blank = blank_scan(&SMALL_AREA);
+    assert_eq!(rt; blank.low, 504);
+    let fitting = (
+        fits(&SMALL_AREA, &blank, 472),
+        fits(&SMALL_AREA, &blank, 473),
+    );
+    assert_eq!(rt; fitting, (true, false));
+    let mut sector = [0xFFu8; 512];
+    sector[496..504].copy_from_slice(&[1, 0, 0, 0, 0xEC, 1, 0xFF, 0x49]);
+    assert_eq!(rt; used_count(&sector, 4), 1);
+}

@@ -1,0 +1,75 @@
+// Entries and a sector as bytes.
+use zms_cycle::*;
+
+#[test]
+fn entry_bytes(rt: HostRuntime) {
+    let empty = [
+        0x61, 1, 0xFF, 0xFF, 0xFF, 0xFF, 0xFF, 0xFF, 0, 0, 0, 0, 0, 0, 0, 0,
+    ];
+    let value = ZEntry {
+        cycle: 1,
+        len: 1,
+        id: 0xC000_2920,
+        tail: [1, 0, 0, 0, 0, 0, 0, 0],
+    };
+    let value_bytes = [0x62, 1, 1, 0, 0x20, 0x29, 0, 0xC0, 1, 0, 0, 0, 0, 0, 0, 0];
+    let name = ZEntry {
+        id: 0x8000_2920,
+        tail: [0x61, 0, 0, 0, 0, 0, 0, 0],
+        ..value
+    };
+    let name_bytes = [
+        0xCA, 1, 1, 0, 0x20, 0x29, 0, 0x80, 0x61, 0, 0, 0, 0, 0, 0, 0,
+    ];
+    let empty_entry = ZEntry {
+        cycle: 1,
+        len: 0xFFFF,
+        id: 0xFFFF_FFFF,
+        tail: [0; 8],
+    };
+    for (entry, bytes) in [
+        (value, value_bytes),
+        (name, name_bytes),
+        (empty_entry, empty),
+    ] {
+        assert!(rt; encode_zentry(&entry) == bytes);
+        assert_eq!(rt; decode_zentry(&bytes), Some(entry));
+    }
+    for bytes in [fill_unit(), [0xFF; 16]] {
+        assert_eq!(rt; decode_zentry(&bytes), None);
+    }
+}
+
+// A sector of six units: the empty entry, an entry in slot 2, and the same under an erased unit, where it counts for nothing.
+#[test]
+fn one_sector_read(rt: HostRuntime) {
+    let mut sector = [0xFF; 96];
+    sector[80..].copy_from_slice(&[
+        0x61, 1, 0xFF, 0xFF, 0xFF, 0xFF, 0xFF, 0xFF, 0, 0, 0, 0, 0, 0, 0, 0,
+    ]);
+    let entry = ZEntry {
+        cycle: 1,
+        len: 9,
+        id: 7,
+        tail: [16, 0, 0, 0, 0, 0, 0, 0],
+    };
+    sector[48..64].copy_from_slice(&encode_zentry(&entry));
+    sector[16..32].copy_from_slice(&encode_zentry(&entry));
+    assert_eq!(rt;
+        read_sector(&sector),
+        SectorState::Used {
+            cycle: 1,
+            closed: false,
+            slots: 1,
+            data_end: 32,
+            gc_done: false,
+        }
+    );
+    let found = (entry_in(&sector, 2), entry_in(&sector, 0));
+    assert_eq!(rt; found, (Some(Found { slot: 2, entry }), None));
+    assert_eq!(rt; offset_of(&entry), 16);
+    for (len, data) in [(0, 0), (8, 0), (9, 16), (16, 16), (17, 32)] {
+        assert_eq!(rt; (data_len(len), cost(len)), (data, data + 16));
+    }
+    assert_eq!(rt; (capacity(512), capacity(64)), (432, 0));
+}

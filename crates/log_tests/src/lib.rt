@@ -1,5 +1,0 @@
-//! Tests of scripts on a log.
-#![tactic(auto)]
-
-#[cfg(test)]
-mod scripts;

@@ -1,5 +1,0 @@
-//! Tests of migrations over a store of each kind.
-#![tactic(auto)]
-
-#[cfg(test)]
-mod migrations;

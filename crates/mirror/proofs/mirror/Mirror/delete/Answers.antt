@@ -1,0 +1,54 @@
+use Rattle.std.proofs.Common.{◌≡◌, ◌+◌, ℕ, true, false, [], ◌∷◌, is_err, refl, subst, ◌∙◌}
+use Rattle.flash_sim.specs.Device.{Device}
+use Rattle.flash_map.specs.Area.{geometry_of}
+use Rattle.flash_map.proofs.Touches.{first_of_two, second_of_two, then}
+use Rattle.backend_api.specs.Room.{most_units}
+use Rattle.mirror.proofs.BothSteps.{most-both-on, most-first}
+use Rattle.mirror.proofs.MirrorEnds.{delete-ends, delete-mirror, first-cut, other-stands}
+use Rattle.mirror.proofs.mirror.Mirror.delete.Goals as goal
+
+pub returns-in-Err-clause-touches : goal.returns-in-Err-clause-touches
+returns-in-Err-clause-touches g c = first_of_two c.in-Err.ensures.touches
+
+pub returns-in-Err-clause-ends : goal.returns-in-Err-clause-ends
+returns-in-Err-clause-ends g c =
+    let d : Device = g.F.Flash.device c.args.flash.now in
+    let m : Device = g.F.Flash.device c.take.new.flash in
+    (c.in-Err.ensures.ends.some, first-cut g.K.Backend.mounted_on g.K.Backend.stands g.K.Backend.damage g.K.Backend.contents g.K.Backend.room g.K.Priced.prices d c.args.self.now.trusted c.args.self.now.other c.requires.mirrors (g.met.F.Flash.is_lawful c.args.flash.now) g.met.K.Backend.stands_reads m _ _ true (g.met.F.Flash.is_lawful c.take.new.flash) c.in-Err.ensures.touches c.in-Err.ensures.sound c.in-Err.ensures.ends)
+
+pub returns-in-Err-clause-at_most : goal.returns-in-Err-clause-at_most
+returns-in-Err-clause-at_most g c =
+    let d : Device = g.F.Flash.device c.args.flash.now in
+    let m : Device = g.F.Flash.device c.take.new.flash in
+    most-first d m (most_units (geometry_of d c.args.self.now.trusted.area)) (most_units (geometry_of d c.args.self.now.other.area)) c.take.ensures.at_most
+
+pub take-requires-2 : goal.take-requires-2
+take-requires-2 g c =
+    let d : Device = g.F.Flash.device c.args.flash.now in
+    let m : Device = g.F.Flash.device c.take.new.flash in
+    record { stands = other-stands g.K.Backend.mounted_on g.K.Backend.stands g.K.Backend.damage g.K.Backend.contents g.K.Backend.room g.K.Priced.prices d c.args.self.now.trusted c.args.self.now.other c.requires.mirrors (g.met.F.Flash.is_lawful c.args.flash.now) m false (g.met.F.Flash.is_lawful c.take.new.flash) c.in-Ok.ensures.touches }
+
+pub returns-clause-touches : goal.returns-clause-touches
+returns-clause-touches g c = then (first_of_two c.in-Ok.ensures.touches) (second_of_two c.take-2.ensures.touches)
+
+pub returns-clause-ends : goal.returns-clause-ends
+returns-clause-ends g c =
+    let d : Device = g.F.Flash.device c.args.flash.now in
+    let m : Device = g.F.Flash.device c.take.new.flash in
+    let e : Device = g.F.Flash.device c.take-2.new.flash in
+    delete-ends g.K.Backend.mounted_on g.K.Backend.stands g.K.Backend.damage g.K.Backend.contents g.K.Backend.room g.K.Priced.prices d c.args.self.now.trusted c.args.self.now.other c.requires.mirrors (g.met.F.Flash.is_lawful c.args.flash.now) m e (is_err c.take-2.result) c.args.name.now c.take-2.result (g.met.F.Flash.is_lawful c.take.new.flash) (g.met.F.Flash.is_lawful c.take-2.new.flash) c.in-Ok.ensures.touches c.take-2.ensures.touches c.in-Ok.ensures.ends c.take.ensures.sound c.take-2.ensures.sound c.take-2.ensures.ends
+
+pub returns-clause-at_most : goal.returns-clause-at_most
+returns-clause-at_most g c =
+    let d : Device = g.F.Flash.device c.args.flash.now in
+    let m : Device = g.F.Flash.device c.take.new.flash in
+    let e : Device = g.F.Flash.device c.take-2.new.flash in
+    most-both-on d m e c.args.self.now.trusted.area c.args.self.now.other.area c.in-Ok.ensures.touches.banks c.take.ensures.at_most c.take-2.ensures.at_most
+
+pub returns-clause-mirrors : goal.returns-clause-mirrors
+returns-clause-mirrors g c whole =
+    let d : Device = g.F.Flash.device c.args.flash.now in
+    let m : Device = g.F.Flash.device c.take.new.flash in
+    let e : Device = g.F.Flash.device c.take-2.new.flash in
+    delete-mirror g.K.Backend.mounted_on g.K.Backend.stands g.K.Backend.damage g.K.Backend.contents g.K.Backend.room g.K.Priced.prices d c.args.self.now.trusted c.args.self.now.other c.requires.mirrors (g.met.F.Flash.is_lawful c.args.flash.now) m e (is_err c.take-2.result) c.args.name.now c.take-2.result c.take.new.side c.take-2.new.side (g.met.F.Flash.is_lawful c.take.new.flash) (g.met.F.Flash.is_lawful c.take-2.new.flash) c.in-Ok.ensures.touches c.take-2.ensures.touches c.in-Ok.ensures.ends c.take-2.ensures.ends whole
+    c.take.ensures.same c.take-2.ensures.same (c.in-Ok.ensures.stands refl) (c.take-2.ensures.stands whole) (g.met.K.Priced.is_room c.args.self.now.trusted.area (geometry_of d c.args.self.now.trusted.area) c.requires.mirrors.trusted_stands.role) (g.met.K.Priced.is_room c.args.self.now.other.area (geometry_of d c.args.self.now.other.area) c.requires.mirrors.other_stands.role)

@@ -1,0 +1,31 @@
+use Rattle.std.proofs.Common.{◌≡◌, sym, ap, subst, ◌∙◌}
+use Rattle.flash_sim.specs.Device.{Device}
+use Rattle.flash_map.specs.Area.{sectors_of}
+use Rattle.flash_map.specs.On.{on}
+use Rattle.flash_map.proofs.Apart.{same_apart}
+use Rattle.migrator.proofs.Copies.{stands-still}
+use Rattle.migrator.proofs.Moving.{still}
+use Rattle.mirror.proofs.RepairSteps.{hold-ends}
+use Rattle.mirror.proofs.mounting.mount_other.Goals as goal
+
+pub if_same-requires-clause-stands : goal.if_same-requires-clause-stands
+if_same-requires-clause-stands g c =
+    let d : Device = g.F.Flash.device c.args.flash.now in
+    let m : Device = g.F.Flash.device c.mount.new.flash in
+    let same = same_apart (g.met.F.Flash.is_lawful c.args.flash.now) (g.met.F.Flash.is_lawful c.mount.new.flash) c.requires.lawful_trusted.in_bank c.requires.apart c.mount.ensures.touches in
+    stands-still g.K.Backend.mounted_on g.K.Backend.stands g.K.Backend.contents g.K.Backend.room d m c.args.trusted.now c.mount.ensures.touches.banks same c.requires.stands_trusted
+
+pub returns-in-Ok-clause-trusted : goal.returns-in-Ok-clause-trusted
+returns-in-Ok-clause-trusted g c = same_apart (g.met.F.Flash.is_lawful c.args.flash.now) (g.met.F.Flash.is_lawful c.mount.new.flash) c.requires.lawful_trusted.in_bank c.requires.apart c.mount.ensures.touches
+
+pub returns-in-Ok-clause-ends : goal.returns-in-Ok-clause-ends
+returns-in-Ok-clause-ends g c =
+    let d : Device = g.F.Flash.device c.args.flash.now in
+    let m : Device = g.F.Flash.device c.mount.new.flash in
+    let source = g.K.Backend.mounted_on c.args.trusted.now in
+    let same = same_apart (g.met.F.Flash.is_lawful c.args.flash.now) (g.met.F.Flash.is_lawful c.mount.new.flash) c.requires.lawful_trusted.in_bank c.requires.apart c.mount.ensures.touches in
+    hold-ends g.K.Backend.mounted_on g.K.Backend.stands g.K.Backend.contents d m c.args.area source c.in-Ok.store c.if_same.result c.in-Ok.ensures.on c.in-Ok.ensures.stands
+    (still g.K.Backend.contents d m source c.mount.ensures.touches.banks same) c.if_same.ensures
+
+pub returns-in-Err-PowerLost-clause-trusted : goal.returns-in-Err-PowerLost-clause-trusted
+returns-in-Err-PowerLost-clause-trusted g c = same_apart (g.met.F.Flash.is_lawful c.args.flash.now) (g.met.F.Flash.is_lawful c.mount.new.flash) c.requires.lawful_trusted.in_bank c.requires.apart c.mount.ensures.touches

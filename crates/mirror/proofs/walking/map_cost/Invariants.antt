@@ -1,0 +1,13 @@
+use Rattle.std.specs.FinMap.{keys}
+use Rattle.flash_map.specs.On.{on}
+use Rattle.migrator.proofs.Names.{left}
+use Rattle.mirror.specs.Room.{prices_on}
+use Rattle.mirror.proofs.Walks.{IsSummed}
+use Rattle.mirror.proofs.walking.map_cost.Given as goal
+
+abbrev pub invariant-loop-at : goal.invariant-loop-at
+invariant-loop-at g l =
+    IsSummed (prices_on g.K.Priced.prices (g.F.Flash.device l.flash) l.area) (on g.K.Backend.contents (g.F.Flash.device l.flash) (g.K.Backend.mounted_on l.store)) l.at l.cost
+
+abbrev pub decreases-loop-at : goal.decreases-loop-at
+decreases-loop-at g l = left (keys (on g.K.Backend.contents (g.F.Flash.device l.flash) (g.K.Backend.mounted_on l.store))) l.at

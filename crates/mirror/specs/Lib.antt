@@ -1,0 +1,4 @@
+pub mod Mirrored
+pub mod Mounting
+pub mod Room
+pub mod Trusted

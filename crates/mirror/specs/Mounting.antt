@@ -1,0 +1,256 @@
+-- What a mount of a mirror makes of its areas, and how it ends.
+use Rattle.std.specs.Prelude.{◌≡◌, ◌≢◌, ◌⊎◌, ⊤, ℕ, Bool, true, false, min, max, List, [], ◌∷◌, Option, Some, None, Result, Ok, Err, unwrap_or}
+use Rattle.std.specs.FinMap.{empty}
+use Rattle.std.specs.List.{slice_get}
+use Rattle.flash_sim.specs.Device.{Device}
+use Rattle.flash_map.specs.declared.area.Area.{Area}
+use Rattle.flash_map.specs.declared.area.Geometry.{Geometry}
+use Rattle.flash_map.specs.declared.faults.Damaged.{Damaged}
+use Rattle.flash_map.specs.declared.faults.MountFault.{MountFault}
+use Rattle.flash_map.specs.declared.faults.MountFault.TheVariants.{Damaged as MountDamaged, PowerLost as MountLost, NoMemory as MountNoMemory}
+use Rattle.flash_map.specs.Area.{sectors_of}
+use Rattle.flash_map.specs.On.{on, StandsOn}
+use Rattle.flash_map.specs.Touches.{Touches}
+use Rattle.fcb_ring.specs.Standing.{ring_damage}
+use Rattle.backend_api.specs.Map.{Map}
+use Rattle.backend_api.specs.Room.{Room}
+use Rattle.migrator.specs.Active.{active_in, active_on, selector_damage_on}
+use Rattle.migrator.specs.Areas.{target}
+use Rattle.migrator.specs.Choosing.{OldOrChosen}
+use Rattle.migrator.specs.declared.migrating.MigrateFault.{MigrateFault}
+use Rattle.migrator.specs.declared.migrating.MigrateFault.TheVariants.{NoTarget, NoSpace, TooManyNames, PowerLost as MoveLost, NoMemory as MoveNoMemory}
+use Rattle.mirror.specs.declared.mounting.MirrorMount.{MirrorMount}
+use Rattle.mirror.specs.declared.mounting.MirrorMount.TheVariants.{Damaged as IsDamaged, Unfit, PowerLost, NoMemory}
+use Rattle.mirror.specs.declared.mirror.Mirror.{Mirror}
+use Rattle.mirror.specs.declared.sides.Side.{Side}
+use Rattle.mirror.specs.Mirrored.{IsMirror, SideStands}
+use Rattle.mirror.specs.Room.{Prices, FitsOn}
+use Rattle.mirror.specs.Trusted.{damage_shown, is_blank_on, selector_place, trusted_damage, trusted_on}
+
+-- the answer says that power was lost
+abbrev pub mount_lost : {T : Type 0} → Result T MirrorMount → Bool
+mount_lost (Ok x) = false
+mount_lost (Err (IsDamaged area damage)) = false
+mount_lost (Err (Unfit area)) = false
+mount_lost (Err PowerLost) = true
+mount_lost (Err NoMemory) = false
+
+-- why the area at this place was not mounted, in the words of the mirror
+abbrev pub fault_at : ℕ → MountFault → MirrorMount
+fault_at place (MountDamaged shown) = IsDamaged place shown
+fault_at place MountLost = PowerLost
+fault_at place MountNoMemory = NoMemory
+
+-- the store area beside this one
+abbrev pub other_place : List Area → ℕ → ℕ
+other_place areas trusted = unwrap_or (target areas trusted) trusted
+
+-- the areas on which a mount works: the selector's, the trusted one, and the other one
+abbrev pub worked_on : Area → Area → Area → List Area
+worked_on selector trusted other = selector ∷ trusted ∷ other ∷ []
+
+-- ---- the selector
+
+-- how naming an area ends: the selector names it, or the one of before
+abbrev pub NameEnds : {T E : Type 0} → List Area → Device → Device → Area → ℕ → Result T E → Type 0
+NameEnds areas old new selector index (Ok x) = (active_in areas new selector ≡ index) × (ring_damage new selector ≡ None)
+NameEnds areas old new selector index (Err lost) = OldOrChosen areas old new selector index × (ring_damage new selector ≡ None)
+
+-- Power was lost while the selector was mounted or named the trusted area. The selector is not damaged.
+pub record IsCutTrust (areas : List Area) (old new : Device) : Type 0 where
+  pub sound : selector_damage_on areas old ≡ None
+  pub sound_still : selector_damage_on areas new ≡ None
+  pub active : (active_on areas new ≡ active_on areas old) ⊎ (active_on areas new ≡ trusted_on areas old)
+
+-- The selector is not damaged and names the area that the map trusts.
+pub record NamesTrusted (areas : List Area) (old new : Device) : Type 0 where
+  pub sound : selector_damage_on areas old ≡ None
+  pub sound_still : selector_damage_on areas new ≡ None
+  pub active : active_on areas new ≡ trusted_on areas old
+
+-- how mounting the selector ends, with the trusted area
+abbrev pub TrustEnds : List Area → Device → Device → Result ℕ MirrorMount → Type 0
+TrustEnds areas old new (Ok place) = (place ≡ trusted_on areas old) × NamesTrusted areas old new
+TrustEnds areas old new (Err (IsDamaged place shown)) = (place ≡ selector_place areas) × (selector_damage_on areas old ≡ Some shown) × (new ≡ old)
+TrustEnds areas old new (Err (Unfit place)) = ⊥
+TrustEnds areas old new (Err PowerLost) = IsCutTrust areas old new
+TrustEnds areas old new (Err NoMemory) = ⊥
+
+-- ---- both areas
+
+-- how the mount of one area ends
+abbrev pub SideEnds : {S : Type 0} → (S → Area) → (S → Geometry → List (List ℕ) → Type 0) → (Area → Geometry → List (List ℕ) → Option Damaged) → Device → Device → Area → ℕ → Result (Side S) MirrorMount → Type 0
+SideEnds mounted_on stands damage old new area place (Ok side) =
+    (on damage old area ≡ None) × (side.area ≡ area) × (side.place ≡ place) × SideStands mounted_on stands new side
+SideEnds mounted_on stands damage old new area place (Err (IsDamaged other shown)) = (other ≡ place) × (on damage old area ≡ Some shown) × (new ≡ old)
+SideEnds mounted_on stands damage old new area place (Err (Unfit other)) = ⊥
+SideEnds mounted_on stands damage old new area place (Err PowerLost) = on damage old area ≡ None
+SideEnds mounted_on stands damage old new area place (Err NoMemory) = new ≡ old
+
+-- how looking whether settings fit one area ends
+abbrev pub FitEnds : {T : Type 0} → (Area → Geometry → Room) → (Area → Geometry → Prices) → Device → Area → ℕ → Map → Result T MirrorMount → Type 0
+FitEnds room prices d area place settings (Ok x) = FitsOn room prices d area settings
+FitEnds room prices d area place settings (Err (IsDamaged other shown)) = ⊥
+FitEnds room prices d area place settings (Err (Unfit other)) = (other ≡ place) × ¬ FitsOn room prices d area settings
+FitEnds room prices d area place settings (Err PowerLost) = ⊥
+FitEnds room prices d area place settings (Err NoMemory) = ⊤
+
+-- settings fit the area at this place
+abbrev pub FitsAt : (Area → Geometry → Room) → (Area → Geometry → Prices) → List Area → Device → ℕ → Map → Type 0
+FitsAt room prices areas d place settings = (area : Area) → slice_get areas place ≡ Some area → FitsOn room prices d area settings
+
+-- Settings do not fit the area at the lower of two places, or not the one at the higher place alone.
+abbrev pub UnfitAt : (Area → Geometry → Room) → (Area → Geometry → Prices) → List Area → Device → ℕ → ℕ → Map → ℕ → Type 0
+UnfitAt room prices areas d trusted other settings place =
+    ((place ≡ min trusted other) × ¬ FitsAt room prices areas d place settings)
+    ⊎ ((place ≡ max trusted other) × FitsAt room prices areas d (min trusted other) settings × ¬ FitsAt room prices areas d place settings)
+
+-- how looking whether settings fit two areas ends
+abbrev pub BothFitEnds : {T : Type 0} → (Area → Geometry → Room) → (Area → Geometry → Prices) → List Area → Device → ℕ → ℕ → Map → Result T MirrorMount → Type 0
+BothFitEnds room prices areas d trusted other settings (Ok x) =
+    FitsAt room prices areas d trusted settings × FitsAt room prices areas d other settings
+BothFitEnds room prices areas d trusted other settings (Err (IsDamaged place shown)) = ⊥
+BothFitEnds room prices areas d trusted other settings (Err (Unfit place)) = UnfitAt room prices areas d trusted other settings place
+BothFitEnds room prices areas d trusted other settings (Err PowerLost) = ⊥
+BothFitEnds room prices areas d trusted other settings (Err NoMemory) = ⊤
+
+-- a store that is kept where this holds, and else is not
+abbrev pub IsKeptIf : {S : Type 0} → Option S → S → Type 0 → Type 0
+IsKeptIf (Some kept) store holds = (kept ≡ store) × holds
+IsKeptIf None store holds = ¬ holds
+
+-- how the mount of the other area ends: it holds the map of the trusted one, or there is no store
+abbrev pub HoldEnds : {S : Type 0} → (S → Area) → (S → Geometry → List (List ℕ) → Type 0) → Device → Area → Type 0 → Result (Option S) MirrorMount → Type 0
+HoldEnds mounted_on stands new area same (Ok (Some store)) = (mounted_on store ≡ area) × StandsOn mounted_on stands new store × same
+HoldEnds mounted_on stands new area same (Ok None) = ⊤
+HoldEnds mounted_on stands new area same (Err (IsDamaged place shown)) = ⊥
+HoldEnds mounted_on stands new area same (Err (Unfit place)) = ⊥
+HoldEnds mounted_on stands new area same (Err PowerLost) = ⊤
+HoldEnds mounted_on stands new area same (Err NoMemory) = ⊤
+
+-- no put of a repair was refused
+abbrev pub IsNotRefused : {S : Type 0} → Result S MigrateFault → Type 0
+IsNotRefused (Ok store) = ⊤
+IsNotRefused (Err NoTarget) = ⊥
+IsNotRefused (Err (NoSpace need live)) = ⊥
+IsNotRefused (Err TooManyNames) = ⊥
+IsNotRefused (Err MoveLost) = ⊤
+IsNotRefused (Err MoveNoMemory) = ⊤
+
+-- a repair in the words of the mirror
+abbrev pub RepairsAs : {S : Type 0} → Result S MigrateFault → Result S MirrorMount → Type 0
+RepairsAs (Ok store) result = result ≡ Ok store
+RepairsAs (Err NoTarget) result = ⊥
+RepairsAs (Err (NoSpace need live)) result = ⊥
+RepairsAs (Err TooManyNames) result = ⊥
+RepairsAs (Err MoveLost) result = result ≡ Err PowerLost
+RepairsAs (Err MoveNoMemory) result = result ≡ Err NoMemory
+
+-- how opening the other area ends: it holds the map of the trusted one
+abbrev pub OtherEnds : {S : Type 0} → (S → Area) → (S → Geometry → List (List ℕ) → Type 0) → Device → Area → Type 0 → Result S MirrorMount → Type 0
+OtherEnds mounted_on stands new area same (Ok store) = (mounted_on store ≡ area) × StandsOn mounted_on stands new store × same
+OtherEnds mounted_on stands new area same (Err (IsDamaged place shown)) = ⊥
+OtherEnds mounted_on stands new area same (Err (Unfit place)) = ⊥
+OtherEnds mounted_on stands new area same (Err PowerLost) = ⊤
+OtherEnds mounted_on stands new area same (Err NoMemory) = ⊤
+
+module _ (damage : Area → Geometry → List (List ℕ) → Option Damaged) (contents : Area → Geometry → List (List ℕ) → Map) where
+  -- The area has the settings that it had, and is not damaged.
+  pub record KeepsArea (old new : Device) (area : Area) : Type 0 where
+    pub undamaged : on damage new area ≡ None
+    pub reads : on contents new area ≡ on contents old area
+
+  module _ {S : Type 0} (mounted_on : S → Area) (stands : S → Geometry → List (List ℕ) → Type 0) (room : Area → Geometry → Room) (prices : Area → Geometry → Prices) where
+    -- Both stores are up on these areas and hold the map of the trusted one, which was not damaged.
+    pub record MountsBoth (areas : List Area) (old new : Device) (trusted other : Area) (place : ℕ) (mirror : Mirror S) : Type 0 where
+      pub sound : on damage old trusted ≡ None
+      pub trusted_is : mirror.trusted.area ≡ trusted
+      pub trusted_at : mirror.trusted.place ≡ place
+      pub other_is : mirror.other.area ≡ other
+      pub other_at : mirror.other.place ≡ other_place areas place
+      pub kept : KeepsArea old new trusted
+      pub mirrors : IsMirror mounted_on stands contents room prices new mirror.trusted mirror.other
+
+  -- Settings do not fit both areas. The other one is untouched.
+  pub record FindsUnfit (room : Area → Geometry → Room) (prices : Area → Geometry → Prices) (areas : List Area) (old new : Device) (trusted other : Area) (place unfit : ℕ) : Type 0 where
+    pub sound : on damage old trusted ≡ None
+    pub kept : KeepsArea old new trusted
+    pub untouched : sectors_of new other ≡ sectors_of old other
+    pub unfits : UnfitAt room prices areas old place (other_place areas place) (on contents old trusted) unfit
+
+-- how mounting both areas ends, where the one at this place is trusted
+abbrev pub BothEnds : {S : Type 0} → (S → Area) → (S → Geometry → List (List ℕ) → Type 0) → (Area → Geometry → List (List ℕ) → Option Damaged) → (Area → Geometry → List (List ℕ) → Map)
+    → (Area → Geometry → Room) → (Area → Geometry → Prices) → List Area → Device → Device → Area → Area → ℕ → Result (Mirror S) MirrorMount → Type 0
+BothEnds mounted_on stands damage contents room prices areas old new trusted other place (Ok mirror) =
+    MountsBoth damage contents mounted_on stands room prices areas old new trusted other place mirror
+BothEnds mounted_on stands damage contents room prices areas old new trusted other place (Err (IsDamaged at shown)) =
+    (at ≡ place) × (on damage old trusted ≡ Some shown) × (new ≡ old)
+BothEnds mounted_on stands damage contents room prices areas old new trusted other place (Err (Unfit unfit)) =
+    FindsUnfit damage contents room prices areas old new trusted other place unfit
+BothEnds mounted_on stands damage contents room prices areas old new trusted other place (Err PowerLost) =
+    (on damage old trusted ≡ None) × KeepsArea damage contents old new trusted
+BothEnds mounted_on stands damage contents room prices areas old new trusted other place (Err NoMemory) =
+    on damage old trusted ≡ None → KeepsArea damage contents old new trusted
+
+-- ---- the mount
+
+-- these are the trusted area of the map and the other one
+pub record ArePlaced (areas : List Area) (d : Device) (trusted other : Area) : Type 0 where
+  pub trusted_there : slice_get areas (trusted_on areas d) ≡ Some trusted
+  pub other_there : slice_get areas (other_place areas (trusted_on areas d)) ≡ Some other
+
+module _ (damage : Area → Geometry → List (List ℕ) → Option Damaged) (contents : Area → Geometry → List (List ℕ) → Map) where
+  -- The selector names the trusted area, which has the settings that it had; neither is damaged.
+  pub record KeepsTrusted (areas : List Area) (old new : Device) (trusted : Area) : Type 0 where
+    pub sound : selector_damage_on areas new ≡ None
+    pub active : active_on areas new ≡ trusted_on areas old
+    pub kept : KeepsArea damage contents old new trusted
+
+  module _ {S : Type 0} (mounted_on : S → Area) (stands : S → Geometry → List (List ℕ) → Type 0) (room : Area → Geometry → Room) (prices : Area → Geometry → Prices) where
+    -- Both stores are up and hold the map of the trusted area. Neither that area nor the selector was damaged.
+    pub record IsMounted (areas : List Area) (old new : Device) (mirror : Mirror S) : Type 0 where
+      pub undamaged : damage_shown damage areas old ≡ None
+      pub placed : ArePlaced areas old mirror.trusted.area mirror.other.area
+      pub trusted_at : mirror.trusted.place ≡ trusted_on areas old
+      pub other_at : mirror.other.place ≡ other_place areas (trusted_on areas old)
+      pub kept : KeepsTrusted areas old new mirror.trusted.area
+      pub mirrors : IsMirror mounted_on stands contents room prices new mirror.trusted mirror.other
+
+  -- The map of the trusted area does not fit both areas: not the one at the lower place, or not the one at the higher place
+  -- alone. The other area is untouched.
+  pub record IsUnfit (room : Area → Geometry → Room) (prices : Area → Geometry → Prices) (areas : List Area) (old new : Device) (unfit : ℕ) : Type 0 where
+    pub undamaged : damage_shown damage areas old ≡ None
+    pub trusted : Area
+    pub other : Area
+    pub placed : ArePlaced areas old trusted other
+    pub kept : KeepsTrusted areas old new trusted
+    pub untouched : sectors_of new other ≡ sectors_of old other
+    pub unfits : UnfitAt room prices areas old (trusted_on areas old) (other_place areas (trusted_on areas old)) (on contents old trusted) unfit
+
+  -- Power was lost: while the selector was mounted or named the trusted area, or later, and then the trusted area was not damaged
+  -- and keeps its settings.
+  pub record IsCutMount (areas : List Area) (selector : Area) (old new : Device) : Type 0 where
+    pub trust : IsCutTrust areas old new
+    pub later :
+        Touches (selector ∷ []) old new true
+        ⊎ ((trusted : Area) × (slice_get areas (trusted_on areas old) ≡ Some trusted) × (on damage old trusted ≡ None) × KeepsTrusted areas old new trusted)
+
+  -- There was not enough memory. Where the trusted area was not damaged, it keeps its settings.
+  pub record LacksMemory (areas : List Area) (old new : Device) : Type 0 where
+    pub sound : selector_damage_on areas old ≡ None
+    pub kept : (trusted : Area) → slice_get areas (trusted_on areas old) ≡ Some trusted → on damage old trusted ≡ None → KeepsTrusted areas old new trusted
+
+-- how a mount ends
+abbrev pub MirrorMounts : {S : Type 0} → (S → Area) → (S → Geometry → List (List ℕ) → Type 0) → (Area → Geometry → List (List ℕ) → Option Damaged) → (Area → Geometry → List (List ℕ) → Map)
+    → (Area → Geometry → Room) → (Area → Geometry → Prices) → List Area → Area → Device → Device → Result (Mirror S) MirrorMount → Type 0
+MirrorMounts mounted_on stands damage contents room prices areas selector old new (Ok mirror) = IsMounted damage contents mounted_on stands room prices areas old new mirror
+MirrorMounts mounted_on stands damage contents room prices areas selector old new (Err (IsDamaged place shown)) =
+    (damage_shown damage areas old ≡ Some (place, shown)) × Touches (selector ∷ []) old new false
+MirrorMounts mounted_on stands damage contents room prices areas selector old new (Err (Unfit place)) = IsUnfit damage contents room prices areas old new place
+MirrorMounts mounted_on stands damage contents room prices areas selector old new (Err PowerLost) = IsCutMount damage contents areas selector old new
+MirrorMounts mounted_on stands damage contents room prices areas selector old new (Err NoMemory) = LacksMemory damage contents areas old new
+
+-- A mount does not make the trusted area all FF where it was not and has no settings. (Where it has some, it is not all FF.)
+abbrev pub StaysWritten : (Area → Geometry → List (List ℕ) → Map) → List Area → Device → Device → Type 0
+StaysWritten contents areas old new =
+    (area : Area) → slice_get areas (trusted_on areas old) ≡ Some area → on contents old area ≡ empty → is_blank_on new area ≡ true → is_blank_on old area ≡ true

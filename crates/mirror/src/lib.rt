@@ -1,0 +1,18 @@
+//! Two areas that hold one map of settings: each command goes to the trusted area first, and then to the other one. A mount
+//! trusts the area that the selector names, and repairs the other one.
+#![tactic(auto)]
+
+mod areas;
+mod comparing;
+mod fitting;
+mod mirror;
+mod mounting;
+mod priced;
+mod sides;
+mod trusting;
+mod walking;
+
+pub use mirror::Mirror;
+pub use mounting::MirrorMount;
+pub use priced::Priced;
+pub use sides::Side;

@@ -1,0 +1,71 @@
+// What a mirror asks of a backend beside its calls.
+ghost use Rattle.std.specs.Prelude.{◌≡◌, ◌≤◌, ◌^◌, ◌<◌, ℕ, List, Bool, false, true, None};
+ghost use Rattle.std.specs.FinMap as finite;
+ghost use Rattle.flash_sim.specs.Bank.{IsLawful};
+ghost use Rattle.flash_sim.specs.Device.{Device};
+ghost use Rattle.flash_map.specs.declared.area.Area.{Area as area_type};
+ghost use Rattle.flash_map.specs.declared.area.Geometry.{Geometry};
+ghost use Rattle.flash_map.specs.Area.{geometry_of};
+ghost use Rattle.flash_map.specs.Lawful.{IsLawfulFor};
+ghost use Rattle.flash_map.specs.On.{on};
+ghost use Rattle.flash_map.specs.declared.area.TheConstants.{LONG_VALUE_LIMIT};
+ghost use Rattle.flash_sim.specs.declared.flash.Loss.{Loss as loss_type};
+ghost use Rattle.mirror.specs.Room.{Prices, IsMirrored, IsRoomBy};
+ghost use Rattle.mirror.specs.Trusted.{is_blank_on};
+
+use backend_api::Backend;
+use flash_map::Area;
+use flash_sim::Flash;
+use setting_name::Name;
+
+/// A backend whose numbers of room can be told from the lengths of names and values, and which never takes what a loss of power
+/// left for another record, on areas of the roles that may be mirrored.
+pub trait Priced: Backend {
+    /// What the numbers of room of an area with this geometry are made of.
+    ghost prices: { area_type → Geometry → Prices };
+
+    /// What bytes of this length cost with their entry, in bytes.
+    fn price<F: Flash>(flash: &F, area: &Area, length: u32) -> u64
+        requires lawful { IsLawfulFor (F.device flash.now).banks area.now }
+        requires role { IsMirrored area.now }
+        requires short { length ≤ LONG_VALUE_LIMIT }
+        ensures value { result ≡ (prices area.now (geometry_of (F.device flash.now) area.now)).price length }
+        ensures small { result < 2 ^ 16 };
+
+    /// What a count of names costs, in bytes; 0 where there is none.
+    fn counted<F: Flash>(flash: &F, area: &Area) -> u64
+        requires lawful { IsLawfulFor (F.device flash.now).banks area.now }
+        requires role { IsMirrored area.now }
+        ensures value { result ≡ (prices area.now (geometry_of (F.device flash.now) area.now)).counted }
+        ensures small { result < 2 ^ 16 };
+
+    /// What a sector has for names and values, in bytes.
+    fn cap<F: Flash>(flash: &F, area: &Area) -> u64
+        requires lawful { IsLawfulFor (F.device flash.now).banks area.now }
+        requires role { IsMirrored area.now }
+        ensures value { result ≡ (prices area.now (geometry_of (F.device flash.now) area.now)).cap }
+        ensures small { result < 2 ^ 16 };
+
+    /// The class of a name: of each class an area has so many names at most (`most`).
+    fn class<F: Flash>(flash: &F, area: &Area, name: &Name) -> u32
+        requires lawful { IsLawfulFor (F.device flash.now).banks area.now }
+        requires role { IsMirrored area.now }
+        ensures { result ≡ (prices area.now (geometry_of (F.device flash.now) area.now)).class name.now };
+
+    /// How many names of one class an area may have.
+    fn most<F: Flash>(flash: &F, area: &Area) -> u32
+        requires lawful { IsLawfulFor (F.device flash.now).banks area.now }
+        requires role { IsMirrored area.now }
+        ensures { result ≡ (prices area.now (geometry_of (F.device flash.now) area.now)).most };
+
+    // The numbers of room are made of these prices.
+    ghost is_room: { (area : area_type) (geometry : Geometry) → IsMirrored area → IsRoomBy (Self.room area geometry) (prices area geometry) };
+
+    // What a loss of power left is never another record.
+    ghost never_chance: { (area : area_type) (geometry : Geometry) (sectors : List (List ℕ)) (loss : loss_type) → IsMirrored area → Self.chance area geometry sectors loss ≡ false };
+
+    // A lawful area all of whose bytes are FF is not damaged, and has no settings.
+    ghost blank_reads: { (d : Device) (area : area_type) → IsLawful d.banks d.bytes → IsLawfulFor d.banks area → Self.serves area (geometry_of d area) → is_blank_on d area ≡ true → on Self.damage d area ≡ None };
+
+    ghost blank_empty: { (d : Device) (area : area_type) → IsLawful d.banks d.bytes → IsLawfulFor d.banks area → Self.serves area (geometry_of d area) → is_blank_on d area ≡ true → on Self.contents d area ≡ finite.empty };
+}

@@ -1,0 +1,103 @@
+// Mounting the selector, and finding the trusted area.
+ghost use Rattle.std.specs.Prelude.{◌≡◌, ◌<◌, ◌∷◌, [], true, is_err, length, Some};
+ghost use Rattle.flash_map.specs.declared.area.Area.{Area as area_type};
+ghost use Rattle.flash_map.specs.Touches.{Touches};
+ghost use Rattle.migrator.specs.Active.{active_in};
+ghost use Rattle.migrator.specs.Areas.{IsLawfulMap, is_store_at, selector_of, target};
+ghost use Rattle.migrator.specs.Choosing.{IsOpen};
+ghost use Rattle.mirror.specs.Mounting.{NameEnds, TrustEnds, fault_at, mount_lost};
+ghost use Rattle.mirror.specs.Trusted.{IsMirrorMap, is_blank_at, trusted_with};
+
+use crate::areas::{is_blank, selector_place};
+use crate::mounting::{MirrorMount, fault_at};
+use crate::priced::Priced;
+use flash_map::FlashMap;
+use flash_sim::{Flash, PowerLost, Steps};
+use migrator::{Selector, area_at, target};
+use std::sync::ledger::Ledger;
+
+// Whether each byte of the area at this place is FF.
+fn is_blank_at<F: Flash, L: Ledger>(
+    flash: &F,
+    map: &FlashMap,
+    place: usize,
+    steps: &mut Steps<L>,
+) -> bool
+    requires lawful { IsLawfulMap (F.device flash.now).banks map.now }
+    requires there { place < length map.now }
+    ensures { result ≡ is_blank_at map.now (F.device flash.now) place }
+{
+    is_blank(flash, &area_at(map, place), steps)
+}
+
+// The trusted area, where this one is active.
+fn trusted_with<F: Flash, L: Ledger>(
+    flash: &F,
+    map: &FlashMap,
+    active: usize,
+    steps: &mut Steps<L>,
+) -> usize
+    requires lawful { IsLawfulMap (F.device flash.now).banks map.now }
+    requires store { is_store_at map.now active ≡ true }
+    ensures trusted { result ≡ trusted_with map.now (F.device flash.now) active (target map.now active) }
+    ensures store { is_store_at map.now result ≡ true }
+{
+    let other = match target(map, active) {
+        Some(other) => other,
+        None => return active,
+    };
+    if is_blank_at(flash, map, active, steps) && !is_blank_at(flash, map, other, steps) {
+        other
+    } else {
+        active
+    }
+}
+
+// Has the selector name the trusted area, where another one is active.
+fn name_trusted<F: Flash, L: Ledger>(
+    flash: &mut F,
+    map: &FlashMap,
+    selector: &mut Selector,
+    active: usize,
+    trusted: usize,
+    steps: &mut Steps<L>,
+) -> Result<(), PowerLost>
+    requires lawful { IsLawfulMap (F.device flash.old).banks map.now }
+    requires mounted { IsOpen (F.device flash.old) selector.old.ring }
+    requires store { is_store_at map.now trusted ≡ true }
+    requires active { active ≡ active_in map.now (F.device flash.old) selector.old.ring.area }
+
+    ensures touches { let area = selector.old.ring.area in Touches (area ∷ []) (F.device flash.old) (F.device flash.new) (is_err result) }
+    ensures ends { NameEnds map.now (F.device flash.old) (F.device flash.new) selector.old.ring.area trusted result }
+    ensures idle { active ≡ trusted → F.device flash.new ≡ F.device flash.old }
+{
+    if active == trusted {
+        return Ok(());
+    }
+    selector.choose(flash, map, trusted as u8, steps)
+}
+
+// Mounts the selector, and has it name the trusted area, which it gives.
+pub(crate) fn trust<K: Priced, F: Flash, L: Ledger>(
+    flash: &mut F,
+    map: &FlashMap,
+    steps: &mut Steps<L>,
+) -> Result<usize, MirrorMount>
+    requires map { IsMirrorMap K.serves map.now (F.device flash.old) }
+
+    ensures touches { (selector : area_type) → selector_of map.now ≡ Some selector
+        → Touches (selector ∷ []) (F.device flash.old) (F.device flash.new) (mount_lost result) }
+    ensures ends { TrustEnds map.now (F.device flash.old) (F.device flash.new) result }
+{
+    let place = selector_place(map);
+    let mut selector = match Selector::mount(flash, area_at(map, place), steps) {
+        Ok(selector) => selector,
+        Err(fault) => return Err(fault_at(place, fault)),
+    };
+    let active = selector.active(flash, map, steps);
+    let trusted = trusted_with(flash, map, active, steps);
+    match name_trusted(flash, map, &mut selector, active, trusted, steps) {
+        Ok(()) => Ok(trusted),
+        Err(_) => Err(MirrorMount::PowerLost),
+    }
+}

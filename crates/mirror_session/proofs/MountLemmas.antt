@@ -1,0 +1,257 @@
+-- Mounts, as lines.
+use Rattle.std.proofs.Common.{◌≡◌, ◌≢◌, ◌⊎◌, inl, inr, ℕ, zero, suc, ◌-◌, ◌<◌, ◌≤◌, ◌&&◌, Bool, true, false, cond, List, [], ◌∷◌, get_or, Option, Some, None, Ok, Err, refl, sym, ap, subst, ◌∙◌, arith}
+use Rattle.std.specs.Prelude.{Contains, Result, unwrap_or}
+use Rattle.std.specs.List.{slice_get}
+use Rattle.std.proofs.lemmas.Bool.{cases_eq, false≢true}
+use Rattle.flash_sim.specs.Device.{Device}
+use Rattle.flash_map.specs.declared.area.Area.{Area}
+use Rattle.flash_map.specs.declared.area.Geometry.{Geometry}
+use Rattle.flash_map.specs.declared.faults.Damaged.{Damaged}
+use Rattle.flash_map.specs.On.{on}
+use Rattle.flash_map.specs.Touches.{Touches}
+use Rattle.flash_map.proofs.Touches.{wider}
+use Rattle.backend_api.specs.Map.{Map}
+use Rattle.migrator.specs.Active.{active_on}
+use Rattle.migrator.specs.Areas.{is_store_at, selector_of, target}
+use Rattle.migrator.proofs.Migration.{active-on, active-store, selector-at}
+use Rattle.mirror.specs.declared.mirror.Mirror.{Mirror}
+use Rattle.mirror.specs.declared.mounting.MirrorMount.{MirrorMount}
+use Rattle.mirror.specs.declared.mounting.MirrorMount.TheVariants.{Damaged as HasDamage, Unfit as IsNotFit, PowerLost, NoMemory as WantsMemory}
+use Rattle.mirror.specs.Mounting.{IsCutMount, MirrorMounts, mount_lost, other_place, worked_on}
+use Rattle.mirror.specs.Room.{FitsOn}
+use Rattle.mirror.specs.Trusted.{IsMirrorMap, is_blank_at, trusted_on}
+use Rattle.session_table.specs.Bench.{area_at}
+use Rattle.session.proofs.ActiveAreas.{area_there, store_there}
+use Rattle.mirror_lines.specs.declared.line.Line.TheVariants.{Mount}
+use Rattle.mirror_lines.specs.Answer.{done, lost}
+use Rattle.mirror_session.specs.declared.fault.SessionFault.TheVariants.{Damaged as SessionDamaged, Unfit as SessionUnfit, NoMemory as SessionMemory}
+use Rattle.mirror_session.specs.Bench.{Meanings, beside_in, is_gone, moment, rules_of, state_of}
+use Rattle.mirror_session.specs.LineDone.{FitsBoth, LineDone, StaysSound}
+use Rattle.session.specs.OnMap.{turned_on}
+use Rattle.mirror_session.specs.Running.{LineStops}
+use Rattle.mirror_session.specs.Standing.{IsHeld}
+use Rattle.mirror_session.specs.State.{State, trusted_of}
+use Rattle.mirror_session.specs.Step.{Remounts, StopsMounting}
+use Rattle.mirror_session.proofs.AccountLemmas.{kept, kept_beside}
+use Rattle.mirror_session.proofs.AccountLemmas as counts
+use Rattle.mirror_session.proofs.HeldLemmas.{others_are, reads_on, settings_are}
+use Rattle.mirror_session.proofs.SoundLemmas.{none_shown}
+use Rattle.mirror_session.proofs.PlaceLemmas.{beside_some, map_kept, other_is, store_at, store_is, trusted_of_is}
+use Rattle.mirror_session.proofs.SelectorLemmas.{listed}
+use Rattle.mirror_session.proofs.SideLemmas.{side_sound}
+
+three_of : (P : Area → Type 0) (one two three x : Area) (k : ℕ) → k < 3 → get_or (one ∷ two ∷ three ∷ []) k x ≡ x → P one → P two → P three → P x
+three_of P one two three x zero below is a b c = subst P is a
+three_of P one two three x (suc zero) below is a b c = subst P is b
+three_of P one two three x (suc (suc zero)) below is a b c = subst P is c
+three_of P one two three x (suc (suc (suc k))) below is a b c = absurd (omega arith)
+
+-- ---- where the areas of a map are
+
+module _ (serves : Area → Geometry → Type 0) (areas : List Area) (d : Device) (map : IsMirrorMap serves areas d) where
+  pub active_stores : is_store_at areas (active_on areas d) ≡ true
+  active_stores = ap (is_store_at areas) (active-on areas d map.selector map.selected) ∙ active-store areas d map.selector map.one map.one_stores
+
+  -- a store area beside another
+  beside : (a : ℕ) → is_store_at areas a ≡ true → (b : ℕ) × (is_store_at areas b ≡ true) × (a ≢ b)
+  beside a store = elim (map.only a store) [
+    | inl one ↦ (map.two, map.two_stores, λ e. map.apart (sym one ∙ e))
+    | inr two ↦ (map.one, map.one_stores, λ e. map.apart (sym e ∙ two))
+  ]
+
+  pub beside_at : (a : ℕ) → is_store_at areas a ≡ true → (b : ℕ) × (is_store_at areas b ≡ true) × (a ≢ b) × (target areas a ≡ Some b)
+  beside_at a store = let b = beside a store in (b.0, b.1, b.2, beside_some serves areas d map a b.0 store b.1 b.2)
+
+  pub trusted_stores : is_store_at areas (trusted_on areas d) ≡ true
+  trusted_stores = ap (is_store_at areas) (trusted_of_is areas d) ∙ by (is_gone areas d)
+    where
+      by : (b : Bool) → is_store_at areas (cond b (beside_in areas (active_on areas d)) (active_on areas d)) ≡ true
+      by true = let b = beside_at (active_on areas d) active_stores in ap (λ (o : Option ℕ). is_store_at areas (unwrap_or o (active_on areas d))) b.3 ∙ b.1
+      by false = active_stores
+
+  pub trusted_there : slice_get areas (trusted_on areas d) ≡ Some (area_at areas (trusted_on areas d))
+  trusted_there = store_there areas (trusted_on areas d) trusted_stores
+
+  pub other_stores : is_store_at areas (other_place areas (trusted_on areas d)) ≡ true
+  other_stores = let b = beside_at (trusted_on areas d) trusted_stores in ap (λ (o : Option ℕ). is_store_at areas (unwrap_or o (trusted_on areas d))) b.3 ∙ b.1
+
+  pub other_there : slice_get areas (other_place areas (trusted_on areas d)) ≡ Some (area_at areas (other_place areas (trusted_on areas d)))
+  other_there = store_there areas (other_place areas (trusted_on areas d)) other_stores
+
+  pub other_apart : other_place areas (trusted_on areas d) ≢ trusted_on areas d
+  other_apart e = let b = beside_at (trusted_on areas d) trusted_stores in b.2 (sym (sym (ap (λ (o : Option ℕ). unwrap_or o (trusted_on areas d)) b.3) ∙ e))
+
+  -- a call on the three areas
+  pub in_map : (new : Device) (cut : Bool)
+      → ((selector trusted other : Area) → selector_of areas ≡ Some selector → slice_get areas (trusted_on areas d) ≡ Some trusted → slice_get areas (other_place areas (trusted_on areas d)) ≡ Some other → Touches (worked_on selector trusted other) d new cut)
+      → Touches areas d new cut
+  in_map new cut touches =
+      let at = selector-at areas map.selector map.selected in
+      wider areas (λ x there. three_of (λ a. Contains areas a) map.selector (area_at areas (trusted_on areas d)) (area_at areas (other_place areas (trusted_on areas d))) x there.0 there.1 there.2
+      (listed areas at.index map.selector at.there) (listed areas (trusted_on areas d) (area_at areas (trusted_on areas d)) trusted_there) (listed areas (other_place areas (trusted_on areas d)) (area_at areas (other_place areas (trusted_on areas d))) other_there))
+      (touches map.selector (area_at areas (trusted_on areas d)) (area_at areas (other_place areas (trusted_on areas d))) map.selected trusted_there other_there)
+
+-- ---- a mount of a bench, with power turned on first
+
+module _ {S : Type 0} (mounted_on : S → Area) (stands : S → Geometry → List (List ℕ) → Type 0) (m : Meanings) (serves : Area → Geometry → Type 0) (areas : List Area) (old mid new : Device) (map : IsMirrorMap serves areas old)
+    (on_first : mid ≡ turned_on old) (result : Result (Mirror S) MirrorMount)
+    (touches : (selector trusted other : Area) → selector_of areas ≡ Some selector → slice_get areas (trusted_on areas mid) ≡ Some trusted → slice_get areas (other_place areas (trusted_on areas mid)) ≡ Some other → Touches (worked_on selector trusted other) mid new (mount_lost result))
+    (ends : (selector : Area) → selector_of areas ≡ Some selector → MirrorMounts mounted_on stands m.damage m.contents m.room m.prices areas selector mid new result) where
+  abbrev before : Device
+  before = turned_on old
+
+  map_before : IsMirrorMap serves areas before
+  map_before = map_kept serves areas old before refl map
+
+  touched : (x : Result (Mirror S) MirrorMount) → result ≡ x → Touches areas before new (mount_lost x)
+  touched x is =
+      subst (λ (y : Result (Mirror S) MirrorMount). Touches areas before new (mount_lost y)) is
+      (in_map serves areas before map_before new (mount_lost result)
+      (subst (λ (d : Device). (selector trusted other : Area) → selector_of areas ≡ Some selector → slice_get areas (trusted_on areas d) ≡ Some trusted → slice_get areas (other_place areas (trusted_on areas d)) ≡ Some other → Touches (worked_on selector trusted other) d new (mount_lost result)) on_first touches))
+
+  ended : (x : Result (Mirror S) MirrorMount) → result ≡ x → MirrorMounts mounted_on stands m.damage m.contents m.room m.prices areas map.selector before new x
+  ended x is =
+      subst (λ (d : Device). MirrorMounts mounted_on stands m.damage m.contents m.room m.prices areas map.selector d new x) on_first
+      (subst (λ (y : Result (Mirror S) MirrorMount). MirrorMounts mounted_on stands m.damage m.contents m.room m.prices areas map.selector mid new y) is (ends map.selector map.selected))
+
+  pub banks_stay : new.banks ≡ old.banks
+  banks_stay = (touched result refl).banks
+
+  pub spent_risen : mid.spent ≤ new.spent
+  spent_risen = let t = touched result refl in let spent = t.spent in let same : mid.spent ≡ old.spent = ap (λ (d : Device). d.spent) on_first in omega (arith, spent, same)
+
+  -- ---- it was whole
+
+  module _ (mirror : Mirror S) (whole : result ≡ Ok mirror) (reads : (state : S) (geometry : Geometry) (sectors : List (List ℕ)) → stands state geometry sectors → m.damage (mounted_on state) geometry sectors ≡ None) where
+    pub held_now : IsHeld mounted_on stands m areas new mirror
+    held_now = let e = ended (Ok mirror) whole in record {
+      trusted = record {
+        there = ap (slice_get areas) e.trusted_at ∙ e.placed.trusted_there;
+        stores = store_is areas (trusted_on areas before) mirror.trusted.area e.placed.trusted_there (trusted_stores serves areas before map_before);
+        sound = e.kept.kept.undamaged;
+      };
+      other = record {
+        there = ap (slice_get areas) e.other_at ∙ e.placed.other_there;
+        stores = store_is areas (other_place areas (trusted_on areas before)) mirror.other.area e.placed.other_there (other_stores serves areas before map_before);
+        sound = side_sound mounted_on stands m new mirror.other reads e.mirrors.other_stands;
+      };
+      apart = λ same. other_apart serves areas before map_before (sym e.other_at ∙ same ∙ e.trusted_at);
+      named = e.trusted_at ∙ sym e.kept.active;
+      sound = e.kept.sound;
+      up = λ power. e.mirrors;
+    }
+
+    on_now : new.is_on ≡ true
+    on_now = (touched (Ok mirror) whole).ends.on
+
+    map_now : IsMirrorMap serves areas new
+    map_now = map_kept serves areas old new banks_stay map
+
+    abbrev settings_before : Map
+    settings_before = on m.contents old (area_at areas (trusted_on areas old))
+
+    trusted_same : on m.contents new mirror.trusted.area ≡ settings_before
+    trusted_same = let e = ended (Ok mirror) whole in
+        e.kept.kept.reads ∙ ap (λ (a : Area). on m.contents before a) (sym (area_there areas (trusted_on areas before) mirror.trusted.area e.placed.trusted_there))
+
+    abbrev made : Map → Map → ℕ → Bool → State
+    made settings other named power = record { settings = settings; other = other; named = named; gone = is_gone areas new; blank = is_blank_at areas new (trusted_on areas new); is_on = power; is_whole = true }
+
+    remounts : (last : ℕ) (was : Bool) → Remounts (rules_of m areas old.banks last) (state_of m areas (moment old was)) (state_of m areas (moment new true))
+    remounts last was = let e = ended (Ok mirror) whole in
+        ap (λ (x : Map). made x (on m.contents new (area_at areas (beside_in areas (trusted_on areas new)))) (active_on areas new) (new.is_on && true)) (settings_are mounted_on stands m serves areas new mirror map_now held_now on_now ∙ trusted_same)
+        ∙ ap (λ (x : Map). made settings_before x (active_on areas new) (new.is_on && true)) (others_are mounted_on stands m serves areas new mirror map_now held_now on_now ∙ trusted_same)
+        ∙ ap (λ (n : ℕ). made settings_before settings_before n (new.is_on && true)) (e.kept.active ∙ trusted_of_is areas old)
+        ∙ ap (λ (b : Bool). made settings_before settings_before (trusted_of (rules_of m areas old.banks last) (state_of m areas (moment old was))) (b && true)) on_now
+
+    some_same : (x y : Area) → Some x ≡ Some y → x ≡ y
+    some_same x y e = cc
+
+    fits_both : FitsBoth m areas new (state_of m areas (moment new true)).settings
+    fits_both place area there store = let e = ended (Ok mirror) whole in
+        subst (λ (s : Map). FitsOn m.room m.prices new area s) (sym (settings_are mounted_on stands m serves areas new mirror map_now held_now on_now)) (by (cases_place place))
+      where
+        cases_place : (p : ℕ) → (p ≡ mirror.trusted.place) ⊎ (p ≢ mirror.trusted.place)
+        cases_place p = cases_eq p mirror.trusted.place
+
+        by : (place ≡ mirror.trusted.place) ⊎ (place ≢ mirror.trusted.place) → FitsOn m.room m.prices new area (on m.contents new mirror.trusted.area)
+        by (inl same) =
+            let is : mirror.trusted.area ≡ area = some_same mirror.trusted.area area (sym held_now.trusted.there ∙ ap (slice_get areas) (sym same) ∙ there) in
+            subst (λ (a : Area). FitsOn m.room m.prices new a (on m.contents new mirror.trusted.area)) is (ended (Ok mirror) whole).mirrors.trusted_fits
+        by (inr differ) =
+            let at : place ≡ mirror.other.place = other_is serves areas new map_now mirror.trusted.place mirror.other.place place
+            (store_at areas mirror.trusted.place mirror.trusted.area held_now.trusted.there held_now.trusted.stores) (store_at areas mirror.other.place mirror.other.area held_now.other.there held_now.other.stores) (store_at areas place area there store) (λ same. held_now.apart (sym same)) differ in
+            let is : mirror.other.area ≡ area = some_same mirror.other.area area (sym held_now.other.there ∙ ap (slice_get areas) (sym at) ∙ there) in
+            subst (λ (a : Area). FitsOn m.room m.prices new a (on m.contents new mirror.trusted.area)) is (ended (Ok mirror) whole).mirrors.other_fits
+
+    pub whole_line : (units : ℕ) (was : Bool) → units ≡ new.spent - mid.spent → LineDone m areas Mount (done units) (moment old was) (moment new true)
+    whole_line units was are =
+        let touch = touched (Ok mirror) whole in
+        let accounts = kept areas Mount (done units) before new touch refl refl (are ∙ ap (λ (d : Device). new.spent - d.spent) on_first) in
+        let beside_it = kept_beside areas before new false touch in
+        record {
+          step = λ last within. (λ needs. absurd (false≢true needs), remounts last was);
+          accounts = record { spent = accounts.spent; losses = accounts.losses; allows = accounts.allows; plan = accounts.plan; unplanned = accounts.unplanned };
+          keeps = record { banks = beside_it.banks; loaded = beside_it.loaded; outside = beside_it.outside };
+          touches = λ plain. touch;
+          blanks = tt;
+          quiet = λ is. absurd (false≢true is);
+          cuts = tt;
+          finds = (ended (Ok mirror) whole).undamaged;
+          fits = fits_both;
+          sound = λ shown.
+              none_shown m.damage areas new (area_at areas (trusted_on areas new)) (trusted_there serves areas new map_now) held_now.sound
+              (reads_on mounted_on stands m serves areas new mirror map_now held_now new refl (λ a. on m.damage new a) (λ x y. x ≡ None) held_now.trusted.sound held_now.other.sound);
+        }
+
+  -- ---- power was lost in it
+
+  module _ (cut : result ≡ Err PowerLost) where
+    pub cut_so : IsCutMount m.damage m.contents areas map.selector (turned_on old) new
+    cut_so = ended (Err PowerLost) cut
+
+    pub off_now : new.is_on ≡ false
+    off_now = ((touched (Err PowerLost) cut).ends refl).off
+
+    in_selector : Touches (map.selector ∷ []) before new true → (selector : Area) → selector_of areas ≡ Some selector → Touches (selector ∷ []) before new true
+    in_selector touch selector selected = subst (λ (s : Area). Touches (s ∷ []) before new true) (some_area map.selector selector (sym map.selected ∙ selected)) touch
+      where
+        some_area : (x y : Area) → Some x ≡ Some y → x ≡ y
+        some_area x y e = cc
+
+    undamaged : (trusted : Area) → slice_get areas (trusted_on areas before) ≡ Some trusted → on m.damage before trusted ≡ None → on m.damage old (area_at areas (trusted_on areas old)) ≡ None
+    undamaged trusted there none = ap (λ (a : Area). on m.damage before a) (area_there areas (trusted_on areas before) trusted there) ∙ none
+
+    pub lost_line : (units : ℕ) (was : Bool) → units ≡ new.spent - mid.spent → ((last : ℕ) → StopsMounting (rules_of m areas old.banks last) (state_of m areas (moment old was)) (state_of m areas (moment new false)))
+        → StaysSound m areas Mount (lost units) (moment old was) (moment new false) → LineDone m areas Mount (lost units) (moment old was) (moment new false)
+    lost_line units was are stops sound =
+        let touch = touched (Err PowerLost) cut in
+        let accounts = counts.lost areas Mount (lost units) before new refl touch refl refl (are ∙ ap (λ (d : Device). new.spent - d.spent) on_first) in
+        let beside_it = kept_beside areas before new true touch in
+        record {
+          step = λ last within. (λ needs. absurd (false≢true needs), stops last);
+          accounts = record { spent = accounts.spent; losses = accounts.losses; allows = accounts.allows; plan = accounts.plan; unplanned = accounts.unplanned };
+          keeps = record { banks = beside_it.banks; loaded = beside_it.loaded; outside = beside_it.outside };
+          touches = λ plain. touch;
+          blanks = tt;
+          quiet = λ is. absurd (false≢true is);
+          cuts = tt;
+          finds = (cut_so.trust.sound, elim cut_so.later [ inl touches ↦ inr (in_selector touches) | inr rest ↦ inl (undamaged rest.0 rest.1 rest.2) ]);
+          fits = tt;
+          sound = sound;
+        }
+
+  -- ---- it stopped
+
+  pub damaged_stops : (place : ℕ) (shown : Damaged) → result ≡ Err (HasDamage place shown) → LineStops m areas Mount old new (SessionDamaged place shown)
+  damaged_stops place shown is = let e = ended (Err (HasDamage place shown)) is in
+      (refl, e.0, λ selector selected. subst (λ (s : Area). Touches (s ∷ []) before new false) (some_area map.selector selector (sym map.selected ∙ selected)) e.1)
+    where
+      some_area : (x y : Area) → Some x ≡ Some y → x ≡ y
+      some_area x y e = cc
+
+  pub unfit_stops : (place : ℕ) → result ≡ Err (IsNotFit place) → LineStops m areas Mount old new (SessionUnfit place)
+  unfit_stops place is = (refl, ended (Err (IsNotFit place)) is)
+
+  pub memory_stops : result ≡ Err WantsMemory → LineStops m areas Mount old new SessionMemory
+  memory_stops is = (refl, touched (Err WantsMemory) is)

@@ -1,0 +1,141 @@
+-- When power is off, and when both areas read as the settings.
+use Rattle.std.proofs.Common.{◌≡◌, ℕ, true, false, cond, List, sym, ap, subst, ◌∙◌}
+use Rattle.std.proofs.lemmas.Bool.{false≢true}
+use Rattle.script_lines.specs.declared.answer.Answer.{Answer as settings_answer}
+use Rattle.script_lines.specs.declared.answer.Answer.TheVariants as settings
+use Rattle.backend_api.specs.Commands.{Command}
+use Rattle.backend_api.specs.Commands.Command.{Del as Delete}
+use Rattle.settings_core.specs.Carrying.{command_of}
+use Rattle.session_table.proofs.FollowsLemmas.{kept, seen, then}
+use Rattle.mirror_lines.specs.declared.line.Line.{Line}
+use Rattle.mirror_lines.specs.declared.line.Line.TheVariants.{Set, Get, Del, Names, Mount, Cut, Uncut, Blank}
+use Rattle.mirror_lines.specs.declared.answer.Answer.{Answer}
+use Rattle.mirror_lines.specs.declared.answer.Answer.TheVariants.{Told, On, NoArea, NotYet}
+use Rattle.mirror_lines.specs.Plan.{is_lost}
+use Rattle.mirror_session.specs.History.{IsMirrored, PowerStep}
+use Rattle.mirror_session.specs.Laws.{LosesPower, RunsInRow, StaysMirrored}
+use Rattle.mirror_session.specs.State.{State, Rules}
+use Rattle.mirror_session.specs.Step.{Arms, Blanks, Changes, Gets, Mounts, Step, Tells, TellsAll}
+
+-- power stays but for a loss
+abbrev StaysOn : Answer → State → State → Type 0
+StaysOn answer old new = new.is_on ≡ cond (is_lost answer) false old.is_on
+
+power : (old new : State) → new ≡ old → new.is_on ≡ old.is_on
+power old new same = ap (λ (s : State). s.is_on) same
+
+module _ (r : Rules) where
+  change_power : (command : Command) (answer : settings_answer) (old new : State) → Changes r command answer old new → StaysOn (Told answer) old new
+  change_power command (settings.Done units) old new is = ap (λ (s : State). s.is_on) is.state
+  change_power command (settings.TooMany units) old new is = power old new is.2
+  change_power command (settings.NoSpace units need live) old new is = power old new is.2
+  change_power command (settings.Lost units false) old new is = ap (λ (s : State). s.is_on) is.state
+  change_power command answer old new none = absurd none
+
+  get_power : (name : List ℕ) (answer : settings_answer) (old new : State) → Gets name answer old new → StaysOn (Told answer) old new
+  get_power name (settings.Value value) old new is = power old new is.1
+  get_power name settings.Absent old new is = power old new is.1
+  get_power name answer old new none = absurd none
+
+  names_power : (answer : settings_answer) (old new : State) → TellsAll r answer old new → StaysOn (Told answer) old new
+  names_power (settings.Names active pairs) old new is = power old new is.2
+  names_power answer old new none = absurd none
+
+  mount_power : (answer : settings_answer) (old new : State) → Mounts r answer old new → new.is_on ≡ cond (is_lost (Told answer)) false true
+  mount_power (settings.Done units) old new is = ap (λ (s : State). s.is_on) is
+  mount_power (settings.Lost units false) old new is = is.off
+  mount_power answer old new none = absurd none
+
+  arm_power : (answer : settings_answer) (old new : State) → Arms answer old new → StaysOn (Told answer) old new
+  arm_power (settings.Done units) old new is = power old new is.1
+  arm_power answer old new none = absurd none
+
+  blank_power : (label : List ℕ) (answer : Answer) (old new : State) → Blanks r label answer old new → StaysOn answer old new
+  blank_power label On old new is = power old new is.1
+  blank_power label NoArea old new is = power old new is.2
+  blank_power label NotYet old new is = power old new is.3
+  blank_power label (Told (settings.Done units)) old new is = ap (λ (s : State). s.is_on) is.3.2
+  blank_power label answer old new none = absurd none
+
+  line_power : (line : Line) (answer : settings_answer) (old new : State) → Tells r line answer old new → PowerStep line (Told answer) old.is_on new.is_on
+  line_power (Set name value) answer old new is = change_power (command_of name value) answer old new is
+  line_power (Del name) answer old new is = change_power (Delete name) answer old new is
+  line_power (Get name) answer old new is = get_power name answer old new is
+  line_power Names answer old new is = names_power answer old new is
+  line_power Mount answer old new is = mount_power answer old new is
+  line_power (Cut units) answer old new is = arm_power answer old new is
+  line_power Uncut answer old new is = arm_power answer old new is
+  line_power (Blank label) answer old new is = blank_power label (Told answer) old new is
+
+  step_power : (line : Line) (answer : Answer) (old new : State) → Step r line answer old new → PowerStep line answer old.is_on new.is_on
+  step_power Mount (Told settings.Off) old new is = absurd (false≢true is.0)
+  step_power line (Told settings.Off) old new is = power old new is.2
+  step_power line (Told answer) old new is = line_power line answer old new is.1
+  step_power (Blank label) answer old new is = blank_power label answer old new is
+  step_power line answer old new none = absurd none
+
+  -- ---- both areas
+
+  same_mirrored : (old new : State) → new ≡ old → IsMirrored old → IsMirrored new
+  same_mirrored old new same was = subst IsMirrored (sym same) was
+
+  pub off_mirrored : (new : State) → new.is_on ≡ false → IsMirrored new
+  off_mirrored new off on = absurd (false≢true (sym off ∙ on))
+
+  change_mirrored : (command : Command) (answer : settings_answer) (old new : State) → IsMirrored old → Changes r command answer old new → IsMirrored new
+  change_mirrored command (settings.Done units) old new was is = λ on. ap (λ (s : State). s.other) is.state ∙ sym (ap (λ (s : State). s.settings) is.state)
+  change_mirrored command (settings.TooMany units) old new was is = same_mirrored old new is.2 was
+  change_mirrored command (settings.NoSpace units need live) old new was is = same_mirrored old new is.2 was
+  change_mirrored command (settings.Lost units false) old new was is = off_mirrored new (ap (λ (s : State). s.is_on) is.state)
+  change_mirrored command answer old new was none = absurd none
+
+  get_mirrored : (name : List ℕ) (answer : settings_answer) (old new : State) → IsMirrored old → Gets name answer old new → IsMirrored new
+  get_mirrored name (settings.Value value) old new was is = same_mirrored old new is.1 was
+  get_mirrored name settings.Absent old new was is = same_mirrored old new is.1 was
+  get_mirrored name answer old new was none = absurd none
+
+  names_mirrored : (answer : settings_answer) (old new : State) → IsMirrored old → TellsAll r answer old new → IsMirrored new
+  names_mirrored (settings.Names active pairs) old new was is = same_mirrored old new is.2 was
+  names_mirrored answer old new was none = absurd none
+
+  mount_mirrored : (answer : settings_answer) (old new : State) → Mounts r answer old new → IsMirrored new
+  mount_mirrored (settings.Done units) old new is = λ on. ap (λ (s : State). s.other) is ∙ sym (ap (λ (s : State). s.settings) is)
+  mount_mirrored (settings.Lost units false) old new is = off_mirrored new is.off
+  mount_mirrored answer old new none = absurd none
+
+  arm_mirrored : (answer : settings_answer) (old new : State) → IsMirrored old → Arms answer old new → IsMirrored new
+  arm_mirrored (settings.Done units) old new was is = same_mirrored old new is.1 was
+  arm_mirrored answer old new was none = absurd none
+
+  blank_mirrored : (label : List ℕ) (answer : Answer) (old new : State) → IsMirrored old → Blanks r label answer old new → IsMirrored new
+  blank_mirrored label On old new was is = same_mirrored old new is.1 was
+  blank_mirrored label NoArea old new was is = same_mirrored old new is.2 was
+  blank_mirrored label NotYet old new was is = same_mirrored old new is.3 was
+  blank_mirrored label (Told (settings.Done units)) old new was is = off_mirrored new (ap (λ (s : State). s.is_on) is.3.2 ∙ is.1)
+  blank_mirrored label answer old new was none = absurd none
+
+  line_mirrored : (line : Line) (answer : settings_answer) (old new : State) → IsMirrored old → Tells r line answer old new → IsMirrored new
+  line_mirrored (Set name value) answer old new was is = change_mirrored (command_of name value) answer old new was is
+  line_mirrored (Del name) answer old new was is = change_mirrored (Delete name) answer old new was is
+  line_mirrored (Get name) answer old new was is = get_mirrored name answer old new was is
+  line_mirrored Names answer old new was is = names_mirrored answer old new was is
+  line_mirrored Mount answer old new was is = mount_mirrored answer old new is
+  line_mirrored (Cut units) answer old new was is = arm_mirrored answer old new was is
+  line_mirrored Uncut answer old new was is = arm_mirrored answer old new was is
+  line_mirrored (Blank label) answer old new was is = blank_mirrored label (Told answer) old new was is
+
+  pub step_mirrored : (line : Line) (answer : Answer) (old new : State) → Step r line answer old new → IsMirrored old → IsMirrored new
+  step_mirrored line (Told settings.Off) old new is was = same_mirrored old new is.2 was
+  step_mirrored line (Told answer) old new is was = line_mirrored line answer old new was is.1
+  step_mirrored (Blank label) answer old new is was = blank_mirrored label answer old new was is
+  step_mirrored line answer old new none was = absurd none
+
+pub loses_power : LosesPower
+loses_power r lines answers old new runs = seen (Step r) PowerStep (λ s. s.is_on) (step_power r) lines answers old new runs
+
+pub runs_in_row : RunsInRow
+runs_in_row r lines more answers others old mid new runs rest = then (Step r) lines more answers others old mid new runs rest
+
+pub stays_mirrored : StaysMirrored
+stays_mirrored r lines answers old new was runs =
+    kept (Step r) (λ a b. IsMirrored a → IsMirrored b) (λ s is. is) (λ a b c one two is. two (one is)) (step_mirrored r) lines answers old new runs was

@@ -1,0 +1,376 @@
+-- Which commands of a run stand. Until it is settled, a command in which power was lost may stand or not: what is carried from line to
+-- line are the commands after which the trusted area reads, and those after which the other one does.
+use Rattle.std.proofs.Common.{◌≡◌, ◌⊎◌, inl, inr, ℕ, ◌==◌, Bool, true, false, cond, List, [], ◌∷◌, ◌++◌, append-nil, refl, sym, ap, subst, ◌∙◌}
+use Rattle.std.proofs.lemmas.Bool.{cond-false, false≢true}
+use Rattle.std.proofs.lemmas.List.Sums.{fold-append}
+use Rattle.script_lines.specs.declared.answer.Answer.{Answer as settings_answer}
+use Rattle.script_lines.specs.declared.answer.Answer.TheVariants as settings
+use Rattle.backend_api.specs.Commands.{Command, applied, all_applied}
+use Rattle.backend_api.specs.Commands.Command.{Del as Delete}
+use Rattle.backend_api.specs.Map.{Map}
+use Rattle.settings_core.specs.Carrying.{command_of, is_idle}
+use Rattle.session_table.specs.Follows.{Follows}
+use Rattle.session_table.specs.Prefix.{Stand}
+use Rattle.mirror_lines.specs.declared.line.Line.{Line}
+use Rattle.mirror_lines.specs.declared.line.Line.TheVariants.{Set, Get, Del, Names, Mount, Cut, Uncut, Blank}
+use Rattle.mirror_lines.specs.declared.answer.Answer.{Answer}
+use Rattle.mirror_lines.specs.declared.answer.Answer.TheVariants.{Told, On, NoArea, NotYet}
+use Rattle.mirror_lines.specs.Plan.{as_told, is_lost}
+use Rattle.mirror_session.specs.History.{GoesAstray, IsAfterPrefix, IsMirrored, LogStep}
+use Rattle.mirror_session.specs.Laws.{HoldsAcknowledged}
+use Rattle.mirror_session.specs.State.{State, Rules, IsOn, IsOff, trusted_of}
+use Rattle.mirror_session.specs.Step.{Arms, Blanks, Changes, Gets, HasOrNot, LosesArea, Mounts, Step, StopsMounting, Tells, TellsAll, changing, commands_of}
+use Rattle.mirror_session.proofs.PowerLemmas.{off_mirrored, step_mirrored}
+
+pub none_applied : (m : Map) → all_applied m [] ≡ m
+unfolding all_applied
+none_applied m = refl
+
+pub one_applied : (m : Map) (c : Command) → all_applied m (c ∷ []) ≡ applied m c
+unfolding all_applied
+one_applied m c = refl
+
+both_applied : (m : Map) (front back : List Command) → all_applied m (front ++ back) ≡ all_applied (all_applied m front) back
+unfolding all_applied
+both_applied m front back = fold-append applied m front back
+
+on_or_off : {A : Type 0} (b : Bool) → b ≡ true → b ≡ false → A
+on_or_off b on off = absurd (false≢true (sym off ∙ on))
+
+module _ (r : Rules) (start : Map) where
+  -- the trusted area reads as the start after the first of these, and the other one after the second; with power on they are the same
+  record Holds (s : State) (first second : List Command) : Type 0 where
+    pub settings : s.settings ≡ all_applied start first
+    pub other : s.is_whole ≡ true → s.other ≡ all_applied start second
+    pub same : IsOn s → second ≡ first
+
+  -- one of them; the second only with power off
+  abbrev IsOneOf : State → List Command → List Command → List Command → Type 0
+  IsOneOf s first second log = (log ≡ first) ⊎ ((log ≡ second) × IsOff s)
+
+  -- from one of those before the line, these are had by what the line adds
+  record ComesFrom (line : Line) (answer : Answer) (old new : State) (first second log : List Command) : Type 0 where
+    pub before : List Command
+    pub is : IsOneOf old first second before
+    pub done : List Command
+    pub stand : Stand (as_told answer) (commands_of line old.settings) done
+    pub more : log ≡ before ++ done
+    pub reads : IsOn new → new.settings ≡ all_applied start log
+
+  record Goes (line : Line) (answer : Answer) (old new : State) (first second : List Command) : Type 0 where
+    pub one : List Command
+    pub two : List Command
+    pub holds : Holds new one two
+    pub comes : (log : List Command) → IsOneOf new one two log → ComesFrom line answer old new first second log
+
+  module _ (old : State) (first second : List Command) (was : Holds old first second) where
+    -- the state stays
+    still : (line : Line) (answer : Answer) (new : State) → new ≡ old → Stand (as_told answer) (commands_of line old.settings) []
+        → Goes line answer old new first second
+    still line answer new same stand = record {
+      one = first;
+      two = second;
+      holds = subst (λ (s : State). Holds s first second) (sym same) was;
+      comes = λ log is. record {
+        before = log;
+        is = subst (λ (s : State). IsOneOf s first second log) same is;
+        done = [];
+        stand = stand;
+        more = sym (append-nil log);
+        reads = λ on. ap (λ (s : State). s.settings) same ∙ was.settings ∙ ap (all_applied start) (sym (read_log log is on));
+      };
+    }
+      where
+        read_log : (log : List Command) → IsOneOf new first second log → IsOn new → log ≡ first
+        read_log log (inl is) on = is
+        read_log log (inr is) on = on_or_off new.is_on on is.1
+
+    -- some commands were carried out in the trusted area, and some in the other one
+    goes_by : (line : Line) (answer : Answer) (new : State) (here there : List Command) → Stand (as_told answer) (commands_of line old.settings) here → Stand (as_told answer) (commands_of line old.settings) there
+        → new.settings ≡ all_applied old.settings here → (new.is_whole ≡ true → new.other ≡ all_applied old.settings there) → (IsOn new → there ≡ here) → Goes line answer old new first second
+    goes_by line answer new here there stand also is other on = record {
+      one = first ++ here;
+      two = first ++ there;
+      holds = record {
+        settings = read;
+        other = λ whole. other whole ∙ after there;
+        same = λ now. ap (λ (l : List Command). first ++ l) (on now);
+      };
+      comes = come;
+    }
+      where
+        after : (done : List Command) → all_applied old.settings done ≡ all_applied start (first ++ done)
+        after done = ap (λ (m : Map). all_applied m done) was.settings ∙ sym (both_applied start first done)
+
+        read : new.settings ≡ all_applied start (first ++ here)
+        read = is ∙ after here
+
+        come : (log : List Command) → IsOneOf new (first ++ here) (first ++ there) log → ComesFrom line answer old new first second log
+        come log (inl same) = record { before = first; is = inl refl; done = here; stand = stand; more = same; reads = λ now. read ∙ ap (all_applied start) (sym same) }
+        come log (inr same) = record { before = first; is = inl refl; done = there; stand = also; more = same.0; reads = λ now. on_or_off new.is_on now same.1 }
+
+    -- no command, and the settings stay
+    stays : (line : Line) (answer : Answer) (new : State) → Stand (as_told answer) (commands_of line old.settings) [] → new.settings ≡ old.settings → (new.is_whole ≡ true → new.other ≡ old.settings)
+        → Goes line answer old new first second
+    stays line answer new stand is other =
+        goes_by line answer new [] [] stand stand (is ∙ sym (none_applied old.settings)) (λ whole. other whole ∙ sym (none_applied old.settings)) (λ now. refl)
+
+    -- the trusted area was replaced
+    moved : (line : Line) (answer : Answer) (new : State) → Stand (as_told answer) (commands_of line old.settings) [] → IsOff old → old.is_whole ≡ true → new.is_whole ≡ false → new.settings ≡ old.other
+        → Goes line answer old new first second
+    moved line answer new stand off whole not is = record {
+      one = second;
+      two = second;
+      holds = record { settings = is ∙ was.other whole; other = λ now. on_or_off new.is_whole now not; same = λ now. refl };
+      comes = come;
+    }
+      where
+        by : (log : List Command) → log ≡ second → ComesFrom line answer old new first second log
+        by log same = record { before = second; is = inr (refl, off); done = []; stand = stand; more = same ∙ sym (append-nil second); reads = λ now. is ∙ was.other whole ∙ ap (all_applied start) (sym same) }
+
+        come : (log : List Command) → IsOneOf new second second log → ComesFrom line answer old new first second log
+        come log (inl same) = by log same
+        come log (inr same) = by log same.0
+
+    -- ---- a command
+
+    module _ (line : Line) (command : Command) (are : commands_of line old.settings ≡ changing old.settings command) where
+      one_changes : is_idle old.settings command ≡ false → changing old.settings command ≡ command ∷ []
+      one_changes busy = cond-false (is_idle old.settings command) [] (command ∷ []) busy
+
+      stands_all : (units : ℕ) → is_idle old.settings command ≡ false → Stand (settings.Lost units false) (commands_of line old.settings) (command ∷ [])
+      stands_all units busy = record { rest = []; are = are ∙ one_changes busy }
+
+      stands_none : (units : ℕ) → Stand (settings.Lost units false) (commands_of line old.settings) []
+      stands_none units = record { rest = commands_of line old.settings; are = refl }
+
+      lost : (units : ℕ) (new : State) → is_idle old.settings command ≡ false → new.is_on ≡ false → HasOrNot command old.settings new.settings → HasOrNot command old.settings new.other
+          → Goes line (Told (settings.Lost units false)) old new first second
+      lost units new busy off here there = let one = parted here in let two = parted there in
+          goes_by line (Told (settings.Lost units false)) new one.0 two.0 one.1 two.1 one.2 (λ whole. two.2) (λ now. on_or_off new.is_on now off)
+        where
+          parted : {after : Map} → HasOrNot command old.settings after
+              → (done : List Command) × Stand (settings.Lost units false) (commands_of line old.settings) done × (after ≡ all_applied old.settings done)
+          parted (inl none) = ([], stands_none units, none ∙ sym (none_applied old.settings))
+          parted (inr all) = (command ∷ [], stands_all units busy, all ∙ sym (one_applied old.settings command))
+
+      changes : (answer : settings_answer) (new : State) → Changes r command answer old new → Goes line (Told answer) old new first second
+      changes (settings.Done units) new is =
+          goes_by line (Told (settings.Done units)) new (changing old.settings command) (changing old.settings command) (sym are) (sym are) (ap (λ (s : State). s.settings) is.state) (λ whole. ap (λ (s : State). s.other) is.state) (λ now. refl)
+      changes (settings.TooMany units) new is = still line (Told (settings.TooMany units)) new is.2 refl
+      changes (settings.NoSpace units need live) new is = still line (Told (settings.NoSpace units need live)) new is.2 refl
+      changes (settings.Lost units false) new is = lost units new is.changes (ap (λ (s : State). s.is_on) is.state) is.here is.there
+      changes answer new none = absurd none
+
+    -- ---- the other lines
+
+    gets : (name : List ℕ) (answer : settings_answer) (new : State) → Gets name answer old new → Goes (Get name) (Told answer) old new first second
+    gets name (settings.Value value) new is = still (Get name) (Told (settings.Value value)) new is.1 refl
+    gets name settings.Absent new is = still (Get name) (Told settings.Absent) new is.1 refl
+    gets name answer new none = absurd none
+
+    tells_all : (answer : settings_answer) (new : State) → TellsAll r answer old new → Goes Names (Told answer) old new first second
+    tells_all (settings.Names active pairs) new is = still Names (Told (settings.Names active pairs)) new is.2 refl
+    tells_all answer new none = absurd none
+
+    not_mounted : (units : ℕ) (new : State) → StopsMounting r old new → new.settings ≡ old.settings → Goes Mount (Told (settings.Lost units false)) old new first second
+    not_mounted units new is same =
+        stays Mount (Told (settings.Lost units false)) new (record { rest = []; are = refl }) same (λ whole. on_or_off new.is_whole whole is.not_whole)
+
+    -- a mount that was cut went astray, or not
+    not_mounted_or : (units : ℕ) (new : State) → StopsMounting r old new → Goes Mount (Told (settings.Lost units false)) old new first second ⊎ LosesArea r old new
+    not_mounted_or units new is = by is.settings
+      where
+        by : (new.settings ≡ old.settings) ⊎ LosesArea r old new → Goes Mount (Told (settings.Lost units false)) old new first second ⊎ LosesArea r old new
+        by (inl same) = inl (not_mounted units new is same)
+        by (inr loses) = inr loses
+
+    mounts : (answer : settings_answer) (new : State) → Mounts r answer old new → Goes Mount (Told answer) old new first second ⊎ ((is_lost (Told answer) ≡ true) × LosesArea r old new)
+    mounts (settings.Done units) new is = inl (stays Mount (Told (settings.Done units)) new refl (ap (λ (s : State). s.settings) is) (λ whole. ap (λ (s : State). s.other) is))
+    mounts (settings.Lost units false) new is = elim (not_mounted_or units new is) [
+      | inl goes ↦ inl goes
+      | inr loses ↦ inr (refl, loses)
+    ]
+    mounts answer new none = absurd none
+
+    arms : (line : Line) (answer : settings_answer) (new : State) → commands_of line old.settings ≡ [] → Arms answer old new → Goes line (Told answer) old new first second
+    arms line (settings.Done units) new none is = still line (Told (settings.Done units)) new is.1 (sym none)
+    arms line answer new none not = absurd not
+
+    replaced : (label : List ℕ) (units place : ℕ) (new : State) (b : Bool) → (place == trusted_of r old) ≡ b → IsOff old → old.is_whole ≡ true
+        → new ≡ record old { settings = cond b old.other old.settings; other = new.other; gone = new.gone; blank = new.blank; is_whole = false }
+        → Goes (Blank label) (Told (settings.Done units)) old new first second
+    replaced label units place new true is off whole same =
+        moved (Blank label) (Told (settings.Done units)) new refl off whole (ap (λ (s : State). s.is_whole) same) (ap (λ (s : State). s.settings) same)
+    replaced label units place new false is off whole same =
+        stays (Blank label) (Told (settings.Done units)) new refl (ap (λ (s : State). s.settings) same) (λ now. on_or_off new.is_whole now (ap (λ (s : State). s.is_whole) same))
+
+    blanks : (label : List ℕ) (answer : settings_answer) (new : State) → Blanks r label (Told answer) old new → Goes (Blank label) (Told answer) old new first second
+    blanks label (settings.Done units) new is =
+        replaced label units is.3.0 new (is.3.0 == trusted_of r old) refl is.1 is.2 is.3.2
+    blanks label answer new none = absurd none
+
+    -- a line other than a mount, or a mount that did not go astray
+    abbrev GoesOr : Line → Answer → State → Type 0
+    GoesOr line answer new = Goes line answer old new first second ⊎ ((line ≡ Mount) × (is_lost answer ≡ true) × LosesArea r old new)
+
+    by_line : (line : Line) (answer : settings_answer) (new : State) → Tells r line answer old new → GoesOr line (Told answer) new
+    by_line (Set name value) answer new is = inl (changes (Set name value) (command_of name value) refl answer new is)
+    by_line (Del name) answer new is = inl (changes (Del name) (Delete name) refl answer new is)
+    by_line (Get name) answer new is = inl (gets name answer new is)
+    by_line Names answer new is = inl (tells_all answer new is)
+    by_line Mount answer new is = elim (mounts answer new is) [
+      | inl goes ↦ inl goes
+      | inr loses ↦ inr (refl, loses.0, loses.1)
+    ]
+    by_line (Cut units) answer new is = inl (arms (Cut units) answer new refl is)
+    by_line Uncut answer new is = inl (arms Uncut answer new refl is)
+    by_line (Blank label) answer new is = inl (blanks label answer new is)
+
+    goes_on : (line : Line) (answer : Answer) (new : State) → Step r line answer old new → GoesOr line answer new
+    goes_on line (Told settings.Off) new is = inl (still line (Told settings.Off) new is.2 refl)
+    goes_on line (Told answer) new is = by_line line answer new is.1
+    goes_on (Blank label) On new is = inl (still (Blank label) On new is.1 refl)
+    goes_on (Blank label) NoArea new is = inl (still (Blank label) NoArea new is.2 refl)
+    goes_on (Blank label) NotYet new is = inl (still (Blank label) NotYet new is.3 refl)
+    goes_on line answer new none = absurd none
+
+  -- ---- a whole run
+
+  record Continues (lines : List Line) (answers : List Answer) (old : State) (first second : List Command) (new : State) : Type 0 where
+    pub before : List Command
+    pub is : IsOneOf old first second before
+    pub log : List Command
+    pub runs : Follows (LogStep r start) lines answers (record { state = old; log = before }) (record { state = new; log = log })
+    pub settings : new.settings ≡ all_applied start log
+
+  -- as in `GoesAstray`, from commands that stand before
+  record Strays (lines : List Line) (answers : List Answer) (old : State) (first second : List Command) (new : State) : Type 0 where
+    pub front : List Line
+    pub rest : List Line
+    pub are : lines ≡ front ++ Mount ∷ rest
+    pub told : List Answer
+    pub answer : Answer
+    pub more : List Answer
+    pub answered : answers ≡ told ++ answer ∷ more
+    pub lost : is_lost answer ≡ true
+    pub mid : State
+    pub before : Continues front told old first second mid
+    pub next : State
+    pub step : Step r Mount answer mid next
+    pub loses : LosesArea r mid next
+    pub runs : Follows (Step r) rest more next new
+
+  none_yet : (old : State) (first second : List Command) → Holds old first second → Continues [] [] old first second old
+  none_yet old first second was = record { before = first; is = inl refl; log = first; runs = refl; settings = was.settings }
+
+  one_more : (line : Line) (lines : List Line) (answer : Answer) (answers : List Answer) (old mid new : State) (first second : List Command) → Step r line answer old mid → IsMirrored mid
+      → (head : Goes line answer old mid first second) → Continues lines answers mid head.one head.two new → Continues (line ∷ lines) (answer ∷ answers) old first second new
+  one_more line lines answer answers old mid new first second step both head tail =
+      let from = head.comes tail.before tail.is in
+      record {
+        before = from.before;
+        is = from.is;
+        log = tail.log;
+        runs = (
+          record { state = mid; log = tail.before },
+          record { step = step; done = from.done; stand = from.stand; log = from.more; reads = from.reads; both = both },
+          tail.runs,
+        );
+        settings = tail.settings;
+      }
+
+  continues : (lines : List Line) (answers : List Answer) (old new : State) (first second : List Command) → Holds old first second → IsMirrored old → Follows (Step r) lines answers old new
+      → Continues lines answers old first second new ⊎ Strays lines answers old first second new
+  continues [] [] old new first second was both same = inl (record {
+    before = first;
+    is = inl refl;
+    log = first;
+    runs = ap (λ (s : State). record { state = s; log = first }) same;
+    settings = ap (λ (s : State). s.settings) same ∙ was.settings;
+  })
+  continues [] (answer ∷ answers) old new first second was both none = absurd none
+  continues (line ∷ lines) [] old new first second was both none = absurd none
+  continues (line ∷ lines) (answer ∷ answers) old new first second was both runs =
+      at_line (goes_on old first second was line answer runs.0 runs.1) (λ head. continues lines answers runs.0 new head.one head.two head.holds both_then runs.2)
+    where
+      both_then : IsMirrored runs.0
+      both_then = step_mirrored r line answer old runs.0 runs.1 both
+
+      behind : (head : Goes line answer old runs.0 first second) → Continues lines answers runs.0 head.one head.two new ⊎ Strays lines answers runs.0 head.one head.two new
+          → Continues (line ∷ lines) (answer ∷ answers) old first second new ⊎ Strays (line ∷ lines) (answer ∷ answers) old first second new
+      behind head (inl tail) = inl (one_more line lines answer answers old runs.0 new first second runs.1 both_then head tail)
+      behind head (inr astray) = inr (record {
+        front = line ∷ astray.front;
+        rest = astray.rest;
+        are = ap (λ (l : List Line). line ∷ l) astray.are;
+        told = answer ∷ astray.told;
+        answer = astray.answer;
+        more = astray.more;
+        answered = ap (λ (l : List Answer). answer ∷ l) astray.answered;
+        lost = astray.lost;
+        mid = astray.mid;
+        before = one_more line astray.front answer astray.told old runs.0 astray.mid first second runs.1 both_then head astray.before;
+        next = astray.next;
+        step = astray.step;
+        loses = astray.loses;
+        runs = astray.runs;
+      })
+
+      at_line : Goes line answer old runs.0 first second ⊎ ((line ≡ Mount) × (is_lost answer ≡ true) × LosesArea r old runs.0) → ((head : Goes line answer old runs.0 first second) → Continues lines answers runs.0 head.one head.two new ⊎ Strays lines answers runs.0 head.one head.two new)
+          → Continues (line ∷ lines) (answer ∷ answers) old first second new ⊎ Strays (line ∷ lines) (answer ∷ answers) old first second new
+      at_line (inl head) rest = behind head (rest head)
+      at_line (inr loses) rest = inr (record {
+        front = [];
+        rest = lines;
+        are = ap (λ (x : Line). x ∷ lines) loses.0;
+        told = [];
+        answer = answer;
+        more = answers;
+        answered = refl;
+        lost = loses.1;
+        mid = old;
+        before = none_yet old first second was;
+        next = runs.0;
+        step = subst (λ (l : Line). Step r l answer old runs.0) loses.0 runs.1;
+        loses = loses.2;
+        runs = runs.2;
+      })
+
+pub holds_acknowledged : HoldsAcknowledged
+holds_acknowledged r lines answers old new not off runs = by (continues r old.settings lines answers old new [] [] start (off_mirrored r old off) runs)
+  where
+    start : Holds r old.settings old [] []
+    start = record { settings = sym (none_applied old.settings); other = λ now. on_or_off old.is_whole now not; same = λ now. refl }
+
+    none_before : (log : List Command) → IsOneOf r old.settings old [] [] log → log ≡ []
+    none_before log (inl is) = is
+    none_before log (inr is) = is.0
+
+    whole : (front : List Line) (told : List Answer) (mid : State) → Continues r old.settings front told old [] [] mid → IsAfterPrefix r front told old mid
+    whole front told mid is = record {
+      log = is.log;
+      runs =
+          subst (λ (l : List Command). Follows (LogStep r old.settings) front told (record { state = old; log = l }) (record { state = mid; log = is.log }))
+          (none_before is.before is.is) is.runs;
+      settings = is.settings;
+    }
+
+    by : Continues r old.settings lines answers old [] [] new ⊎ Strays r old.settings lines answers old [] [] new → IsAfterPrefix r lines answers old new ⊎ GoesAstray r lines answers old new
+    by (inl is) = inl (whole lines answers new is)
+    by (inr astray) = inr (record {
+      front = astray.front;
+      rest = astray.rest;
+      are = astray.are;
+      told = astray.told;
+      answer = astray.answer;
+      more = astray.more;
+      answered = astray.answered;
+      lost = astray.lost;
+      mid = astray.mid;
+      before = whole astray.front astray.told astray.mid astray.before;
+      next = astray.next;
+      step = astray.step;
+      loses = astray.loses;
+      runs = astray.runs;
+    })

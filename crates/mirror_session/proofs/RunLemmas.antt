@@ -1,0 +1,106 @@
+-- What the clause of one line says of a run.
+use Rattle.std.proofs.Common.{◌≡◌, ℕ, ◌+◌, ◌≤◌, cond, List, [], ◌∷◌, refl, sym, ap, subst, ◌∙◌, arith}
+use Rattle.std.specs.Prelude.{All}
+use Rattle.std.proofs.lemmas.List.Sums.{sum_by-cons}
+use Rattle.std.proofs.lemmas.List.Elements.{All-head, All-tail}
+use Rattle.flash_sim.specs.Device.{Device, Plan, counted}
+use Rattle.flash_sim.specs.declared.flash.Bank.{Bank}
+use Rattle.flash_map.specs.declared.area.Area.{Area}
+use Rattle.flash_map.specs.Touches.{IsInSome}
+use Rattle.flash_map.proofs.Plans.{counted_counted}
+use Rattle.session_table.specs.Follows.{Follows}
+use Rattle.session_table.proofs.FollowsLemmas.{kept, summed}
+use Rattle.mirror_lines.specs.declared.line.Line.{Line}
+use Rattle.mirror_lines.specs.declared.answer.Answer.{Answer}
+use Rattle.mirror_lines.specs.Plan.{units_of, is_lost, losses_in, Planned, plan_through, PlansNoLoss}
+use Rattle.mirror_session.specs.Bench.{Meanings, Moment, rules_of, state_of}
+use Rattle.mirror_session.specs.Laws.{LinesMakeRuns}
+use Rattle.mirror_session.specs.LineDone.{Keeps, LineDone, StaysUnplanned, replaces}
+use Rattle.mirror_session.specs.Running.{Ran, replaced_in}
+use Rattle.mirror_session.specs.State.{IsCounted}
+use Rattle.mirror_session.specs.Step.{Step}
+use Rattle.mirror_session.proofs.AccountLemmas.{counted_none}
+
+module _ (m : Meanings) (areas : List Area) where
+  spent_rises : (lines : List Line) (answers : List Answer) (old new : Moment) → Follows (LineDone m areas) lines answers old new → old.device.spent ≤ new.device.spent
+  spent_rises lines answers old new runs =
+      kept (LineDone m areas) (λ a b. a.device.spent ≤ b.device.spent) (λ s. omega arith) (λ a b c one two. omega (arith, one, two))
+      (λ line answer a b done. let spent = done.accounts.spent in omega (arith, spent)) lines answers old new runs
+
+  -- the table, where the count of units is no more than so much
+  session_of : (banks : List Bank) (last : ℕ) (lines : List Line) (answers : List Answer) (old new : Moment) → old.device.banks ≡ banks → new.device.spent ≤ last → Follows (LineDone m areas) lines answers old new
+      → Follows (Step (rules_of m areas banks last)) lines answers (state_of m areas old) (state_of m areas new)
+  session_of banks last [] [] old new is within same = ap (state_of m areas) same
+  session_of banks last [] (answer ∷ answers) old new is within none = absurd none
+  session_of banks last (line ∷ lines) [] old new is within none = absurd none
+  session_of banks last (line ∷ lines) (answer ∷ answers) old new is within runs =
+      let mid : Moment = runs.0 in
+      let rises = spent_rises lines answers mid new runs.2 in
+      let head = runs.1.step last (omega (arith, rises, within)) in (
+        state_of m areas mid,
+        subst (λ (b : List Bank). Step (rules_of m areas b last) line answer (state_of m areas old) (state_of m areas mid)) is head,
+        session_of banks last lines answers mid new (runs.1.keeps.banks ∙ is) within runs.2,
+      )
+
+  losses_of : (lines : List Line) (answers : List Answer) (old new : Moment) → Follows (LineDone m areas) lines answers old new → new.device.losses ≡ counted old.device.losses (losses_in answers)
+  losses_of [] [] old new same = ap (λ (d : Moment). d.device.losses) same ∙ omega arith
+  losses_of [] (answer ∷ answers) old new none = absurd none
+  losses_of (line ∷ lines) [] old new none = absurd none
+  losses_of (line ∷ lines) (answer ∷ answers) old new runs =
+      losses_of lines answers runs.0 new runs.2
+      ∙ ap (λ (n : ℕ). counted n (losses_in answers)) runs.1.accounts.losses
+      ∙ counted_counted old.device.losses (cond (is_lost answer) 1 0) (losses_in answers)
+      ∙ ap (counted old.device.losses) (sym (sum_by-cons (λ (a : Answer). cond (is_lost a) 1 0) answer answers))
+
+  planned_of : (lines : List Line) (answers : List Answer) (old new : Moment) → IsCounted new.device.spent → Follows (LineDone m areas) lines answers old new
+      → Planned old.device.plan lines answers × (new.device.plan ≡ plan_through old.device.plan lines answers)
+  planned_of [] [] old new counts same = (tt, ap (λ (d : Moment). d.device.plan) same)
+  planned_of [] (answer ∷ answers) old new counts none = absurd none
+  planned_of (line ∷ lines) [] old new counts none = absurd none
+  planned_of (line ∷ lines) (answer ∷ answers) old new counts runs =
+      let rises = spent_rises lines answers runs.0 new runs.2 in
+      let mid : IsCounted runs.0.device.spent = omega (arith, rises, counts) in
+      let tail = planned_of lines answers runs.0 new counts runs.2 in (
+        (runs.1.accounts.allows mid, subst (λ (plan : Plan). Planned plan lines answers) (runs.1.accounts.plan mid) tail.0),
+        tail.1 ∙ ap (λ (plan : Plan). plan_through plan lines answers) (runs.1.accounts.plan mid),
+      )
+
+  unplanned_of : (lines : List Line) (answers : List Answer) (old new : Moment) → Follows (LineDone m areas) lines answers old new → All PlansNoLoss lines → StaysUnplanned old.device new.device
+  unplanned_of [] [] old new same free never = (ap (λ (d : Moment). d.device.plan) same ∙ never, ap (λ (d : Moment). d.device.losses) same)
+  unplanned_of [] (answer ∷ answers) old new none free never = absurd none
+  unplanned_of (line ∷ lines) [] old new none free never = absurd none
+  unplanned_of (line ∷ lines) (answer ∷ answers) old new runs free never =
+      let head = runs.1.accounts.unplanned (All-head PlansNoLoss line lines free) never in
+      let tail = unplanned_of lines answers runs.0 new runs.2 (All-tail PlansNoLoss line lines free) head.0 in
+      (tail.0, tail.1 ∙ head.1)
+
+  keeps_same : (d e : Device) → e ≡ d → Keeps areas 0 d e
+  keeps_same d e same = subst (λ (x : Device). Keeps areas 0 d x) (sym same) record { banks = refl; loaded = counted_none d.loads; outside = λ bank offset out. refl }
+
+  keeps_both : (a b c : Device) (first second : ℕ) → Keeps areas first a b → Keeps areas second b c → Keeps areas (first + second) a c
+  keeps_both a b c first second one two = record {
+    banks = two.banks ∙ one.banks;
+    loaded = two.loaded ∙ ap (λ (n : ℕ). counted n second) one.loaded ∙ counted_counted a.loads first second;
+    outside = λ bank offset out. two.outside bank offset (subst (λ (banks : List Bank). ¬ IsInSome banks bank offset areas) (sym one.banks) out) ∙ one.outside bank offset out;
+  }
+
+  keeps_of : (lines : List Line) (answers : List Answer) (old new : Moment) → Follows (LineDone m areas) lines answers old new → Keeps areas (replaced_in lines answers) old.device new.device
+  keeps_of [] [] old new same = keeps_same old.device new.device (ap (λ (d : Moment). d.device) same)
+  keeps_of [] (answer ∷ answers) old new none = absurd none
+  keeps_of (line ∷ lines) [] old new none = absurd none
+  keeps_of (line ∷ lines) (answer ∷ answers) old new runs =
+      keeps_both old.device runs.0.device new.device (cond (replaces line answer) 1 0) (replaced_in lines answers) runs.1.keeps (keeps_of lines answers runs.0 new runs.2)
+
+  pub runs_of : (lines : List Line) (answers : List Answer) (old new : Moment) → Follows (LineDone m areas) lines answers old new → Ran m areas lines answers old new
+  runs_of lines answers old new runs = record {
+    in_turn = runs;
+    session = session_of old.device.banks new.device.spent lines answers old new refl (omega arith) runs;
+    spent = summed (LineDone m areas) (λ d. d.device.spent) units_of (λ line answer a b done. done.accounts.spent) lines answers old new runs;
+    losses = losses_of lines answers old new runs;
+    planned = λ counts. planned_of lines answers old new counts runs;
+    keeps = keeps_of lines answers old new runs;
+    unplanned = unplanned_of lines answers old new runs;
+  }
+
+pub lines_make_runs : LinesMakeRuns
+lines_make_runs m areas lines answers old new runs = runs_of m areas lines answers old new runs

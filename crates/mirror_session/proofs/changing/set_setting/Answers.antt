@@ -1,0 +1,140 @@
+-- each end of the call makes its answer
+use Rattle.std.specs.Prelude.{Result}
+use Rattle.std.proofs.Common.{◌≡◌, ◌<◌, ◌≤◌, ◌-◌, ℕ, List, [], ◌∷◌, Err, ap, subst, sym, refl, ◌∙◌, length, true, false}
+use Rattle.std.proofs.lemmas.Bool.{false≢true}
+use Rattle.flash_map.specs.Touches.{Touches}
+use Rattle.backend_api.specs.Ends.{set_lost}
+use Rattle.backend_api.specs.declared.backend.SetFault.{SetFault}
+use Rattle.backend_api.specs.declared.backend.SetFault.TheVariants.{NoSpace, TooManyNames, PowerLost}
+use Rattle.script_lines.specs.declared.answer.Answer.TheVariants as settings
+use Rattle.mirror_lines.specs.declared.line.Line.TheVariants.{Set}
+use Rattle.mirror_lines.specs.declared.answer.Answer.TheVariants.{Told}
+use Rattle.mirror_lines.specs.Answer.{done, lost}
+use Rattle.mirror_session.specs.Bench.{meanings, moment}
+use Rattle.mirror_session.specs.LineDone.{LineDone}
+use Rattle.mirror_session.proofs.CommandLines.{held_again, set_done, set_full, set_lost_sound, set_many}
+use Rattle.mirror_session.proofs.CommandLines.{set_lost as set_line_lost}
+use Rattle.mirror_session.proofs.HeldLemmas.{limit_is}
+use Rattle.mirror_session.proofs.SideLemmas.{sides_sound}
+use Rattle.mirror_session.proofs.changing.set_setting.Goals as goal
+
+pub set-end-requires-clause-short : goal.set-end-requires-clause-short
+set-end-requires-clause-short g c =
+    let K = g.K.Backend in
+    let m = meanings K.damage K.contents K.room g.K.Priced.prices in
+    rw (c.as_slice.ensures) (subst (λ (n : ℕ). length c.args.value.now ≤ n) (sym (limit_is K.mounted_on K.stands m K.serves c.args.map.now (g.B.Flash.device c.args.bench.now) c.args.mirror.now c.requires.map c.requires.held)) c.requires.short)
+
+pub returns-in-Ok-clause-done : goal.returns-in-Ok-clause-done
+returns-in-Ok-clause-done g c =
+    let K = g.K.Backend in
+    let m = meanings K.damage K.contents K.room g.K.Priced.prices in
+    let old = g.B.Flash.device c.args.bench.now in
+    let new = g.B.Flash.device c.set-end.new.flash in
+    let lawful = g.met.B.Flash.is_lawful c.args.bench.now in
+    let lawful_new = g.met.B.Flash.is_lawful c.set-end.new.flash in
+    let some : 0 < length c.as_slice.result.now = rw (c.as_slice.ensures) c.requires.some in
+    let up = c.set-end.ensures.mirrors (ap (λ (r : Result (Unit {0}) SetFault). set_lost r) c.in-Ok.is) in
+    let sound = sides_sound K.mounted_on K.stands m new c.args.mirror.now c.set-end.new.self (λ s h x is. g.met.K.Backend.stands_reads s h x is) c.set-end.ensures.trusted c.set-end.ensures.other up in
+    let line = set_done K.mounted_on K.stands m K.serves c.args.map.now old new c.args.mirror.now c.set-end.new.self c.requires.map c.requires.held c.requires.on lawful lawful_new c.args.name.now c.as_slice.result.now some c.set-end.ensures.at_most (new.spent - old.spent) refl c.set-end.result c.set-end.ensures.ends c.in-Ok.field-0 c.in-Ok.is (subst (λ (r : Result (Unit {0}) SetFault). Touches (c.args.mirror.now.trusted.area ∷ c.args.mirror.now.other.area ∷ []) old new (set_lost r)) c.in-Ok.is c.set-end.ensures.touches) sound.0 sound.1 in
+    rw (c.done.ensures, c.spent.ensures, c.spent-before.ensures) (subst (λ (v : List ℕ). LineDone m c.args.map.now (Set c.args.name.now v) (done (new.spent - old.spent)) (moment old true) (moment new true)) c.as_slice.ensures line)
+
+pub returns-in-Err-NoSpace-clause-done : goal.returns-in-Err-NoSpace-clause-done
+returns-in-Err-NoSpace-clause-done g c =
+    let K = g.K.Backend in
+    let m = meanings K.damage K.contents K.room g.K.Priced.prices in
+    let old = g.B.Flash.device c.args.bench.now in
+    let new = g.B.Flash.device c.set-end.new.flash in
+    let lawful = g.met.B.Flash.is_lawful c.args.bench.now in
+    let lawful_new = g.met.B.Flash.is_lawful c.set-end.new.flash in
+    let some : 0 < length c.as_slice.result.now = rw (c.as_slice.ensures) c.requires.some in
+    let which : c.in-Err-NoSpace.field-0 ≡ NoSpace c.in-Err-NoSpace.need c.in-Err-NoSpace.live = rw c.in-Err-NoSpace.is at c.in-Err-NoSpace.field-0-is in
+    let end : c.set-end.result ≡ Err (NoSpace c.in-Err-NoSpace.need c.in-Err-NoSpace.live) = c.in-Err-NoSpace.is ∙ ap (λ (fault : SetFault). Err fault) which in
+    let line = set_full K.mounted_on K.stands m K.serves c.args.map.now old new c.args.mirror.now c.set-end.new.self c.requires.map c.requires.held c.requires.on lawful lawful_new c.args.name.now c.as_slice.result.now some c.set-end.ensures.at_most (new.spent - old.spent) refl c.set-end.result c.set-end.ensures.ends c.in-Err-NoSpace.need c.in-Err-NoSpace.live end (subst (λ (r : Result (Unit {0}) SetFault). Touches (c.args.mirror.now.trusted.area ∷ c.args.mirror.now.other.area ∷ []) old new (set_lost r)) end c.set-end.ensures.touches) in
+    rw (c.spent.ensures, c.spent-before.ensures) (subst (λ (v : List ℕ). LineDone m c.args.map.now (Set c.args.name.now v) (Told (settings.NoSpace (new.spent - old.spent) c.in-Err-NoSpace.need c.in-Err-NoSpace.live)) (moment old true) (moment new true)) c.as_slice.ensures line)
+
+pub returns-in-Err-TooManyNames-clause-done : goal.returns-in-Err-TooManyNames-clause-done
+returns-in-Err-TooManyNames-clause-done g c =
+    let K = g.K.Backend in
+    let m = meanings K.damage K.contents K.room g.K.Priced.prices in
+    let old = g.B.Flash.device c.args.bench.now in
+    let new = g.B.Flash.device c.set-end.new.flash in
+    let lawful = g.met.B.Flash.is_lawful c.args.bench.now in
+    let lawful_new = g.met.B.Flash.is_lawful c.set-end.new.flash in
+    let some : 0 < length c.as_slice.result.now = rw (c.as_slice.ensures) c.requires.some in
+    let which : c.in-Err-TooManyNames.field-0 ≡ TooManyNames = rw c.in-Err-TooManyNames.is at c.in-Err-TooManyNames.field-0-is in
+    let end : c.set-end.result ≡ Err (TooManyNames) = c.in-Err-TooManyNames.is ∙ ap (λ (fault : SetFault). Err fault) which in
+    let line = set_many K.mounted_on K.stands m K.serves c.args.map.now old new c.args.mirror.now c.set-end.new.self c.requires.map c.requires.held c.requires.on lawful lawful_new c.args.name.now c.as_slice.result.now some c.set-end.ensures.at_most (new.spent - old.spent) refl c.set-end.result c.set-end.ensures.ends end (subst (λ (r : Result (Unit {0}) SetFault). Touches (c.args.mirror.now.trusted.area ∷ c.args.mirror.now.other.area ∷ []) old new (set_lost r)) end c.set-end.ensures.touches) in
+    rw (c.spent.ensures, c.spent-before.ensures) (subst (λ (v : List ℕ). LineDone m c.args.map.now (Set c.args.name.now v) (Told (settings.TooMany (new.spent - old.spent))) (moment old true) (moment new true)) c.as_slice.ensures line)
+
+pub returns-in-Err-PowerLost-clause-done : goal.returns-in-Err-PowerLost-clause-done
+returns-in-Err-PowerLost-clause-done g c =
+    let K = g.K.Backend in
+    let m = meanings K.damage K.contents K.room g.K.Priced.prices in
+    let old = g.B.Flash.device c.args.bench.now in
+    let new = g.B.Flash.device c.set-end.new.flash in
+    let lawful = g.met.B.Flash.is_lawful c.args.bench.now in
+    let lawful_new = g.met.B.Flash.is_lawful c.set-end.new.flash in
+    let some : 0 < length c.as_slice.result.now = rw (c.as_slice.ensures) c.requires.some in
+    let which : c.in-Err-PowerLost.field-0 ≡ PowerLost = rw c.in-Err-PowerLost.is at c.in-Err-PowerLost.field-0-is in
+    let end : c.set-end.result ≡ Err (PowerLost) = c.in-Err-PowerLost.is ∙ ap (λ (fault : SetFault). Err fault) which in
+    let line = set_line_lost K.mounted_on K.stands m K.serves c.args.map.now old new c.args.mirror.now c.set-end.new.self c.requires.map c.requires.held c.requires.on lawful lawful_new c.args.name.now c.as_slice.result.now some c.set-end.ensures.at_most (new.spent - old.spent) refl c.set-end.result c.set-end.ensures.ends end (subst (λ (r : Result (Unit {0}) SetFault). Touches (c.args.mirror.now.trusted.area ∷ c.args.mirror.now.other.area ∷ []) old new (set_lost r)) end c.set-end.ensures.touches) in
+    rw (c.lost.ensures, c.spent.ensures, c.spent-before.ensures) (subst (λ (v : List ℕ). LineDone m c.args.map.now (Set c.args.name.now v) (lost (new.spent - old.spent)) (moment old true) (moment new true)) c.as_slice.ensures line)
+
+pub returns-in-Ok-clause-held : goal.returns-in-Ok-clause-held
+returns-in-Ok-clause-held g c =
+    let K = g.K.Backend in
+    let m = meanings K.damage K.contents K.room g.K.Priced.prices in
+    let old = g.B.Flash.device c.args.bench.now in
+    let new = g.B.Flash.device c.set-end.new.flash in
+    let lawful = g.met.B.Flash.is_lawful c.args.bench.now in
+    let lawful_new = g.met.B.Flash.is_lawful c.set-end.new.flash in
+    let end = c.in-Ok.is in
+    let touches = subst (λ (r : Result (Unit {0}) SetFault). Touches (c.args.mirror.now.trusted.area ∷ c.args.mirror.now.other.area ∷ []) old new (set_lost r)) end c.set-end.ensures.touches in
+    let up = c.set-end.ensures.mirrors (ap (λ (r : Result (Unit {0}) SetFault). set_lost r) end) in
+    let sound = sides_sound K.mounted_on K.stands m new c.args.mirror.now c.set-end.new.self (λ s h x is. g.met.K.Backend.stands_reads s h x is) c.set-end.ensures.trusted c.set-end.ensures.other up in
+    held_again K.mounted_on K.stands m K.serves c.args.map.now old new c.args.mirror.now c.set-end.new.self c.requires.map c.requires.held c.requires.on lawful lawful_new false touches c.set-end.ensures.trusted c.set-end.ensures.other sound.0 sound.1 (λ power. up)
+
+pub returns-in-Err-NoSpace-clause-held : goal.returns-in-Err-NoSpace-clause-held
+returns-in-Err-NoSpace-clause-held g c =
+    let K = g.K.Backend in
+    let m = meanings K.damage K.contents K.room g.K.Priced.prices in
+    let old = g.B.Flash.device c.args.bench.now in
+    let new = g.B.Flash.device c.set-end.new.flash in
+    let lawful = g.met.B.Flash.is_lawful c.args.bench.now in
+    let lawful_new = g.met.B.Flash.is_lawful c.set-end.new.flash in
+    let which : c.in-Err-NoSpace.field-0 ≡ NoSpace c.in-Err-NoSpace.need c.in-Err-NoSpace.live = rw c.in-Err-NoSpace.is at c.in-Err-NoSpace.field-0-is in
+    let end : c.set-end.result ≡ Err (NoSpace c.in-Err-NoSpace.need c.in-Err-NoSpace.live) = c.in-Err-NoSpace.is ∙ ap (λ (fault : SetFault). Err fault) which in
+    let touches = subst (λ (r : Result (Unit {0}) SetFault). Touches (c.args.mirror.now.trusted.area ∷ c.args.mirror.now.other.area ∷ []) old new (set_lost r)) end c.set-end.ensures.touches in
+    let up = c.set-end.ensures.mirrors (ap (λ (r : Result (Unit {0}) SetFault). set_lost r) end) in
+    let sound = sides_sound K.mounted_on K.stands m new c.args.mirror.now c.set-end.new.self (λ s h x is. g.met.K.Backend.stands_reads s h x is) c.set-end.ensures.trusted c.set-end.ensures.other up in
+    held_again K.mounted_on K.stands m K.serves c.args.map.now old new c.args.mirror.now c.set-end.new.self c.requires.map c.requires.held c.requires.on lawful lawful_new false touches c.set-end.ensures.trusted c.set-end.ensures.other sound.0 sound.1 (λ power. up)
+
+pub returns-in-Err-TooManyNames-clause-held : goal.returns-in-Err-TooManyNames-clause-held
+returns-in-Err-TooManyNames-clause-held g c =
+    let K = g.K.Backend in
+    let m = meanings K.damage K.contents K.room g.K.Priced.prices in
+    let old = g.B.Flash.device c.args.bench.now in
+    let new = g.B.Flash.device c.set-end.new.flash in
+    let lawful = g.met.B.Flash.is_lawful c.args.bench.now in
+    let lawful_new = g.met.B.Flash.is_lawful c.set-end.new.flash in
+    let which : c.in-Err-TooManyNames.field-0 ≡ TooManyNames = rw c.in-Err-TooManyNames.is at c.in-Err-TooManyNames.field-0-is in
+    let end : c.set-end.result ≡ Err (TooManyNames) = c.in-Err-TooManyNames.is ∙ ap (λ (fault : SetFault). Err fault) which in
+    let touches = subst (λ (r : Result (Unit {0}) SetFault). Touches (c.args.mirror.now.trusted.area ∷ c.args.mirror.now.other.area ∷ []) old new (set_lost r)) end c.set-end.ensures.touches in
+    let up = c.set-end.ensures.mirrors (ap (λ (r : Result (Unit {0}) SetFault). set_lost r) end) in
+    let sound = sides_sound K.mounted_on K.stands m new c.args.mirror.now c.set-end.new.self (λ s h x is. g.met.K.Backend.stands_reads s h x is) c.set-end.ensures.trusted c.set-end.ensures.other up in
+    held_again K.mounted_on K.stands m K.serves c.args.map.now old new c.args.mirror.now c.set-end.new.self c.requires.map c.requires.held c.requires.on lawful lawful_new false touches c.set-end.ensures.trusted c.set-end.ensures.other sound.0 sound.1 (λ power. up)
+
+pub returns-in-Err-PowerLost-clause-held : goal.returns-in-Err-PowerLost-clause-held
+returns-in-Err-PowerLost-clause-held g c =
+    let K = g.K.Backend in
+    let m = meanings K.damage K.contents K.room g.K.Priced.prices in
+    let old = g.B.Flash.device c.args.bench.now in
+    let new = g.B.Flash.device c.set-end.new.flash in
+    let lawful = g.met.B.Flash.is_lawful c.args.bench.now in
+    let lawful_new = g.met.B.Flash.is_lawful c.set-end.new.flash in
+    let some : 0 < length c.as_slice.result.now = rw (c.as_slice.ensures) c.requires.some in
+    let which : c.in-Err-PowerLost.field-0 ≡ PowerLost = rw c.in-Err-PowerLost.is at c.in-Err-PowerLost.field-0-is in
+    let end : c.set-end.result ≡ Err (PowerLost) = c.in-Err-PowerLost.is ∙ ap (λ (fault : SetFault). Err fault) which in
+    let touches = subst (λ (r : Result (Unit {0}) SetFault). Touches (c.args.mirror.now.trusted.area ∷ c.args.mirror.now.other.area ∷ []) old new (set_lost r)) end c.set-end.ensures.touches in
+    let sound = set_lost_sound K.mounted_on K.stands m K.serves c.args.map.now old new c.args.mirror.now c.set-end.new.self c.requires.map c.requires.held c.requires.on lawful lawful_new c.args.name.now c.as_slice.result.now some c.set-end.ensures.at_most (new.spent - old.spent) refl c.set-end.result c.set-end.ensures.ends end in
+    held_again K.mounted_on K.stands m K.serves c.args.map.now old new c.args.mirror.now c.set-end.new.self c.requires.map c.requires.held c.requires.on lawful lawful_new true touches c.set-end.ensures.trusted c.set-end.ensures.other sound.0 sound.1 (λ power. absurd (false≢true (sym (touches.ends c.requires.on).off ∙ power)))

@@ -1,0 +1,127 @@
+-- the mount was whole; or power was lost; or it stopped
+use Rattle.std.proofs.Common.{◌≡◌, ◌-◌, ◌≤◌, Err, refl, ap, ◌∙◌}
+use Rattle.mirror.specs.declared.mounting.MirrorMount.{MirrorMount}
+use Rattle.mirror.specs.declared.mounting.MirrorMount.TheVariants.{Damaged as HasDamage, Unfit as IsNotFit, PowerLost, NoMemory as WantsMemory}
+use Rattle.mirror_session.specs.Bench.{meanings}
+use Rattle.mirror_session.proofs.CutLemmas.{stays_sound, stops_mounting}
+use Rattle.mirror_session.proofs.MountLemmas.{banks_stay, cut_so, damaged_stops, held_now, lost_line, memory_stops, off_now, spent_risen, unfit_stops, whole_line}
+use Rattle.mirror_session.proofs.mounting.mount.Goals as goal
+
+pub returns-in-Ok-clause-done : goal.returns-in-Ok-clause-done
+returns-in-Ok-clause-done g c =
+    let K = g.K.Backend in
+    let m = meanings K.damage K.contents K.room g.K.Priced.prices in
+    let old = g.B.Flash.device c.args.bench.now in
+    let mid = g.B.Flash.device c.restore.new.self in
+    let new = g.B.Flash.device c.mount-end.new.flash in
+    λ was. rw (c.done.ensures, c.spent.ensures, c.spent-before.ensures) (whole_line K.mounted_on K.stands m K.serves c.args.map.now old mid new c.requires.map c.restore.ensures c.mount-end.result c.mount-end.ensures.touches c.mount-end.ensures.ends c.in-Ok.mirror c.in-Ok.is (λ s h x is. g.met.K.Backend.stands_reads s h x is) (new.spent - mid.spent) was refl)
+
+pub returns-in-Ok-clause-ready : goal.returns-in-Ok-clause-ready
+returns-in-Ok-clause-ready g c =
+    let K = g.K.Backend in
+    let m = meanings K.damage K.contents K.room g.K.Priced.prices in
+    let old = g.B.Flash.device c.args.bench.now in
+    let mid = g.B.Flash.device c.restore.new.self in
+    let new = g.B.Flash.device c.mount-end.new.flash in
+    held_now K.mounted_on K.stands m K.serves c.args.map.now old mid new c.requires.map c.restore.ensures c.mount-end.result c.mount-end.ensures.touches c.mount-end.ensures.ends c.in-Ok.mirror c.in-Ok.is (λ s h x is. g.met.K.Backend.stands_reads s h x is)
+
+pub returns-in-Err-PowerLost-clause-done : goal.returns-in-Err-PowerLost-clause-done
+returns-in-Err-PowerLost-clause-done g c =
+    let K = g.K.Backend in
+    let m = meanings K.damage K.contents K.room g.K.Priced.prices in
+    let old = g.B.Flash.device c.args.bench.now in
+    let mid = g.B.Flash.device c.restore.new.self in
+    let new = g.B.Flash.device c.mount-end.new.flash in
+    let which : c.in-Err-PowerLost.field-0 ≡ PowerLost = rw c.in-Err-PowerLost.is at c.in-Err-PowerLost.field-0-is in
+    let end : c.mount-end.result ≡ Err (PowerLost) = c.in-Err-PowerLost.is ∙ ap (λ (fault : MirrorMount). Err fault) which in
+    let stops = stops_mounting m K.serves c.args.map.now old new c.requires.map (g.met.B.Flash.is_lawful c.args.bench.now) (g.met.B.Flash.is_lawful c.mount-end.new.flash) (banks_stay K.mounted_on K.stands m K.serves c.args.map.now old mid new c.requires.map c.restore.ensures c.mount-end.result c.mount-end.ensures.touches c.mount-end.ensures.ends) (λ x a fine is served blank. g.met.K.Priced.blank_empty x a fine is served blank) (cut_so K.mounted_on K.stands m K.serves c.args.map.now old mid new c.requires.map c.restore.ensures c.mount-end.result c.mount-end.ensures.touches c.mount-end.ensures.ends end) (off_now K.mounted_on K.stands m K.serves c.args.map.now old mid new c.requires.map c.restore.ensures c.mount-end.result c.mount-end.ensures.touches c.mount-end.ensures.ends end) in
+    let sound = stays_sound m K.serves c.args.map.now old new c.requires.map (g.met.B.Flash.is_lawful c.args.bench.now) (g.met.B.Flash.is_lawful c.mount-end.new.flash) (banks_stay K.mounted_on K.stands m K.serves c.args.map.now old mid new c.requires.map c.restore.ensures c.mount-end.result c.mount-end.ensures.touches c.mount-end.ensures.ends) (λ x a fine is served blank. g.met.K.Priced.blank_empty x a fine is served blank) (cut_so K.mounted_on K.stands m K.serves c.args.map.now old mid new c.requires.map c.restore.ensures c.mount-end.result c.mount-end.ensures.touches c.mount-end.ensures.ends end) (off_now K.mounted_on K.stands m K.serves c.args.map.now old mid new c.requires.map c.restore.ensures c.mount-end.result c.mount-end.ensures.touches c.mount-end.ensures.ends end) in
+    λ was. rw (c.lost.ensures, c.spent.ensures, c.spent-before.ensures) (lost_line K.mounted_on K.stands m K.serves c.args.map.now old mid new c.requires.map c.restore.ensures c.mount-end.result c.mount-end.ensures.touches c.mount-end.ensures.ends end (new.spent - mid.spent) was refl (λ last. stops last was) (λ shown. sound new.spent was shown))
+
+pub returns-in-Err-Damaged-clause-stops : goal.returns-in-Err-Damaged-clause-stops
+returns-in-Err-Damaged-clause-stops g c =
+    let K = g.K.Backend in
+    let m = meanings K.damage K.contents K.room g.K.Priced.prices in
+    let old = g.B.Flash.device c.args.bench.now in
+    let mid = g.B.Flash.device c.restore.new.self in
+    let new = g.B.Flash.device c.mount-end.new.flash in
+    let which : c.in-Err-Damaged.field-0 ≡ HasDamage c.in-Err-Damaged.area c.in-Err-Damaged.damage = rw c.in-Err-Damaged.is at c.in-Err-Damaged.field-0-is in
+    let end : c.mount-end.result ≡ Err (HasDamage c.in-Err-Damaged.area c.in-Err-Damaged.damage) = c.in-Err-Damaged.is ∙ ap (λ (fault : MirrorMount). Err fault) which in
+    damaged_stops K.mounted_on K.stands m K.serves c.args.map.now old mid new c.requires.map c.restore.ensures c.mount-end.result c.mount-end.ensures.touches c.mount-end.ensures.ends c.in-Err-Damaged.area c.in-Err-Damaged.damage end
+
+pub returns-in-Err-Unfit-clause-stops : goal.returns-in-Err-Unfit-clause-stops
+returns-in-Err-Unfit-clause-stops g c =
+    let K = g.K.Backend in
+    let m = meanings K.damage K.contents K.room g.K.Priced.prices in
+    let old = g.B.Flash.device c.args.bench.now in
+    let mid = g.B.Flash.device c.restore.new.self in
+    let new = g.B.Flash.device c.mount-end.new.flash in
+    let which : c.in-Err-Unfit.field-0 ≡ IsNotFit c.in-Err-Unfit.area = rw c.in-Err-Unfit.is at c.in-Err-Unfit.field-0-is in
+    let end : c.mount-end.result ≡ Err (IsNotFit c.in-Err-Unfit.area) = c.in-Err-Unfit.is ∙ ap (λ (fault : MirrorMount). Err fault) which in
+    unfit_stops K.mounted_on K.stands m K.serves c.args.map.now old mid new c.requires.map c.restore.ensures c.mount-end.result c.mount-end.ensures.touches c.mount-end.ensures.ends c.in-Err-Unfit.area end
+
+pub returns-in-Err-NoMemory-clause-stops : goal.returns-in-Err-NoMemory-clause-stops
+returns-in-Err-NoMemory-clause-stops g c =
+    let K = g.K.Backend in
+    let m = meanings K.damage K.contents K.room g.K.Priced.prices in
+    let old = g.B.Flash.device c.args.bench.now in
+    let mid = g.B.Flash.device c.restore.new.self in
+    let new = g.B.Flash.device c.mount-end.new.flash in
+    let which : c.in-Err-NoMemory.field-0 ≡ WantsMemory = rw c.in-Err-NoMemory.is at c.in-Err-NoMemory.field-0-is in
+    let end : c.mount-end.result ≡ Err (WantsMemory) = c.in-Err-NoMemory.is ∙ ap (λ (fault : MirrorMount). Err fault) which in
+    memory_stops K.mounted_on K.stands m K.serves c.args.map.now old mid new c.requires.map c.restore.ensures c.mount-end.result c.mount-end.ensures.touches c.mount-end.ensures.ends end
+
+pub returns-in-Ok-clause-banks : goal.returns-in-Ok-clause-banks
+returns-in-Ok-clause-banks g c =
+    let K = g.K.Backend in
+    let m = meanings K.damage K.contents K.room g.K.Priced.prices in
+    let old = g.B.Flash.device c.args.bench.now in
+    let mid = g.B.Flash.device c.restore.new.self in
+    let new = g.B.Flash.device c.mount-end.new.flash in
+    banks_stay K.mounted_on K.stands m K.serves c.args.map.now old mid new c.requires.map c.restore.ensures c.mount-end.result c.mount-end.ensures.touches c.mount-end.ensures.ends
+
+pub returns-in-Err-PowerLost-clause-banks : goal.returns-in-Err-PowerLost-clause-banks
+returns-in-Err-PowerLost-clause-banks g c =
+    let K = g.K.Backend in
+    let m = meanings K.damage K.contents K.room g.K.Priced.prices in
+    let old = g.B.Flash.device c.args.bench.now in
+    let mid = g.B.Flash.device c.restore.new.self in
+    let new = g.B.Flash.device c.mount-end.new.flash in
+    banks_stay K.mounted_on K.stands m K.serves c.args.map.now old mid new c.requires.map c.restore.ensures c.mount-end.result c.mount-end.ensures.touches c.mount-end.ensures.ends
+
+pub returns-in-Err-Damaged-clause-banks : goal.returns-in-Err-Damaged-clause-banks
+returns-in-Err-Damaged-clause-banks g c =
+    let K = g.K.Backend in
+    let m = meanings K.damage K.contents K.room g.K.Priced.prices in
+    let old = g.B.Flash.device c.args.bench.now in
+    let mid = g.B.Flash.device c.restore.new.self in
+    let new = g.B.Flash.device c.mount-end.new.flash in
+    banks_stay K.mounted_on K.stands m K.serves c.args.map.now old mid new c.requires.map c.restore.ensures c.mount-end.result c.mount-end.ensures.touches c.mount-end.ensures.ends
+
+pub returns-in-Err-Unfit-clause-banks : goal.returns-in-Err-Unfit-clause-banks
+returns-in-Err-Unfit-clause-banks g c =
+    let K = g.K.Backend in
+    let m = meanings K.damage K.contents K.room g.K.Priced.prices in
+    let old = g.B.Flash.device c.args.bench.now in
+    let mid = g.B.Flash.device c.restore.new.self in
+    let new = g.B.Flash.device c.mount-end.new.flash in
+    banks_stay K.mounted_on K.stands m K.serves c.args.map.now old mid new c.requires.map c.restore.ensures c.mount-end.result c.mount-end.ensures.touches c.mount-end.ensures.ends
+
+pub returns-in-Err-NoMemory-clause-banks : goal.returns-in-Err-NoMemory-clause-banks
+returns-in-Err-NoMemory-clause-banks g c =
+    let K = g.K.Backend in
+    let m = meanings K.damage K.contents K.room g.K.Priced.prices in
+    let old = g.B.Flash.device c.args.bench.now in
+    let mid = g.B.Flash.device c.restore.new.self in
+    let new = g.B.Flash.device c.mount-end.new.flash in
+    banks_stay K.mounted_on K.stands m K.serves c.args.map.now old mid new c.requires.map c.restore.ensures c.mount-end.result c.mount-end.ensures.touches c.mount-end.ensures.ends
+
+pub overflow_sub-units : goal.overflow_sub-units
+overflow_sub-units g c =
+    let K = g.K.Backend in
+    let m = meanings K.damage K.contents K.room g.K.Priced.prices in
+    let old = g.B.Flash.device c.args.bench.now in
+    let mid = g.B.Flash.device c.restore.new.self in
+    let new = g.B.Flash.device c.mount-end.new.flash in
+    let risen : mid.spent ≤ new.spent = spent_risen K.mounted_on K.stands m K.serves c.args.map.now old mid new c.requires.map c.restore.ensures c.mount-end.result c.mount-end.ensures.touches c.mount-end.ensures.ends in
+    rw (c.spent.ensures, c.spent-before.ensures) risen

@@ -1,0 +1,72 @@
+-- Which commands of a run stand: those of the lines that were done, and each one in which power was lost or not.
+use Rattle.std.specs.Prelude.{◌≡◌, Bool, true, false, List, [], ◌∷◌, ◌++◌, if◌then◌else◌}
+use Rattle.backend_api.specs.Commands.{Command, all_applied}
+use Rattle.backend_api.specs.Map.{Map}
+use Rattle.session_table.specs.Follows.{Follows}
+use Rattle.session_table.specs.Prefix.{Stand}
+use Rattle.mirror_lines.specs.declared.line.Line.{Line}
+use Rattle.mirror_lines.specs.declared.line.Line.TheVariants.{Mount}
+use Rattle.mirror_lines.specs.declared.answer.Answer.{Answer}
+use Rattle.mirror_lines.specs.Plan.{as_told, is_lost}
+use Rattle.mirror_session.specs.State.{State, Rules, IsOn}
+use Rattle.mirror_session.specs.Step.{LosesArea, Step, commands_of}
+
+-- with power on both areas read as the settings
+abbrev pub IsMirrored : State → Type 0
+IsMirrored s = IsOn s → s.other ≡ s.settings
+
+-- a state, and the commands that stand so far
+pub record Logged : Type 0 where
+  pub state : State
+  pub log : List Command
+
+-- A line adds those of its commands that stand: all where it was done, a front of them where power was lost. With power on both areas read
+-- as the start after all commands that stand.
+pub record LogStep (r : Rules) (start : Map) (line : Line) (answer : Answer) (old new : Logged) : Type 0 where
+  pub step : Step r line answer old.state new.state
+  pub done : List Command
+  pub stand : Stand (as_told answer) (commands_of line old.state.settings) done
+  pub log : new.log ≡ old.log ++ done
+  pub reads : IsOn new.state → new.state.settings ≡ all_applied start new.log
+  pub both : IsMirrored new.state
+
+-- Whenever the settings are read, and in the end, they are those of the start after the commands that stand, line by line. Whether one
+-- in which power was lost stands may be settled by a later line, as where the area that had it is replaced.
+pub record IsAfterPrefix (r : Rules) (lines : List Line) (answers : List Answer) (old new : State) : Type 0 where
+  pub log : List Command
+  pub runs :
+      Follows (LogStep r old.settings) lines answers
+      (record { state = old; log = [] })
+      (record { state = new; log = log })
+  pub settings : new.settings ≡ all_applied old.settings log
+
+-- Behind a front of the lines, for which that holds and which left no settings, a mount was cut and left the area that was read all FF.
+pub record GoesAstray (r : Rules) (lines : List Line) (answers : List Answer) (old new : State) : Type 0 where
+  pub front : List Line
+  pub rest : List Line
+  pub are : lines ≡ front ++ Mount ∷ rest
+  pub told : List Answer
+  pub answer : Answer
+  pub more : List Answer
+  pub answered : answers ≡ told ++ answer ∷ more
+  pub lost : is_lost answer ≡ true
+  pub mid : State
+  pub before : IsAfterPrefix r front told old mid
+  pub next : State
+  pub step : Step r Mount answer mid next
+  pub loses : LosesArea r mid next
+  pub runs : Follows (Step r) rest more next new
+
+-- ---- power
+
+-- after this line power is on
+abbrev pub restores : Line → Bool
+restores Mount = true
+restores line = false
+
+-- Power is off after a line in which it was lost, until a mount answers `ok`.
+abbrev pub power_after : Line → Answer → Bool → Bool
+power_after line answer was = if is_lost answer then false else (if restores line then true else was)
+
+abbrev pub PowerStep : Line → Answer → Bool → Bool → Type 0
+PowerStep line answer old new = new ≡ power_after line answer old

@@ -1,0 +1,161 @@
+-- What lines make of a bench.
+use Rattle.std.specs.Prelude.{◌≡◌, ◌⊎◌, ℕ, ◌+◌, ◌*◌, ◌≤◌, ⊤, Bool, true, false, List, [], ◌∷◌, length, replicate, slice_set, Some, None, if◌then◌else◌}
+use Rattle.std.specs.List.{slice_get}
+use Rattle.flash_sim.specs.Device.{Device, Never, bytes_of, counted, loaded, overwritten}
+use Rattle.flash_map.specs.declared.area.Area.{Area}
+use Rattle.flash_map.specs.Area.{sector_size}
+use Rattle.flash_map.specs.On.{on}
+use Rattle.flash_map.specs.Touches.{SameOutside, Touches}
+use Rattle.backend_api.specs.Commands.{Command, applied}
+use Rattle.backend_api.specs.Commands.Command.{Del as Delete}
+use Rattle.backend_api.specs.Map.{Map}
+use Rattle.settings_core.specs.Carrying.{command_of}
+use Rattle.migrator.specs.Active.{active_on, selector_damage_on}
+use Rattle.migrator.specs.Areas.{is_store, selector_of}
+use Rattle.mirror.specs.Mirrored.{IsCutBoth}
+use Rattle.mirror.specs.Room.{FitsOn}
+use Rattle.mirror.specs.Trusted.{damage_shown, trusted_on}
+use Rattle.script_lines.specs.declared.answer.Answer.TheVariants as settings
+use Rattle.script_lines.specs.Plan.Replan.{keeps as keeps_plan}
+use Rattle.session.specs.OnMap.{turned_on}
+use Rattle.session_table.specs.Bench.{area_at}
+use Rattle.mirror_lines.specs.declared.line.Line.{Line}
+use Rattle.mirror_lines.specs.declared.line.Line.TheVariants.{Set, Del, Mount, Blank}
+use Rattle.mirror_lines.specs.declared.answer.Answer.{Answer}
+use Rattle.mirror_lines.specs.declared.answer.Answer.TheVariants.{Told}
+use Rattle.mirror_lines.specs.Plan.{units_of, is_lost, replan, Allows, plan_after, PlansNoLoss}
+use Rattle.mirror_session.specs.Bench.{Meanings, Moment, beside_in, labelled, rules_of, state_of}
+use Rattle.mirror_session.specs.State.{IsCounted}
+use Rattle.mirror_session.specs.Step.{LosesArea, Step}
+
+-- a line's value is one that the areas take
+abbrev pub IsServed : ℕ → Line → Type 0
+IsServed limit (Set name value) = length value ≤ limit
+IsServed limit line = ⊤
+
+-- a mount turns power on first
+abbrev pub powered_for : Line → Device → Device
+powered_for Mount d = turned_on d
+powered_for line d = d
+
+-- an area was replaced
+abbrev pub replaces : Line → Answer → Bool
+replaces (Blank label) (Told (settings.Done units)) = true
+replaces line answer = false
+
+-- the banks, the count of loads, and each byte outside the areas
+pub record Keeps (areas : List Area) (loads : ℕ) (old new : Device) : Type 0 where
+  pub banks : new.banks ≡ old.banks
+  pub loaded : new.loads ≡ counted old.loads loads
+  pub outside : SameOutside areas old new
+
+-- on a flash that tells that no loss is planned none comes, and none is planned afterwards
+abbrev pub StaysUnplanned : Device → Device → Type 0
+StaysUnplanned old new = old.plan ≡ Never → (new.plan ≡ Never) × (new.losses ≡ old.losses)
+
+-- counts and plan
+pub record Accounts (line : Line) (answer : Answer) (old new : Device) : Type 0 where
+  pub spent : old.spent + units_of answer ≡ new.spent
+  pub losses : new.losses ≡ counted old.losses (if is_lost answer then 1 else 0)
+  pub allows : IsCounted new.spent → Allows old.plan answer
+  pub plan : IsCounted new.spent → new.plan ≡ plan_after old.plan line answer
+  pub unplanned : PlansNoLoss line → StaysUnplanned old new
+
+-- ---- what a line does to the areas
+
+-- the one that the selector names, and the one beside it
+abbrev pub store_areas : List Area → Device → List Area
+store_areas areas d = area_at areas (active_on areas d) ∷ area_at areas (beside_in areas (active_on areas d)) ∷ []
+
+-- all bytes of an area are FF then, and the flash was loaded so
+abbrev pub blanked : Device → Area → Device
+blanked d area =
+    let size = sector_size d area in
+    let bytes = overwritten (bytes_of d area.bank) (area.first * size) (replicate (area.sectors * size) 0xFF) in
+    loaded d d.banks (slice_set d.bytes area.bank bytes)
+
+-- the area with the label is blank then, and nothing else changed but that power is on at the flash
+abbrev pub Blanks : List Area → List ℕ → Device → Device → Type 0
+Blanks areas label old new = (place : ℕ) × (labelled areas label ≡ Some place) × (new ≡ blanked old (area_at areas place))
+
+-- what a line that replaced an area makes of the bytes
+abbrev pub Replaced : List Area → Line → Answer → Device → Device → Type 0
+Replaced areas (Blank label) (Told (settings.Done units)) old new = Blanks areas label old new
+Replaced areas line answer old new = ⊤
+
+-- the areas that a line works on: a command on the two store areas alone, and another line on those of the map
+abbrev pub worked_on : List Area → Line → Device → List Area
+worked_on areas (Set name value) d = store_areas areas d
+worked_on areas (Del name) d = store_areas areas d
+worked_on areas line d = areas
+
+-- The named area and the one beside it are as power left them in the command: neither is damaged, the named one has the settings of
+-- before or the new ones, and the other one has the new ones only where the named one has.
+abbrev pub CutsBoth : Meanings → List Area → Command → Device → Device → Type 0
+CutsBoth m areas command old new =
+    let named = area_at areas (active_on areas old) in
+    let other = area_at areas (beside_in areas (active_on areas old)) in
+    let before = on m.contents old named in
+    IsCutBoth m.damage m.contents new named other before (applied before command)
+
+abbrev pub Cuts : Meanings → List Area → Line → Answer → Device → Device → Type 0
+Cuts m areas (Set name value) (Told (settings.Lost units chance)) old new = CutsBoth m areas (command_of name value) old new
+Cuts m areas (Del name) (Told (settings.Lost units chance)) old new = CutsBoth m areas (Delete name) old new
+Cuts m areas line answer old new = ⊤
+
+-- A mount that was whole found no damage. One that was cut found none in the selector, and none in the area that is read, or the loss
+-- lies in the selector's area.
+abbrev pub Finds : Meanings → List Area → Line → Answer → Device → Device → Type 0
+Finds m areas Mount (Told (settings.Done units)) old new = damage_shown m.damage areas old ≡ None
+Finds m areas Mount (Told (settings.Lost units chance)) old new =
+    (selector_damage_on areas old ≡ None)
+    × ((on m.damage old (area_at areas (trusted_on areas old)) ≡ None)
+    ⊎ ((selector : Area) → selector_of areas ≡ Some selector → Touches (selector ∷ []) (turned_on old) new true))
+Finds m areas line answer old new = ⊤
+
+-- the settings fit both store areas
+abbrev pub FitsBoth : Meanings → List Area → Device → Map → Type 0
+FitsBoth m areas d settings =
+    (place : ℕ) (area : Area) → slice_get areas place ≡ Some area → is_store area ≡ true → FitsOn m.room m.prices d area settings
+
+-- after a mount that was whole they fit both
+abbrev pub Fits : Meanings → List Area → Line → Answer → Moment → Type 0
+Fits m areas Mount (Told (settings.Done units)) new = FitsBoth m areas new.device (state_of m areas new).settings
+Fits m areas line answer new = ⊤
+
+-- Where the map showed no damage it shows none; but for a mount that was cut and went astray.
+abbrev pub StaysSound : Meanings → List Area → Line → Answer → Moment → Moment → Type 0
+StaysSound m areas Mount (Told (settings.Lost units chance)) old new =
+    damage_shown m.damage areas old.device ≡ None
+    → (damage_shown m.damage areas new.device ≡ None)
+    ⊎ LosesArea (rules_of m areas old.device.banks new.device.spent) (state_of m areas old) (state_of m areas new)
+StaysSound m areas line answer old new =
+    damage_shown m.damage areas old.device ≡ None → damage_shown m.damage areas new.device ≡ None
+
+-- it changes neither bytes nor counts
+abbrev pub is_quiet : Line → Answer → Bool
+is_quiet (Set name value) answer = false
+is_quiet (Del name) answer = false
+is_quiet Mount answer = false
+is_quiet (Blank label) (Told (settings.Done units)) = false
+is_quiet line answer = true
+
+-- the plan alone may differ
+abbrev pub SameButPlan : Device → Device → Type 0
+SameButPlan old new = new ≡ record old { plan = new.plan }
+
+-- A line was carried out by the table. But for the plan and for an area that is replaced, the bench was touched in the areas that the line
+-- works on alone: a loss of power lies in one of them, and without a unit no byte changed.
+pub record LineDone (m : Meanings) (areas : List Area) (line : Line) (answer : Answer) (old new : Moment) : Type 0 where
+  pub step :
+      (last : ℕ) → new.device.spent ≤ last
+      → Step (rules_of m areas old.device.banks last) line answer (state_of m areas old) (state_of m areas new)
+  pub accounts : Accounts line answer old.device new.device
+  pub keeps : Keeps areas (if replaces line answer then 1 else 0) old.device new.device
+  pub touches : replan line answer ≡ keeps_plan → Touches (worked_on areas line old.device) (powered_for line old.device) new.device (is_lost answer)
+  pub blanks : Replaced areas line answer old.device new.device
+  pub quiet : is_quiet line answer ≡ true → SameButPlan old.device new.device
+  pub cuts : Cuts m areas line answer old.device new.device
+  pub finds : Finds m areas line answer old.device new.device
+  pub fits : Fits m areas line answer new
+  pub sound : StaysSound m areas line answer old new

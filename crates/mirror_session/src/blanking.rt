@@ -1,0 +1,60 @@
+// Putting a blank area in the place of another.
+ghost use Rattle.std.specs.Prelude.{◌≡◌, [], ◌+◌, ◌<◌, ◌≤◌, length, replicate, IfOk, OnErr, OnOk, slice_index_or, slice_set, vec_len};
+ghost use Rattle.flash_map.specs.Lawful.{IsLawfulFor};
+ghost use Rattle.flash_sim.specs.Contents.{contents};
+ghost use Rattle.flash_sim.specs.Device.{overwritten};
+ghost use Rattle.mirror_session.specs.LineDone.{blanked};
+
+use flash_map::Area;
+use flash_sim::{Bank, Bench, Flash, NoMemory};
+use std::alloc::Global;
+
+// Fills so many bytes from one offset with FF.
+fn erase_range(bytes: &mut Vec<u8>, from: usize, len: usize)
+    requires { from + len ≤ vec_len bytes.old }
+    ensures { bytes.new.items ≡ overwritten bytes.old.items from (replicate len 0xFF) }
+{
+    bytes[from..from + len].fill(0xFF);
+}
+
+// Fills so many bytes of one of several banks with FF.
+fn erase_in(banks: &mut Vec<Vec<u8>>, bank: usize, from: usize, len: usize)
+    requires bank { bank < vec_len banks.old }
+    requires range { from + len ≤ length (slice_index_or (contents banks.old.items) bank []) }
+    ensures { let old = slice_index_or (contents banks.old.items) bank [] in
+        contents banks.new.items ≡ slice_set (contents banks.old.items) bank (overwritten old from (replicate len 0xFF)) }
+{
+    let items = &mut banks[bank];
+    erase_range(items, from, len);
+}
+
+// The same banks.
+fn copied(alloc: Global, banks: &[Bank]) -> Result<Vec<Bank>, NoMemory>
+    ensures { IfOk result (λ copy. copy.items ≡ banks.now) }
+{
+    match Vec::from_slice(alloc, banks) {
+        Ok(copy) => Ok(copy),
+        Err(_) => Err(NoMemory),
+    }
+}
+
+// Loads the flash with the bytes that it has, but for those of the area, which are FF then. That drops a planned loss.
+//
+// # Errors
+// `NoMemory`, and the flash is as before.
+pub(crate) fn blank_area<B: Bench>(
+    alloc: Global,
+    bench: &mut B,
+    area: &Area,
+) -> Result<(), NoMemory>
+    requires { IsLawfulFor (B.device bench.old).banks area.now }
+    ensures ok { OnOk result (B.device bench.new ≡ blanked (B.device bench.old) area.now) }
+    ensures err { OnErr result (B.device bench.new ≡ B.device bench.old) }
+{
+    let mut bytes = bench.snapshot(alloc)?;
+    let banks = copied(alloc, bench.banks())?;
+    let size = banks[area.bank].sector as usize;
+    let from = area.first as usize * size;
+    erase_in(&mut bytes, area.bank, from, area.sectors as usize * size);
+    bench.load(alloc, banks, bytes)
+}

@@ -1,0 +1,242 @@
+// A session, and carrying out one line in it.
+ghost use Rattle.std.specs.Prelude.{◌≡◌, true, false, is_some, IfErr, IfOk, OnErr, OnOk};
+ghost use Rattle.mirror.specs.Trusted.{IsMirrorMap};
+ghost use Rattle.mirror_lines.specs.declared.line.Line.TheVariants.{Mount, Blank};
+ghost use Rattle.mirror_session.specs.Bench.{meanings, moment};
+ghost use Rattle.mirror_session.specs.LineDone.{IsServed, LineDone};
+ghost use Rattle.mirror_session.specs.Running.{LineStops, takes_memory};
+ghost use Rattle.mirror_session.specs.Standing.{IsHeld, IsReady};
+ghost use Rattle.mirror_session.specs.Step.{needs_power};
+ghost use Rattle.session.specs.OnMap.{limit_of};
+
+use crate::areas::labelled;
+use crate::blanking::blank_area;
+use crate::changing::{change_setting, delete_setting};
+use crate::fault::SessionFault;
+use crate::mounting::mount;
+use crate::planning::{drop_plan, plan_loss};
+use crate::telling::{get_setting, tell_all};
+use flash_map::FlashMap;
+use flash_sim::{Bench, Flash, NoMemory, Steps};
+use migrator::area_at;
+use mirror::{Mirror, Priced};
+use mirror_lines::{Answer, Label, Line};
+use std::alloc::Global;
+use std::sync::ledger::Ledger;
+
+/// A session on a mirror of settings.
+#[derive(Drop)]
+pub struct MirrorSession<K: Priced> {
+    // none once a mount lost power or an area was replaced, and power is off then
+    pub(crate) mirror: Option<Mirror<K>>,
+}
+
+impl<K: Priced> MirrorSession<K> {
+    /// Turns power on, mounts the mirror of a map, and gives the session with the answer to that mount.
+    ///
+    /// # Errors
+    /// `Damaged` with the damage that the map shows: the selector's, or that of the area that is read. `Unfit` where its
+    /// settings do not fit one of the two areas. `NoMemory`.
+    pub fn open<B: Bench, L: Ledger>(
+        alloc: Global,
+        bench: &mut B,
+        map: &FlashMap,
+        steps: &mut Steps<L>,
+    ) -> Result<(MirrorSession<K>, Answer), SessionFault>
+        requires map { IsMirrorMap K.serves map.now (B.device bench.old) }
+
+        ensures done { let m = meanings K.damage K.contents K.room K.prices in
+            let d = B.device bench.old in let e = B.device bench.new in
+            IfOk result (λ opened. LineDone m map.now Mount opened.1 (moment d false) (moment e (is_some opened.0.mirror))) }
+        ensures ready { let m = meanings K.damage K.contents K.room K.prices in
+            IfOk result (λ opened. IsReady K.mounted_on K.stands m map.now (B.device bench.new) opened.0.mirror) }
+        ensures stops { let m = meanings K.damage K.contents K.room K.prices in
+            IfErr result (λ fault. LineStops m map.now Mount (B.device bench.old) (B.device bench.new) fault) }
+        ensures banks { (B.device bench.new).banks ≡ (B.device bench.old).banks }
+    {
+        match mount(alloc, bench, map, steps) {
+            Ok(mounted) => {
+                let session = MirrorSession {
+                    mirror: mounted.mirror,
+                };
+                Ok((session, mounted.answer))
+            }
+            Err(fault) => Err(fault),
+        }
+    }
+
+    /// Carries out a line. With power off `set`, `get`, `del` and `names` answer `off`; and power is off from a line in which
+    /// it was lost, or in which an area was replaced, to the next mount that answers `ok`.
+    ///
+    /// # Errors
+    /// `Damaged` and `Unfit` where the line is a mount, as `open` has them. `NoMemory` where the line takes memory, as `get`,
+    /// `names`, `mount` and `blank` do. After any of them the session has to be opened anew.
+    pub fn carry_out<B: Bench, L: Ledger>(
+        &mut self,
+        alloc: Global,
+        line: &Line,
+        bench: &mut B,
+        map: &FlashMap,
+        steps: &mut Steps<L>,
+    ) -> Result<Answer, SessionFault>
+        requires map { IsMirrorMap K.serves map.now (B.device bench.old) }
+        requires ready { let m = meanings K.damage K.contents K.room K.prices in
+            IsReady K.mounted_on K.stands m map.now (B.device bench.old) self.old.mirror }
+        requires line { IsServed (limit_of map.now) line.now }
+
+        ensures done { let m = meanings K.damage K.contents K.room K.prices in
+            let d = B.device bench.old in let e = B.device bench.new in
+            IfOk result (λ answer. LineDone m map.now line.now answer (moment d (is_some self.old.mirror)) (moment e (is_some self.new.mirror))) }
+        ensures ready { let m = meanings K.damage K.contents K.room K.prices in
+            OnOk result (IsReady K.mounted_on K.stands m map.now (B.device bench.new) self.new.mirror) }
+        ensures stops { let m = meanings K.damage K.contents K.room K.prices in
+            IfErr result (λ fault. LineStops m map.now line.now (B.device bench.old) (B.device bench.new) fault) }
+        ensures banks { (B.device bench.new).banks ≡ (B.device bench.old).banks }
+    {
+        match line {
+            Line::Mount => self.mount(alloc, bench, map, steps),
+            Line::Cut { units } => Ok(plan_loss::<K, B>(bench, map, *units)),
+            Line::Uncut => Ok(drop_plan::<K, B>(bench, map)),
+            Line::Blank { label } => match self.replace(alloc, label, bench, map) {
+                Ok(answer) => Ok(answer),
+                Err(_) => Err(SessionFault::NoMemory),
+            },
+            _ => match self.on_mirror(alloc, line, bench, map, steps) {
+                Ok(answer) => Ok(answer),
+                Err(_) => Err(SessionFault::NoMemory),
+            },
+        }
+    }
+
+    // Mounts anew.
+    fn mount<B: Bench, L: Ledger>(
+        &mut self,
+        alloc: Global,
+        bench: &mut B,
+        map: &FlashMap,
+        steps: &mut Steps<L>,
+    ) -> Result<Answer, SessionFault>
+        requires map { IsMirrorMap K.serves map.now (B.device bench.old) }
+
+        ensures done { let m = meanings K.damage K.contents K.room K.prices in
+            let d = B.device bench.old in let e = B.device bench.new in
+            IfOk result (λ answer. LineDone m map.now Mount answer (moment d (is_some self.old.mirror)) (moment e (is_some self.new.mirror))) }
+        ensures ready { let m = meanings K.damage K.contents K.room K.prices in
+            OnOk result (IsReady K.mounted_on K.stands m map.now (B.device bench.new) self.new.mirror) }
+        ensures stops { let m = meanings K.damage K.contents K.room K.prices in
+            IfErr result (λ fault. LineStops m map.now Mount (B.device bench.old) (B.device bench.new) fault) }
+        ensures banks { (B.device bench.new).banks ≡ (B.device bench.old).banks }
+    {
+        match mount(alloc, bench, map, steps) {
+            Ok(mounted) => {
+                self.mirror = mounted.mirror;
+                Ok(mounted.answer)
+            }
+            Err(fault) => Err(fault),
+        }
+    }
+
+    // Puts a blank area in the place of the store area with the label, where power is off and each area is as a whole mount
+    // and the lines behind it left it.
+    fn replace<B: Bench>(
+        &mut self,
+        alloc: Global,
+        label: &Label,
+        bench: &mut B,
+        map: &FlashMap,
+    ) -> Result<Answer, NoMemory>
+        requires map { IsMirrorMap K.serves map.now (B.device bench.old) }
+        requires ready { let m = meanings K.damage K.contents K.room K.prices in
+            IsReady K.mounted_on K.stands m map.now (B.device bench.old) self.old.mirror }
+
+        ensures done { let m = meanings K.damage K.contents K.room K.prices in
+            let d = B.device bench.old in let e = B.device bench.new in
+            IfOk result (λ answer. LineDone m map.now (Blank label.now) answer (moment d (is_some self.old.mirror)) (moment e (is_some self.new.mirror))) }
+        ensures ready { let m = meanings K.damage K.contents K.room K.prices in
+            OnOk result (IsReady K.mounted_on K.stands m map.now (B.device bench.new) self.new.mirror) }
+        ensures same { OnErr result (B.device bench.new ≡ B.device bench.old) }
+        ensures banks { (B.device bench.new).banks ≡ (B.device bench.old).banks }
+    {
+        let is_whole = self.mirror.is_some();
+        if is_whole && bench.is_on() {
+            return Ok(Answer::On);
+        }
+        let Some(place) = labelled(map, label.as_slice()) else {
+            return Ok(Answer::NoArea);
+        };
+        if !is_whole {
+            return Ok(Answer::NotYet);
+        }
+        let area = area_at(map, place);
+        blank_area(alloc, bench, &area)?;
+        self.mirror = None;
+        Ok(Answer::done(0))
+    }
+
+    // Carries out a line that needs power.
+    fn on_mirror<B: Bench, L: Ledger>(
+        &mut self,
+        alloc: Global,
+        line: &Line,
+        bench: &mut B,
+        map: &FlashMap,
+        steps: &mut Steps<L>,
+    ) -> Result<Answer, NoMemory>
+        requires map { IsMirrorMap K.serves map.now (B.device bench.old) }
+        requires needs { needs_power line.now ≡ true }
+        requires ready { let m = meanings K.damage K.contents K.room K.prices in
+            IsReady K.mounted_on K.stands m map.now (B.device bench.old) self.old.mirror }
+        requires line { IsServed (limit_of map.now) line.now }
+
+        ensures done { let m = meanings K.damage K.contents K.room K.prices in
+            let d = B.device bench.old in let e = B.device bench.new in
+            IfOk result (λ answer. LineDone m map.now line.now answer (moment d (is_some self.old.mirror)) (moment e (is_some self.new.mirror))) }
+        ensures ready { let m = meanings K.damage K.contents K.room K.prices in
+            OnOk result (IsReady K.mounted_on K.stands m map.now (B.device bench.new) self.new.mirror) }
+        ensures same { OnErr result (B.device bench.new ≡ B.device bench.old) }
+        ensures takes { OnErr result (takes_memory line.now ≡ true) }
+        ensures banks { (B.device bench.new).banks ≡ (B.device bench.old).banks }
+    {
+        if !bench.is_on() {
+            return Ok(Answer::off());
+        }
+        match &mut self.mirror {
+            Some(mirror) => with_power(alloc, line, bench, map, mirror, steps),
+            None => Ok(Answer::off()),
+        }
+    }
+}
+
+// Carries out a line that needs power, with power on.
+fn with_power<K: Priced, B: Bench, L: Ledger>(
+    alloc: Global,
+    line: &Line,
+    bench: &mut B,
+    map: &FlashMap,
+    mirror: &mut Mirror<K>,
+    steps: &mut Steps<L>,
+) -> Result<Answer, NoMemory>
+    requires map { IsMirrorMap K.serves map.now (B.device bench.old) }
+    requires on { (B.device bench.old).is_on ≡ true }
+    requires needs { needs_power line.now ≡ true }
+    requires held { let m = meanings K.damage K.contents K.room K.prices in
+        IsHeld K.mounted_on K.stands m map.now (B.device bench.old) mirror.old }
+    requires line { IsServed (limit_of map.now) line.now }
+
+    ensures done { let m = meanings K.damage K.contents K.room K.prices in
+        let d = B.device bench.old in let e = B.device bench.new in
+        IfOk result (λ answer. LineDone m map.now line.now answer (moment d true) (moment e true)) }
+    ensures held { let m = meanings K.damage K.contents K.room K.prices in
+        IsHeld K.mounted_on K.stands m map.now (B.device bench.new) mirror.new }
+    ensures same { OnErr result (B.device bench.new ≡ B.device bench.old) }
+    ensures takes { OnErr result (takes_memory line.now ≡ true) }
+    ensures banks { (B.device bench.new).banks ≡ (B.device bench.old).banks }
+{
+    match line {
+        Line::Set { name, value } => Ok(change_setting(bench, mirror, map, name, value, steps)),
+        Line::Del { name } => Ok(delete_setting(bench, mirror, map, name, steps)),
+        Line::Get { name } => get_setting(alloc, bench, mirror, map, name, steps),
+        Line::Names => tell_all(alloc, bench, mirror, map, steps),
+        _ => unreachable!(),
+    }
+}

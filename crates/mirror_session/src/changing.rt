@@ -1,0 +1,112 @@
+// Lines that change settings, with power on.
+ghost use Rattle.std.specs.Prelude.{◌≡◌, ◌<◌, ◌≤◌, true, length};
+ghost use Rattle.mirror.specs.Trusted.{IsMirrorMap};
+ghost use Rattle.mirror_lines.specs.declared.line.Line.TheVariants.{Set, Del};
+ghost use Rattle.mirror_session.specs.Bench.{meanings, moment};
+ghost use Rattle.mirror_session.specs.LineDone.{IsServed, LineDone};
+ghost use Rattle.mirror_session.specs.Standing.{IsHeld};
+ghost use Rattle.session.specs.OnMap.{limit_of};
+
+use backend_api::SetFault;
+use flash_map::FlashMap;
+use flash_sim::{Bench, Flash, Steps};
+use mirror::{Mirror, Priced};
+use mirror_lines::{Answer, Bytes, SettingsAnswer};
+use setting_name::Name;
+use std::sync::ledger::Ledger;
+
+// Sets a setting to a value that is not empty.
+pub(crate) fn set_setting<K: Priced, B: Bench, L: Ledger>(
+    bench: &mut B,
+    mirror: &mut Mirror<K>,
+    map: &FlashMap,
+    name: &Name,
+    value: &Bytes,
+    steps: &mut Steps<L>,
+) -> Answer
+    requires map { IsMirrorMap K.serves map.now (B.device bench.old) }
+    requires on { (B.device bench.old).is_on ≡ true }
+    requires held { let m = meanings K.damage K.contents K.room K.prices in
+        IsHeld K.mounted_on K.stands m map.now (B.device bench.old) mirror.old }
+    requires some { 0 < length value.now }
+    requires short { length value.now ≤ limit_of map.now }
+
+    ensures done { let m = meanings K.damage K.contents K.room K.prices in
+        let d = B.device bench.old in let e = B.device bench.new in
+        LineDone m map.now (Set name.now value.now) result (moment d true) (moment e true) }
+    ensures held { let m = meanings K.damage K.contents K.room K.prices in
+        IsHeld K.mounted_on K.stands m map.now (B.device bench.new) mirror.new }
+    ensures banks { (B.device bench.new).banks ≡ (B.device bench.old).banks }
+{
+    let before = bench.spent();
+    let end = mirror.set(bench, name, value.as_slice(), steps);
+    let units = bench.spent() - before;
+    match end {
+        Ok(()) => Answer::done(units),
+        Err(SetFault::NoSpace { need, live }) => Answer::Told {
+            answer: SettingsAnswer::NoSpace { units, need, live },
+        },
+        Err(SetFault::TooManyNames) => Answer::Told {
+            answer: SettingsAnswer::TooMany { units },
+        },
+        Err(SetFault::PowerLost) => Answer::lost(units),
+    }
+}
+
+// Deletes a setting.
+pub(crate) fn delete_setting<K: Priced, B: Bench, L: Ledger>(
+    bench: &mut B,
+    mirror: &mut Mirror<K>,
+    map: &FlashMap,
+    name: &Name,
+    steps: &mut Steps<L>,
+) -> Answer
+    requires map { IsMirrorMap K.serves map.now (B.device bench.old) }
+    requires on { (B.device bench.old).is_on ≡ true }
+    requires held { let m = meanings K.damage K.contents K.room K.prices in
+        IsHeld K.mounted_on K.stands m map.now (B.device bench.old) mirror.old }
+
+    ensures done { let m = meanings K.damage K.contents K.room K.prices in
+        let d = B.device bench.old in let e = B.device bench.new in
+        LineDone m map.now (Del name.now) result (moment d true) (moment e true) }
+    ensures held { let m = meanings K.damage K.contents K.room K.prices in
+        IsHeld K.mounted_on K.stands m map.now (B.device bench.new) mirror.new }
+    ensures banks { (B.device bench.new).banks ≡ (B.device bench.old).banks }
+{
+    let before = bench.spent();
+    let end = mirror.delete(bench, name, steps);
+    let units = bench.spent() - before;
+    match end {
+        Ok(()) => Answer::done(units),
+        Err(_) => Answer::lost(units),
+    }
+}
+
+// Sets a setting, or deletes it where the value is empty.
+pub(crate) fn change_setting<K: Priced, B: Bench, L: Ledger>(
+    bench: &mut B,
+    mirror: &mut Mirror<K>,
+    map: &FlashMap,
+    name: &Name,
+    value: &Bytes,
+    steps: &mut Steps<L>,
+) -> Answer
+    requires map { IsMirrorMap K.serves map.now (B.device bench.old) }
+    requires on { (B.device bench.old).is_on ≡ true }
+    requires held { let m = meanings K.damage K.contents K.room K.prices in
+        IsHeld K.mounted_on K.stands m map.now (B.device bench.old) mirror.old }
+    requires short { length value.now ≤ limit_of map.now }
+
+    ensures done { let m = meanings K.damage K.contents K.room K.prices in
+        let d = B.device bench.old in let e = B.device bench.new in
+        LineDone m map.now (Set name.now value.now) result (moment d true) (moment e true) }
+    ensures held { let m = meanings K.damage K.contents K.room K.prices in
+        IsHeld K.mounted_on K.stands m map.now (B.device bench.new) mirror.new }
+    ensures banks { (B.device bench.new).banks ≡ (B.device bench.old).banks }
+{
+    if value.as_slice().is_empty() {
+        delete_setting(bench, mirror, map, name, steps)
+    } else {
+        set_setting(bench, mirror, map, name, value, steps)
+    }
+}

@@ -1,0 +1,60 @@
+// Mounting a mirror.
+ghost use Rattle.std.specs.Prelude.{◌≡◌, Bool, is_some, IfErr, IfOk};
+ghost use Rattle.mirror.specs.Trusted.{IsMirrorMap};
+ghost use Rattle.mirror_lines.specs.declared.line.Line.TheVariants.{Mount};
+ghost use Rattle.mirror_session.specs.Bench.{meanings, moment};
+ghost use Rattle.mirror_session.specs.LineDone.{LineDone};
+ghost use Rattle.mirror_session.specs.Running.{LineStops};
+ghost use Rattle.mirror_session.specs.Standing.{IsReady};
+
+use crate::fault::SessionFault;
+use flash_map::FlashMap;
+use flash_sim::{Bench, Flash, Steps};
+use mirror::{Mirror, MirrorMount, Priced};
+use mirror_lines::Answer;
+use std::alloc::Global;
+use std::sync::ledger::Ledger;
+
+// A mount's answer, and the mirror that it made: none where power was lost.
+#[derive(Drop)]
+pub(crate) struct Mounted<K: Priced> {
+    pub(crate) answer: Answer,
+    pub(crate) mirror: Option<Mirror<K>>,
+}
+
+// Turns power on, and mounts.
+pub(crate) fn mount<K: Priced, B: Bench, L: Ledger>(
+    alloc: Global,
+    bench: &mut B,
+    map: &FlashMap,
+    steps: &mut Steps<L>,
+) -> Result<Mounted<K>, SessionFault>
+    requires map { IsMirrorMap K.serves map.now (B.device bench.old) }
+
+    ensures done { let m = meanings K.damage K.contents K.room K.prices in
+        let d = B.device bench.old in let e = B.device bench.new in
+        IfOk result (λ mounted. (was : Bool) → LineDone m map.now Mount mounted.answer (moment d was) (moment e (is_some mounted.mirror))) }
+    ensures ready { let m = meanings K.damage K.contents K.room K.prices in
+        IfOk result (λ mounted. IsReady K.mounted_on K.stands m map.now (B.device bench.new) mounted.mirror) }
+    ensures stops { let m = meanings K.damage K.contents K.room K.prices in
+        IfErr result (λ fault. LineStops m map.now Mount (B.device bench.old) (B.device bench.new) fault) }
+    ensures banks { (B.device bench.new).banks ≡ (B.device bench.old).banks }
+{
+    bench.restore();
+    let before = bench.spent();
+    let end = Mirror::mount(alloc, bench, map, steps);
+    let units = bench.spent() - before;
+    match end {
+        Ok(mirror) => Ok(Mounted {
+            answer: Answer::done(units),
+            mirror: Some(mirror),
+        }),
+        Err(MirrorMount::PowerLost) => Ok(Mounted {
+            answer: Answer::lost(units),
+            mirror: None,
+        }),
+        Err(MirrorMount::Damaged { area, damage }) => Err(SessionFault::Damaged { area, damage }),
+        Err(MirrorMount::Unfit { area }) => Err(SessionFault::Unfit { area }),
+        Err(MirrorMount::NoMemory) => Err(SessionFault::NoMemory),
+    }
+}

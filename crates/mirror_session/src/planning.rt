@@ -1,0 +1,32 @@
+// Plans of losses.
+ghost use Rattle.std.specs.Prelude.{◌≡◌, Bool};
+ghost use Rattle.mirror_lines.specs.declared.line.Line.TheVariants.{Cut, Uncut};
+ghost use Rattle.mirror_session.specs.Bench.{meanings, moment};
+ghost use Rattle.mirror_session.specs.LineDone.{LineDone, SameButPlan};
+
+use flash_map::FlashMap;
+use flash_sim::{Bench, Flash};
+use mirror::Priced;
+use mirror_lines::Answer;
+
+// Plans a loss of power.
+pub(crate) fn plan_loss<K: Priced, B: Bench>(bench: &mut B, map: &FlashMap, units: u64) -> Answer
+    ensures done { let m = meanings K.damage K.contents K.room K.prices in
+        let d = B.device bench.old in let e = B.device bench.new in
+        (whole : Bool) → LineDone m map.now (Cut units) result (moment d whole) (moment e whole) }
+    ensures same { SameButPlan (B.device bench.old) (B.device bench.new) }
+{
+    bench.arm(units);
+    Answer::done(0)
+}
+
+// Drops that plan.
+pub(crate) fn drop_plan<K: Priced, B: Bench>(bench: &mut B, map: &FlashMap) -> Answer
+    ensures done { let m = meanings K.damage K.contents K.room K.prices in
+        let d = B.device bench.old in let e = B.device bench.new in
+        (whole : Bool) → LineDone m map.now Uncut result (moment d whole) (moment e whole) }
+    ensures same { SameButPlan (B.device bench.old) (B.device bench.new) }
+{
+    bench.disarm();
+    Answer::done(0)
+}

@@ -1,0 +1,57 @@
+// All lines of a script.
+ghost use Rattle.std.specs.Prelude.{◌≡◌, ◌∷◌, false, All};
+ghost use Rattle.mirror.specs.Trusted.{IsMirrorMap};
+ghost use Rattle.mirror_lines.specs.declared.line.Line.TheVariants.{Mount};
+ghost use Rattle.mirror_session.specs.Bench.{meanings, moment};
+ghost use Rattle.mirror_session.specs.LineDone.{IsServed};
+ghost use Rattle.mirror_session.specs.Running.{RunEnds};
+ghost use Rattle.session.specs.OnMap.{limit_of};
+
+use crate::answers::Answers;
+use crate::carrying::MirrorSession;
+use crate::fault::SessionFault;
+use flash_map::FlashMap;
+use flash_sim::{Bench, Flash, Steps};
+use mirror::Priced;
+use mirror_lines::Line;
+use std::alloc::Global;
+use std::sync::ledger::Ledger;
+
+/// Mounts the mirror of a map, carries out lines one after another, and gives the answers to the mount and to each line.
+///
+/// # Errors
+/// `Damaged` and `Unfit` where the opening mount or another one finds damage, or settings that do not fit one of the areas.
+/// `NoMemory`. The bench is then what the first lines have made of it, and that mount.
+pub fn run_lines<K: Priced, B: Bench, L: Ledger>(
+    alloc: Global,
+    lines: &[Line],
+    bench: &mut B,
+    map: &FlashMap,
+    steps: &mut Steps<L>,
+) -> Result<Answers, SessionFault>
+    requires map { IsMirrorMap K.serves map.now (B.device bench.old) }
+    requires lines { All (IsServed (limit_of map.now)) lines.now }
+    ensures { let m = meanings K.damage K.contents K.room K.prices in
+        RunEnds m map.now (Mount ∷ lines.now) (moment (B.device bench.old) false) (B.device bench.new) result }
+{
+    let (mut session, first) = match MirrorSession::<K>::open(alloc, bench, map, steps) {
+        Ok(opened) => opened,
+        Err(fault) => return Err(fault),
+    };
+    let mut answers = Answers::new(alloc);
+    match answers.push(first) {
+        Ok(()) => {}
+        Err(_) => return Err(SessionFault::NoMemory),
+    }
+    for line in lines {
+        let answer = match session.carry_out(alloc, line, bench, map, steps) {
+            Ok(answer) => answer,
+            Err(fault) => return Err(fault),
+        };
+        match answers.push(answer) {
+            Ok(()) => {}
+            Err(_) => return Err(SessionFault::NoMemory),
+        }
+    }
+    Ok(answers)
+}

@@ -1,0 +1,3 @@
+pub mod Prices
+pub mod Standing
+pub mod Laws

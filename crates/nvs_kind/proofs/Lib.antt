@@ -1,0 +1,4 @@
+pub mod FindLemmas
+pub mod KindLemmas
+pub mod StepLemmas
+pub mod UnitRows

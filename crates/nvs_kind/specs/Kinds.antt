@@ -1,0 +1,65 @@
+-- How the sectors of NVS hold entries, and what steps in them spend.
+use Rattle.std.specs.Prelude.{◌≡◌, ℕ, ◌+◌, ◌-◌, ◌/◌, true, List, [], length, slice_range, Some}
+use Rattle.std.specs.Option.{option_map, option_map_or}
+use Rattle.flash_map.specs.Area.{sector_at}
+use Rattle.ring_store.specs.declared.entry.Entry.{Entry}
+use Rattle.ring_store.specs.declared.entry.Placed.{Placed}
+use Rattle.ring_store.specs.Kind.{Range, Units, Kind}
+use Rattle.nvs_store.specs.declared.scan.Found.{Found}
+use Rattle.nvs_store.specs.declared.scan.Placed.{Placed as NvsPlaced}
+use Rattle.nvs_store.specs.Geometry.{slot_size, cost, capacity}
+use Rattle.nvs_store.specs.Sector.{slot_at, used_slots, counting_entry, low, data_end}
+use Rattle.nvs_store.specs.Scans.{reading, damage_of}
+
+-- an entry without what is its store's own
+abbrev pub entry_of : NvsPlaced → Entry
+entry_of p = record { slot = p.slot; id = p.entry.id; len = p.entry.len }
+
+-- the same of one at its place
+abbrev pub placed_of : Found → Placed
+placed_of f = record { sector = f.sector; slot = f.slot; id = f.entry.id; len = f.entry.len }
+
+-- the entry at a place, as NVS reads it
+pub record ReadsAs (unit : ℕ) (sectors : List (List ℕ)) (p : Placed) (f : Found) : Type 0 where
+  pub read : counting_entry unit (slot_at unit (sector_at sectors p.sector) p.slot) ≡ Some (record { slot = f.slot; entry = f.entry })
+  pub sector : f.sector ≡ p.sector
+  pub id : f.entry.id ≡ p.id
+  pub len : f.entry.len ≡ p.len
+
+-- the bytes that an entry names
+abbrev pub placed_bytes : List ℕ → NvsPlaced → List ℕ
+placed_bytes b p = slice_range b p.entry.offset (p.entry.offset + p.entry.len)
+
+abbrev pub just : ℕ → Range
+just units = record { least = units; most = units }
+
+abbrev pub units_of : ℕ → Units
+units_of unit = record {
+  begin = λ b. just 0;
+  put = λ b len. just (cost unit len / unit);
+  copy = λ len. just (cost unit len / unit);
+  done = just (slot_size unit / unit);
+  close = λ b. just (slot_size unit / unit);
+  clear = just 1;
+  round = λ size. size / unit + 1;
+  mount = λ size. size / unit;
+  entry = λ len. cost unit len / unit;
+}
+
+abbrev pub kind : ℕ → Kind
+kind unit = record {
+  reading = reading unit;
+  first = 1;
+  count = λ b. length (used_slots unit b);
+  in_slot = λ b n. option_map entry_of (counting_entry unit (slot_at unit b n));
+  bytes = λ b n. option_map_or (placed_bytes b) (counting_entry unit (slot_at unit b n)) [];
+  within = λ b. true;
+  cost = cost unit;
+  slot = slot_size unit;
+  cap = capacity unit;
+  free = λ b. low unit b - data_end unit b;
+  is_ready = λ b. true;
+  damage = damage_of unit;
+  ids = 0xFFFF;
+  units = units_of unit;
+}

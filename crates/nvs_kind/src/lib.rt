@@ -1,0 +1,2 @@
+//! The sectors of NVS as one store of items asks for them.
+#![tactic(auto)]

@@ -1,0 +1,336 @@
+// What is kept of the open sector, and the calls on sectors.
+ghost use Rattle.std.specs.Prelude.{◌≡◌, ℕ, ◌+◌, ◌*◌, ◌^◌, ◌<◌, ◌≤◌, Some, List, length};
+ghost use Rattle.std.specs.Option.{option_map};
+ghost use Rattle.flash_map.specs.declared.area.Role.TheVariants.{Nvs as nvs_role};
+ghost use Rattle.flash_map.specs.Area.{unit_of, sector_size, sectors_of, sector_bytes};
+ghost use Rattle.flash_map.specs.Units.{IsUnit};
+ghost use Rattle.ring_laws.specs.Live.{last_in};
+ghost use Rattle.nvs_store.specs.Geometry.{slot_size};
+ghost use Rattle.nvs_store.specs.Sector.{low, data_end, has_gc_done};
+ghost use Rattle.nvs_store.specs.Scans.{IsInArea};
+ghost use Rattle.nvs_kind.specs.Kinds.{placed_of, ReadsAs, kind};
+ghost use Rattle.nvs_kind.proofs.KindLemmas.{nvs_is_kind};
+ghost use Rattle.ring_store.specs.Kind.{placed_at, slots};
+ghost use Rattle.ring_store.specs.Standing.{IsStoreArea};
+
+use flash_map::{Area, Damaged, area_erase, geometry, sector_view};
+use flash_sim::{Flash, PowerLost, Steps};
+use nvs_store::{
+    Found, Redo, Scan, append, capacity, copy_entry, cost, counting_entry, find_in, is_blank,
+    is_closed, mount_scan, put_close, put_done, scan_sector, slot_size, used_count,
+};
+use ring_store::{Placed, SlotSectors};
+use std::sync::ledger::Ledger;
+
+// More than a sector has.
+const ALL_SLOTS: u32 = 0x8000;
+
+/// What is kept of an open sector.
+#[derive(Clone, Copy, Debug, PartialEq, Eq)]
+pub struct NvsOpen {
+    low: u32,
+    data_end: u32,
+    gc_done: bool,
+}
+
+// The entry at its place, without what is its store's own.
+fn placed(found: Found) -> Placed
+    ensures value { result ≡ placed_of found }
+    ensures small { result.id < 2 ^ 16 }
+    ensures short { result.len < 2 ^ 16 }
+{
+    Placed {
+        sector: found.sector,
+        slot: found.slot,
+        id: found.entry.id as u32,
+        len: found.entry.len as u32,
+    }
+}
+
+// The entry that stands in this place, as its store reads it.
+fn read_again<F: Flash, L: Ledger>(
+    flash: &F,
+    area: &Area,
+    at: &Placed,
+    steps: &mut Steps<L>,
+) -> Found
+    requires area { IsStoreArea nvs_role (F.device flash.now).banks area.now }
+    requires inside { at.now.sector < area.now.sectors }
+    requires listed { let d = F.device flash.now in
+        (1 ≤ at.now.slot) × (at.now.slot < 1 + (kind (unit_of d area.now)).count (sector_bytes d area.now at.now.sector)) }
+    requires there { let d = F.device flash.now in
+        option_map (placed_at at.now.sector) ((kind (unit_of d area.now)).in_slot (sector_bytes d area.now at.now.sector) at.now.slot) ≡ Some at.now }
+    ensures own { let d = F.device flash.now in ReadsAs (unit_of d area.now) (sectors_of d area.now) at.now result }
+    ensures in_area { IsInArea area.now.sectors (sector_size (F.device flash.now) area.now) result }
+    ensures small { result.entry.id < 2 ^ 16 }
+{
+    let unit = geometry(flash, area).unit;
+    match counting_entry(sector_view(flash, area, at.sector, steps), unit, at.slot) {
+        Some(found) => found.at(at.sector),
+        None => unreachable!(),
+    }
+}
+
+// The last entry of an id in a sector with these bytes. An id of more than two bytes has none.
+fn last_of(bytes: &[u8], unit: u32, place: u32, id: u32) -> Option<Placed>
+    requires unit { IsUnit unit }
+    requires long { 16 ≤ length bytes.now }
+    requires short { length bytes.now ≤ 2 ^ 15 }
+    ensures { let s = slots (kind unit) in result ≡ option_map (placed_at place) (last_in s place id (s.entries bytes.now)) }
+{
+    if id > 0xFFFF {
+        return None;
+    }
+    match find_in(bytes, unit, place, Some(id as u16), ALL_SLOTS) {
+        Some(found) => Some(placed(found)),
+        None => None,
+    }
+}
+
+// The bytes of the entry in a slot, none where there is no entry.
+fn bytes_in(bytes: &[u8], unit: u32, slot: u32) -> &[u8]
+    requires unit { IsUnit unit }
+    requires short { length bytes.now ≤ 2 ^ 15 }
+    requires inside { (slot + 1) * slot_size unit ≤ length bytes.now }
+    ensures { result.now ≡ (kind unit).bytes bytes.now slot }
+{
+    match counting_entry(bytes, unit, slot) {
+        Some(found) => {
+            let start = found.entry.offset as usize;
+            &bytes[start..start + found.entry.len as usize]
+        }
+        None => &[],
+    }
+}
+
+impl SlotSectors for NvsOpen {
+    ghost role = { nvs_role };
+
+    ghost kind = { kind };
+
+    ghost kept = { λ unit b. record { low = low unit b; data_end = data_end unit b; gc_done = has_gc_done unit b } };
+
+    fn first_slot() -> u32 {
+        1
+    }
+
+    fn has_short_ids() -> bool {
+        true
+    }
+
+    fn cost(unit: u32, len: u32) -> u64 {
+        cost(unit, len)
+    }
+
+    fn capacity(unit: u32, size: u32) -> u32 {
+        capacity(unit, size)
+    }
+
+    fn slot_size(unit: u32) -> u32 {
+        slot_size(unit)
+    }
+
+    fn is_blank<F: Flash, L: Ledger>(
+        flash: &F,
+        area: &Area,
+        place: u32,
+        steps: &mut Steps<L>,
+    ) -> bool {
+        is_blank(flash, area, place, steps)
+    }
+
+    fn is_closed<F: Flash, L: Ledger>(
+        flash: &F,
+        area: &Area,
+        place: u32,
+        steps: &mut Steps<L>,
+    ) -> bool {
+        is_closed(flash, area, place, steps)
+    }
+
+    fn keep<F: Flash, L: Ledger>(
+        flash: &F,
+        area: &Area,
+        place: u32,
+        steps: &mut Steps<L>,
+    ) -> NvsOpen {
+        let unit = geometry(flash, area).unit;
+        let scan = scan_sector(sector_view(flash, area, place, steps), unit, place);
+        NvsOpen {
+            low: scan.low,
+            data_end: scan.data_end,
+            gc_done: scan.gc_done,
+        }
+    }
+
+    fn has_gc_done(&self) -> bool {
+        self.gc_done
+    }
+
+    fn free<F: Flash, L: Ledger>(
+        &self,
+        _flash: &F,
+        _area: &Area,
+        _place: u32,
+        _steps: &mut Steps<L>,
+    ) -> u32 {
+        self.low.saturating_sub(self.data_end)
+    }
+
+    fn slots<F: Flash, L: Ledger>(flash: &F, area: &Area, place: u32, steps: &mut Steps<L>) -> u32 {
+        let unit = geometry(flash, area).unit;
+        used_count(sector_view(flash, area, place, steps), unit)
+    }
+
+    fn entry_in<F: Flash, L: Ledger>(
+        flash: &F,
+        area: &Area,
+        place: u32,
+        slot: u32,
+        steps: &mut Steps<L>,
+    ) -> Option<Placed> {
+        let unit = geometry(flash, area).unit;
+        match counting_entry(sector_view(flash, area, place, steps), unit, slot) {
+            Some(found) => Some(placed(found.at(place))),
+            None => None,
+        }
+    }
+
+    fn value<'a, F: Flash, L: Ledger>(
+        flash: &'a F,
+        area: &Area,
+        placed: &Placed,
+        steps: &mut Steps<L>,
+    ) -> &'a [u8] {
+        let unit = geometry(flash, area).unit;
+        bytes_in(
+            sector_view(flash, area, placed.sector, steps),
+            unit,
+            placed.slot,
+        )
+    }
+
+    fn find_in<F: Flash, L: Ledger>(
+        flash: &F,
+        area: &Area,
+        place: u32,
+        id: u32,
+        steps: &mut Steps<L>,
+    ) -> Option<Placed> {
+        let unit = geometry(flash, area).unit;
+        last_of(sector_view(flash, area, place, steps), unit, place, id)
+    }
+
+    fn begin<F: Flash, L: Ledger>(
+        &mut self,
+        _flash: &mut F,
+        _area: &Area,
+        _place: u32,
+        _steps: &mut Steps<L>,
+    ) -> Result<(), PowerLost> {
+        Ok(())
+    }
+
+    fn put<F: Flash, L: Ledger>(
+        &mut self,
+        flash: &mut F,
+        area: &Area,
+        place: u32,
+        id: u32,
+        bytes: &[u8],
+        _steps: &mut Steps<L>,
+    ) -> Result<(), PowerLost> {
+        let mut scan = Scan {
+            current: place,
+            low: self.low,
+            data_end: self.data_end,
+            gc_done: self.gc_done,
+            redo: Redo::Nothing,
+        };
+        append(flash, area, &mut scan, id as u16, bytes)?;
+        self.low = scan.low;
+        self.data_end = scan.data_end;
+        Ok(())
+    }
+
+    fn copy<F: Flash, L: Ledger>(
+        &mut self,
+        flash: &mut F,
+        area: &Area,
+        place: u32,
+        from: &Placed,
+        steps: &mut Steps<L>,
+    ) -> Result<(), PowerLost> {
+        let found = read_again(flash, area, from, steps);
+        let mut scan = Scan {
+            current: place,
+            low: self.low,
+            data_end: self.data_end,
+            gc_done: self.gc_done,
+            redo: Redo::CollectAgain,
+        };
+        copy_entry(flash, area, &mut scan, &found, steps)?;
+        self.low = scan.low;
+        self.data_end = scan.data_end;
+        Ok(())
+    }
+
+    fn mark_done<F: Flash, L: Ledger>(
+        &mut self,
+        flash: &mut F,
+        area: &Area,
+        place: u32,
+        _steps: &mut Steps<L>,
+    ) -> Result<(), PowerLost> {
+        let mut scan = Scan {
+            current: place,
+            low: self.low,
+            data_end: self.data_end,
+            gc_done: self.gc_done,
+            redo: Redo::CollectAgain,
+        };
+        put_done(flash, area, &mut scan)?;
+        self.low = scan.low;
+        self.gc_done = true;
+        Ok(())
+    }
+
+    fn close<F: Flash, L: Ledger>(
+        &self,
+        flash: &mut F,
+        area: &Area,
+        place: u32,
+        _steps: &mut Steps<L>,
+    ) -> Result<(), PowerLost> {
+        let scan = Scan {
+            current: place,
+            low: self.low,
+            data_end: self.data_end,
+            gc_done: self.gc_done,
+            redo: Redo::Nothing,
+        };
+        put_close(flash, area, &scan)
+    }
+
+    fn clear<F: Flash, L: Ledger>(
+        flash: &mut F,
+        area: &Area,
+        place: u32,
+        _steps: &mut Steps<L>,
+    ) -> Result<(), PowerLost> {
+        area_erase(flash, area, place)
+    }
+
+    fn scan<F: Flash, L: Ledger>(
+        flash: &F,
+        area: &Area,
+        steps: &mut Steps<L>,
+    ) -> Result<u32, Damaged> {
+        match mount_scan(flash, area, steps) {
+            Ok(scan) => Ok(scan.current),
+            Err(damaged) => Err(damaged),
+        }
+    }
+
+    ghost lawful = { nvs_is_kind };
+}

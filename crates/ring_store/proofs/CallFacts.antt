@@ -1,0 +1,139 @@
+-- The calls of a collection, in the words of the code.
+use Rattle.std.proofs.Common.{◌≡◌, ℕ, ◌*◌, ◌≤◌, Bool, true, false, ◌&&◌, ◌||◌, not, cond, List, [], length, refl, sym, ap, subst, ◌∙◌, inl, inr, arith}
+use Rattle.flash_sim.specs.Bank.{IsLawful}
+use Rattle.flash_sim.specs.Device.{Device}
+use Rattle.flash_map.specs.declared.area.Area.{Area}
+use Rattle.flash_map.specs.declared.area.Role.{Role}
+use Rattle.flash_map.specs.Area.{unit_of, sector_at, sectors_of, ChangesOnly}
+use Rattle.flash_map.proofs.SpendingBounds.{between_then, between_within}
+use Rattle.ring_laws.specs.Area.{next, open_sector, is_closed_at, is_blank_at}
+use Rattle.ring_laws.specs.Forms.{Collecting, to_copy}
+use Rattle.ring_laws.specs.Reading.{is_sound}
+use Rattle.ring_laws.proofs.Places.{after-apart}
+use Rattle.ring_laws.proofs.Rings.{next-closed, open-not_closed}
+use Rattle.ring_laws.proofs.RingSteps.{reads}
+use Rattle.ring_store.specs.Kind.{Range, Kind, IsKind}
+use Rattle.ring_store.specs.Steps.{KeepsMarks, Marks, Clears}
+use Rattle.ring_store.specs.Spending.{both, copies, collect_units, again_units}
+use Rattle.ring_store.specs.Standing.{IsStoreArea, KeepsItems, SpendsIn, SpendsUpTo}
+use Rattle.ring_store.specs.Collecting.{HasBegun, HasCopied, CollectsAt}
+use Rattle.ring_store.proofs.Areas.{keeps_then, same_unit, size_there, large_there, stopped, has_stopped, stopped-keeps, victim_cut, collected_at, collects-keeps, only_else}
+use Rattle.ring_store.proofs.CollectSteps.{start_stops, start_form, start_none, start_copies, again_collects, mark_room, mark_cut}
+use Rattle.ring_store.proofs.SlotFacts.{current_within, next_within}
+
+-- what is known of one unit is known of the same one
+pub to_unit : (P : ℕ → Type 0) (a d : Device) (area : Area) → d.banks ≡ a.banks → P (unit_of d area) → P (unit_of a area)
+to_unit P a d area banks p = subst P (same_unit a d area banks) p
+
+pub from_unit : (P : ℕ → Type 0) (a d : Device) (area : Area) → d.banks ≡ a.banks → P (unit_of a area) → P (unit_of d area)
+from_unit P a d area banks p = subst P (sym (same_unit a d area banks)) p
+
+module _ (kind : ℕ → Kind) (role : Role) (a : Device) (area : Area) (place : ℕ) (law : IsKind (kind (unit_of a area))) (lawful : IsLawful a.banks a.bytes) (is : IsStoreArea role a.banks area) (form : Collecting (kind (unit_of a area)).reading (sectors_of a area) place) where
+  abbrev k : Kind
+  k = kind (unit_of a area)
+
+  abbrev old : List (List ℕ)
+  old = sectors_of a area
+
+  large : 512 ≤ length (sector_at old (next old place))
+  large = large_there role a area lawful is (next old place) (next_within a area place form.ring.within)
+
+  pub own_large : 512 ≤ length (sector_at (sectors_of a area) place)
+  own_large = large_there role a area lawful is place (current_within a area place form.ring.within)
+
+  same_long : length (sector_at old (next old place)) ≡ length (sector_at old place)
+  same_long = size_there role a area lawful is (next old place) (next_within a area place form.ring.within) ∙ sym (size_there role a area lawful is place (current_within a area place form.ring.within))
+
+  -- gc-done, behind all copies
+
+  module _ (d : Device) (banks : d.banks ≡ a.banks) (has : HasCopied (kind (unit_of a area)) (sectors_of a area) (sectors_of d area) place (to_copy (kind (unit_of a area)).reading (sectors_of a area) place)) where
+    there : Collecting k.reading (sectors_of d area) place
+    there = (stopped k law old (sectors_of d area) place form (has_stopped k law old (sectors_of d area) place (to_copy k.reading old place) has)).0
+
+    pub mark_opened : place ≡ open_sector (kind (unit_of d area)).reading (sectors_of d area)
+    mark_opened = from_unit (λ u. place ≡ open_sector (kind u).reading (sectors_of d area)) a d area banks (sym (reads k.reading (sectors_of d area) place (inr (inl there))).0)
+
+    pub mark_collecting : is_closed_at (kind (unit_of d area)).reading (sectors_of d area) (next (sectors_of d area) place) ≡ true
+    mark_collecting = from_unit (λ u. is_closed_at (kind u).reading (sectors_of d area) (next (sectors_of d area) place) ≡ true) a d area banks (next-closed k.reading (sectors_of d area) place 0 there.ring ∙ refl)
+
+    pub mark_has_room : 2 * (kind (unit_of d area)).slot ≤ (kind (unit_of d area)).free (sector_at (sectors_of d area) place)
+    mark_has_room = from_unit (λ u. 2 * (kind u).slot ≤ (kind u).free (sector_at (sectors_of d area) place)) a d area banks (mark_room k law old (sectors_of d area) place form large same_long has)
+
+    pub mark_lost : (e : Device) → ChangesOnly (sectors_of d area) (sectors_of e area) place → KeepsMarks (kind (unit_of d area)) (sector_at (sectors_of d area) place) (sector_at (sectors_of e area) place) → KeepsItems (kind (unit_of a area)) (sectors_of a area) (sectors_of e area)
+    mark_lost e only keeps =
+        stopped-keeps k law old (sectors_of e area) place form
+        (mark_cut k law old (sectors_of d area) (sectors_of e area) place has only (to_unit (λ u. KeepsMarks (kind u) (sector_at (sectors_of d area) place) (sector_at (sectors_of e area) place)) a d area banks keeps))
+
+    pub mark_spends_lost : (e : Device) → SpendsIn a d (copies (kind (unit_of a area)) (to_copy (kind (unit_of a area)).reading (sectors_of a area) place)) → SpendsUpTo d e (kind (unit_of d area)).units.done → SpendsUpTo a e (collect_units (kind (unit_of a area)) (sectors_of a area) place)
+    mark_spends_lost e first mark = between_within (between_then first (to_unit (λ u. SpendsUpTo d e (kind u).units.done) a d area banks mark)) _ _ (omega arith) (omega arith)
+
+    -- the emptying of the victim
+
+    module _ (e : Device) (more_banks : e.banks ≡ a.banks) (only : ChangesOnly (sectors_of d area) (sectors_of e area) place) (marked : Marks (kind (unit_of d area)) (sector_at (sectors_of d area) place) (sector_at (sectors_of e area) place)) (victim : ℕ) (at : victim ≡ next (sectors_of a area) place) where
+      marks : Marks k (sector_at (sectors_of d area) place) (sector_at (sectors_of e area) place)
+      marks = to_unit (λ u. Marks (kind u) (sector_at (sectors_of d area) place) (sector_at (sectors_of e area) place)) a d area banks marked
+
+      pub cleared : (z : Device) → ChangesOnly (sectors_of e area) (sectors_of z area) victim → Clears (kind (unit_of e area)) (sector_at (sectors_of e area) victim) (sector_at (sectors_of z area) victim) → CollectsAt (kind (unit_of a area)) (sectors_of a area) (sectors_of z area) place
+      cleared z changes clears =
+          let here : ChangesOnly (sectors_of e area) (sectors_of z area) (next old place) = subst (λ (v : ℕ). ChangesOnly (sectors_of e area) (sectors_of z area) v) at changes in
+          let own : Clears k (sector_at (sectors_of e area) (next old place)) (sector_at (sectors_of z area) (next old place)) =
+          subst (λ (v : ℕ). Clears k (sector_at (sectors_of e area) v) (sector_at (sectors_of z area) v)) at (to_unit (λ u. Clears (kind u) (sector_at (sectors_of e area) victim) (sector_at (sectors_of z area) victim)) a e area more_banks clears) in
+          collected_at k law old (sectors_of d area) (sectors_of e area) place form large same_long has only marks (sectors_of z area) here own.blank
+
+      pub cleared_keeps : (z : Device) → ChangesOnly (sectors_of e area) (sectors_of z area) victim → Clears (kind (unit_of e area)) (sector_at (sectors_of e area) victim) (sector_at (sectors_of z area) victim) → KeepsItems (kind (unit_of a area)) (sectors_of a area) (sectors_of z area)
+      cleared_keeps z changes clears = collects-keeps k law old (sectors_of z area) place form (cleared z changes clears)
+
+      pub clear_lost : (z : Device) → ChangesOnly (sectors_of e area) (sectors_of z area) victim → KeepsMarks (kind (unit_of e area)) (sector_at (sectors_of e area) victim) (sector_at (sectors_of z area) victim) → KeepsItems (kind (unit_of a area)) (sectors_of a area) (sectors_of z area)
+      clear_lost z changes keeps =
+          let here : ChangesOnly (sectors_of e area) (sectors_of z area) (next old place) = subst (λ (v : ℕ). ChangesOnly (sectors_of e area) (sectors_of z area) v) at changes in
+          let own : KeepsMarks k (sector_at (sectors_of e area) (next old place)) (sector_at (sectors_of z area) (next old place)) =
+          subst (λ (v : ℕ). KeepsMarks k (sector_at (sectors_of e area) v) (sector_at (sectors_of z area) v)) at (to_unit (λ u. KeepsMarks (kind u) (sector_at (sectors_of e area) victim) (sector_at (sectors_of z area) victim)) a e area more_banks keeps) in
+          victim_cut k law old (sectors_of d area) (sectors_of e area) place form large same_long has only marks (sectors_of z area) here own.closed
+
+      pub open_same : (z : Device) → ChangesOnly (sectors_of e area) (sectors_of z area) victim → sector_at (sectors_of z area) place ≡ sector_at (sectors_of e area) place
+      open_same z changes = only_else (sectors_of e area) (sectors_of z area) victim place changes (λ (s : place ≡ victim). after-apart (length old) place form.ring.within form.ring.several (sym (s ∙ at)))
+
+      pub spends_all : (z : Device) → SpendsIn a d (copies (kind (unit_of a area)) (to_copy (kind (unit_of a area)).reading (sectors_of a area) place)) → SpendsIn d e (kind (unit_of d area)).units.done → SpendsIn e z (kind (unit_of e area)).units.clear → SpendsIn a z (collect_units (kind (unit_of a area)) (sectors_of a area) place)
+      spends_all z first mark clear =
+          between_within (between_then (between_then first (to_unit (λ u. SpendsIn d e (kind u).units.done) a d area banks mark)) (to_unit (λ u. SpendsIn e z (kind u).units.clear) a e area more_banks clear)) _ _ (omega arith) (omega arith)
+
+      pub spends_all_lost : (z : Device) → SpendsIn a d (copies (kind (unit_of a area)) (to_copy (kind (unit_of a area)).reading (sectors_of a area) place)) → SpendsIn d e (kind (unit_of d area)).units.done → SpendsUpTo e z (kind (unit_of e area)).units.clear → SpendsUpTo a z (collect_units (kind (unit_of a area)) (sectors_of a area) place)
+      spends_all_lost z first mark clear =
+          between_within (between_then (between_then first (to_unit (λ u. SpendsIn d e (kind u).units.done) a d area banks mark)) (to_unit (λ u. SpendsUpTo e z (kind u).units.clear) a e area more_banks clear)) _ _ (omega arith) (omega arith)
+
+  -- a sector with no entry is sound
+  pub blank_sound : is_blank_at (kind (unit_of a area)).reading (sectors_of a area) place ≡ true → is_sound (kind (unit_of a area)).reading (sector_at (sectors_of a area) place) ≡ true
+  blank_sound blank = ap (λ (t : Bool). t || (k.reading.has_fence (sector_at old place) && not (k.reading.is_overfull (sector_at old place)))) blank
+
+  pub not_closed : is_closed_at (kind (unit_of a area)).reading (sectors_of a area) place ≡ false
+  not_closed = open-not_closed k.reading old place 0 form.ring
+
+  -- once the open sector was made ready
+
+  module _ (d : Device) (banks : d.banks ≡ a.banks) (begun : HasBegun (kind (unit_of a area)) (sectors_of a area) (sectors_of d area) place) where
+    pub again_form : Collecting (kind (unit_of d area)).reading (sectors_of d area) place
+    again_form = from_unit (λ u. Collecting (kind u).reading (sectors_of d area) place) a d area banks (start_form k law old (sectors_of d area) place form begun)
+
+    pub again_none : HasCopied (kind (unit_of d area)) (sectors_of d area) (sectors_of d area) place []
+    again_none = from_unit (λ u. HasCopied (kind u) (sectors_of d area) (sectors_of d area) place []) a d area banks (start_none k law old (sectors_of d area) place form begun own_large)
+
+    pub again_collected : (e : Device) → CollectsAt (kind (unit_of d area)) (sectors_of d area) (sectors_of e area) place → CollectsAt (kind (unit_of a area)) (sectors_of a area) (sectors_of e area) place
+    again_collected e at = again_collects k law old (sectors_of d area) place form begun (sectors_of e area) (to_unit (λ u. CollectsAt (kind u) (sectors_of d area) (sectors_of e area) place) a d area banks at)
+
+    pub again_keeps : (e : Device) → KeepsItems (kind (unit_of d area)) (sectors_of d area) (sectors_of e area) → KeepsItems (kind (unit_of a area)) (sectors_of a area) (sectors_of e area)
+    again_keeps e keeps =
+        keeps_then k law old (sectors_of d area) (sectors_of e area) (stopped-keeps k law old (sectors_of d area) place form (start_stops k law old (sectors_of d area) place form begun))
+        (to_unit (λ u. KeepsItems (kind u) (sectors_of d area) (sectors_of e area)) a d area banks keeps)
+
+    units_same : collect_units (kind (unit_of d area)) (sectors_of d area) place ≡ collect_units k old place
+    units_same =
+        ap (λ (u : ℕ). collect_units (kind u) (sectors_of d area) place) (same_unit a d area banks)
+        ∙ ap (λ ps. both (copies k ps) (both k.units.done k.units.clear)) (start_copies k law old (sectors_of d area) place form begun)
+
+    pub again_spends : (e : Device) → SpendsIn a d (cond (is_blank_at (kind (unit_of a area)).reading (sectors_of a area) place) ((kind (unit_of a area)).units.begin (sector_at (sectors_of a area) place)) (kind (unit_of a area)).units.clear)
+        → SpendsIn d e (collect_units (kind (unit_of d area)) (sectors_of d area) place) → SpendsIn a e (again_units (kind (unit_of a area)) (sectors_of a area) place)
+    again_spends e first later = between_then first (subst (λ (r : Range). SpendsIn d e r) units_same later)
+
+    pub again_spends_lost : (e : Device) → SpendsIn a d (cond (is_blank_at (kind (unit_of a area)).reading (sectors_of a area) place) ((kind (unit_of a area)).units.begin (sector_at (sectors_of a area) place)) (kind (unit_of a area)).units.clear)
+        → SpendsUpTo d e (collect_units (kind (unit_of d area)) (sectors_of d area) place) → SpendsUpTo a e (again_units (kind (unit_of a area)) (sectors_of a area) place)
+    again_spends_lost e first later = between_within (between_then first (subst (λ (r : Range). SpendsUpTo d e r) units_same later)) _ _ (omega arith) (omega arith)

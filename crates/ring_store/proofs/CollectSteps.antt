@@ -1,0 +1,176 @@
+-- A collection, step by step: the start, the copies, gc-done, the emptying of the victim; and what a mount has to do.
+use Rattle.std.proofs.Common.{◌≡◌, ℕ, ◌*◌, ◌≤◌, Bool, true, false, cond, List, [], length, refl, sym, ap, subst, ◌∙◌, inl, inr, arith}
+use Rattle.flash_map.specs.Area.{sector_at, ChangesOnly}
+use Rattle.pair_laws.specs.Items.{last}
+use Rattle.std.proofs.lemmas.Bool.{le-ltb}
+use Rattle.ring_laws.specs.Area.{next, area_pairs, is_closed_at}
+use Rattle.ring_laws.specs.Forms.{AtRest, Collecting, Collected, IsForm, to_copy}
+use Rattle.ring_laws.specs.Reading.{Reading}
+use Rattle.pair_laws.specs.Rounds.{copies_cost}
+use Rattle.ring_laws.specs.Rounds.{Collects}
+use Rattle.ring_laws.proofs.Collects.{put_victim, erase_victim}
+use Rattle.ring_laws.proofs.Rings.{open-not_closed, next-closed}
+use Rattle.ring_laws.proofs.Rounding.{collects_from}
+use Rattle.ring_laws.proofs.Parts.{to_copy-kept}
+use Rattle.ring_laws.proofs.Places.{after}
+use Rattle.ring_store.specs.declared.entry.Redo.TheVariants.{Nothing, ClearNext, CollectAgain}
+use Rattle.ring_store.specs.Kind.{Kind, IsKind}
+use Rattle.ring_store.specs.Steps.{Keeps, KeepsMarks, Begins, Clears}
+use Rattle.ring_store.specs.Standing.{KeepsItems}
+use Rattle.ring_store.specs.Collecting.{HasBegun, HasCopied, StopsCopying, CollectsAt, redo_of}
+use Rattle.ring_store.proofs.VersionLemmas.{keeps_all}
+use Rattle.ring_store.proofs.Areas.{keeps-by, stopped, has_stopped, none_copied, marks_stopped, only_then, only_length, copied-le}
+
+-- An open sector that has no entry and is ready for one.
+
+pub has_begun : (k : Kind) (old start : List (List ℕ)) (place : ℕ) → ChangesOnly old start place → k.reading.is_blank (sector_at old place) ≡ true → Begins k (sector_at old place) (sector_at start place) → HasBegun k old start place
+has_begun k old start place only blank begins = record { only = only; blank = begins.blank blank; ready = begins.ready; long = begins.long }
+
+pub has_cleared : (k : Kind) (old start : List (List ℕ)) (place : ℕ) → ChangesOnly old start place → Clears k (sector_at old place) (sector_at start place) → HasBegun k old start place
+has_cleared k old start place only clears = record { only = only; blank = clears.blank; ready = clears.ready; long = clears.long }
+
+module _ (k : Kind) (law : IsKind k) where
+  abbrev R : Reading
+  R = k.reading
+
+  -- a cut step that keeps the marks of the open sector
+  pub begin_cut : (old new : List (List ℕ)) (place : ℕ) → Collecting k.reading old place → ChangesOnly old new place → KeepsMarks k (sector_at old place) (sector_at new place) → StopsCopying k old new place
+  begin_cut old new place form only keeps = record {
+    only = only;
+    closed = keeps.closed ∙ open-not_closed R old place 0 form.ring;
+    gc_done = keeps.gc_done ∙ form.not_done;
+  }
+
+  pub marks_of : (old new : List ℕ) → Keeps k old new → KeepsMarks k old new
+  marks_of old new keeps = record { closed = keeps.list.closed; gc_done = keeps.list.gc_done }
+
+  module _ (old start : List (List ℕ)) (place : ℕ) (form : Collecting k.reading old place) (begun : HasBegun k old start place) where
+    pub start_stops : StopsCopying k old start place
+    start_stops = record { only = begun.only; closed = law.reads.closed (sector_at start place) begun.blank; gc_done = law.reads.gc_done (sector_at start place) begun.blank }
+
+    pub start_form : Collecting k.reading start place
+    start_form = (stopped k law old start place form start_stops).0
+
+    pub start_next : next start place ≡ next old place
+    start_next = ap (λ (n : ℕ). after n place) (only_length old start place begun.only)
+
+    pub start_copies : to_copy k.reading start place ≡ to_copy k.reading old place
+    start_copies = ap (λ (s : List (List ℕ)). to_copy R s place) begun.only ∙ to_copy-kept R old place (sector_at start place) form.ring.within form.ring.several
+
+    pub start_none : 512 ≤ length (sector_at old place) → HasCopied k start start place []
+    start_none long = let size = begun.long in none_copied k law start place begun.blank begun.ready (omega arith)
+
+    -- a cut copy
+    pub copy_cut : (new : List (List ℕ)) → StopsCopying k start new place → StopsCopying k old new place
+    copy_cut new stops = record { only = only_then old start new place begun.only stops.only; closed = stops.closed; gc_done = stops.gc_done }
+
+    pub again_collects : (new : List (List ℕ)) → CollectsAt k start new place → CollectsAt k old new place
+    again_collects new at =
+        let all = collects_from R old place (sector_at start place) new form (law.reads.closed (sector_at start place) begun.blank) (law.reads.gc_done (sector_at start place) begun.blank) (subst (λ (s : List (List ℕ)). Collects R s place new) begun.only at.collects) in
+        let total = ap (copies_cost k.cost) start_copies in
+        let cap : k.cap (length (sector_at start place)) ≡ k.cap (length (sector_at old place)) = ap k.cap begun.long in
+        let room = at.room in
+        record {
+          collects = all;
+          list = at.list ∙ start_copies;
+          gc_done = at.gc_done;
+          long = at.long ∙ begun.long;
+          room = omega arith;
+        }
+
+  -- Room for gc-done.
+  pub mark_room : (old mid : List (List ℕ)) (place : ℕ) → Collecting k.reading old place → 512 ≤ length (sector_at old (next old place)) → length (sector_at old (next old place)) ≡ length (sector_at old place) → HasCopied k old mid place (to_copy k.reading old place)
+      → 2 * k.slot ≤ k.free (sector_at mid place)
+  mark_room old mid place form large same has =
+      let le = copied-le k law old place form large in
+      let cap : k.cap (length (sector_at old (next old place))) ≡ k.cap (length (sector_at old place)) = ap k.cap same in
+      let room = has.room in
+      omega arith
+
+  -- a cut gc-done
+  pub mark_cut : (old mid new : List (List ℕ)) (place : ℕ) → HasCopied k old mid place (to_copy k.reading old place) → ChangesOnly mid new place → KeepsMarks k (sector_at mid place) (sector_at new place) → StopsCopying k old new place
+  mark_cut old mid new place has only keeps = marks_stopped k law old mid new place (has_stopped k law old mid place (to_copy R old place) has) only keeps
+
+  -- What a mount has to do in each form.
+
+  pub redo_is : (sectors : List (List ℕ)) (place : ℕ) (closed done : Bool) → is_closed_at k.reading sectors (next sectors place) ≡ closed → k.reading.has_gc_done (sector_at sectors place) ≡ done → redo_of k sectors place ≡ cond closed (cond done ClearNext CollectAgain) Nothing
+  redo_is sectors place closed done c d =
+      ap (λ (t : Bool). cond t (cond (k.reading.has_gc_done (sector_at sectors place)) ClearNext CollectAgain) Nothing) c ∙ ap (λ (t : Bool). cond closed (cond t ClearNext CollectAgain) Nothing) d
+
+  pub rest_closed : (sectors : List (List ℕ)) (place : ℕ) → AtRest k.reading sectors place → is_closed_at k.reading sectors (next sectors place) ≡ false
+  rest_closed sectors place form = next-closed R sectors place form.blanks form.ring ∙ le-ltb form.blanks 1 form.some
+
+  pub redo-at_rest : (sectors : List (List ℕ)) (place : ℕ) → AtRest k.reading sectors place → redo_of k sectors place ≡ Nothing
+  redo-at_rest sectors place form = redo_is sectors place false (k.reading.has_gc_done (sector_at sectors place)) (rest_closed sectors place form) refl
+
+  pub redo-collecting : (sectors : List (List ℕ)) (place : ℕ) → Collecting k.reading sectors place → redo_of k sectors place ≡ CollectAgain
+  redo-collecting sectors place form = redo_is sectors place true false (next-closed R sectors place 0 form.ring ∙ refl) form.not_done
+
+  pub redo-collected : (sectors : List (List ℕ)) (place : ℕ) → Collected k.reading sectors place → redo_of k sectors place ≡ ClearNext
+  redo-collected sectors place form = redo_is sectors place true true (next-closed R sectors place 0 form.ring ∙ refl) form.done
+
+  pub rest_from : (sectors : List (List ℕ)) (place : ℕ) → IsForm k.reading sectors place → redo_of k sectors place ≡ Nothing → AtRest k.reading sectors place
+  rest_from sectors place form is =
+      elim form [
+        | inl rest ↦ rest
+        | inr (inl collecting) ↦ absurd (again_not (sym (redo-collecting sectors place collecting) ∙ is))
+        | inr (inr collected) ↦ absurd (clear_not (sym (redo-collected sectors place collected) ∙ is))
+      ]
+    where
+      again_not : CollectAgain ≡ Nothing → ⊥
+      again_not e = cc
+
+      clear_not : ClearNext ≡ Nothing → ⊥
+      clear_not e = cc
+
+  pub collecting_from : (sectors : List (List ℕ)) (place : ℕ) → IsForm k.reading sectors place → redo_of k sectors place ≡ CollectAgain → Collecting k.reading sectors place
+  collecting_from sectors place form is =
+      elim form [
+        | inl rest ↦ absurd (other (sym (redo-at_rest sectors place rest) ∙ is))
+        | inr (inl collecting) ↦ collecting
+        | inr (inr collected) ↦ absurd (another (sym (redo-collected sectors place collected) ∙ is))
+      ]
+    where
+      other : Nothing ≡ CollectAgain → ⊥
+      other e = cc
+
+      another : ClearNext ≡ CollectAgain → ⊥
+      another e = cc
+
+  pub collected_from : (sectors : List (List ℕ)) (place : ℕ) → IsForm k.reading sectors place → redo_of k sectors place ≡ ClearNext → Collected k.reading sectors place
+  collected_from sectors place form is =
+      elim form [
+        | inl rest ↦ absurd (other (sym (redo-at_rest sectors place rest) ∙ is))
+        | inr (inl collecting) ↦ absurd (another (sym (redo-collecting sectors place collecting) ∙ is))
+        | inr (inr collected) ↦ collected
+      ]
+    where
+      other : Nothing ≡ ClearNext → ⊥
+      other e = cc
+
+      another : CollectAgain ≡ ClearNext → ⊥
+      another e = cc
+
+  -- The emptying of the victim alone.
+
+  module _ (old new : List (List ℕ)) (place : ℕ) (form : Collected k.reading old place) (only : ChangesOnly old new (next old place)) where
+    pub victim_emptied : Clears k (sector_at old (next old place)) (sector_at new (next old place)) → AtRest k.reading new place × KeepsItems k old new
+    victim_emptied clears =
+        let step = erase_victim R law.reads old place (sector_at new (next old place)) form clears.blank in
+        let rest = subst (λ (s : List (List ℕ)). AtRest R s place) (sym only) step.0 in
+        (rest, keeps-by k law old new place place (inr (inr form)) (inl rest) (keeps_all (area_pairs R old place) (area_pairs R new place) (ap (λ (s : List (List ℕ)). area_pairs R s place) only ∙ step.1)))
+
+    pub victim_stays : KeepsMarks k (sector_at old (next old place)) (sector_at new (next old place)) → KeepsItems k old new
+    victim_stays keeps =
+        let shut : R.is_closed (sector_at new (next old place)) ≡ true = keeps.closed ∙ next-closed R old place 0 form.ring ∙ refl in
+        let step = put_victim R old place (sector_at new (next old place)) form shut in
+        keeps-by k law old new place place (inr (inr form)) (inr (inr (subst (λ (s : List (List ℕ)). Collected R s place) (sym only) step.0))) (keeps_all (area_pairs R old place) (area_pairs R new place) (ap (λ (s : List (List ℕ)). area_pairs R s place) only ∙ step.1))
+
+pub not_again : Nothing ≡ CollectAgain → ⊥
+not_again e = cc
+
+pub not_next : Nothing ≡ ClearNext → ⊥
+not_next e = cc
+
+pub next_not_again : ClearNext ≡ CollectAgain → ⊥
+next_not_again e = cc

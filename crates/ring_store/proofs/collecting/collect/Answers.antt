@@ -1,0 +1,182 @@
+use Rattle.std.proofs.Common.{◌≡◌, ℕ, ◌∙◌}
+use Rattle.std.proofs.lemmas.Result.{on_ok_weaker, on_err_weaker}
+use Rattle.flash_sim.specs.Device.{Device}
+use Rattle.flash_map.specs.declared.area.Area.{Area}
+use Rattle.flash_map.specs.Area.{unit_of, sectors_of}
+use Rattle.flash_map.proofs.PieceLemmas.{on_err}
+use Rattle.flash_map.proofs.Touches.{then}
+use Rattle.ring_laws.specs.Area.{next}
+use Rattle.ring_laws.proofs.AreaReads.{next_there}
+use Rattle.ring_store.specs.Kind.{IsKind}
+use Rattle.ring_store.proofs.Areas.{unit_is, stopped-keeps}
+use Rattle.ring_store.proofs.CopyLoop.{either}
+use Rattle.ring_store.proofs.SlotFacts.{current_within}
+use Rattle.ring_store.proofs.CallFacts.{mark_opened, mark_has_room, mark_lost, mark_spends_lost, cleared, cleared_keeps, clear_lost, spends_all, spends_all_lost}
+use Rattle.ring_store.proofs.WrittenSteps.{stopped-written}
+use Rattle.ring_store.proofs.WrittenFacts.{mark_cut-written, clear-written}
+use Rattle.ring_store.proofs.collecting.collect.Goals as goal
+
+pub next-victim-requires : goal.next-victim-requires
+next-victim-requires g c =
+    let a : Device = g.F.Flash.device c.args.flash.now in
+    let area : Area = c.args.area.now in
+    let place : ℕ = c.args.current in
+    let law : IsKind (g.T.SlotSectors.kind (unit_of a area)) = g.met.T.SlotSectors.lawful (unit_of a area) (unit_is a area (g.met.F.Flash.is_lawful c.args.flash.now) c.requires.area.lawful) in
+    current_within a area place c.requires.collecting.ring.within
+
+pub copy_live-requires-clause-victim : goal.copy_live-requires-clause-victim
+copy_live-requires-clause-victim g c =
+    let a : Device = g.F.Flash.device c.args.flash.now in
+    let area : Area = c.args.area.now in
+    let place : ℕ = c.args.current in
+    let law : IsKind (g.T.SlotSectors.kind (unit_of a area)) = g.met.T.SlotSectors.lawful (unit_of a area) (unit_is a area (g.met.F.Flash.is_lawful c.args.flash.now) c.requires.area.lawful) in
+    c.next-victim.ensures.value ∙ next_there a area place
+
+pub returns-in_err-copy_live-clause-items : goal.returns-in_err-copy_live-clause-items
+returns-in_err-copy_live-clause-items g c =
+    let a : Device = g.F.Flash.device c.args.flash.now in
+    let area : Area = c.args.area.now in
+    let place : ℕ = c.args.current in
+    let law : IsKind (g.T.SlotSectors.kind (unit_of a area)) = g.met.T.SlotSectors.lawful (unit_of a area) (unit_is a area (g.met.F.Flash.is_lawful c.args.flash.now) c.requires.area.lawful) in
+    stopped-keeps (g.T.SlotSectors.kind (unit_of a area)) law (sectors_of a area) (sectors_of (g.F.Flash.device c.copy_live.new.flash) area) place c.requires.collecting c.in_err-copy_live.ensures.lost
+
+pub mark_done-requires-clause-opened : goal.mark_done-requires-clause-opened
+mark_done-requires-clause-opened g c =
+    let a : Device = g.F.Flash.device c.args.flash.now in
+    let area : Area = c.args.area.now in
+    let place : ℕ = c.args.current in
+    let law : IsKind (g.T.SlotSectors.kind (unit_of a area)) = g.met.T.SlotSectors.lawful (unit_of a area) (unit_is a area (g.met.F.Flash.is_lawful c.args.flash.now) c.requires.area.lawful) in
+    let d : Device = g.F.Flash.device c.copy_live.new.flash in
+    let did = c.in_ok-copy_live.ensures in
+    mark_opened g.T.SlotSectors.kind g.T.SlotSectors.role a area place law (g.met.F.Flash.is_lawful c.args.flash.now) c.requires.area c.requires.collecting d did.touches.banks did.copies
+
+pub mark_done-requires-clause-room : goal.mark_done-requires-clause-room
+mark_done-requires-clause-room g c =
+    let a : Device = g.F.Flash.device c.args.flash.now in
+    let area : Area = c.args.area.now in
+    let place : ℕ = c.args.current in
+    let law : IsKind (g.T.SlotSectors.kind (unit_of a area)) = g.met.T.SlotSectors.lawful (unit_of a area) (unit_is a area (g.met.F.Flash.is_lawful c.args.flash.now) c.requires.area.lawful) in
+    let d : Device = g.F.Flash.device c.copy_live.new.flash in
+    let did = c.in_ok-copy_live.ensures in
+    mark_has_room g.T.SlotSectors.kind g.T.SlotSectors.role a area place law (g.met.F.Flash.is_lawful c.args.flash.now) c.requires.area c.requires.collecting d did.touches.banks did.copies
+
+pub returns-in_err-mark_done-clause-items : goal.returns-in_err-mark_done-clause-items
+returns-in_err-mark_done-clause-items g c =
+    let a : Device = g.F.Flash.device c.args.flash.now in
+    let area : Area = c.args.area.now in
+    let place : ℕ = c.args.current in
+    let law : IsKind (g.T.SlotSectors.kind (unit_of a area)) = g.met.T.SlotSectors.lawful (unit_of a area) (unit_is a area (g.met.F.Flash.is_lawful c.args.flash.now) c.requires.area.lawful) in
+    let d : Device = g.F.Flash.device c.copy_live.new.flash in
+    let did = c.in_ok-copy_live.ensures in
+    let e : Device = g.F.Flash.device c.mark_done.new.flash in
+    mark_lost g.T.SlotSectors.kind g.T.SlotSectors.role a area place law (g.met.F.Flash.is_lawful c.args.flash.now) c.requires.area c.requires.collecting d did.touches.banks did.copies e c.in_err-mark_done.ensures.only c.in_err-mark_done.ensures.lost
+
+pub returns-in_err-mark_done-clause-spends_lost : goal.returns-in_err-mark_done-clause-spends_lost
+returns-in_err-mark_done-clause-spends_lost g c =
+    let a : Device = g.F.Flash.device c.args.flash.now in
+    let area : Area = c.args.area.now in
+    let place : ℕ = c.args.current in
+    let law : IsKind (g.T.SlotSectors.kind (unit_of a area)) = g.met.T.SlotSectors.lawful (unit_of a area) (unit_is a area (g.met.F.Flash.is_lawful c.args.flash.now) c.requires.area.lawful) in
+    let d : Device = g.F.Flash.device c.copy_live.new.flash in
+    let did = c.in_ok-copy_live.ensures in
+    let e : Device = g.F.Flash.device c.mark_done.new.flash in
+    on_err c.from_residual-in_err-mark_done.result (mark_spends_lost g.T.SlotSectors.kind g.T.SlotSectors.role a area place law (g.met.F.Flash.is_lawful c.args.flash.now) c.requires.area c.requires.collecting d did.touches.banks did.copies e did.spends c.in_err-mark_done.ensures.spends_lost)
+
+pub returns-clause-touches : goal.returns-clause-touches
+returns-clause-touches g c =
+    then (then c.in_ok-copy_live.ensures.touches c.in_ok-mark_done.ensures.touches) c.clear.ensures.touches
+
+pub returns-clause-collects : goal.returns-clause-collects
+returns-clause-collects g c =
+    let a : Device = g.F.Flash.device c.args.flash.now in
+    let area : Area = c.args.area.now in
+    let place : ℕ = c.args.current in
+    let law : IsKind (g.T.SlotSectors.kind (unit_of a area)) = g.met.T.SlotSectors.lawful (unit_of a area) (unit_is a area (g.met.F.Flash.is_lawful c.args.flash.now) c.requires.area.lawful) in
+    let d : Device = g.F.Flash.device c.copy_live.new.flash in
+    let did = c.in_ok-copy_live.ensures in
+    let e : Device = g.F.Flash.device c.mark_done.new.flash in
+    let both = then did.touches c.in_ok-mark_done.ensures.touches in
+    let marked = c.in_ok-mark_done.ensures in
+    let z : Device = g.F.Flash.device c.clear.new.flash in
+    let at : c.next-victim.result ≡ next (sectors_of a area) place = c.next-victim.ensures.value ∙ next_there a area place in
+    on_ok_weaker c.clear.result (λ clears. cleared g.T.SlotSectors.kind g.T.SlotSectors.role a area place law (g.met.F.Flash.is_lawful c.args.flash.now) c.requires.area c.requires.collecting d did.touches.banks did.copies e both.banks marked.only marked.marks c.next-victim.result at z c.clear.ensures.only clears) c.clear.ensures.clears
+
+pub returns-clause-items : goal.returns-clause-items
+returns-clause-items g c =
+    let a : Device = g.F.Flash.device c.args.flash.now in
+    let area : Area = c.args.area.now in
+    let place : ℕ = c.args.current in
+    let law : IsKind (g.T.SlotSectors.kind (unit_of a area)) = g.met.T.SlotSectors.lawful (unit_of a area) (unit_is a area (g.met.F.Flash.is_lawful c.args.flash.now) c.requires.area.lawful) in
+    let d : Device = g.F.Flash.device c.copy_live.new.flash in
+    let did = c.in_ok-copy_live.ensures in
+    let e : Device = g.F.Flash.device c.mark_done.new.flash in
+    let both = then did.touches c.in_ok-mark_done.ensures.touches in
+    let marked = c.in_ok-mark_done.ensures in
+    let z : Device = g.F.Flash.device c.clear.new.flash in
+    let at : c.next-victim.result ≡ next (sectors_of a area) place = c.next-victim.ensures.value ∙ next_there a area place in
+    either c.clear.result
+    (on_ok_weaker c.clear.result (λ clears. cleared_keeps g.T.SlotSectors.kind g.T.SlotSectors.role a area place law (g.met.F.Flash.is_lawful c.args.flash.now) c.requires.area c.requires.collecting d did.touches.banks did.copies e both.banks marked.only marked.marks c.next-victim.result at z c.clear.ensures.only clears) c.clear.ensures.clears)
+    (on_err_weaker c.clear.result (λ keeps. clear_lost g.T.SlotSectors.kind g.T.SlotSectors.role a area place law (g.met.F.Flash.is_lawful c.args.flash.now) c.requires.area c.requires.collecting d did.touches.banks did.copies e both.banks marked.only marked.marks c.next-victim.result at z c.clear.ensures.only keeps) c.clear.ensures.lost)
+
+pub returns-clause-spends : goal.returns-clause-spends
+returns-clause-spends g c =
+    let a : Device = g.F.Flash.device c.args.flash.now in
+    let area : Area = c.args.area.now in
+    let place : ℕ = c.args.current in
+    let law : IsKind (g.T.SlotSectors.kind (unit_of a area)) = g.met.T.SlotSectors.lawful (unit_of a area) (unit_is a area (g.met.F.Flash.is_lawful c.args.flash.now) c.requires.area.lawful) in
+    let d : Device = g.F.Flash.device c.copy_live.new.flash in
+    let did = c.in_ok-copy_live.ensures in
+    let e : Device = g.F.Flash.device c.mark_done.new.flash in
+    let both = then did.touches c.in_ok-mark_done.ensures.touches in
+    let marked = c.in_ok-mark_done.ensures in
+    let z : Device = g.F.Flash.device c.clear.new.flash in
+    let at : c.next-victim.result ≡ next (sectors_of a area) place = c.next-victim.ensures.value ∙ next_there a area place in
+    on_ok_weaker c.clear.result (λ s. spends_all g.T.SlotSectors.kind g.T.SlotSectors.role a area place law (g.met.F.Flash.is_lawful c.args.flash.now) c.requires.area c.requires.collecting d did.touches.banks did.copies e both.banks marked.only marked.marks c.next-victim.result at z did.spends marked.spends s) c.clear.ensures.spends
+
+pub returns-clause-spends_lost : goal.returns-clause-spends_lost
+returns-clause-spends_lost g c =
+    let a : Device = g.F.Flash.device c.args.flash.now in
+    let area : Area = c.args.area.now in
+    let place : ℕ = c.args.current in
+    let law : IsKind (g.T.SlotSectors.kind (unit_of a area)) = g.met.T.SlotSectors.lawful (unit_of a area) (unit_is a area (g.met.F.Flash.is_lawful c.args.flash.now) c.requires.area.lawful) in
+    let d : Device = g.F.Flash.device c.copy_live.new.flash in
+    let did = c.in_ok-copy_live.ensures in
+    let e : Device = g.F.Flash.device c.mark_done.new.flash in
+    let both = then did.touches c.in_ok-mark_done.ensures.touches in
+    let marked = c.in_ok-mark_done.ensures in
+    let z : Device = g.F.Flash.device c.clear.new.flash in
+    let at : c.next-victim.result ≡ next (sectors_of a area) place = c.next-victim.ensures.value ∙ next_there a area place in
+    on_err_weaker c.clear.result (λ s. spends_all_lost g.T.SlotSectors.kind g.T.SlotSectors.role a area place law (g.met.F.Flash.is_lawful c.args.flash.now) c.requires.area c.requires.collecting d did.touches.banks did.copies e both.banks marked.only marked.marks c.next-victim.result at z did.spends marked.spends s) c.clear.ensures.spends_lost
+
+pub returns-in_err-copy_live-clause-written : goal.returns-in_err-copy_live-clause-written
+returns-in_err-copy_live-clause-written g c =
+    let a : Device = g.F.Flash.device c.args.flash.now in
+    let area : Area = c.args.area.now in
+    let place : ℕ = c.args.current in
+    let law : IsKind (g.T.SlotSectors.kind (unit_of a area)) = g.met.T.SlotSectors.lawful (unit_of a area) (unit_is a area (g.met.F.Flash.is_lawful c.args.flash.now) c.requires.area.lawful) in
+    stopped-written (g.T.SlotSectors.kind (unit_of a area)) law (sectors_of a area) (sectors_of (g.F.Flash.device c.copy_live.new.flash) area) place c.requires.collecting c.in_err-copy_live.ensures.lost
+
+pub returns-in_err-mark_done-clause-written : goal.returns-in_err-mark_done-clause-written
+returns-in_err-mark_done-clause-written g c =
+    let a : Device = g.F.Flash.device c.args.flash.now in
+    let area : Area = c.args.area.now in
+    let place : ℕ = c.args.current in
+    let law : IsKind (g.T.SlotSectors.kind (unit_of a area)) = g.met.T.SlotSectors.lawful (unit_of a area) (unit_is a area (g.met.F.Flash.is_lawful c.args.flash.now) c.requires.area.lawful) in
+    let d : Device = g.F.Flash.device c.copy_live.new.flash in
+    let did = c.in_ok-copy_live.ensures in
+    let e : Device = g.F.Flash.device c.mark_done.new.flash in
+    mark_cut-written g.T.SlotSectors.kind a area place law c.requires.collecting d did.touches.banks e c.in_err-mark_done.ensures.only did.copies c.in_err-mark_done.ensures.lost
+
+pub returns-clause-written : goal.returns-clause-written
+returns-clause-written g c =
+    let a : Device = g.F.Flash.device c.args.flash.now in
+    let area : Area = c.args.area.now in
+    let place : ℕ = c.args.current in
+    let law : IsKind (g.T.SlotSectors.kind (unit_of a area)) = g.met.T.SlotSectors.lawful (unit_of a area) (unit_is a area (g.met.F.Flash.is_lawful c.args.flash.now) c.requires.area.lawful) in
+    let d : Device = g.F.Flash.device c.copy_live.new.flash in
+    let did = c.in_ok-copy_live.ensures in
+    let e : Device = g.F.Flash.device c.mark_done.new.flash in
+    let marked = c.in_ok-mark_done.ensures in
+    let z : Device = g.F.Flash.device c.clear.new.flash in
+    let at : c.next-victim.result ≡ next (sectors_of a area) place = c.next-victim.ensures.value ∙ next_there a area place in
+    clear-written g.T.SlotSectors.kind a area place law c.requires.collecting d did.touches.banks e marked.only marked.marks c.next-victim.result at z c.clear.ensures.only

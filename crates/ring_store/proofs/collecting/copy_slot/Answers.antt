@@ -1,0 +1,28 @@
+use Rattle.std.proofs.Common.{◌≡◌, ◌+◌, ◌<◌, ◌≤◌, ℕ, Some, sym, subst, ◌∙◌}
+use Rattle.std.specs.Option.{option_map}
+use Rattle.flash_sim.specs.Device.{Device}
+use Rattle.flash_map.specs.Area.{unit_of, sectors_of, sector_at}
+use Rattle.ring_store.specs.Kind.{Kind, IsKind, placed_at}
+use Rattle.ring_store.proofs.Areas.{unit_is}
+use Rattle.ring_store.proofs.CopyLoop.{live-bytes}
+use Rattle.ring_store.proofs.collecting.copy_slot.Goals as goal
+
+pub copy-requires-clause-listed : goal.copy-requires-clause-listed
+copy-requires-clause-listed g c =
+    let d : Device = g.F.Flash.device c.args.flash.now in
+    let k : Kind = g.T.SlotSectors.kind (unit_of d c.args.area.now) in
+    let law : IsKind (g.T.SlotSectors.kind (unit_of d c.args.area.now)) = g.met.T.SlotSectors.lawful (unit_of d c.args.area.now) (unit_is d c.args.area.now (g.met.F.Flash.is_lawful c.args.flash.now) c.requires.area.lawful) in
+    let listed = c.requires.listed in
+    let l = live-bytes k law (sectors_of d c.args.area.now) c.args.victim c.args.slot c.in-Some.placed c.requires.within listed.0 listed.1 (sym c.live_in.ensures.entry ∙ c.in-Some.is) in
+    subst (λ (v : ℕ). (k.first ≤ c.in-Some.placed.slot) × (c.in-Some.placed.slot < k.first + k.count (sector_at (sectors_of d c.args.area.now) v))) (sym l.sector)
+    (subst (λ (s : ℕ). (k.first ≤ s) × (s < k.first + k.count (sector_at (sectors_of d c.args.area.now) c.args.victim))) (sym l.slot_is) listed)
+
+pub copy-requires-clause-there : goal.copy-requires-clause-there
+copy-requires-clause-there g c =
+    let d : Device = g.F.Flash.device c.args.flash.now in
+    let k : Kind = g.T.SlotSectors.kind (unit_of d c.args.area.now) in
+    let law : IsKind (g.T.SlotSectors.kind (unit_of d c.args.area.now)) = g.met.T.SlotSectors.lawful (unit_of d c.args.area.now) (unit_is d c.args.area.now (g.met.F.Flash.is_lawful c.args.flash.now) c.requires.area.lawful) in
+    let listed = c.requires.listed in
+    let l = live-bytes k law (sectors_of d c.args.area.now) c.args.victim c.args.slot c.in-Some.placed c.requires.within listed.0 listed.1 (sym c.live_in.ensures.entry ∙ c.in-Some.is) in
+    subst (λ (v : ℕ). option_map (placed_at v) (k.in_slot (sector_at (sectors_of d c.args.area.now) v) c.in-Some.placed.slot) ≡ Some c.in-Some.placed) (sym l.sector)
+    (subst (λ (s : ℕ). option_map (placed_at c.args.victim) (k.in_slot (sector_at (sectors_of d c.args.area.now) c.args.victim) s) ≡ Some c.in-Some.placed) (sym l.slot_is) l.read)

@@ -1,0 +1,31 @@
+use Rattle.std.proofs.Common.{◌≡◌, ◌≢◌, ℕ, zero, suc, ◌+◌, ◌-◌, ◌*◌, ◌/◌, ◌%◌, ◌<◌, ◌≤◌, ◌^◌, ◌⊎◌, min, Bool, true, false, not, ◌&&◌, ◌||◌, cond, eqb, List, [], ◌∷◌, ◌++◌, length, map, Option, Some, None, refl, sym, ap, subst, ◌∙◌, inl, inr, append_assoc, arith}
+use Rattle.flash_sim.specs.Device.{Device}
+use Rattle.flash_map.specs.declared.area.Area.{Area}
+use Rattle.flash_map.specs.Area.{unit_of, sectors_of, sector_at}
+use Rattle.ring_store.specs.Kind.{Kind, IsKind, placed_at, slots}
+use Rattle.ring_store.proofs.Areas.{unit_is, open_inside}
+use Rattle.ring_store.proofs.liveness.live_slots.Goals as goal
+
+pub note_behind-requires-clause-current : goal.note_behind-requires-clause-current
+note_behind-requires-clause-current g c =
+    let d : Device = g.F.Flash.device c.args.flash.now in
+    let area : Area = c.args.area.now in
+    let k : Kind = g.T.SlotSectors.kind (unit_of d area) in
+    let sectors : List (List ℕ) = sectors_of d area in
+    open_inside k d area c.args.current c.requires.area.lawful c.requires.current
+
+pub live_by-requires-clause-seen : goal.live_by-requires-clause-seen
+live_by-requires-clause-seen g c =
+    let d : Device = g.F.Flash.device c.args.flash.now in
+    let area : Area = c.args.area.now in
+    let k : Kind = g.T.SlotSectors.kind (unit_of d area) in
+    let sectors : List (List ℕ) = sectors_of d area in
+    c.note_behind.ensures (c.new-seen.ensures k.ids)
+
+pub returns : goal.returns
+returns g c =
+    let d : Device = g.F.Flash.device c.args.flash.now in
+    let area : Area = c.args.area.now in
+    let k : Kind = g.T.SlotSectors.kind (unit_of d area) in
+    let sectors : List (List ℕ) = sectors_of d area in
+    c.live_by.ensures.live

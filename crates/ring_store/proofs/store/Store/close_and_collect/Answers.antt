@@ -1,0 +1,23 @@
+use Rattle.std.proofs.Common.{inl, refl}
+use Rattle.flash_sim.specs.Device.{Device}
+use Rattle.flash_map.specs.Area.{unit_of, sectors_of}
+use Rattle.ring_store.proofs.Areas.{keeps_none, open_inside}
+use Rattle.ring_store.proofs.store.Store.close_and_collect.Goals as goal
+
+pub is_blank-requires-clause-inside : goal.is_blank-requires-clause-inside
+is_blank-requires-clause-inside g c =
+    let a : Device = g.F.Flash.device c.args.flash.now in
+    open_inside (g.T.SlotSectors.kind (unit_of a c.args.self.now.area)) a c.args.self.now.area c.args.self.now.current c.requires.area.lawful c.requires.current
+
+pub returns-then-is_blank-clause-items : goal.returns-then-is_blank-clause-items
+returns-then-is_blank-clause-items g c =
+    let a : Device = g.F.Flash.device c.args.flash.now in
+    keeps_none (g.T.SlotSectors.kind (unit_of a c.args.self.now.area)) (sectors_of a c.args.self.now.area) c.requires.undamaged
+
+pub returns-then-is_blank-clause-written : goal.returns-then-is_blank-clause-written
+returns-then-is_blank-clause-written g c =
+    λ written. written
+
+pub returns-then-is_blank-clause-changed : goal.returns-then-is_blank-clause-changed
+returns-then-is_blank-clause-changed g c =
+    inl refl

@@ -1,0 +1,21 @@
+use Rattle.std.proofs.Common.{◌≡◌, ℕ, sym, subst}
+use Rattle.flash_sim.specs.Device.{Device}
+use Rattle.flash_map.specs.declared.area.Area.{Area}
+use Rattle.flash_map.specs.Area.{unit_of, sectors_of, sector_at}
+use Rattle.ring_laws.specs.Forms.{AtRest}
+use Rattle.ring_store.specs.Kind.{IsKind}
+use Rattle.ring_store.proofs.Areas.{unit_is}
+use Rattle.ring_store.proofs.Standings.{stands}
+use Rattle.ring_store.proofs.store.Store.turn.Goals as goal
+
+pub returns-clause-stands : goal.returns-clause-stands
+returns-clause-stands g c =
+    let a : Device = g.F.Flash.device c.args.flash.now in
+    let d : Device = g.F.Flash.device c.round.new.flash in
+    let area : Area = c.args.self.now.area in
+    let on = c.requires.stands in
+    let law : IsKind (g.T.SlotSectors.kind (unit_of a area)) = g.met.T.SlotSectors.lawful (unit_of a area) (unit_is a area (g.met.F.Flash.is_lawful c.args.flash.now) on.area.lawful) in
+    let did = c.in_ok-self.ensures in
+    stands g.T.SlotSectors.role g.T.SlotSectors.kind g.T.SlotSectors.kept a d area c.in_ok-self.field-0 c.round.new.opened law did.touches.banks on.area
+    (subst (λ (p : ℕ). AtRest (g.T.SlotSectors.kind (unit_of a area)).reading (sectors_of d area) p) (sym did.opened) did.rested)
+    (subst (λ (p : ℕ). c.round.new.opened ≡ g.T.SlotSectors.kept (unit_of a area) (sector_at (sectors_of d area) p)) (sym did.opened) did.kept)

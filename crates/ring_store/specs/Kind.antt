@@ -1,0 +1,117 @@
+-- What a store of items asks of its sectors. Nothing else in this crate knows how a sector holds an entry, what it
+-- programs for it, or how a damage looks.
+use Rattle.std.specs.Prelude.{◌≡◌, ℕ, ◌+◌, ◌*◌, ◌<◌, ◌≤◌, max, Bool, true, false, List, length, map, Option, Some, None, ◌==◌, nat_le, if◌then◌else◌}
+use Rattle.std.specs.List.{filter_map, range_with_len}
+use Rattle.flash_map.specs.declared.faults.Damaged.{Damaged}
+use Rattle.ring_laws.specs.Area.{first_damage}
+use Rattle.ring_laws.specs.Reading.{Reading, IsReading, is_sound}
+use Rattle.pair_laws.specs.Rounds.{copies_cost, stored_cost}
+use Rattle.ring_laws.specs.Entries.{Entries}
+use Rattle.ring_store.specs.declared.entry.Entry.{Entry}
+use Rattle.ring_store.specs.declared.entry.Placed.{Placed}
+
+-- so many units at least, and so many at most
+pub record Range : Type 0 where
+  pub least : ℕ
+  pub most : ℕ
+
+-- What the steps in one sector spend.
+pub record Units : Type 0 where
+  -- making a sector that is in use by no list ready for entries
+  pub begin : List ℕ → Range
+  -- a value of this length and its entry, in a ready sector
+  pub put : List ℕ → ℕ → Range
+  -- a copy of an entry with a value of this length
+  pub copy : ℕ → Range
+  pub done : Range
+  pub close : List ℕ → Range
+  pub clear : Range
+  -- a round of close and collect in sectors of this size, at most
+  pub round : ℕ → ℕ
+  -- a mount in an area with sectors of this size, at most
+  pub mount : ℕ → ℕ
+  -- a value of this length and its entry, at most, with what makes their sector ready
+  pub entry : ℕ → ℕ
+
+pub record Kind : Type 0 where
+  pub reading : Reading
+  -- where the slots of a sector's list begin, how many they are, and the entry in one
+  pub first : ℕ
+  pub count : List ℕ → ℕ
+  pub in_slot : List ℕ → ℕ → Option Entry
+  -- the bytes of the entry in a slot
+  pub bytes : List ℕ → ℕ → List ℕ
+  -- those of each entry lie in the sector
+  pub within : List ℕ → Bool
+  -- what bytes of this length and their entry take up
+  pub cost : ℕ → ℕ
+  -- the bytes of a slot
+  pub slot : ℕ
+  -- what a sector of this size has for values and entries
+  pub cap : ℕ → ℕ
+  -- the bytes between the values of a sector and its slots
+  pub free : List ℕ → ℕ
+  -- entries can be put into the sector
+  pub is_ready : List ℕ → Bool
+  pub damage : List (List ℕ) → Option Damaged
+  -- an item has an id below this one
+  pub ids : ℕ
+  pub units : Units
+
+abbrev pub placed_at : ℕ → Entry → Placed
+placed_at place e = record { sector = place; slot = e.slot; id = e.id; len = e.len }
+
+-- the entries of a sector, in the order of their slots
+abbrev pub entries : Kind → List ℕ → List Entry
+entries k b = filter_map (k.in_slot b) (range_with_len k.first (k.count b))
+
+-- how its slots read, as the laws on live entries ask for it
+abbrev pub slots : Kind → Entries Entry Placed
+slots k = record {
+  reading = k.reading;
+  entries = entries k;
+  in_slot = k.in_slot;
+  first = k.first;
+  slots = k.count;
+  is_sound = k.within;
+  placed_at = placed_at;
+  sector = λ p. p.sector;
+  slot = λ p. p.slot;
+  id = λ p. p.id;
+  len = λ p. p.len;
+  bytes = λ b p. k.bytes b p.slot;
+  cost = k.cost;
+}
+
+-- What is true of the sectors of every such store. A sector has at least 512 bytes.
+pub record IsKind (k : Kind) : Type 0 where
+  pub reads : IsReading k.reading
+  -- the list of a sector is that of its entries
+  pub pairs : (b : List ℕ) → k.reading.pairs b ≡ map (λ e. (e.id, k.bytes b e.slot)) (entries k b)
+  pub own_slot : (b : List ℕ) (n : ℕ) (e : Entry) → k.in_slot b n ≡ Some e → e.slot ≡ n
+  -- no entry has the id behind those of items
+  pub reserved : (b : List ℕ) (n : ℕ) (e : Entry) → k.in_slot b n ≡ Some e → e.id ≡ k.ids → ⊥
+  pub long : (b : List ℕ) (n : ℕ) (e : Entry) → k.within b ≡ true → k.first ≤ n → n < k.first + k.count b → k.in_slot b n ≡ Some e → length (k.bytes b e.slot) ≡ e.len
+  pub sound : (b : List ℕ) → 512 ≤ length b → is_sound k.reading b ≡ true → k.within b ≡ true
+  pub costs : (b : List ℕ) → 512 ≤ length b → is_sound k.reading b ≡ true → stored_cost k.cost (k.reading.pairs b) ≤ k.cap (length b)
+  -- a sector with no entry has room for three slots beside what it has for values and entries
+  pub room : (b : List ℕ) → 512 ≤ length b → k.reading.is_blank b ≡ true → k.free b ≡ k.cap (length b) + 3 * k.slot
+  -- an open sector in use takes entries
+  pub used : (b : List ℕ) → 512 ≤ length b → is_sound k.reading b ≡ true → k.reading.is_blank b ≡ false → k.reading.is_closed b ≡ false → k.is_ready b ≡ true
+  pub begun : (b : List ℕ) → k.is_ready b ≡ true → k.units.begin b ≡ record { least = 0; most = 0 }
+  -- no bytes take up less than they are, and no sector has more than its size
+  pub least : (len : ℕ) → len ≤ k.cost len
+  pub most : (size : ℕ) → k.cap size ≤ size
+  -- a round's close, and its copies of pairs that a sector has room for
+  pub round : (size : ℕ) (closed opened : List ℕ) (pairs : List (ℕ × List ℕ)) → 512 ≤ size → length closed ≡ size → copies_cost k.cost pairs ≤ k.cap size
+      → (k.units.close closed).most + ((k.units.begin opened).most + (copies_cost (λ len. (k.units.copy len).most) pairs + (k.units.done.most + k.units.clear.most))) ≤ k.units.round size
+  -- the copies of a mount, which makes their sector ready or empties it first
+  pub mount : (size : ℕ) (opened : List ℕ) (pairs : List (ℕ × List ℕ)) → 512 ≤ size → copies_cost k.cost pairs ≤ k.cap size
+      → max (k.units.begin opened).most k.units.clear.most + (copies_cost (λ len. (k.units.copy len).most) pairs + (k.units.done.most + k.units.clear.most)) ≤ k.units.mount size
+  pub entry : (before begun : List ℕ) (len : ℕ) → (k.units.begin before).most + (k.units.put begun len).most ≤ k.units.entry len
+  pub damaged : (sectors : List (List ℕ)) → k.damage sectors ≡ None → first_damage k.reading sectors ≡ None
+  pub undamaged : (sectors : List (List ℕ)) → first_damage k.reading sectors ≡ None → k.damage sectors ≡ None
+
+-- Whether a value of this length fits a sector. A length of 0 is a delete. Slots stay for gc-done, a delete and the fence.
+abbrev pub fits : Kind → List ℕ → ℕ → Bool
+fits k b len = if len == 0 then nat_le (2 * k.slot) (k.free b) else nat_le (k.cost len + (if k.reading.has_gc_done b then 2 else 3) * k.slot) (k.free b)

@@ -1,0 +1,15 @@
+pub mod Collecting
+pub mod Kind
+pub mod Latest
+pub mod Listed
+pub mod NextId
+pub mod Older
+pub mod Room
+pub mod Seen
+pub mod Spending
+pub mod Standing
+pub mod Stands
+pub mod Steps
+pub mod Versions
+pub mod Writing
+pub mod Written

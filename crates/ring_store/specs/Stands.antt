@@ -1,0 +1,49 @@
+-- When a store stands on its area, and how mounting ends.
+use Rattle.std.specs.Prelude.{◌≡◌, ℕ, true, false, List, Some, None, Result, Ok, Err}
+use Rattle.flash_sim.specs.Device.{Device}
+use Rattle.flash_map.specs.declared.area.Area.{Area}
+use Rattle.flash_map.specs.declared.area.Role.{Role}
+use Rattle.flash_map.specs.declared.faults.MountFault.{MountFault}
+use Rattle.flash_map.specs.declared.faults.MountFault.TheVariants.{Damaged as HasDamage, PowerLost as MountLost, NoMemory}
+use Rattle.flash_map.specs.Area.{unit_of, sectors_of, sector_at}
+use Rattle.ring_laws.specs.Area.{next, is_closed_at, open_sector}
+use Rattle.ring_laws.specs.Forms.{AtRest}
+use Rattle.ring_store.specs.declared.store.Store.{Store}
+use Rattle.ring_store.specs.Kind.{Kind}
+use Rattle.ring_store.specs.Collecting.{redo_of, redo_units}
+use Rattle.ring_store.specs.Standing.{IsStoreArea, KeepsItems, SpendsIn, SpendsUpTo}
+
+-- The store is up: the area is not damaged and at rest, and the store knows its open sector.
+pub record StandsOn {T : Type 0} (role : Role) (kind : ℕ → Kind) (kept : ℕ → List ℕ → T) (d : Device) (store : Store T) : Type 0 where
+  pub area : IsStoreArea role d.banks store.area
+  pub up : store.up ≡ true
+  pub current : store.current ≡ open_sector (kind (unit_of d store.area)).reading (sectors_of d store.area)
+  pub opened : store.opened ≡ kept (unit_of d store.area) (sector_at (sectors_of d store.area) store.current)
+  pub rested : is_closed_at (kind (unit_of d store.area)).reading (sectors_of d store.area) (next (sectors_of d store.area) store.current) ≡ false
+  pub undamaged : (kind (unit_of d store.area)).damage (sectors_of d store.area) ≡ None
+
+-- so it does with this sector open
+abbrev pub StandsAt : {T : Type 0} → Role → (ℕ → Kind) → (ℕ → List ℕ → T) → Device → Area → ℕ → T → Type 0
+StandsAt role kind kept d area current opened = StandsOn role kind kept d (record { area = area; current = current; opened = opened; up = true })
+
+-- The area is damaged, and then nothing changed; or it is not, and its items stay, whether power is lost or not. What is
+-- spent is what there is to redo: at rest nothing is done.
+abbrev pub MountEnds : {T : Type 0} → Role → (ℕ → Kind) → (ℕ → List ℕ → T) → Device → Device → Area → Result (Store T) MountFault → Type 0
+MountEnds role kind kept old new area (Ok store) =
+    let k = kind (unit_of old area) in
+    let place = open_sector k.reading (sectors_of old area) in
+    (k.damage (sectors_of old area) ≡ None)
+    × StandsOn role kind kept new store
+    × (store.area ≡ area)
+    × KeepsItems k (sectors_of old area) (sectors_of new area)
+    × SpendsIn old new (redo_units k (sectors_of old area) place (redo_of k (sectors_of old area) place))
+    × (AtRest k.reading (sectors_of old area) place → new ≡ old)
+MountEnds role kind kept old new area (Err (HasDamage damaged)) = ((kind (unit_of old area)).damage (sectors_of old area) ≡ Some damaged) × (new ≡ old)
+MountEnds role kind kept old new area (Err MountLost) =
+    let k = kind (unit_of old area) in
+    let place = open_sector k.reading (sectors_of old area) in
+    (k.damage (sectors_of old area) ≡ None)
+    × KeepsItems k (sectors_of old area) (sectors_of new area)
+    × SpendsUpTo old new (redo_units k (sectors_of old area) place (redo_of k (sectors_of old area) place))
+    × ¬ AtRest k.reading (sectors_of old area) place
+MountEnds role kind kept old new area (Err NoMemory) = ⊥

@@ -1,0 +1,50 @@
+-- What a step makes of its sector.
+use Rattle.std.specs.Prelude.{◌≡◌, ℕ, ◌+◌, ◌≤◌, true, false, List, length}
+use Rattle.ring_laws.specs.Reading.{is_sound}
+use Rattle.pair_laws.specs.Rounds.{stored_cost}
+use Rattle.ring_laws.specs.Steps as ring
+use Rattle.ring_store.specs.Kind.{Kind}
+
+-- the sector's list and marks stay, and it is in use and sound as before
+pub record Keeps (k : Kind) (old new : List ℕ) : Type 0 where
+  pub list : ring.KeepsList k.reading old new
+  pub long : length new ≡ length old
+  pub used : k.reading.is_blank old ≡ false → k.reading.is_blank new ≡ false
+  pub sound : is_sound k.reading old ≡ true → is_sound k.reading new ≡ true
+
+-- its marks stay
+pub record KeepsMarks (k : Kind) (old new : List ℕ) : Type 0 where
+  pub closed : k.reading.is_closed new ≡ k.reading.is_closed old
+  pub gc_done : k.reading.has_gc_done new ≡ k.reading.has_gc_done old
+
+-- A sector with no entry is ready for one, and has none yet; one in use is as it was.
+pub record Begins (k : Kind) (old new : List ℕ) : Type 0 where
+  pub blank : k.reading.is_blank old ≡ true → k.reading.is_blank new ≡ true
+  pub used : k.reading.is_blank old ≡ false → new ≡ old
+  pub ready : k.is_ready new ≡ true
+  pub long : length new ≡ length old
+
+-- the sector's list has one pair more, whose cost is gone from the room
+pub record Adds (k : Kind) (old new : List ℕ) (id : ℕ) (bytes : List ℕ) : Type 0 where
+  pub list : ring.AddsPair k.reading old new id bytes
+  pub long : length new ≡ length old
+  pub ready : k.is_ready new ≡ true
+  pub free : k.free new + k.cost (length bytes) ≡ k.free old
+
+-- gc-done stands in a slot more; a list that costs no more than the sector has for it leaves it sound
+pub record Marks (k : Kind) (old new : List ℕ) : Type 0 where
+  pub list : ring.MarksDone k.reading old new
+  pub long : length new ≡ length old
+  pub free : k.free new + k.slot ≡ k.free old
+  pub sound : stored_cost k.cost (k.reading.pairs old) ≤ k.cap (length old) → is_sound k.reading new ≡ true
+
+pub record Closes (k : Kind) (old new : List ℕ) : Type 0 where
+  pub list : ring.Closes k.reading old new
+  pub long : length new ≡ length old
+  pub sound : is_sound k.reading old ≡ true → is_sound k.reading new ≡ true
+
+-- the sector has no entry, and is ready for one
+pub record Clears (k : Kind) (old new : List ℕ) : Type 0 where
+  pub blank : k.reading.is_blank new ≡ true
+  pub ready : k.is_ready new ≡ true
+  pub long : length new ≡ length old

@@ -1,0 +1,262 @@
+// Closing, collecting, and what a mount has to do again.
+ghost use Rattle.std.specs.Prelude.{◌≡◌, ℕ, ◌+◌, ◌*◌, ◌<◌, ◌≤◌, ◌∷◌, [], true, false, None, is_err, IfOk, IfSome, OnOk, OnErr, ◌⊎◌, if◌then◌else◌};
+ghost use Rattle.flash_map.specs.Area.{unit_of, sector_size, sectors_of, sector_at, ChangesOnly};
+ghost use Rattle.flash_map.specs.Touches.{Touches};
+ghost use Rattle.ring_laws.specs.Area.{next, is_blank_at, is_closed_at, open_sector};
+ghost use Rattle.ring_laws.specs.Forms.{AtRest, Collecting, to_copy};
+ghost use Rattle.ring_laws.specs.Reading.{is_sound};
+ghost use Rattle.ring_laws.specs.Live.{live_in, cost_of};
+ghost use Rattle.ring_store.specs.Kind.{slots};
+ghost use Rattle.ring_store.specs.Listed.{kind_on, HasSlotOn};
+ghost use Rattle.ring_store.specs.Seen.{holds_live};
+ghost use Rattle.ring_store.specs.Collecting.{HasBegun, HasCopied, StopsCopying, CopiesOne, copy_units, CollectsAt, TurnsAt, redo_of, redo_units};
+ghost use Rattle.ring_store.specs.Spending.{copies, collect_units, again_units, round_units};
+ghost use Rattle.ring_store.specs.Standing.{IsStoreArea, KeepsItems, SpendsIn, SpendsUpTo};
+ghost use Rattle.ring_store.specs.Steps.{KeepsMarks};
+ghost use Rattle.ring_store.specs.Written.{IsWritten};
+
+use crate::entry::{Placed, Redo};
+use crate::liveness::{live_in, live_slots};
+use crate::sectors::SlotSectors;
+use flash_map::Area;
+use flash_sim::{Flash, PowerLost, Steps};
+use std::sync::ledger::Ledger;
+
+// Copies the entry in a slot of the victim, if it is live.
+fn copy_slot<T: SlotSectors, F: Flash, L: Ledger>(
+    flash: &mut F,
+    area: &Area,
+    opened: &mut T,
+    current: u32,
+    victim: u32,
+    slot: u32,
+    live: bool,
+    steps: &mut Steps<L>,
+) -> Result<(), PowerLost>
+    requires area { IsStoreArea T.role (F.device flash.old).banks area.now }
+    requires kept { let d = F.device flash.old in opened.old ≡ T.kept (unit_of d area.now) (sector_at (sectors_of d area.now) current) }
+    requires current { let d = F.device flash.old in current ≡ open_sector (T.kind (unit_of d area.now)).reading (sectors_of d area.now) }
+    requires place { current < area.now.sectors }
+    requires inside { victim < area.now.sectors }
+    requires other { victim ≡ current → ⊥ }
+    requires listed { let d = F.device flash.old in let k = T.kind (unit_of d area.now) in
+        (k.first ≤ slot) × (slot < k.first + k.count (sector_at (sectors_of d area.now) victim)) }
+    requires ready { let d = F.device flash.old in (T.kind (unit_of d area.now)).is_ready (sector_at (sectors_of d area.now) current) ≡ true }
+    requires collecting { let d = F.device flash.old in is_closed_at (T.kind (unit_of d area.now)).reading (sectors_of d area.now) (next (sectors_of d area.now) current) ≡ true }
+    requires not_done { let d = F.device flash.old in (T.kind (unit_of d area.now)).reading.has_gc_done (sector_at (sectors_of d area.now) current) ≡ false }
+    requires source { let d = F.device flash.old in is_sound (T.kind (unit_of d area.now)).reading (sector_at (sectors_of d area.now) victim) ≡ true }
+    requires within { let d = F.device flash.old in (T.kind (unit_of d area.now)).within (sector_at (sectors_of d area.now) victim) ≡ true }
+    requires room { let d = F.device flash.old in let k = T.kind (unit_of d area.now) in
+        cost_of (slots k) (live_in (slots k) (sectors_of d area.now) victim slot) + 3 * k.slot ≤ k.free (sector_at (sectors_of d area.now) current) }
+    requires live { let d = F.device flash.old in live ≡ holds_live (kind_on T.kind d area.now) (sectors_of d area.now) victim slot }
+    ensures touches { Touches (area.now ∷ []) (F.device flash.old) (F.device flash.new) (is_err result) }
+    ensures copies { let d = F.device flash.old in let k = T.kind (unit_of d area.now) in
+        OnOk result (CopiesOne k (sectors_of d area.now) (sectors_of (F.device flash.new) area.now) current (live_in (slots k) (sectors_of d area.now) victim slot)) }
+    ensures kept { let d = F.device flash.old in OnOk result (opened.new ≡ T.kept (unit_of d area.now) (sector_at (sectors_of (F.device flash.new) area.now) current)) }
+    ensures only { OnErr result (ChangesOnly (sectors_of (F.device flash.old) area.now) (sectors_of (F.device flash.new) area.now) current) }
+    ensures lost { let d = F.device flash.old in OnErr result (KeepsMarks (T.kind (unit_of d area.now)) (sector_at (sectors_of d area.now) current) (sector_at (sectors_of (F.device flash.new) area.now) current)) }
+    ensures spends { let d = F.device flash.old in let k = T.kind (unit_of d area.now) in OnOk result (SpendsIn d (F.device flash.new) (copy_units k (live_in (slots k) (sectors_of d area.now) victim slot))) }
+    ensures spends_lost { let d = F.device flash.old in let k = T.kind (unit_of d area.now) in OnErr result (SpendsUpTo d (F.device flash.new) (copy_units k (live_in (slots k) (sectors_of d area.now) victim slot))) }
+{
+    match live_in::<T, F, L>(flash, area, victim, slot, live, steps) {
+        Some(placed) => opened.copy(flash, area, current, &placed, steps),
+        None => Ok(()),
+    }
+}
+
+// Copies the live entries of the victim to the open sector.
+fn copy_live<T: SlotSectors, F: Flash, L: Ledger>(
+    flash: &mut F,
+    area: &Area,
+    opened: &mut T,
+    current: u32,
+    victim: u32,
+    steps: &mut Steps<L>,
+) -> Result<(), PowerLost>
+    requires area { IsStoreArea T.role (F.device flash.old).banks area.now }
+    requires kept { let d = F.device flash.old in opened.old ≡ T.kept (unit_of d area.now) (sector_at (sectors_of d area.now) current) }
+    requires collecting { let d = F.device flash.old in Collecting (T.kind (unit_of d area.now)).reading (sectors_of d area.now) current }
+    requires begun { let d = F.device flash.old in HasCopied (T.kind (unit_of d area.now)) (sectors_of d area.now) (sectors_of d area.now) current [] }
+    requires victim { victim ≡ next (sectors_of (F.device flash.old) area.now) current }
+    ensures touches { Touches (area.now ∷ []) (F.device flash.old) (F.device flash.new) (is_err result) }
+    ensures copies { let d = F.device flash.old in let k = T.kind (unit_of d area.now) in
+        OnOk result (HasCopied k (sectors_of d area.now) (sectors_of (F.device flash.new) area.now) current (to_copy k.reading (sectors_of d area.now) current)) }
+    ensures kept { let d = F.device flash.old in OnOk result (opened.new ≡ T.kept (unit_of d area.now) (sector_at (sectors_of (F.device flash.new) area.now) current)) }
+    ensures lost { let d = F.device flash.old in OnErr result (StopsCopying (T.kind (unit_of d area.now)) (sectors_of d area.now) (sectors_of (F.device flash.new) area.now) current) }
+    ensures spends { let d = F.device flash.old in let k = T.kind (unit_of d area.now) in OnOk result (SpendsIn d (F.device flash.new) (copies k (to_copy k.reading (sectors_of d area.now) current))) }
+    ensures spends_lost { let d = F.device flash.old in let k = T.kind (unit_of d area.now) in OnErr result (SpendsUpTo d (F.device flash.new) (copies k (to_copy k.reading (sectors_of d area.now) current))) }
+{
+    let live = live_slots(flash, area, opened, current, victim, steps);
+    let slots = T::slots(flash, area, victim, steps);
+    let first = T::first_slot();
+    for slot in first..first + slots {
+        let is = live.has(slot - first);
+        copy_slot(flash, area, opened, current, victim, slot, is, steps)?;
+    }
+    Ok(())
+}
+
+// A whole collection into an open sector that has no entry and is ready for one.
+fn collect<T: SlotSectors, F: Flash, L: Ledger>(
+    flash: &mut F,
+    area: &Area,
+    opened: &mut T,
+    current: u32,
+    steps: &mut Steps<L>,
+) -> Result<(), PowerLost>
+    requires area { IsStoreArea T.role (F.device flash.old).banks area.now }
+    requires kept { let d = F.device flash.old in opened.old ≡ T.kept (unit_of d area.now) (sector_at (sectors_of d area.now) current) }
+    requires collecting { let d = F.device flash.old in Collecting (T.kind (unit_of d area.now)).reading (sectors_of d area.now) current }
+    requires begun { let d = F.device flash.old in HasCopied (T.kind (unit_of d area.now)) (sectors_of d area.now) (sectors_of d area.now) current [] }
+    ensures touches { Touches (area.now ∷ []) (F.device flash.old) (F.device flash.new) (is_err result) }
+    ensures collects { let d = F.device flash.old in OnOk result (CollectsAt (T.kind (unit_of d area.now)) (sectors_of d area.now) (sectors_of (F.device flash.new) area.now) current) }
+    ensures items { let d = F.device flash.old in KeepsItems (T.kind (unit_of d area.now)) (sectors_of d area.now) (sectors_of (F.device flash.new) area.now) }
+    ensures written { IsWritten (T.kind (unit_of (F.device flash.old) area.now)) (sectors_of (F.device flash.new) area.now) }
+    ensures kept { let d = F.device flash.old in OnOk result (opened.new ≡ T.kept (unit_of d area.now) (sector_at (sectors_of (F.device flash.new) area.now) current)) }
+    ensures spends { let d = F.device flash.old in OnOk result (SpendsIn d (F.device flash.new) (collect_units (T.kind (unit_of d area.now)) (sectors_of d area.now) current)) }
+    ensures spends_lost { let d = F.device flash.old in OnErr result (SpendsUpTo d (F.device flash.new) (collect_units (T.kind (unit_of d area.now)) (sectors_of d area.now) current)) }
+{
+    let victim = area.next(current);
+    copy_live(flash, area, opened, current, victim, steps)?;
+    opened.mark_done(flash, area, current, steps)?;
+    T::clear(flash, area, victim, steps)
+}
+
+// Makes the open sector of a collection one with no entry that is ready for one.
+fn prepare<T: SlotSectors, F: Flash, L: Ledger>(
+    flash: &mut F,
+    area: &Area,
+    opened: &mut T,
+    current: u32,
+    steps: &mut Steps<L>,
+) -> Result<(), PowerLost>
+    requires area { IsStoreArea T.role (F.device flash.old).banks area.now }
+    requires kept { let d = F.device flash.old in opened.old ≡ T.kept (unit_of d area.now) (sector_at (sectors_of d area.now) current) }
+    requires inside { current < area.now.sectors }
+    requires collecting { let d = F.device flash.old in Collecting (T.kind (unit_of d area.now)).reading (sectors_of d area.now) current }
+    ensures touches { Touches (area.now ∷ []) (F.device flash.old) (F.device flash.new) (is_err result) }
+    ensures begun { let d = F.device flash.old in OnOk result (HasBegun (T.kind (unit_of d area.now)) (sectors_of d area.now) (sectors_of (F.device flash.new) area.now) current) }
+    ensures kept { let d = F.device flash.old in OnOk result (opened.new ≡ T.kept (unit_of d area.now) (sector_at (sectors_of (F.device flash.new) area.now) current)) }
+    ensures lost { let d = F.device flash.old in OnErr result (StopsCopying (T.kind (unit_of d area.now)) (sectors_of d area.now) (sectors_of (F.device flash.new) area.now) current) }
+    ensures spends { let d = F.device flash.old in let k = T.kind (unit_of d area.now) in
+        OnOk result (SpendsIn d (F.device flash.new) (if is_blank_at k.reading (sectors_of d area.now) current then k.units.begin (sector_at (sectors_of d area.now) current) else k.units.clear)) }
+    ensures spends_lost { let d = F.device flash.old in let k = T.kind (unit_of d area.now) in
+        OnErr result (SpendsUpTo d (F.device flash.new) (if is_blank_at k.reading (sectors_of d area.now) current then k.units.begin (sector_at (sectors_of d area.now) current) else k.units.clear)) }
+{
+    if T::is_blank(flash, area, current, steps) {
+        return opened.begin(flash, area, current, steps);
+    }
+    T::clear(flash, area, current, steps)?;
+    *opened = T::keep(flash, area, current, steps);
+    Ok(())
+}
+
+// A collection into an open sector that may hold a part of it.
+fn collect_again<T: SlotSectors, F: Flash, L: Ledger>(
+    flash: &mut F,
+    area: &Area,
+    opened: &mut T,
+    current: u32,
+    steps: &mut Steps<L>,
+) -> Result<(), PowerLost>
+    requires area { IsStoreArea T.role (F.device flash.old).banks area.now }
+    requires kept { let d = F.device flash.old in opened.old ≡ T.kept (unit_of d area.now) (sector_at (sectors_of d area.now) current) }
+    requires collecting { let d = F.device flash.old in Collecting (T.kind (unit_of d area.now)).reading (sectors_of d area.now) current }
+    ensures touches { Touches (area.now ∷ []) (F.device flash.old) (F.device flash.new) (is_err result) }
+    ensures collects { let d = F.device flash.old in OnOk result (CollectsAt (T.kind (unit_of d area.now)) (sectors_of d area.now) (sectors_of (F.device flash.new) area.now) current) }
+    ensures items { let d = F.device flash.old in KeepsItems (T.kind (unit_of d area.now)) (sectors_of d area.now) (sectors_of (F.device flash.new) area.now) }
+    ensures written { IsWritten (T.kind (unit_of (F.device flash.old) area.now)) (sectors_of (F.device flash.new) area.now) }
+    ensures kept { let d = F.device flash.old in OnOk result (opened.new ≡ T.kept (unit_of d area.now) (sector_at (sectors_of (F.device flash.new) area.now) current)) }
+    ensures spends { let d = F.device flash.old in OnOk result (SpendsIn d (F.device flash.new) (again_units (T.kind (unit_of d area.now)) (sectors_of d area.now) current)) }
+    ensures spends_lost { let d = F.device flash.old in OnErr result (SpendsUpTo d (F.device flash.new) (again_units (T.kind (unit_of d area.now)) (sectors_of d area.now) current)) }
+{
+    prepare(flash, area, opened, current, steps)?;
+    collect(flash, area, opened, current, steps)
+}
+
+// What a mount has to do with this sector open.
+fn what_to_redo<T: SlotSectors, F: Flash, L: Ledger>(
+    flash: &F,
+    area: &Area,
+    opened: &T,
+    current: u32,
+    steps: &mut Steps<L>,
+) -> Redo
+    requires area { IsStoreArea T.role (F.device flash.now).banks area.now }
+    requires kept { let d = F.device flash.now in opened.now ≡ T.kept (unit_of d area.now) (sector_at (sectors_of d area.now) current) }
+    requires within { current < area.now.sectors }
+    ensures { let d = F.device flash.now in result ≡ redo_of (T.kind (unit_of d area.now)) (sectors_of d area.now) current }
+{
+    if T::is_closed(flash, area, area.next(current), steps) {
+        if opened.has_gc_done() {
+            Redo::ClearNext
+        } else {
+            Redo::CollectAgain
+        }
+    } else {
+        Redo::Nothing
+    }
+}
+
+// What a mount does with this sector open.
+pub fn redo<T: SlotSectors, F: Flash, L: Ledger>(
+    flash: &mut F,
+    area: &Area,
+    opened: &mut T,
+    current: u32,
+    steps: &mut Steps<L>,
+) -> Result<(), PowerLost>
+    requires area { IsStoreArea T.role (F.device flash.old).banks area.now }
+    requires undamaged { let d = F.device flash.old in (T.kind (unit_of d area.now)).damage (sectors_of d area.now) ≡ None }
+    requires current { let d = F.device flash.old in current ≡ open_sector (T.kind (unit_of d area.now)).reading (sectors_of d area.now) }
+    requires kept { let d = F.device flash.old in opened.old ≡ T.kept (unit_of d area.now) (sector_at (sectors_of d area.now) current) }
+    ensures touches { Touches (area.now ∷ []) (F.device flash.old) (F.device flash.new) (is_err result) }
+    ensures rested { let d = F.device flash.old in OnOk result (AtRest (T.kind (unit_of d area.now)).reading (sectors_of (F.device flash.new) area.now) current) }
+    ensures items { let d = F.device flash.old in KeepsItems (T.kind (unit_of d area.now)) (sectors_of d area.now) (sectors_of (F.device flash.new) area.now) }
+    ensures written { let d = F.device flash.old in
+        (F.device flash.new ≡ d) ⊎ IsWritten (T.kind (unit_of d area.now)) (sectors_of (F.device flash.new) area.now) }
+    ensures same { let d = F.device flash.old in AtRest (T.kind (unit_of d area.now)).reading (sectors_of d area.now) current → F.device flash.new ≡ d }
+    ensures busy { let d = F.device flash.old in OnErr result (AtRest (T.kind (unit_of d area.now)).reading (sectors_of d area.now) current → ⊥) }
+    ensures collects { let d = F.device flash.old in let k = T.kind (unit_of d area.now) in
+        OnOk result (Collecting k.reading (sectors_of d area.now) current → CollectsAt k (sectors_of d area.now) (sectors_of (F.device flash.new) area.now) current) }
+    ensures kept { let d = F.device flash.old in OnOk result (opened.new ≡ T.kept (unit_of d area.now) (sector_at (sectors_of (F.device flash.new) area.now) current)) }
+    ensures spends { let d = F.device flash.old in let k = T.kind (unit_of d area.now) in OnOk result (SpendsIn d (F.device flash.new) (redo_units k (sectors_of d area.now) current (redo_of k (sectors_of d area.now) current))) }
+    ensures spends_lost { let d = F.device flash.old in let k = T.kind (unit_of d area.now) in OnErr result (SpendsUpTo d (F.device flash.new) (redo_units k (sectors_of d area.now) current (redo_of k (sectors_of d area.now) current))) }
+{
+    match what_to_redo(flash, area, opened, current, steps) {
+        Redo::Nothing => Ok(()),
+        Redo::ClearNext => T::clear(flash, area, area.next(current), steps),
+        Redo::CollectAgain => collect_again(flash, area, opened, current, steps),
+    }
+}
+
+// Closes the open sector and collects. Gives the sector that is open then.
+pub fn round<T: SlotSectors, F: Flash, L: Ledger>(
+    flash: &mut F,
+    area: &Area,
+    opened: &mut T,
+    current: u32,
+    steps: &mut Steps<L>,
+) -> Result<u32, PowerLost>
+    requires area { IsStoreArea T.role (F.device flash.old).banks area.now }
+    requires undamaged { let d = F.device flash.old in (T.kind (unit_of d area.now)).damage (sectors_of d area.now) ≡ None }
+    requires current { let d = F.device flash.old in current ≡ open_sector (T.kind (unit_of d area.now)).reading (sectors_of d area.now) }
+    requires kept { let d = F.device flash.old in opened.old ≡ T.kept (unit_of d area.now) (sector_at (sectors_of d area.now) current) }
+    requires rested { let d = F.device flash.old in is_closed_at (T.kind (unit_of d area.now)).reading (sectors_of d area.now) (next (sectors_of d area.now) current) ≡ false }
+    requires used { let d = F.device flash.old in is_blank_at (T.kind (unit_of d area.now)).reading (sectors_of d area.now) current ≡ false }
+    ensures touches { Touches (area.now ∷ []) (F.device flash.old) (F.device flash.new) (is_err result) }
+    ensures opened { let d = F.device flash.old in IfOk result (λ place. place ≡ next (sectors_of d area.now) current) }
+    ensures rested { let d = F.device flash.old in OnOk result (AtRest (T.kind (unit_of d area.now)).reading (sectors_of (F.device flash.new) area.now) (next (sectors_of d area.now) current)) }
+    ensures items { let d = F.device flash.old in KeepsItems (T.kind (unit_of d area.now)) (sectors_of d area.now) (sectors_of (F.device flash.new) area.now) }
+    ensures written { IsWritten (T.kind (unit_of (F.device flash.old) area.now)) (sectors_of (F.device flash.new) area.now) }
+    ensures kept { let d = F.device flash.old in OnOk result (opened.new ≡ T.kept (unit_of d area.now) (sector_at (sectors_of (F.device flash.new) area.now) (next (sectors_of d area.now) current))) }
+    ensures turns { let d = F.device flash.old in OnOk result (TurnsAt (T.kind (unit_of d area.now)) (sector_size d area.now) (sectors_of d area.now) (sectors_of (F.device flash.new) area.now) current) }
+    ensures spends { let d = F.device flash.old in OnOk result (SpendsIn d (F.device flash.new) (round_units (T.kind (unit_of d area.now)) (sectors_of d area.now) current)) }
+    ensures spends_lost { let d = F.device flash.old in OnErr result (SpendsUpTo d (F.device flash.new) (round_units (T.kind (unit_of d area.now)) (sectors_of d area.now) current)) }
+{
+    opened.close(flash, area, current, steps)?;
+    let place = area.next(current);
+    *opened = T::keep(flash, area, place, steps);
+    redo(flash, area, opened, place, steps)?;
+    Ok(place)
+}

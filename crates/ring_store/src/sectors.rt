@@ -1,0 +1,338 @@
+// The trait of a store's sectors.
+ghost use Rattle.std.specs.Prelude.{◌≡◌, ◌⊎◌, ℕ, ◌+◌, ◌*◌, ◌^◌, ◌<◌, ◌≤◌, ◌∷◌, [], true, false, List, length, Some, None, is_err, Option, IfOk, IfErr, IfSome, IsTrue, OnOk, OnErr};
+ghost use Rattle.std.specs.Option.{option_map};
+ghost use Rattle.flash_map.specs.declared.area.Role.{Role as role_type};
+ghost use Rattle.flash_map.specs.Area.{unit_of, sector_size, sectors_of, sector_at, ChangesOnly};
+ghost use Rattle.flash_map.specs.Touches.{Touches};
+ghost use Rattle.flash_map.specs.Units.{IsUnit};
+ghost use Rattle.ring_laws.specs.Area.{is_blank_at, is_closed_at, next, open_sector};
+ghost use Rattle.ring_laws.specs.Reading.{is_sound};
+ghost use Rattle.ring_laws.specs.Live.{last_in, bytes_of};
+ghost use Rattle.ring_store.specs.Kind.{Kind, IsKind, placed_at, slots, fits};
+ghost use Rattle.ring_store.specs.Listed.{IsListedOn, IsWithinOn};
+ghost use Rattle.ring_store.specs.Standing.{IsStoreArea, SpendsIn, SpendsUpTo};
+ghost use Rattle.ring_store.specs.Steps.{Keeps, KeepsMarks, Begins, Adds, Marks, Closes, Clears};
+
+use crate::entry::Placed;
+use flash_map::{Area, Damaged};
+use flash_sim::{Flash, PowerLost, Steps};
+use std::sync::ledger::Ledger;
+
+/// What a store keeps of its open sector, and the calls on sectors. An item's bytes and their entry go into one sector.
+pub trait SlotSectors: Copy {
+    /// The role of the areas that it serves.
+    ghost role: { role_type };
+
+    /// How sectors read and what steps in them spend, in an area of this unit.
+    ghost kind: { ℕ → Kind };
+
+    /// What is kept of a sector with these bytes.
+    ghost kept: { ℕ → List ℕ → Self };
+
+    // ---- numbers
+
+    /// The number of the first slot of an entry.
+    fn first_slot() -> u32
+        ensures value { (unit : ℕ) → result ≡ (kind unit).first }
+        ensures small { result < 2 ^ 8 };
+
+    /// Whether the ids of items have 16 bits.
+    fn has_short_ids() -> bool
+        ensures { (unit : ℕ) → IsTrue result → (kind unit).ids ≤ 2 ^ 16 };
+
+    /// What bytes of this length and their entry take up, in bytes.
+    fn cost(unit: u32, len: u32) -> u64
+        requires unit { IsUnit unit }
+        requires short { len < 2 ^ 16 }
+        ensures value { result ≡ (kind unit).cost len }
+        ensures small { result < 2 ^ 18 };
+
+    /// What a sector of this size has for values and entries, in bytes.
+    fn capacity(unit: u32, size: u32) -> u32
+        requires unit { IsUnit unit }
+        ensures { result ≡ (kind unit).cap size };
+
+    /// The bytes of a slot.
+    fn slot_size(unit: u32) -> u32
+        requires unit { IsUnit unit }
+        ensures value { result ≡ (kind unit).slot }
+        ensures small { result < 2 ^ 8 };
+
+    // ---- reading
+
+    fn is_blank<F: Flash, L: Ledger>(
+        flash: &F,
+        area: &Area,
+        place: u32,
+        steps: &mut Steps<L>,
+    ) -> bool
+        requires area { IsStoreArea role (F.device flash.now).banks area.now }
+        requires inside { place < area.now.sectors }
+        ensures { let d = F.device flash.now in result ≡ is_blank_at (kind (unit_of d area.now)).reading (sectors_of d area.now) place };
+
+    fn is_closed<F: Flash, L: Ledger>(
+        flash: &F,
+        area: &Area,
+        place: u32,
+        steps: &mut Steps<L>,
+    ) -> bool
+        requires area { IsStoreArea role (F.device flash.now).banks area.now }
+        requires inside { place < area.now.sectors }
+        ensures { let d = F.device flash.now in result ≡ is_closed_at (kind (unit_of d area.now)).reading (sectors_of d area.now) place };
+
+    /// What is kept of a sector, read from it.
+    fn keep<F: Flash, L: Ledger>(flash: &F, area: &Area, place: u32, steps: &mut Steps<L>) -> Self
+        requires area { IsStoreArea role (F.device flash.now).banks area.now }
+        requires inside { place < area.now.sectors }
+        ensures { let d = F.device flash.now in result ≡ kept (unit_of d area.now) (sector_at (sectors_of d area.now) place) };
+
+    fn has_gc_done(&self) -> bool
+        ensures { (unit : ℕ) (b : List ℕ) → self.now ≡ kept unit b → result ≡ (kind unit).reading.has_gc_done b };
+
+    /// The bytes between the values of the sector and its slots.
+    fn free<F: Flash, L: Ledger>(
+        &self,
+        flash: &F,
+        area: &Area,
+        place: u32,
+        steps: &mut Steps<L>,
+    ) -> u32
+        requires area { IsStoreArea role (F.device flash.now).banks area.now }
+        requires inside { place < area.now.sectors }
+        requires kept { let d = F.device flash.now in self.now ≡ kept (unit_of d area.now) (sector_at (sectors_of d area.now) place) }
+        ensures { let d = F.device flash.now in result ≡ (kind (unit_of d area.now)).free (sector_at (sectors_of d area.now) place) };
+
+    /// How many slots the list of a sector has.
+    fn slots<F: Flash, L: Ledger>(flash: &F, area: &Area, place: u32, steps: &mut Steps<L>) -> u32
+        requires area { IsStoreArea role (F.device flash.now).banks area.now }
+        requires inside { place < area.now.sectors }
+        ensures value { let d = F.device flash.now in result ≡ (kind (unit_of d area.now)).count (sector_at (sectors_of d area.now) place) }
+        ensures few { result ≤ 2 ^ 15 };
+
+    /// The entry in a slot of a sector's list.
+    fn entry_in<F: Flash, L: Ledger>(
+        flash: &F,
+        area: &Area,
+        place: u32,
+        slot: u32,
+        steps: &mut Steps<L>,
+    ) -> Option<Placed>
+        requires area { IsStoreArea role (F.device flash.now).banks area.now }
+        requires inside { place < area.now.sectors }
+        requires listed { let d = F.device flash.now in let k = kind (unit_of d area.now) in
+            (k.first ≤ slot) × (slot < k.first + k.count (sector_at (sectors_of d area.now) place)) }
+        ensures entry { let d = F.device flash.now in let k = kind (unit_of d area.now) in
+            result ≡ option_map (placed_at place) (k.in_slot (sector_at (sectors_of d area.now) place) slot) }
+        ensures small { let d = F.device flash.now in IfSome result (λ p. p.id < (kind (unit_of d area.now)).ids) }
+        ensures short { IfSome result (λ p. p.len < 2 ^ 16) };
+
+    /// The bytes of an entry of a sector's list.
+    fn value<'a, F: Flash, L: Ledger>(
+        flash: &'a F,
+        area: &Area,
+        placed: &Placed,
+        steps: &mut Steps<L>,
+    ) -> &'a [u8]
+        requires area { IsStoreArea role (F.device flash.now).banks area.now }
+        requires listed { IsListedOn kind (F.device flash.now) area.now placed.now }
+        requires within { IsWithinOn kind (F.device flash.now) area.now placed.now.sector }
+        ensures { let d = F.device flash.now in result.now ≡ bytes_of (slots (kind (unit_of d area.now))) (sectors_of d area.now) placed.now };
+
+    /// The last entry of an id in a sector.
+    fn find_in<F: Flash, L: Ledger>(
+        flash: &F,
+        area: &Area,
+        place: u32,
+        id: u32,
+        steps: &mut Steps<L>,
+    ) -> Option<Placed>
+        requires area { IsStoreArea role (F.device flash.now).banks area.now }
+        requires inside { place < area.now.sectors }
+        ensures { let d = F.device flash.now in let k = kind (unit_of d area.now) in
+            result ≡ option_map (placed_at place) (last_in (slots k) place id ((slots k).entries (sector_at (sectors_of d area.now) place))) };
+
+    // ---- steps in the open sector
+
+    /// Makes the sector ready for entries.
+    ///
+    /// # Errors
+    /// `PowerLost`: its marks are as before, and its list where it is in use.
+    fn begin<F: Flash, L: Ledger>(
+        &mut self,
+        flash: &mut F,
+        area: &Area,
+        place: u32,
+        steps: &mut Steps<L>,
+    ) -> Result<(), PowerLost>
+        requires area { IsStoreArea role (F.device flash.old).banks area.now }
+        requires inside { place < area.now.sectors }
+        requires kept { let d = F.device flash.old in self.old ≡ kept (unit_of d area.now) (sector_at (sectors_of d area.now) place) }
+        requires sound { let d = F.device flash.old in is_sound (kind (unit_of d area.now)).reading (sector_at (sectors_of d area.now) place) ≡ true }
+        requires opened { let d = F.device flash.old in is_closed_at (kind (unit_of d area.now)).reading (sectors_of d area.now) place ≡ false }
+        ensures touches { Touches (area.now ∷ []) (F.device flash.old) (F.device flash.new) (is_err result) }
+        ensures only { ChangesOnly (sectors_of (F.device flash.old) area.now) (sectors_of (F.device flash.new) area.now) place }
+        ensures begins { let d = F.device flash.old in OnOk result (Begins (kind (unit_of d area.now)) (sector_at (sectors_of d area.now) place) (sector_at (sectors_of (F.device flash.new) area.now) place)) }
+        ensures kept { let d = F.device flash.old in OnOk result (self.new ≡ kept (unit_of d area.now) (sector_at (sectors_of (F.device flash.new) area.now) place)) }
+        ensures lost { let d = F.device flash.old in OnErr result (Keeps (kind (unit_of d area.now)) (sector_at (sectors_of d area.now) place) (sector_at (sectors_of (F.device flash.new) area.now) place)) }
+        ensures spends { let d = F.device flash.old in OnOk result (SpendsIn d (F.device flash.new) ((kind (unit_of d area.now)).units.begin (sector_at (sectors_of d area.now) place))) }
+        ensures spends_lost { let d = F.device flash.old in OnErr result (SpendsUpTo d (F.device flash.new) ((kind (unit_of d area.now)).units.begin (sector_at (sectors_of d area.now) place))) };
+
+    /// Puts an item's bytes and their entry. No bytes are a delete.
+    ///
+    /// # Errors
+    /// `PowerLost`: the sector's list is as before, or with the pair.
+    fn put<F: Flash, L: Ledger>(
+        &mut self,
+        flash: &mut F,
+        area: &Area,
+        place: u32,
+        id: u32,
+        bytes: &[u8],
+        steps: &mut Steps<L>,
+    ) -> Result<(), PowerLost>
+        requires area { IsStoreArea role (F.device flash.old).banks area.now }
+        requires inside { place < area.now.sectors }
+        requires kept { let d = F.device flash.old in self.old ≡ kept (unit_of d area.now) (sector_at (sectors_of d area.now) place) }
+        requires ready { let d = F.device flash.old in (kind (unit_of d area.now)).is_ready (sector_at (sectors_of d area.now) place) ≡ true }
+        requires opened { let d = F.device flash.old in place ≡ open_sector (kind (unit_of d area.now)).reading (sectors_of d area.now) }
+        requires rested { let d = F.device flash.old in is_closed_at (kind (unit_of d area.now)).reading (sectors_of d area.now) (next (sectors_of d area.now) place) ≡ false }
+        requires ordinary { id < (kind (unit_of (F.device flash.old) area.now)).ids }
+        requires fits { let d = F.device flash.old in IsTrue (fits (kind (unit_of d area.now)) (sector_at (sectors_of d area.now) place) (length bytes.now)) }
+        ensures touches { Touches (area.now ∷ []) (F.device flash.old) (F.device flash.new) (is_err result) }
+        ensures only { ChangesOnly (sectors_of (F.device flash.old) area.now) (sectors_of (F.device flash.new) area.now) place }
+        ensures adds { let d = F.device flash.old in OnOk result (Adds (kind (unit_of d area.now)) (sector_at (sectors_of d area.now) place) (sector_at (sectors_of (F.device flash.new) area.now) place) id bytes.now) }
+        ensures kept { let d = F.device flash.old in OnOk result (self.new ≡ kept (unit_of d area.now) (sector_at (sectors_of (F.device flash.new) area.now) place)) }
+        ensures lost { let d = F.device flash.old in let k = kind (unit_of d area.now) in let b = sector_at (sectors_of d area.now) place in let e = sector_at (sectors_of (F.device flash.new) area.now) place in
+            OnErr result (Keeps k b e ⊎ Adds k b e id bytes.now) }
+        ensures sound { let d = F.device flash.old in let k = kind (unit_of d area.now) in is_sound k.reading (sector_at (sectors_of d area.now) place) ≡ true → is_sound k.reading (sector_at (sectors_of (F.device flash.new) area.now) place) ≡ true }
+        ensures spends { let d = F.device flash.old in OnOk result (SpendsIn d (F.device flash.new) ((kind (unit_of d area.now)).units.put (sector_at (sectors_of d area.now) place) (length bytes.now))) }
+        ensures spends_lost { let d = F.device flash.old in OnErr result (SpendsUpTo d (F.device flash.new) ((kind (unit_of d area.now)).units.put (sector_at (sectors_of d area.now) place) (length bytes.now))) };
+
+    /// Copies an entry with bytes from another sector.
+    ///
+    /// # Errors
+    /// `PowerLost`: the sector's marks are as before.
+    fn copy<F: Flash, L: Ledger>(
+        &mut self,
+        flash: &mut F,
+        area: &Area,
+        place: u32,
+        from: &Placed,
+        steps: &mut Steps<L>,
+    ) -> Result<(), PowerLost>
+        requires area { IsStoreArea role (F.device flash.old).banks area.now }
+        requires inside { place < area.now.sectors }
+        requires kept { let d = F.device flash.old in self.old ≡ kept (unit_of d area.now) (sector_at (sectors_of d area.now) place) }
+        requires ready { let d = F.device flash.old in (kind (unit_of d area.now)).is_ready (sector_at (sectors_of d area.now) place) ≡ true }
+        requires opened { let d = F.device flash.old in place ≡ open_sector (kind (unit_of d area.now)).reading (sectors_of d area.now) }
+        requires collecting { let d = F.device flash.old in is_closed_at (kind (unit_of d area.now)).reading (sectors_of d area.now) (next (sectors_of d area.now) place) ≡ true }
+        requires not_done { let d = F.device flash.old in (kind (unit_of d area.now)).reading.has_gc_done (sector_at (sectors_of d area.now) place) ≡ false }
+        requires has_source { from.now.sector < area.now.sectors }
+        requires other { from.now.sector ≡ place → ⊥ }
+        requires source { let d = F.device flash.old in let k = kind (unit_of d area.now) in is_sound k.reading (sector_at (sectors_of d area.now) from.now.sector) ≡ true }
+        requires listed { let d = F.device flash.old in let k = kind (unit_of d area.now) in
+            (k.first ≤ from.now.slot) × (from.now.slot < k.first + k.count (sector_at (sectors_of d area.now) from.now.sector)) }
+        requires there { let d = F.device flash.old in let k = kind (unit_of d area.now) in
+            option_map (placed_at from.now.sector) (k.in_slot (sector_at (sectors_of d area.now) from.now.sector) from.now.slot) ≡ Some from.now }
+        requires some { 0 < from.now.len }
+        requires room { let d = F.device flash.old in let k = kind (unit_of d area.now) in k.cost from.now.len + 3 * k.slot ≤ k.free (sector_at (sectors_of d area.now) place) }
+        ensures touches { Touches (area.now ∷ []) (F.device flash.old) (F.device flash.new) (is_err result) }
+        ensures only { ChangesOnly (sectors_of (F.device flash.old) area.now) (sectors_of (F.device flash.new) area.now) place }
+        ensures adds { let d = F.device flash.old in OnOk result (Adds (kind (unit_of d area.now)) (sector_at (sectors_of d area.now) place) (sector_at (sectors_of (F.device flash.new) area.now) place) from.now.id (bytes_of (slots (kind (unit_of d area.now))) (sectors_of d area.now) from.now)) }
+        ensures kept { let d = F.device flash.old in OnOk result (self.new ≡ kept (unit_of d area.now) (sector_at (sectors_of (F.device flash.new) area.now) place)) }
+        ensures lost { let d = F.device flash.old in OnErr result (KeepsMarks (kind (unit_of d area.now)) (sector_at (sectors_of d area.now) place) (sector_at (sectors_of (F.device flash.new) area.now) place)) }
+        ensures spends { let d = F.device flash.old in OnOk result (SpendsIn d (F.device flash.new) ((kind (unit_of d area.now)).units.copy from.now.len)) }
+        ensures spends_lost { let d = F.device flash.old in OnErr result (SpendsUpTo d (F.device flash.new) ((kind (unit_of d area.now)).units.copy from.now.len)) };
+
+    /// Marks the sector as one that has all copies.
+    ///
+    /// # Errors
+    /// `PowerLost`: the sector's marks are as before.
+    fn mark_done<F: Flash, L: Ledger>(
+        &mut self,
+        flash: &mut F,
+        area: &Area,
+        place: u32,
+        steps: &mut Steps<L>,
+    ) -> Result<(), PowerLost>
+        requires area { IsStoreArea role (F.device flash.old).banks area.now }
+        requires inside { place < area.now.sectors }
+        requires kept { let d = F.device flash.old in self.old ≡ kept (unit_of d area.now) (sector_at (sectors_of d area.now) place) }
+        requires ready { let d = F.device flash.old in (kind (unit_of d area.now)).is_ready (sector_at (sectors_of d area.now) place) ≡ true }
+        requires opened { let d = F.device flash.old in place ≡ open_sector (kind (unit_of d area.now)).reading (sectors_of d area.now) }
+        requires collecting { let d = F.device flash.old in is_closed_at (kind (unit_of d area.now)).reading (sectors_of d area.now) (next (sectors_of d area.now) place) ≡ true }
+        requires not_done { let d = F.device flash.old in (kind (unit_of d area.now)).reading.has_gc_done (sector_at (sectors_of d area.now) place) ≡ false }
+        requires room { let d = F.device flash.old in let k = kind (unit_of d area.now) in 2 * k.slot ≤ k.free (sector_at (sectors_of d area.now) place) }
+        ensures touches { Touches (area.now ∷ []) (F.device flash.old) (F.device flash.new) (is_err result) }
+        ensures only { ChangesOnly (sectors_of (F.device flash.old) area.now) (sectors_of (F.device flash.new) area.now) place }
+        ensures marks { let d = F.device flash.old in OnOk result (Marks (kind (unit_of d area.now)) (sector_at (sectors_of d area.now) place) (sector_at (sectors_of (F.device flash.new) area.now) place)) }
+        ensures kept { let d = F.device flash.old in OnOk result (self.new ≡ kept (unit_of d area.now) (sector_at (sectors_of (F.device flash.new) area.now) place)) }
+        ensures lost { let d = F.device flash.old in OnErr result (KeepsMarks (kind (unit_of d area.now)) (sector_at (sectors_of d area.now) place) (sector_at (sectors_of (F.device flash.new) area.now) place)) }
+        ensures spends { let d = F.device flash.old in OnOk result (SpendsIn d (F.device flash.new) (kind (unit_of d area.now)).units.done) }
+        ensures spends_lost { let d = F.device flash.old in OnErr result (SpendsUpTo d (F.device flash.new) (kind (unit_of d area.now)).units.done) };
+
+    /// Closes the open sector, which is in use.
+    ///
+    /// # Errors
+    /// `PowerLost`: the sector is as before, or closed.
+    fn close<F: Flash, L: Ledger>(
+        &self,
+        flash: &mut F,
+        area: &Area,
+        place: u32,
+        steps: &mut Steps<L>,
+    ) -> Result<(), PowerLost>
+        requires area { IsStoreArea role (F.device flash.old).banks area.now }
+        requires inside { place < area.now.sectors }
+        requires kept { let d = F.device flash.old in self.now ≡ kept (unit_of d area.now) (sector_at (sectors_of d area.now) place) }
+        requires opened { let d = F.device flash.old in place ≡ open_sector (kind (unit_of d area.now)).reading (sectors_of d area.now) }
+        requires rested { let d = F.device flash.old in is_closed_at (kind (unit_of d area.now)).reading (sectors_of d area.now) (next (sectors_of d area.now) place) ≡ false }
+        requires sound { let d = F.device flash.old in is_sound (kind (unit_of d area.now)).reading (sector_at (sectors_of d area.now) place) ≡ true }
+        requires not_closed { let d = F.device flash.old in is_closed_at (kind (unit_of d area.now)).reading (sectors_of d area.now) place ≡ false }
+        requires used { let d = F.device flash.old in is_blank_at (kind (unit_of d area.now)).reading (sectors_of d area.now) place ≡ false }
+        ensures touches { Touches (area.now ∷ []) (F.device flash.old) (F.device flash.new) (is_err result) }
+        ensures only { ChangesOnly (sectors_of (F.device flash.old) area.now) (sectors_of (F.device flash.new) area.now) place }
+        ensures closes { let d = F.device flash.old in OnOk result (Closes (kind (unit_of d area.now)) (sector_at (sectors_of d area.now) place) (sector_at (sectors_of (F.device flash.new) area.now) place)) }
+        ensures lost { let d = F.device flash.old in let k = kind (unit_of d area.now) in let b = sector_at (sectors_of d area.now) place in let e = sector_at (sectors_of (F.device flash.new) area.now) place in
+            OnErr result (Keeps k b e ⊎ Closes k b e) }
+        ensures spends { let d = F.device flash.old in OnOk result (SpendsIn d (F.device flash.new) ((kind (unit_of d area.now)).units.close (sector_at (sectors_of d area.now) place))) }
+        ensures spends_lost { let d = F.device flash.old in OnErr result (SpendsUpTo d (F.device flash.new) ((kind (unit_of d area.now)).units.close (sector_at (sectors_of d area.now) place))) };
+
+    // ---- a step in any sector
+
+    /// Empties a sector.
+    ///
+    /// # Errors
+    /// `PowerLost`: its marks are as before.
+    fn clear<F: Flash, L: Ledger>(
+        flash: &mut F,
+        area: &Area,
+        place: u32,
+        steps: &mut Steps<L>,
+    ) -> Result<(), PowerLost>
+        requires area { IsStoreArea role (F.device flash.old).banks area.now }
+        requires inside { place < area.now.sectors }
+        ensures touches { Touches (area.now ∷ []) (F.device flash.old) (F.device flash.new) (is_err result) }
+        ensures only { ChangesOnly (sectors_of (F.device flash.old) area.now) (sectors_of (F.device flash.new) area.now) place }
+        ensures clears { let d = F.device flash.old in OnOk result (Clears (kind (unit_of d area.now)) (sector_at (sectors_of d area.now) place) (sector_at (sectors_of (F.device flash.new) area.now) place)) }
+        ensures lost { let d = F.device flash.old in OnErr result (KeepsMarks (kind (unit_of d area.now)) (sector_at (sectors_of d area.now) place) (sector_at (sectors_of (F.device flash.new) area.now) place)) }
+        ensures spends { let d = F.device flash.old in OnOk result (SpendsIn d (F.device flash.new) (kind (unit_of d area.now)).units.clear) }
+        ensures spends_lost { let d = F.device flash.old in OnErr result (SpendsUpTo d (F.device flash.new) (kind (unit_of d area.now)).units.clear) };
+
+    // ---- reading an area
+
+    /// The open sector, or what is wrong with the area.
+    fn scan<F: Flash, L: Ledger>(
+        flash: &F,
+        area: &Area,
+        steps: &mut Steps<L>,
+    ) -> Result<u32, Damaged>
+        requires area { IsStoreArea role (F.device flash.now).banks area.now }
+        ensures opened { let d = F.device flash.now in IfOk result (λ place. place ≡ open_sector (kind (unit_of d area.now)).reading (sectors_of d area.now)) }
+        ensures within { IfOk result (λ place. place < area.now.sectors) }
+        ensures undamaged { let d = F.device flash.now in OnOk result ((kind (unit_of d area.now)).damage (sectors_of d area.now) ≡ None) }
+        ensures damaged { let d = F.device flash.now in IfErr result (λ damaged. (kind (unit_of d area.now)).damage (sectors_of d area.now) ≡ Some damaged) };
+
+    /// The kind is one.
+    ghost lawful: { (unit : ℕ) → IsUnit unit → IsKind (kind unit) };
+}

@@ -1,0 +1,131 @@
+// Mounting, and closing with a collection.
+ghost use Rattle.std.specs.Prelude.{◌≡◌, ◌∷◌, [], true, false, is_err, OnOk, OnErr, ◌⊎◌};
+ghost use Rattle.flash_map.specs.Area.{unit_of, sector_size, sectors_of};
+ghost use Rattle.flash_map.specs.Faults.{mount_lost};
+ghost use Rattle.flash_map.specs.Spending.{SpendsBetween};
+ghost use Rattle.flash_map.specs.Touches.{Touches};
+ghost use Rattle.ring_laws.specs.Area.{is_blank_at};
+ghost use Rattle.ring_store.specs.Collecting.{TurnsAt};
+ghost use Rattle.ring_store.specs.Spending.{none, round_units};
+ghost use Rattle.ring_store.specs.Standing.{IsStoreArea, KeepsItems, SpendsIn, SpendsUpTo};
+ghost use Rattle.ring_store.specs.Stands.{StandsOn, MountEnds};
+ghost use Rattle.ring_store.specs.Written.{IsWritten};
+
+use crate::collecting::{redo, round};
+use crate::sectors::SlotSectors;
+use crate::store::Store;
+use flash_map::{Area, MountFault};
+use flash_sim::{Flash, PowerLost, Steps};
+use std::alloc::Global;
+use std::sync::ledger::Ledger;
+
+impl<T: SlotSectors> Store<T> {
+    /// Reads the area and carries out what a loss of power left undone. The items stay, also where power is lost. At
+    /// rest nothing changes; an area in which anything changed is not blank then, also where power is lost.
+    ///
+    /// # Errors
+    /// `Damaged`, and then nothing was programmed; `PowerLost`. Never `NoMemory`.
+    pub fn mount<F: Flash, L: Ledger>(
+        _alloc: Global,
+        flash: &mut F,
+        area: Area,
+        steps: &mut Steps<L>,
+    ) -> Result<Store<T>, MountFault>
+        requires { IsStoreArea T.role (F.device flash.old).banks area }
+        ensures touches { Touches (area ∷ []) (F.device flash.old) (F.device flash.new) (mount_lost result) }
+        ensures ends { MountEnds T.role T.kind T.kept (F.device flash.old) (F.device flash.new) area result }
+        ensures at_most { let d = F.device flash.old in SpendsBetween d (F.device flash.new) 0 ((T.kind (unit_of d area)).units.mount (sector_size d area)) }
+        ensures written { let d = F.device flash.old in let k = T.kind (unit_of d area) in
+            IsWritten k (sectors_of d area) → IsWritten k (sectors_of (F.device flash.new) area) }
+        ensures changed { let d = F.device flash.old in
+            (F.device flash.new ≡ d) ⊎ IsWritten (T.kind (unit_of d area)) (sectors_of (F.device flash.new) area) }
+    {
+        match T::scan(flash, &area, steps) {
+            Err(damaged) => Err(MountFault::Damaged(damaged)),
+            Ok(current) => {
+                let mut opened = T::keep(flash, &area, current, steps);
+                match redo(flash, &area, &mut opened, current, steps) {
+                    Err(_) => Err(MountFault::PowerLost),
+                    Ok(()) => Ok(Store {
+                        area,
+                        current,
+                        opened,
+                        up: true,
+                    }),
+                }
+            }
+        }
+    }
+
+    /// Whether no call answered that power was lost.
+    pub fn is_up(&self) -> bool
+        ensures { result ≡ self.now.up }
+    {
+        self.up
+    }
+
+    /// Closes the open sector and collects the oldest one, where the open one is in use. The items stay, also where power
+    /// is lost. What does not fit then is kept out by the copied items alone, and a delete fits.
+    ///
+    /// # Errors
+    /// `PowerLost`. The store is then down.
+    pub fn close_and_collect<F: Flash, L: Ledger>(
+        &mut self,
+        flash: &mut F,
+        steps: &mut Steps<L>,
+    ) -> Result<(), PowerLost>
+        requires { StandsOn T.role T.kind T.kept (F.device flash.old) self.old }
+
+        ensures touches { Touches (self.old.area ∷ []) (F.device flash.old) (F.device flash.new) (is_err result) }
+        ensures area { self.new.area ≡ self.old.area }
+        ensures items { let d = F.device flash.old in KeepsItems (T.kind (unit_of d self.old.area)) (sectors_of d self.old.area) (sectors_of (F.device flash.new) self.old.area) }
+        ensures written { let d = F.device flash.old in let k = T.kind (unit_of d self.old.area) in
+            IsWritten k (sectors_of d self.old.area) → IsWritten k (sectors_of (F.device flash.new) self.old.area) }
+        ensures changed { let d = F.device flash.old in
+            (F.device flash.new ≡ d) ⊎ IsWritten (T.kind (unit_of d self.old.area)) (sectors_of (F.device flash.new) self.old.area) }
+
+        ensures stands { OnOk result (StandsOn T.role T.kind T.kept (F.device flash.new) self.new) }
+        ensures turns { let d = F.device flash.old in let k = T.kind (unit_of d self.old.area) in is_blank_at k.reading (sectors_of d self.old.area) self.old.current ≡ false
+            → OnOk result (TurnsAt k (sector_size d self.old.area) (sectors_of d self.old.area) (sectors_of (F.device flash.new) self.old.area) self.old.current) }
+        ensures blank { let d = F.device flash.old in is_blank_at (T.kind (unit_of d self.old.area)).reading (sectors_of d self.old.area) self.old.current ≡ true → F.device flash.new ≡ d }
+        ensures units { let d = F.device flash.old in let k = T.kind (unit_of d self.old.area) in is_blank_at k.reading (sectors_of d self.old.area) self.old.current ≡ false
+            → OnOk result (SpendsIn d (F.device flash.new) (round_units k (sectors_of d self.old.area) self.old.current)) }
+
+        ensures down { OnErr result (self.new.up ≡ false) }
+        ensures bound { let d = F.device flash.old in OnErr result (SpendsUpTo d (F.device flash.new) (round_units (T.kind (unit_of d self.old.area)) (sectors_of d self.old.area) self.old.current)) }
+    {
+        if T::is_blank(flash, &self.area, self.current, steps) {
+            return Ok(());
+        }
+        self.turn(flash, steps)
+    }
+
+    // Closes the open sector, which is in use, and collects.
+    pub(crate) fn turn<F: Flash, L: Ledger>(
+        &mut self,
+        flash: &mut F,
+        steps: &mut Steps<L>,
+    ) -> Result<(), PowerLost>
+        requires stands { StandsOn T.role T.kind T.kept (F.device flash.old) self.old }
+        requires used { let d = F.device flash.old in is_blank_at (T.kind (unit_of d self.old.area)).reading (sectors_of d self.old.area) self.old.current ≡ false }
+
+        ensures touches { Touches (self.old.area ∷ []) (F.device flash.old) (F.device flash.new) (is_err result) }
+        ensures area { self.new.area ≡ self.old.area }
+        ensures items { let d = F.device flash.old in KeepsItems (T.kind (unit_of d self.old.area)) (sectors_of d self.old.area) (sectors_of (F.device flash.new) self.old.area) }
+        ensures written { IsWritten (T.kind (unit_of (F.device flash.old) self.old.area)) (sectors_of (F.device flash.new) self.old.area) }
+
+        ensures stands { OnOk result (StandsOn T.role T.kind T.kept (F.device flash.new) self.new) }
+        ensures turns { let d = F.device flash.old in let k = T.kind (unit_of d self.old.area) in
+            OnOk result (TurnsAt k (sector_size d self.old.area) (sectors_of d self.old.area) (sectors_of (F.device flash.new) self.old.area) self.old.current) }
+        ensures units { let d = F.device flash.old in let k = T.kind (unit_of d self.old.area) in
+            OnOk result (SpendsIn d (F.device flash.new) (round_units k (sectors_of d self.old.area) self.old.current)) }
+
+        ensures down { OnErr result (self.new.up ≡ false) }
+        ensures bound { let d = F.device flash.old in OnErr result (SpendsUpTo d (F.device flash.new) (round_units (T.kind (unit_of d self.old.area)) (sectors_of d self.old.area) self.old.current)) }
+    {
+        self.up = false;
+        self.current = round(flash, &self.area, &mut self.opened, self.current, steps)?;
+        self.up = true;
+        Ok(())
+    }
+}

@@ -1,0 +1,224 @@
+// Calls of a store over any sectors, and what they answer, spend and leave.
+ghost use Rattle.std.specs.Prelude.{◌≡◌, ◌<◌, ◌≤◌, ℕ, length, IfOk, OnOk};
+ghost use Rattle.ring_store.specs.Listed.{kind_on};
+ghost use Rattle.ring_store.specs.Standing.{IsStoreArea};
+ghost use Rattle.ring_store.specs.Stands.{StandsOn};
+
+use flash_map::{Area, WriteFault};
+use flash_sim::{Bench, PowerLost, Steps};
+use ring_store::{Placed, SlotSectors, Store};
+use std::alloc::Global;
+use std::process::Abort;
+use std::sync::ledger::Ledger;
+use std::test::Fail;
+
+// The id; the byte and the length of the value that is written, a delete where the length is 0; the units that are
+// spent; need and live where there is no space, both 0 where it is too long; the byte and the length of the value got
+// after the call.
+pub type Call = (u32, (u8, usize), u64, Option<(u64, u64)>, (u8, usize));
+
+/// A store, whose mount spends so many units.
+pub fn mounted<T: SlotSectors, B: Bench, L: Ledger, R: Abort>(
+    rt: &R,
+    alloc: Global,
+    bench: &mut B,
+    area: Area,
+    units: u64,
+    steps: &mut Steps<L>,
+) -> Result<Store<T>, Fail>
+    requires { IsStoreArea T.role (B.device bench.old).banks area }
+    ensures stands { IfOk result (λ store. StandsOn T.role T.kind T.kept (B.device bench.new) store) }
+    ensures area { IfOk result (λ store. store.area ≡ area) }
+    ensures banks { OnOk result ((B.device bench.new).banks ≡ (B.device bench.old).banks) }
+{
+    let start = bench.spent();
+    let store = Store::<T>::mount(alloc, bench, area, steps)?;
+    assert_eq!(rt; bench.spent().saturating_sub(start), units);
+    Ok(store)
+}
+
+// Writes or deletes an item. Gives need and live where there is no space.
+fn carry_out<T: SlotSectors, B: Bench, L: Ledger>(
+    bench: &mut B,
+    store: &mut Store<T>,
+    id: u32,
+    value: &[u8],
+    steps: &mut Steps<L>,
+) -> Result<Option<(u64, u64)>, Fail>
+    requires stands { StandsOn T.role T.kind T.kept (B.device bench.old) store.old }
+    requires ordinary { id < (kind_on T.kind (B.device bench.old) store.old.area).ids }
+    ensures stands { OnOk result (StandsOn T.role T.kind T.kept (B.device bench.new) store.new) }
+    ensures area { OnOk result (store.new.area ≡ store.old.area) }
+    ensures banks { OnOk result ((B.device bench.new).banks ≡ (B.device bench.old).banks) }
+{
+    if value.is_empty() {
+        store.delete(bench, id, steps)?;
+        return Ok(None);
+    }
+    match store.write(bench, id, value, steps) {
+        Ok(()) => Ok(None),
+        Err(WriteFault::NoSpace { need, live }) => Ok(Some((need, live))),
+        Err(WriteFault::TooLong) => Ok(Some((0, 0))),
+        Err(WriteFault::PowerLost) => Err(Fail::new("power was lost")),
+    }
+}
+
+fn agrees<T: SlotSectors, B: Bench, L: Ledger, R: Abort>(
+    rt: &R,
+    alloc: Global,
+    bench: &mut B,
+    store: &mut Store<T>,
+    call: &Call,
+    steps: &mut Steps<L>,
+) -> Result<(), Fail>
+    requires stands { StandsOn T.role T.kind T.kept (B.device bench.old) store.old }
+    requires wide { (unit : ℕ) → 0xFFFF ≤ (T.kind unit).ids }
+    ensures stands { OnOk result (StandsOn T.role T.kind T.kept (B.device bench.new) store.new) }
+    ensures area { OnOk result (store.new.area ≡ store.old.area) }
+    ensures banks { OnOk result ((B.device bench.new).banks ≡ (B.device bench.old).banks) }
+{
+    let (id, (byte, len), units, no_space, (byte_left, len_left)) = *call;
+    if id >= 0xFFFF {
+        return Err(Fail::new("no id of an item"));
+    }
+    let value = vec![in alloc; byte; len]?;
+    let start = bench.spent();
+    let answer = carry_out(bench, store, id, value.as_slice(), steps)?;
+    let spent = bench.spent().saturating_sub(start);
+    assert_eq!(rt; (answer, spent), (no_space, units));
+    let left = vec![in alloc; byte_left; len_left]?;
+    assert!(rt; store.get(bench, id, steps).unwrap_or(b"") == left.as_slice());
+    Ok(())
+}
+
+/// Carries out these calls.
+pub fn plays<T: SlotSectors, B: Bench, L: Ledger, R: Abort>(
+    rt: &R,
+    alloc: Global,
+    bench: &mut B,
+    store: &mut Store<T>,
+    calls: &[Call],
+    steps: &mut Steps<L>,
+) -> Result<(), Fail>
+    requires stands { StandsOn T.role T.kind T.kept (B.device bench.old) store.old }
+    requires wide { (unit : ℕ) → 0xFFFF ≤ (T.kind unit).ids }
+    ensures stands { OnOk result (StandsOn T.role T.kind T.kept (B.device bench.new) store.new) }
+    ensures area { OnOk result (store.new.area ≡ store.old.area) }
+    ensures banks { OnOk result ((B.device bench.new).banks ≡ (B.device bench.old).banks) }
+{
+    for call in calls {
+        agrees(rt, alloc, bench, store, call, steps)?;
+    }
+    Ok(())
+}
+
+/// The ids with a value, in order, and what all items cost.
+pub fn shows<T: SlotSectors, B: Bench, L: Ledger, R: Abort>(
+    rt: &R,
+    bench: &B,
+    store: &Store<T>,
+    ids: &[u32],
+    cost: u64,
+    steps: &mut Steps<L>,
+)
+    requires { StandsOn T.role T.kind T.kept (B.device bench.now) store.now }
+{
+    let last = store.last_slots(bench, steps);
+    let mut after = None;
+    for id in ids {
+        assert_eq!(rt; store.next_by(bench, &last, after, steps), Some(*id));
+        after = store.next_id(bench, after, steps);
+        assert_eq!(rt; after, Some(*id));
+    }
+    assert_eq!(rt; store.next_id(bench, after, steps), None);
+    assert_eq!(rt; store.live_cost(bench, steps), cost);
+}
+
+/// The entries from the newest to the oldest: the sector, the slot, the id, and the length of the value.
+pub fn walks<T: SlotSectors, B: Bench, L: Ledger, R: Abort>(
+    rt: &R,
+    bench: &B,
+    store: &Store<T>,
+    sectors: u32,
+    rows: &[(u32, u32, u32, u32)],
+    steps: &mut Steps<L>,
+)
+    requires stands { StandsOn T.role T.kind T.kept (B.device bench.now) store.now }
+    requires sectors { store.now.area.sectors ≡ sectors }
+{
+    let mut after = None;
+    for row in rows {
+        let (sector, slot, id, len) = *row;
+        let placed = Placed {
+            sector,
+            slot,
+            id,
+            len,
+        };
+        assert_eq!(rt; store.walk(bench, after, steps), Some(placed));
+        assert!(rt; sector < sectors);
+        after = Some((sector, slot));
+    }
+    assert_eq!(rt; store.walk(bench, after, steps), None);
+}
+
+/// A close with a collection, which spends so many units.
+pub fn closes<T: SlotSectors, B: Bench, L: Ledger, R: Abort>(
+    rt: &R,
+    bench: &mut B,
+    store: &mut Store<T>,
+    units: u64,
+    steps: &mut Steps<L>,
+) -> Result<(), Fail>
+    requires stands { StandsOn T.role T.kind T.kept (B.device bench.old) store.old }
+    ensures stands { OnOk result (StandsOn T.role T.kind T.kept (B.device bench.new) store.new) }
+    ensures area { OnOk result (store.new.area ≡ store.old.area) }
+    ensures banks { OnOk result ((B.device bench.new).banks ≡ (B.device bench.old).banks) }
+{
+    let start = bench.spent();
+    store.close_and_collect(bench, steps)?;
+    assert_eq!(rt; bench.spent().saturating_sub(start), units);
+    Ok(())
+}
+
+/// Such a close that is cut after so many units. The store is down, and power is back.
+pub fn close_is_cut<T: SlotSectors, B: Bench, L: Ledger, R: Abort>(
+    rt: &R,
+    bench: &mut B,
+    store: &mut Store<T>,
+    plan: u64,
+    steps: &mut Steps<L>,
+)
+    requires stands { StandsOn T.role T.kind T.kept (B.device bench.old) store.old }
+    ensures banks { (B.device bench.new).banks ≡ (B.device bench.old).banks }
+{
+    bench.arm(plan);
+    assert_eq!(rt; store.close_and_collect(bench, steps), Err(PowerLost));
+    assert!(rt; !store.is_up());
+    bench.restore();
+}
+
+/// The same of a write.
+pub fn write_is_cut<T: SlotSectors, B: Bench, L: Ledger, R: Abort>(
+    rt: &R,
+    bench: &mut B,
+    store: &mut Store<T>,
+    id: u32,
+    value: &[u8],
+    plan: u64,
+    steps: &mut Steps<L>,
+)
+    requires stands { StandsOn T.role T.kind T.kept (B.device bench.old) store.old }
+    requires ordinary { id < 0xFFFF }
+    requires wide { (unit : ℕ) → 0xFFFF ≤ (T.kind unit).ids }
+    requires some { 0 < length value.now }
+    ensures banks { (B.device bench.new).banks ≡ (B.device bench.old).banks }
+{
+    bench.arm(plan);
+    assert_eq!(rt;
+        store.write(bench, id, value, steps),
+        Err(WriteFault::PowerLost)
+    );
+    assert!(rt; !store.is_up());
+    bench.restore();
+}

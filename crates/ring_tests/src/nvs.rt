@@ -1,0 +1,151 @@
+// Calls on two sectors of NVS. What each spends, answers and leaves was written by another reading of the same rules.
+ghost use Rattle.std.specs.Prelude.{◌≡◌, ◌<◌, ◌∷◌, [], OnOk};
+ghost use Rattle.flash_map.specs.declared.area.Role.TheVariants.{Nvs as nvs_role};
+ghost use Rattle.ring_store.specs.Standing.{IsStoreArea};
+
+use crate::calls::{Call, close_is_cut, closes, mounted, plays, shows, walks, write_is_cut};
+use arrayvec::ArrayString;
+use flash_map::{Area, Role, sector_view};
+use flash_sim::{Bank, Bench, FlatSim, Kind, Steps};
+use nvs_sectors::NvsOpen;
+use std::alloc::Global;
+use std::marker::Brand;
+use std::process::Abort;
+use std::sync::ledger::{Blank, Ledger};
+use std::test::Fail;
+
+const BANK: Bank = Bank {
+    kind: Kind::Erasing,
+    unit: 4,
+    sector: 512,
+    count: 2,
+};
+
+// The fifth value collects, and the same bytes again spend nothing.
+const ROUNDS: [Call; 6] = [
+    (1, (0x11, 100), 27, None, (0x11, 100)),
+    (1, (0x22, 100), 27, None, (0x22, 100)),
+    (1, (0x33, 100), 27, None, (0x33, 100)),
+    (1, (0x44, 100), 27, None, (0x44, 100)),
+    (1, (0x55, 100), 59, None, (0x55, 100)),
+    (1, (0x55, 100), 0, None, (0x55, 100)),
+];
+
+// The end of the second sector then: the last value's entry, gc-done, and the copy of the value before it.
+const ENDS: [u8; 32] = [
+    1, 0, 100, 0, 100, 0, 255, 0x25, 255, 255, 100, 0, 0, 0, 255, 0x7F, 1, 0, 0, 0, 100, 0, 255, 6,
+    255, 255, 255, 255, 255, 255, 255, 255,
+];
+
+// A value for which the other one leaves no room, until that is deleted; and one that is too long.
+const FULL: [Call; 6] = [
+    (1, (0x22, 256), 66, None, (0x22, 256)),
+    (2, (0x22, 256), 71, Some((264, 264)), (0, 0)),
+    (1, (0, 0), 2, None, (0, 0)),
+    (2, (0x22, 256), 71, None, (0x22, 256)),
+    (1, (0, 0), 0, None, (0, 0)),
+    (3, (0, 600), 0, Some((0, 0)), (0, 0)),
+];
+
+// The area of both sectors.
+fn both<B: Bench>(_bench: &B) -> Area
+    requires { (B.device _bench.now).banks ≡ BANK ∷ [] }
+    ensures store { IsStoreArea nvs_role (B.device _bench.now).banks result }
+    ensures sectors { result.sectors ≡ 2 }
+{
+    Area::new(ArrayString::new(), Role::Nvs, 0, 0, 2, 1)
+}
+
+fn load_blank<B: Bench>(alloc: Global, bench: &mut B, size: usize) -> Result<(), Fail>
+    requires { size ≡ 1024 }
+    ensures { OnOk result ((B.device bench.new).banks ≡ BANK ∷ []) }
+{
+    let banks = vec![in alloc; BANK]?;
+    let bytes = vec![in alloc; vec![in alloc; 255u8; size]?]?;
+    bench.load(alloc, banks, bytes)?;
+    Ok(())
+}
+
+// What is on the flash behind a collection, and how it reads.
+fn rounds<B: Bench, L: Ledger, R: Abort>(
+    rt: &R,
+    alloc: Global,
+    bench: &mut B,
+    steps: &mut Steps<L>,
+) -> Result<(), Fail> {
+    load_blank(alloc, bench, 1024)?;
+    let area = both(bench);
+    let mut store = mounted::<NvsOpen, B, L, R>(rt, alloc, bench, area, 0, steps)?;
+    plays(rt, alloc, bench, &mut store, &ROUNDS, steps)?;
+    let area = both(bench);
+    assert!(rt; sector_view(bench, &area, 1, steps).ends_with(&ENDS));
+    shows(rt, bench, &store, &[1], 108, steps);
+    let rows = [(1, 3, 1, 100), (1, 1, 1, 100)];
+    walks(rt, bench, &store, 2, &rows, steps);
+    Ok(())
+}
+
+// A close by itself; and one that is cut, with the mount after it, which copies the value.
+fn collects<B: Bench, L: Ledger, R: Abort>(
+    rt: &R,
+    alloc: Global,
+    bench: &mut B,
+    steps: &mut Steps<L>,
+) -> Result<(), Fail> {
+    load_blank(alloc, bench, 1024)?;
+    let area = both(bench);
+    let mut store = mounted::<NvsOpen, B, L, R>(rt, alloc, bench, area, 0, steps)?;
+    plays(rt, alloc, bench, &mut store, &FULL, steps)?;
+    closes(rt, bench, &mut store, 71, steps)?;
+    shows(rt, bench, &store, &[2], 264, steps);
+    walks(rt, bench, &store, 2, &[(1, 1, 2, 256)], steps);
+    close_is_cut(rt, bench, &mut store, 2, steps);
+    let area = both(bench);
+    let store = mounted::<NvsOpen, B, L, R>(rt, alloc, bench, area, 69, steps)?;
+    shows(rt, bench, &store, &[2], 264, steps);
+    Ok(())
+}
+
+// A write with a collection that is cut after so many units, and what the mount after it spends.
+fn losses<B: Bench, L: Ledger, R: Abort>(
+    rt: &R,
+    alloc: Global,
+    bench: &mut B,
+    steps: &mut Steps<L>,
+) -> Result<(), Fail> {
+    for (plan, units) in [(2, 30), (10, 31), (31, 1), (32, 0), (58, 0)] {
+        load_blank(alloc, bench, 1024)?;
+        let area = both(bench);
+        let mut store = mounted::<NvsOpen, B, L, R>(rt, alloc, bench, area, 0, steps)?;
+        plays(rt, alloc, bench, &mut store, &ROUNDS[..4], steps)?;
+        write_is_cut(rt, bench, &mut store, 1, &[0x55; 100], plan, steps);
+        let area = both(bench);
+        let store = mounted::<NvsOpen, B, L, R>(rt, alloc, bench, area, units, steps)?;
+        assert!(rt; store.get(bench, 1, steps).unwrap_or(b"") == [0x44; 100].as_slice());
+    }
+    Ok(())
+}
+
+// With a counter of steps.
+fn exercise<B: Bench, L: Ledger, R: Abort>(
+    rt: &R,
+    alloc: Global,
+    bench: &mut B,
+    blank: Blank,
+) -> Result<(), Fail>
+    requires name { blank.name ≡ L.name }
+    requires parts { blank.parts ≡ L.parts }
+    requires some { 0 < L.parts }
+{
+    let mut steps = Steps::<L>::new(blank);
+    rounds(rt, alloc, bench, &mut steps)?;
+    collects(rt, alloc, bench, &mut steps)?;
+    losses(rt, alloc, bench, &mut steps)
+}
+
+#[test]
+fn two_sectors_of_nvs(rt: HostRuntime) -> Result<(), Fail> {
+    let alloc = rt.alloc();
+    let mut sim = FlatSim::new(alloc);
+    exercise::<FlatSim, Brand, HostRuntime>(&rt, alloc, &mut sim, Blank::new(1))
+}

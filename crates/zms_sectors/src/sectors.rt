@@ -1,0 +1,256 @@
+// What is kept of the open sector, and the calls on sectors.
+ghost use Rattle.std.specs.Prelude.{◌≡◌, ◌+◌, ◌*◌, ◌^◌, ◌<◌, ◌≤◌, ℕ, List, length, Some};
+ghost use Rattle.flash_map.specs.declared.area.Role.TheVariants.{Zms as zms_role};
+ghost use Rattle.zms_cycle.specs.Entries.{offset_of};
+ghost use Rattle.zms_cycle.specs.Sector.{slot_of, entry_in, has_gc_done, value_of};
+ghost use Rattle.zms_kind.specs.Kinds.{entry_of, kind};
+ghost use Rattle.zms_kind.proofs.KindLemmas.{zms_is_kind};
+ghost use Rattle.ring_store.specs.Kind.{placed_at};
+
+use flash_map::{Area, Damaged, geometry, sector_view};
+use flash_sim::{Flash, PowerLost, Steps};
+use ring_store::{Placed, SlotSectors};
+use std::sync::ledger::Ledger;
+use zms_cycle::{
+    FIRST, Found, SLOT, TAIL, TAIL_AT, capacity, close, copy_entry, cost, empty_sector, entry_in,
+    offset_of, put_done, put_entry,
+};
+use zms_store::{find_in, marks_at, scan};
+
+/// What is kept of an open sector.
+#[derive(Clone, Copy, Debug, PartialEq, Eq)]
+pub struct ZmsOpen {
+    gc_done: bool,
+}
+
+// The entry in this sector, without what is its store's own.
+fn placed(found: Found, sector: u32) -> Placed
+    ensures placed { result ≡ placed_at sector (entry_of found) }
+    ensures wide { result.id < 2 ^ 32 }
+{
+    Placed {
+        sector,
+        slot: found.slot,
+        id: found.entry.id,
+        len: u32::from(found.entry.len),
+    }
+}
+
+// The bytes that an entry of a sector gives its id: they stand in its tail, or where it says.
+fn value_in<'a>(bytes: &'a [u8], found: &Found) -> &'a [u8]
+    requires short { length bytes.now ≤ 2 ^ 15 }
+    requires inside { (found.now.slot + 1) * 16 ≤ length bytes.now }
+    requires there { entry_in (slot_of bytes.now found.now.slot) ≡ Some found.now }
+    requires ends { 8 < found.now.entry.len → offset_of found.now.entry + found.now.entry.len ≤ length bytes.now }
+    ensures { result.now ≡ value_of bytes.now found.now.entry }
+{
+    let len = usize::from(found.entry.len);
+    if found.entry.len > TAIL {
+        let offset = offset_of(&found.entry) as usize;
+        return &bytes[offset..offset + len];
+    }
+    let start = bytes.len() - (found.slot + 1) as usize * SLOT as usize + TAIL_AT as usize;
+    &bytes[start..start + len]
+}
+
+impl SlotSectors for ZmsOpen {
+    ghost role = { zms_role };
+
+    ghost kind = { kind };
+
+    ghost kept = { λ unit b. record { gc_done = has_gc_done b } };
+
+    fn first_slot() -> u32 {
+        2
+    }
+
+    fn has_short_ids() -> bool {
+        false
+    }
+
+    fn cost(_unit: u32, len: u32) -> u64 {
+        u64::from(cost(len as u16))
+    }
+
+    fn capacity(_unit: u32, size: u32) -> u32 {
+        capacity(size)
+    }
+
+    fn slot_size(_unit: u32) -> u32 {
+        SLOT
+    }
+
+    fn is_blank<F: Flash, L: Ledger>(
+        flash: &F,
+        area: &Area,
+        place: u32,
+        steps: &mut Steps<L>,
+    ) -> bool {
+        !marks_at(flash, area, place, steps).in_use()
+    }
+
+    fn is_closed<F: Flash, L: Ledger>(
+        flash: &F,
+        area: &Area,
+        place: u32,
+        steps: &mut Steps<L>,
+    ) -> bool {
+        marks_at(flash, area, place, steps).closed
+    }
+
+    fn keep<F: Flash, L: Ledger>(
+        flash: &F,
+        area: &Area,
+        place: u32,
+        steps: &mut Steps<L>,
+    ) -> ZmsOpen {
+        ZmsOpen {
+            gc_done: marks_at(flash, area, place, steps).gc_done,
+        }
+    }
+
+    fn has_gc_done(&self) -> bool {
+        self.gc_done
+    }
+
+    fn free<F: Flash, L: Ledger>(
+        &self,
+        flash: &F,
+        area: &Area,
+        place: u32,
+        steps: &mut Steps<L>,
+    ) -> u32 {
+        let marks = marks_at(flash, area, place, steps);
+        let used = (FIRST + marks.slots) * SLOT;
+        let size = geometry(flash, area).sector;
+        size.saturating_sub(used).saturating_sub(marks.data_end)
+    }
+
+    fn slots<F: Flash, L: Ledger>(flash: &F, area: &Area, place: u32, steps: &mut Steps<L>) -> u32 {
+        marks_at(flash, area, place, steps).slots
+    }
+
+    fn entry_in<F: Flash, L: Ledger>(
+        flash: &F,
+        area: &Area,
+        place: u32,
+        slot: u32,
+        steps: &mut Steps<L>,
+    ) -> Option<Placed> {
+        match entry_in(sector_view(flash, area, place, steps), slot) {
+            Some(found) => Some(placed(found, place)),
+            None => None,
+        }
+    }
+
+    fn value<'a, F: Flash, L: Ledger>(
+        flash: &'a F,
+        area: &Area,
+        placed: &Placed,
+        steps: &mut Steps<L>,
+    ) -> &'a [u8] {
+        let bytes = sector_view(flash, area, placed.sector, steps);
+        match entry_in(bytes, placed.slot) {
+            Some(found) => value_in(bytes, &found),
+            None => unreachable!(),
+        }
+    }
+
+    fn find_in<F: Flash, L: Ledger>(
+        flash: &F,
+        area: &Area,
+        place: u32,
+        id: u32,
+        steps: &mut Steps<L>,
+    ) -> Option<Placed> {
+        let slots = marks_at(flash, area, place, steps).slots;
+        match find_in(sector_view(flash, area, place, steps), slots, place, id) {
+            Some(found) => Some(Placed {
+                sector: found.sector,
+                slot: found.slot,
+                id: found.entry.id,
+                len: u32::from(found.entry.len),
+            }),
+            None => None,
+        }
+    }
+
+    fn begin<F: Flash, L: Ledger>(
+        &mut self,
+        flash: &mut F,
+        area: &Area,
+        place: u32,
+        steps: &mut Steps<L>,
+    ) -> Result<(), PowerLost> {
+        if !marks_at(flash, area, place, steps).blank {
+            return Ok(());
+        }
+        empty_sector(flash, area, place, steps)?;
+        self.gc_done = false;
+        Ok(())
+    }
+
+    fn put<F: Flash, L: Ledger>(
+        &mut self,
+        flash: &mut F,
+        area: &Area,
+        place: u32,
+        id: u32,
+        bytes: &[u8],
+        steps: &mut Steps<L>,
+    ) -> Result<(), PowerLost> {
+        put_entry(flash, area, place, id, bytes, steps)
+    }
+
+    fn copy<F: Flash, L: Ledger>(
+        &mut self,
+        flash: &mut F,
+        area: &Area,
+        place: u32,
+        from: &Placed,
+        steps: &mut Steps<L>,
+    ) -> Result<(), PowerLost> {
+        copy_entry(flash, area, place, from.sector, from.slot, steps)
+    }
+
+    fn mark_done<F: Flash, L: Ledger>(
+        &mut self,
+        flash: &mut F,
+        area: &Area,
+        place: u32,
+        steps: &mut Steps<L>,
+    ) -> Result<(), PowerLost> {
+        put_done(flash, area, place, steps)?;
+        self.gc_done = true;
+        Ok(())
+    }
+
+    fn close<F: Flash, L: Ledger>(
+        &self,
+        flash: &mut F,
+        area: &Area,
+        place: u32,
+        steps: &mut Steps<L>,
+    ) -> Result<(), PowerLost> {
+        close(flash, area, place, steps)
+    }
+
+    fn clear<F: Flash, L: Ledger>(
+        flash: &mut F,
+        area: &Area,
+        place: u32,
+        steps: &mut Steps<L>,
+    ) -> Result<(), PowerLost> {
+        empty_sector(flash, area, place, steps)
+    }
+
+    fn scan<F: Flash, L: Ledger>(
+        flash: &F,
+        area: &Area,
+        steps: &mut Steps<L>,
+    ) -> Result<u32, Damaged> {
+        scan(flash, area, steps)
+    }
+
+    ghost lawful = { λ unit is. zms_is_kind unit };
+}

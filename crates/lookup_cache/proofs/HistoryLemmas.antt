@@ -1,11 +1,11 @@
 -- What a cache says after a history.
-use Rattle.std.proofs.Common.{◌≡◌, ◌≢◌, ℕ, ◌≤◌, Bool, true, false, cond, eqb, List, [], ◌∷◌, ◌++◌, length, get_or, Option, Some, None, refl, sym, ◌∙◌, ap, arith, eqb-true, eq-eqb, ne_eqb, length-set}
+use Rattle.std.proofs.Common.{◌≡◌, ◌≢◌, ℕ, zero, suc, ◌≤◌, Bool, true, false, cond, eqb, List, [], ◌∷◌, ◌++◌, length, get_or, Option, Some, None, refl, sym, ◌∙◌, ap, arith, eqb-true, eq-eqb, ne_eqb, length-set}
 use Rattle.std.proofs.lemmas.List.{length-map, length-replicate}
 use Rattle.std.specs.List.{All}
 use Rattle.std.specs.Option.{IfSome}
 use Rattle.std.proofs.lemmas.Grind.{common_steps}
 use Rattle.std.proofs.lemmas.List.Elements.{All-nil, All-cons, All-head, All-tail, All-map}
-use Rattle.lookup_cache.specs.Places.{cache_slot, place_of, with_note, without, without_sector}
+use Rattle.lookup_cache.specs.Places.{cache_slot, place_of, with_note, without, without_sector, cleared}
 use Rattle.lookup_cache.specs.History.{Event, noted, forgot, cache_after, Spares, IsLastNoted}
 
 outside_it : (sector : ℕ) (place : Option (ℕ × ℕ)) → IfSome (without_sector sector place) (λ p. p.0 ≢ sector)
@@ -25,12 +25,21 @@ length-cache_after slots [] = simp length-replicate
 length-cache_after slots (noted id sector slot ∷ earlier) = simp length-set (length-cache_after slots earlier)
 length-cache_after slots (forgot sector ∷ earlier) = simp length-map (length-cache_after slots earlier)
 
-note_at : (cache : List (Option (ℕ × ℕ))) (slots other sector slot id : ℕ) → length cache ≡ slots → 1 ≤ slots
+pub note_at : (cache : List (Option (ℕ × ℕ))) (slots other sector slot id : ℕ) → length cache ≡ slots → 1 ≤ slots
     → place_of (with_note cache other sector slot) id ≡ cond (eqb (cache_slot slots other) (cache_slot slots id)) (Some (sector, slot)) (place_of cache id)
 note_at cache slots other sector slot id is some = grind (arith, common_steps)
 
 forget_at : (cache : List (Option (ℕ × ℕ))) (sector id : ℕ) → place_of (without cache sector) id ≡ without_sector sector (place_of cache id)
 forget_at cache sector id = grind (arith, common_steps)
+
+nothing_at : (cache : List (Option (ℕ × ℕ))) (i : ℕ) → get_or (cleared cache) i None ≡ None
+nothing_at [] i = refl
+nothing_at (place ∷ places) zero = refl
+nothing_at (place ∷ places) (suc i) = nothing_at places i
+
+-- nothing is left in a cleared one
+pub clear_at : (cache : List (Option (ℕ × ℕ))) (id : ℕ) → place_of (cleared cache) id ≡ None
+clear_at cache id = nothing_at cache (cache_slot (length (cleared cache)) id)
 
 -- the place of an id after one event more
 pub place_of-noted : (slots : ℕ) (earlier : List Event) (other sector slot id : ℕ) → 1 ≤ slots

@@ -1,134 +1,68 @@
--- How the calls of a store end.
-use Rattle.std.specs.Prelude.{◌≡◌, ◌⊎◌, ℕ, ◌-◌, ◌*◌, ◌^◌, ◌<◌, ◌≤◌, List, length, Option, Some, None, Result, Ok, Err}
-use Rattle.std.specs.List.{All}
-use Rattle.std.specs.FinMap.{get, insert, remove}
+-- How the calls of a store of NVS end: as those of one store over any sectors do, at those of NVS.
+use Rattle.std.specs.Prelude.{◌≡◌, ◌⊎◌, ℕ, ◌/◌, Bool, List, Result}
 use Rattle.flash_sim.specs.Device.{Device}
-use Rattle.flash_sim.specs.declared.flash.PowerLost.{PowerLost as Lost}
+use Rattle.flash_sim.specs.declared.flash.PowerLost.{PowerLost}
 use Rattle.flash_map.specs.declared.area.Area.{Area}
+use Rattle.flash_map.specs.declared.area.Role.TheVariants.{Nvs as NvsRole}
 use Rattle.flash_map.specs.declared.faults.MountFault.{MountFault}
-use Rattle.flash_map.specs.declared.faults.MountFault.TheVariants.{Damaged as HasDamage, PowerLost as MountLost, NoMemory}
 use Rattle.flash_map.specs.declared.faults.WriteFault.{WriteFault}
-use Rattle.flash_map.specs.declared.faults.WriteFault.TheVariants.{NoSpace, TooLong, PowerLost}
-use Rattle.flash_map.specs.Area.{unit_of, sectors_of}
-use Rattle.flash_map.specs.Spending.{Spends, SpendsAtMost}
-use Rattle.pair_laws.specs.Items.{Items}
-use Rattle.ring_laws.specs.Rounds.{IsCrammed}
-use Rattle.ring_laws.specs.NextIds.{IsBehind}
-use Rattle.nvs_store.specs.declared.scan.Placed.{Placed}
-use Rattle.nvs_store.specs.declared.scan.Redo.TheVariants.{Nothing}
-use Rattle.nvs_store.specs.Geometry.{cost}
-use Rattle.nvs_store.specs.Scans.{reading}
-use Rattle.nvs_store.specs.On.{damage_on, open_on, redo_on, cost_on, capacity_on, FitsOn}
+use Rattle.flash_map.specs.Area.{unit_of, sector_size, sectors_of}
+use Rattle.ring_laws.specs.Area.{is_blank_at}
+use Rattle.ring_store.specs.Collecting as collecting
+use Rattle.ring_store.specs.Kind.{Range}
+use Rattle.ring_store.specs.Spending as spending
+use Rattle.ring_store.specs.Stands as stands
+use Rattle.ring_store.specs.Wrapped.{store_in}
+use Rattle.ring_store.specs.Writing as writing
+use Rattle.ring_store.specs.Written as written
+use Rattle.nvs_kind.specs.Kinds.{kind}
 use Rattle.nvs_gc.specs.declared.nvs.Nvs.{Nvs}
-use Rattle.nvs_gc.specs.Spending.{mount_units_on, entry_units, most_units}
-use Rattle.nvs_gc.specs.Standing.{live_cost_on, items_on, IsUndamaged, StandsOn, KeepsItems}
+use Rattle.nvs_gc.specs.Standing.{kind_on, kept}
 
--- ---- mounting
-
--- no loss of power left anything undone
-abbrev pub HasNothingToDo : Device → Area → Type 0
-HasNothingToDo d area = redo_on d area (open_on d area) ≡ Nothing
-
--- The area is damaged, and then nothing changed; or it is not, and its items stay, whether power is lost or not.
+-- The area is damaged, and then nothing changed; or it is not, and its items stay, whether power is lost or
+-- not. What is spent is what there is to redo: at rest nothing is done.
 abbrev pub MountEnds : Device → Device → Area → Result Nvs MountFault → Type 0
-MountEnds old new area (Ok nvs) =
-    IsUndamaged old area × StandsOn new nvs × (nvs.area ≡ area) × KeepsItems old new area
-    × Spends old new (mount_units_on old area)
-MountEnds old new area (Err (HasDamage damaged)) = (damage_on old area ≡ Some damaged) × (new ≡ old)
-MountEnds old new area (Err MountLost) =
-    IsUndamaged old area × KeepsItems old new area
-    × SpendsAtMost old new (mount_units_on old area)
-MountEnds old new area (Err NoMemory) = ⊥
+MountEnds old new area result =
+    stands.MountEnds NvsRole kind kept old new area (store_in (λ (nvs : Nvs). nvs.store) result)
 
--- ---- reading
+-- A whole round, in which this sector was the open one. Afterwards a value fits the open sector exactly where
+-- it does beside the copies, and a delete fits.
+abbrev pub TurnsOn : Device → Device → Area → ℕ → Type 0
+TurnsOn old new area place =
+    let size = sector_size old area in
+    collecting.TurnsAt (kind_on old area) size (sectors_of old area) (sectors_of new area) place
 
--- the least id behind this one that has a value
-abbrev pub IsNextId : Items → Option ℕ → Option ℕ → Type 0
-IsNextId items after None = (id : ℕ) → IsBehind after id → get items id ≡ None
-IsNextId items after (Some next) = IsBehind after next × (get items next ≡ None → ⊥) × ((id : ℕ) → IsBehind after id → id < next → get items id ≡ None)
+-- the list is as before that round, or as it leaves it
+abbrev pub KeepsOrTurnsOn : Device → Device → Area → ℕ → Type 0
+KeepsOrTurnsOn old new area place =
+    collecting.KeepsOrTurns (kind_on old area) (sectors_of old area) (sectors_of new area) place
 
--- the entry's id is not from `first` on and before `end`
-abbrev pub IsNotBetween : ℕ → ℕ → Placed → Type 0
-IsNotBetween first end placed = first ≤ placed.entry.id → end ≤ placed.entry.id
+-- what it spends
+abbrev pub round_units_on : Device → Area → ℕ → Range
+round_units_on d area place = spending.round_units (kind_on d area) (sectors_of d area) place
 
--- the entry's id has 16 bits
-abbrev pub IsNarrow : Placed → Type 0
-IsNarrow placed = placed.entry.id < 2 ^ 16
+-- the sector is in use by no entry
+abbrev pub is_blank_on : Device → Area → ℕ → Bool
+is_blank_on d area place = is_blank_at (kind_on d area).reading (sectors_of d area) place
 
--- none of these entries has an id between these two
-abbrev pub HasNoneBetween : ℕ → ℕ → List Placed → Type 0
-HasNoneBetween first end placed = All (IsNotBetween first end) placed
+abbrev pub WriteEnds : {T : Type 0} → Device → Device → Area → ℕ → List ℕ → Result T WriteFault → Type 0
+WriteEnds old new area id bytes result = writing.WriteEnds (kind_on old area) old new area id bytes result
 
--- ---- writing
+abbrev pub DeleteEnds : {T : Type 0} → Device → Device → Area → ℕ → Result T PowerLost → Type 0
+DeleteEnds old new area id result = writing.DeleteEnds (kind_on old area) old new area id result
 
--- these bytes are the item's already
-abbrev pub Holds : Device → Area → ℕ → List ℕ → Type 0
-Holds d area id bytes = get (items_on d area) id ≡ Some bytes
+-- some sector of the area, which was so on the device before, is not blank now
+abbrev pub IsWritten : Device → Device → Area → Type 0
+IsWritten old new area = written.IsWritten (kind_on old area) (sectors_of new area)
 
--- data of this length fits the open sector
-abbrev pub Fits : Device → Nvs → ℕ → Type 0
-Fits d nvs len = FitsOn d nvs.area nvs.scan len
+-- an area in which something is written stays so
+abbrev pub KeepsWritten : Device → Device → Area → Type 0
+KeepsWritten old new area = IsWritten old old area → IsWritten old new area
 
--- data of this length and its entry cost no more than a sector has for them
-abbrev pub IsShort : Device → Area → ℕ → Type 0
-IsShort d area len = cost_on d area len ≤ capacity_on d area
+-- nothing changed, or something is written now
+abbrev pub SameOrWritten : Device → Device → Area → Type 0
+SameOrWritten old new area = (new ≡ old) ⊎ IsWritten old new area
 
--- Each pair of the area is live, and each sector but the blank one has no room for so many bytes beside its pairs.
-abbrev pub IsCrammedFor : Device → Area → ℕ → Type 0
-IsCrammedFor d area need =
-    let unit = unit_of d area in
-    IsCrammed (reading unit) (cost unit) need (capacity_on d area) (sectors_of d area) (open_on d area)
-
--- the item has these bytes, and all others stay
-pub record Writes (old new : Device) (nvs : Nvs) (id : ℕ) (bytes : List ℕ) : Type 0 where
-  pub short : IsShort old nvs.area (length bytes)
-  pub items : items_on new nvs.area ≡ insert (items_on old nvs.area) id bytes
-  pub equal : Holds old nvs.area id bytes → new ≡ old
-  pub fitting : ¬ Holds old nvs.area id bytes → Fits old nvs (length bytes) → Spends old new (entry_units old nvs.area (length bytes))
-  pub at_most : SpendsAtMost old new (most_units old nvs.area (nvs.area.sectors - 1) (length bytes))
-
--- No round of collections makes room: in the end the live items leave none in any of the sectors with data.
-pub record FindsNoSpace (old new : Device) (nvs : Nvs) (id : ℕ) (bytes : List ℕ) (need live : ℕ) : Type 0 where
-  pub needs : need ≡ cost_on old nvs.area (length bytes)
-  pub lives : live ≡ live_cost_on old nvs.area
-  pub short : IsShort old nvs.area (length bytes)
-  pub full : (nvs.area.sectors - 1) * (capacity_on old nvs.area - need) < live
-  pub crammed : IsCrammedFor new nvs.area need
-  pub other : ¬ Holds old nvs.area id bytes
-  pub unfit : ¬ Fits old nvs (length bytes)
-  pub items : items_on new nvs.area ≡ items_on old nvs.area
-  pub at_most : SpendsAtMost old new (most_units old nvs.area (nvs.area.sectors - 1) (length bytes))
-
--- power was lost: the items are the old ones, or those with the pair
-pub record StopsWriting (old new : Device) (nvs : Nvs) (id : ℕ) (bytes : List ℕ) : Type 0 where
-  pub short : IsShort old nvs.area (length bytes)
-  pub other : ¬ Holds old nvs.area id bytes
-  pub items : (items_on new nvs.area ≡ items_on old nvs.area) ⊎ (items_on new nvs.area ≡ insert (items_on old nvs.area) id bytes)
-  pub fitting : Fits old nvs (length bytes) → SpendsAtMost old new (entry_units old nvs.area (length bytes))
-  pub at_most : SpendsAtMost old new (most_units old nvs.area (nvs.area.sectors - 1) (length bytes))
-
-abbrev pub WriteEnds : {T : Type 0} → Device → Device → Nvs → ℕ → List ℕ → Result T WriteFault → Type 0
-WriteEnds old new nvs id bytes (Ok _) = Writes old new nvs id bytes
-WriteEnds old new nvs id bytes (Err (NoSpace need live)) = FindsNoSpace old new nvs id bytes need live
-WriteEnds old new nvs id bytes (Err TooLong) = (¬ IsShort old nvs.area (length bytes)) × (new ≡ old)
-WriteEnds old new nvs id bytes (Err PowerLost) = StopsWriting old new nvs id bytes
-
--- ---- deleting
-
--- the id has no item, and all others stay
-pub record Deletes (old new : Device) (nvs : Nvs) (id : ℕ) : Type 0 where
-  pub items : items_on new nvs.area ≡ remove (items_on old nvs.area) id
-  pub absent : get (items_on old nvs.area) id ≡ None → new ≡ old
-  pub fitting : ¬ (get (items_on old nvs.area) id ≡ None) → Fits old nvs 0 → Spends old new (entry_units old nvs.area 0)
-  pub at_most : SpendsAtMost old new (most_units old nvs.area 1 0)
-
--- power was lost: the items are the old ones, or those without the id
-pub record StopsDeleting (old new : Device) (nvs : Nvs) (id : ℕ) : Type 0 where
-  pub present : ¬ (get (items_on old nvs.area) id ≡ None)
-  pub items : (items_on new nvs.area ≡ items_on old nvs.area) ⊎ (items_on new nvs.area ≡ remove (items_on old nvs.area) id)
-  pub fitting : Fits old nvs 0 → SpendsAtMost old new (entry_units old nvs.area 0)
-  pub at_most : SpendsAtMost old new (most_units old nvs.area 1 0)
-
-abbrev pub DeleteEnds : {T : Type 0} → Device → Device → Nvs → ℕ → Result T Lost → Type 0
-DeleteEnds old new nvs id (Ok _) = Deletes old new nvs id
-DeleteEnds old new nvs id (Err _) = StopsDeleting old new nvs id
+-- the units of a sector
+abbrev pub sector_units : Device → Area → ℕ
+sector_units d area = sector_size d area / unit_of d area

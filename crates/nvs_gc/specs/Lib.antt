@@ -1,5 +1,2 @@
-pub mod Collecting
 pub mod Ends
-pub mod Latest
-pub mod Spending
 pub mod Standing

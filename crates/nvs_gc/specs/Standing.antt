@@ -1,35 +1,54 @@
--- When a store stands on the bytes of its area.
-use Rattle.std.specs.Prelude.{◌≡◌, ℕ, true, List}
+-- When a store of NVS stands on the bytes of its area: the definitions of the one store over any sectors, at
+-- those of NVS.
+use Rattle.std.specs.Prelude.{ℕ, List}
 use Rattle.flash_sim.specs.Device.{Device}
 use Rattle.flash_sim.specs.declared.flash.Bank.{Bank}
 use Rattle.flash_map.specs.declared.area.Area.{Area}
 use Rattle.flash_map.specs.declared.area.Role.TheVariants.{Nvs as NvsRole}
-use Rattle.flash_map.specs.Area.{unit_of}
-use Rattle.flash_map.specs.Lawful.{IsAreaFor}
+use Rattle.flash_map.specs.Area.{unit_of, sectors_of}
+use Rattle.pair_laws.specs.Items.{Items}
 use Rattle.pair_laws.specs.Rounds.{live_cost}
-use Rattle.nvs_store.specs.declared.scan.Redo.TheVariants.{Nothing}
 use Rattle.nvs_store.specs.Geometry.{cost}
-use Rattle.nvs_store.specs.On.{scan_on}
-pub use Rattle.nvs_store.specs.On.{list_on, items_on, IsUndamaged}
+use Rattle.nvs_store.specs.Sector.{low, data_end, has_gc_done}
+use Rattle.nvs_kind.specs.Kinds.{kind}
+use Rattle.nvs_sectors.specs.declared.sectors.NvsOpen.{NvsOpen}
+use Rattle.ring_store.specs.Kind.{Kind}
+use Rattle.ring_store.specs.Listed as listed
+use Rattle.ring_store.specs.Standing as ring
+use Rattle.ring_store.specs.Stands as stands
 use Rattle.nvs_gc.specs.declared.nvs.Nvs.{Nvs}
+
+-- how its sectors read
+abbrev pub kind_on : Device → Area → Kind
+kind_on d area = kind (unit_of d area)
+
+-- what is kept of the open sector, by its bytes
+abbrev pub kept : ℕ → List ℕ → NvsOpen
+kept unit b = record { low = low unit b; data_end = data_end unit b; gc_done = has_gc_done unit b }
 
 -- an area on which a store may stand
 abbrev pub IsNvsArea : List Bank → Area → Type 0
-IsNvsArea banks area = IsAreaFor (λ role. role ≡ NvsRole) banks area
+IsNvsArea banks area = ring.IsStoreArea NvsRole banks area
 
--- what all items cost, in bytes: the data of each, padded, and its entry
+-- ids with their bytes, from the oldest to the newest
+abbrev pub list_on : Device → Area → List (ℕ × List ℕ)
+list_on d area = listed.list_on kind d area
+
+-- the map of ids to bytes that the area holds
+abbrev pub items_on : Device → Area → Items
+items_on d area = listed.items_on kind d area
+
+-- what all items cost, in bytes: the bytes of each, padded, and its entry
 abbrev pub live_cost_on : Device → Area → ℕ
 live_cost_on d area = live_cost (cost (unit_of d area)) (list_on d area)
 
--- The store is up: the area is not damaged and at rest, and the store's scan is that of the area.
-pub record StandsOn (d : Device) (nvs : Nvs) : Type 0 where
-  pub area : IsNvsArea d.banks nvs.area
-  pub up : nvs.up ≡ true
-  pub scan : nvs.scan ≡ scan_on d nvs.area
-  pub rested : nvs.scan.redo ≡ Nothing
-  pub undamaged : IsUndamaged d nvs.area
+abbrev pub IsUndamaged : Device → Area → Type 0
+IsUndamaged d area = ring.IsUndamagedAt (kind_on d area) d area
 
--- the area holds the same items, and is not damaged
-pub record KeepsItems (old new : Device) (area : Area) : Type 0 where
-  pub items : items_on new area ≡ items_on old area
-  pub undamaged : IsUndamaged new area
+-- The store is up: the area is not damaged and at rest, and the store knows its open sector.
+abbrev pub StandsOn : Device → Nvs → Type 0
+StandsOn d nvs = stands.StandsOn NvsRole kind kept d nvs.store
+
+-- the area holds the same items, the newest versions of each stay, and it is not damaged
+abbrev pub KeepsItems : Device → Device → Area → Type 0
+KeepsItems old new area = ring.KeepsItems (kind_on old area) (sectors_of old area) (sectors_of new area)

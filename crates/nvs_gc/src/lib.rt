@@ -1,12 +1,8 @@
-//! A store of items in an area of several sectors: it mounts, collects garbage, and reads, writes and deletes items.
-//! Wherever power is lost, the items are those from before the call or those after it.
+//! A store of items in the sectors of NVS: it mounts, collects garbage, and reads, writes and deletes
+//! items. It is the one store over any sectors, with ids of 16 bits. Wherever power is lost, the items are
+//! those from before the call or those after it.
 #![tactic(auto)]
 
-mod collecting;
-mod latest;
 mod nvs;
-mod reading;
-mod writing;
 
-pub use latest::LastSlots;
 pub use nvs::Nvs;

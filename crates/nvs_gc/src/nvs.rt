@@ -1,79 +1,109 @@
-// The store, mounting, and closing with a collection.
-ghost use Rattle.std.specs.Prelude.{◌≡◌, ◌∷◌, [], true, false, is_err, OnOk, OnErr};
-ghost use Rattle.nvs_gc.specs.Collecting.{TurnsOn};
-ghost use Rattle.flash_map.specs.Spending.{Spends, SpendsAtMost};
+// The store of items over the sectors of NVS.
+ghost use Rattle.std.specs.Prelude.{◌≡◌, ℕ, ◌+◌, ◌^◌, ◌<◌, ◌≤◌, ◌∷◌, [], None, true, false, length, is_err, is_some, IfSome, OnOk, OnErr, option_map};
+ghost use Rattle.std.specs.FinMap as map;
+ghost use Rattle.flash_sim.specs.Bank.{IsLawful};
+ghost use Rattle.flash_sim.specs.Device.{Device};
+ghost use Rattle.flash_map.specs.Faults.{mount_lost, write_lost};
+ghost use Rattle.flash_map.specs.Spending.{SpendsBetween};
 ghost use Rattle.flash_map.specs.Touches.{Touches};
-ghost use Rattle.flash_map.specs.Faults.{mount_lost};
-ghost use Rattle.nvs_gc.specs.Ends.{HasNothingToDo, MountEnds};
-ghost use Rattle.nvs_gc.specs.Spending.{round_units_on, sector_units};
-ghost use Rattle.nvs_gc.specs.Standing.{IsNvsArea, StandsOn, KeepsItems};
-ghost use Rattle.nvs_store.specs.On.{is_blank_on};
+ghost use Rattle.flash_map.specs.Area.{sectors_of};
+ghost use Rattle.ring_laws.specs.NextIds.{IsNextId};
+ghost use Rattle.nvs_kind.specs.Kinds.{kind};
+ghost use Rattle.ring_store.specs.Cached.{latest_on};
+ghost use Rattle.ring_store.specs.Latest.{IsTold, TellsOn};
+ghost use Rattle.ring_store.specs.Listed.{entries_on, IsPlacedOn};
+ghost use Rattle.ring_store.specs.Older.{IsNextOlder, newest_before};
+ghost use Rattle.ring_store.specs.Standing.{SpendsIn, SpendsUpTo};
+ghost use Rattle.nvs_gc.specs.Ends.{MountEnds, TurnsOn, KeepsOrTurnsOn, round_units_on, is_blank_on, WriteEnds, DeleteEnds, KeepsWritten, SameOrWritten, sector_units};
+ghost use Rattle.nvs_gc.specs.Standing.{IsNvsArea, StandsOn, kind_on, KeepsItems, IsUndamaged, items_on, live_cost_on};
 
-use crate::collecting::{redo, round};
-use flash_map::{Area, MountFault};
+use flash_map::{Area, MountFault, WriteFault};
 use flash_sim::{Flash, PowerLost, Steps};
-use nvs_store::{Scan, is_blank, mount_scan};
+use nvs_sectors::NvsOpen;
+use ring_store::{LastSlots, Placed, Store};
 use std::alloc::Global;
 use std::sync::ledger::Ledger;
 
-/// A store over the sectors of one area.
+/// A store over the sectors of one area of NVS.
 #[derive(Debug, Drop)]
 pub struct Nvs {
-    pub(crate) area: Area,
-    pub(crate) scan: Scan,
-    // no call answered that power was lost
-    pub(crate) up: bool,
+    pub(crate) store: Store<NvsOpen>,
+}
+
+// The id as one of any store.
+fn widened(id: Option<u16>) -> Option<u32>
+    ensures { result ≡ id }
+{
+    match id {
+        Some(id) => Some(id as u32),
+        None => None,
+    }
+}
+
+// The id, which has 16 bits, as one of NVS.
+fn narrowed(id: Option<u32>) -> Option<u16>
+    requires { IfSome id (λ id. id < 2 ^ 16) }
+    ensures { result ≡ id }
+{
+    match id {
+        Some(id) => Some(id as u16),
+        None => None,
+    }
 }
 
 impl Nvs {
-    /// Reads the area and carries out what a loss of power left undone: the erase of a collected sector, or a whole
-    /// collection. The items stay, also where power is lost. Whatever the result, it spends no more units and erases than
-    /// a sector has units. It takes no memory yet.
+    /// Reads the area and carries out what a loss of power left undone: the erase of a collected sector, or
+    /// a whole collection. The items stay, and the newest versions of each, also where power is lost.
+    /// Whatever the result, it spends no more units and erases than a sector has units. At rest nothing
+    /// changes; an area in which anything changed is not all FF then, also where power is lost.
     ///
     /// # Errors
-    /// `Damaged`, and then nothing was programmed; `PowerLost`. Never `NoMemory`.
+    /// `Damaged`, and then nothing was programmed; `PowerLost`; `NoMemory`, and then nothing was programmed.
     pub fn mount<F: Flash, L: Ledger>(
-        _alloc: Global,
+        alloc: Global,
         flash: &mut F,
         area: Area,
         steps: &mut Steps<L>,
     ) -> Result<Nvs, MountFault>
         requires { IsNvsArea (F.device flash.old).banks area }
-        ensures touches { Touches (area ∷ []) (F.device flash.old) (F.device flash.new) (mount_lost result) }
+        ensures touches { Touches (area ∷ []) (F.device flash.old)
+            (F.device flash.new) (mount_lost result) }
         ensures ends { MountEnds (F.device flash.old) (F.device flash.new) area result }
-        ensures idle { HasNothingToDo (F.device flash.old) area → F.device flash.new ≡ F.device flash.old }
-        ensures at_most { let d = F.device flash.old in SpendsAtMost d (F.device flash.new) (sector_units d area) }
+        ensures at_most { let d = F.device flash.old in
+            SpendsBetween d (F.device flash.new) 0 (sector_units d area) }
+        ensures written { KeepsWritten (F.device flash.old) (F.device flash.new) area }
+        ensures changed { SameOrWritten (F.device flash.old) (F.device flash.new) area }
     {
-        match mount_scan(flash, &area, steps) {
-            Err(damaged) => Err(MountFault::Damaged(damaged)),
-            Ok(found) => match redo(flash, &area, found, steps) {
-                Err(_) => Err(MountFault::PowerLost),
-                Ok(scan) => Ok(Nvs {
-                    area,
-                    scan,
-                    up: true,
-                }),
-            },
+        match Store::<NvsOpen>::mount(alloc, flash, area, steps) {
+            Ok(store) => Ok(Nvs { store }),
+            Err(fault) => Err(fault),
         }
+    }
+
+    /// The one store over any sectors that it is.
+    pub fn store(&self) -> &Store<NvsOpen>
+        ensures { result.now ≡ self.now.store }
+    {
+        &self.store
     }
 
     /// The area that the store stands on.
     pub fn area(&self) -> &Area
-        ensures { result.now ≡ self.now.area }
+        ensures { result.now ≡ self.now.store.area }
     {
-        &self.area
+        self.store.area()
     }
 
     /// Whether no call answered that power was lost.
     pub fn is_up(&self) -> bool
-        ensures { result ≡ self.now.up }
+        ensures { result ≡ self.now.store.up }
     {
-        self.up
+        self.store.is_up()
     }
 
-    /// Closes the open sector and collects the oldest one, where that is not blank. The items stay, also where power
-    /// is lost. What does not fit then is kept out by the copied items alone, and a delete fits. Where the open sector
-    /// is blank, nothing is programmed.
+    /// Closes the open sector and collects the oldest one, where that is not blank. The items stay, also
+    /// where power is lost. What does not fit then is kept out by the copied items alone, and a delete
+    /// fits. Where the open sector is blank, nothing is programmed.
     ///
     /// # Errors
     /// `PowerLost`. The store is then down.
@@ -84,53 +114,213 @@ impl Nvs {
     ) -> Result<(), PowerLost>
         requires { StandsOn (F.device flash.old) self.old }
 
-        ensures touches { Touches (self.old.area ∷ []) (F.device flash.old) (F.device flash.new) (is_err result) }
-        ensures area { self.new.area ≡ self.old.area }
-        ensures items { KeepsItems (F.device flash.old) (F.device flash.new) self.old.area }
+        ensures touches { Touches (self.old.store.area ∷ []) (F.device flash.old)
+            (F.device flash.new) (is_err result) }
+        ensures area { self.new.store.area ≡ self.old.store.area }
+        ensures items { KeepsItems (F.device flash.old) (F.device flash.new) self.old.store.area }
+        ensures written { let d = F.device flash.old in
+            KeepsWritten d (F.device flash.new) self.old.store.area }
+        ensures changed { let d = F.device flash.old in
+            SameOrWritten d (F.device flash.new) self.old.store.area }
 
         ensures stands { OnOk result (StandsOn (F.device flash.new) self.new) }
-        ensures turns { let d = F.device flash.old in is_blank_on d self.old.area self.old.scan.current ≡ false
-            → OnOk result (TurnsOn d (F.device flash.new) self.old.area self.old.scan.current) }
-        ensures blank { let d = F.device flash.old in is_blank_on d self.old.area self.old.scan.current ≡ true → F.device flash.new ≡ d }
-        ensures units { let d = F.device flash.old in
-            OnOk result (Spends d (F.device flash.new) (round_units_on d self.old.area self.old.scan.current)) }
+        ensures turns { let d = F.device flash.old in let store = self.old.store in
+            is_blank_on d store.area store.current ≡ false
+            → OnOk result (TurnsOn d (F.device flash.new) store.area store.current) }
+        ensures blank { let d = F.device flash.old in let store = self.old.store in
+            is_blank_on d store.area store.current ≡ true → F.device flash.new ≡ d }
+        ensures units { let d = F.device flash.old in let store = self.old.store in
+            is_blank_on d store.area store.current ≡ false
+            → OnOk result (SpendsIn d (F.device flash.new) (round_units_on d store.area store.current)) }
 
-        ensures down { OnErr result (self.new.up ≡ false) }
-        ensures bound { let d = F.device flash.old in
-            OnErr result (SpendsAtMost d (F.device flash.new) (round_units_on d self.old.area self.old.scan.current)) }
+        ensures down { OnErr result (self.new.store.up ≡ false) }
+        ensures used { let d = F.device flash.old in let store = self.old.store in
+            OnErr result (is_blank_on d store.area store.current ≡ false) }
+        ensures list_lost { let d = F.device flash.old in let store = self.old.store in
+            OnErr result (KeepsOrTurnsOn d (F.device flash.new) store.area store.current) }
+        ensures bound { let d = F.device flash.old in let store = self.old.store in
+            OnErr result (SpendsUpTo d (F.device flash.new) (round_units_on d store.area store.current)) }
     {
-        if is_blank(flash, &self.area, self.scan.current, steps) {
-            return Ok(());
-        }
-        self.turn(flash, steps)
+        self.store.close_and_collect(flash, steps)
     }
 
-    // Closes the open sector, which is not blank, and collects.
-    pub(crate) fn turn<F: Flash, L: Ledger>(
+    /// The bytes of an item: none where the id has no entry, or its last one is a delete. Where no entry of the
+    /// list has an id of the same slot of the cache it takes no view of the flash, and at most two where the
+    /// last such entry has this id.
+    pub fn get<'a, F: Flash, L: Ledger>(
+        &self,
+        flash: &'a F,
+        id: u16,
+        steps: &mut Steps<L>,
+    ) -> Option<&'a [u8]>
+        requires { StandsOn (F.device flash.now) self.now }
+        ensures value { option_map (λ bytes. bytes.now) result
+            ≡ map.get (items_on (F.device flash.now) self.now.store.area) id }
+        ensures none { let d = F.device flash.now in
+            latest_on kind d self.now.store.area id ≡ None → steps.new ≡ steps.old }
+        ensures few { let d = F.device flash.now in
+            IfSome (latest_on kind d self.now.store.area id) (λ p. p.id ≡ id → steps.new ≤ steps.old + 2) }
+    {
+        self.store.get(flash, id as u32, steps)
+    }
+
+    /// Whether an item may be there: `true` exactly where an entry of the list has an id of the same slot of
+    /// the cache. Else the id has none. It looks at the cache alone.
+    pub fn may_hold(&self, id: u16) -> bool
+        ensures exactly { (d : Device) → StandsOn d self.now
+            → result ≡ is_some (latest_on kind d self.now.store.area id) }
+        ensures none { (d : Device) → IsLawful d.banks d.bytes → StandsOn d self.now → result ≡ false
+            → map.get (items_on d self.now.store.area) id ≡ None }
+    {
+        self.store.may_hold(id as u32)
+    }
+
+    /// The last entries of ids, by one walk over the list: of 1000 ids at most, the least that have bytes. The
+    /// table tells of each id where no more than 1000 ids ever had bytes in the list. It does so as long as the
+    /// area stays as it is.
+    pub fn last_slots<F: Flash, L: Ledger>(&self, flash: &F, steps: &mut Steps<L>) -> LastSlots
+        requires { StandsOn (F.device flash.now) self.now }
+        ensures { TellsOn kind (F.device flash.now) self.now.store.area result }
+    {
+        self.store.last_slots(flash, steps)
+    }
+
+    /// The bytes of an item, as `get` gives them, by a table of last entries. Where the table tells of the id,
+    /// it is one step at most; else it is what `get` does.
+    pub fn get_by<'a, F: Flash, L: Ledger>(
+        &self,
+        flash: &'a F,
+        last: &LastSlots,
+        id: u16,
+        steps: &mut Steps<L>,
+    ) -> Option<&'a [u8]>
+        requires stands { StandsOn (F.device flash.now) self.now }
+        requires last { TellsOn kind (F.device flash.now) self.now.store.area last.now }
+        ensures value { option_map (λ bytes. bytes.now) result
+            ≡ map.get (items_on (F.device flash.now) self.now.store.area) id }
+        ensures few { IsTold last.now.bound id → steps.new ≤ steps.old + 1 }
+    {
+        self.store.get_by(flash, last, id as u32, steps)
+    }
+
+    /// The least id behind this one that has a value, or the least of all.
+    pub fn next_id<F: Flash, L: Ledger>(
+        &self,
+        flash: &F,
+        after: Option<u16>,
+        steps: &mut Steps<L>,
+    ) -> Option<u16>
+        requires { StandsOn (F.device flash.now) self.now }
+        ensures next { IsNextId (items_on (F.device flash.now) self.now.store.area) after result }
+        ensures known { IfSome result (λ id. id < 0xFFFF) }
+    {
+        narrowed(self.store.next_id(flash, widened(after), steps))
+    }
+
+    /// The least id behind this one that has a value, or the least of all, as `next_id` gives it, by a table of
+    /// last entries. Where the table has one, or tells of all ids, nothing is looked at; else the list is
+    /// searched.
+    pub fn next_by<F: Flash, L: Ledger>(
+        &self,
+        flash: &F,
+        last: &LastSlots,
+        after: Option<u16>,
+        steps: &mut Steps<L>,
+    ) -> Option<u16>
+        requires stands { StandsOn (F.device flash.now) self.now }
+        requires last { TellsOn kind (F.device flash.now) self.now.store.area last.now }
+        ensures next { IsNextId (items_on (F.device flash.now) self.now.store.area) after result }
+        ensures known { IfSome result (λ id. id < 0xFFFF) }
+        ensures told { IfSome result (λ id. IsTold last.now.bound id → steps.new ≡ steps.old) }
+        ensures all { last.now.bound ≡ None → steps.new ≡ steps.old }
+    {
+        narrowed(self.store.next_by(flash, last, widened(after), steps))
+    }
+
+    /// The next older entry of the list: the one before the entry in this sector and slot, or the newest one
+    /// where no place is given. Deletes are among them. `None` comes exactly at the front of the list.
+    pub fn walk<F: Flash, L: Ledger>(
+        &self,
+        flash: &F,
+        after: Option<(u32, u32)>,
+        steps: &mut Steps<L>,
+    ) -> Option<Placed>
+        requires stands { StandsOn (F.device flash.now) self.now }
+        requires inside { IfSome after (λ place. place.0 < self.now.store.area.sectors) }
+        ensures older { let d = F.device flash.now in
+            IsNextOlder (entries_on kind d self.now.store.area) after result }
+        ensures before { let d = F.device flash.now in let area = self.now.store.area in
+            IfSome after (λ place. result ≡ newest_before (kind_on d area) (sectors_of d area) place) }
+        ensures placed { let d = F.device flash.now in let store = self.now.store in
+            IfSome result (IsPlacedOn kind d store.area store.current) }
+    {
+        self.store.walk(flash, after, steps)
+    }
+
+    /// What all items cost, in bytes: the bytes of each, padded, and its entry.
+    pub fn live_cost<F: Flash, L: Ledger>(&self, flash: &F, steps: &mut Steps<L>) -> u64
+        requires { StandsOn (F.device flash.now) self.now }
+        ensures { result ≡ live_cost_on (F.device flash.now) self.now.store.area }
+    {
+        self.store.live_cost(flash, steps)
+    }
+
+    /// Sets an item. Bytes that the item has already are not programmed again.
+    ///
+    /// # Errors
+    /// `TooLong` exactly where the bytes and their entry cost more than a sector has for them; then nothing
+    /// was programmed. `NoSpace` where no round of collections makes room: then each sector but the blank
+    /// one holds live items alone, and so many that this one does not fit beside them; the items are as
+    /// before. `PowerLost`: the items are as before, or with this one, and the store is down.
+    pub fn write<F: Flash, L: Ledger>(
         &mut self,
         flash: &mut F,
+        id: u16,
+        bytes: &[u8],
+        steps: &mut Steps<L>,
+    ) -> Result<(), WriteFault>
+        requires stands { StandsOn (F.device flash.old) self.old }
+        requires ordinary { id < 0xFFFF }
+        requires some { 0 < length bytes.now }
+
+        ensures touches { Touches (self.old.store.area ∷ []) (F.device flash.old)
+            (F.device flash.new) (write_lost result) }
+        ensures area { self.new.store.area ≡ self.old.store.area }
+        ensures written { let d = F.device flash.old in
+            KeepsWritten d (F.device flash.new) self.old.store.area }
+        ensures ends { let d = F.device flash.old in
+            WriteEnds d (F.device flash.new) self.old.store.area id bytes.now result }
+        ensures undamaged { IsUndamaged (F.device flash.new) self.old.store.area }
+        ensures stands { write_lost result ≡ false → StandsOn (F.device flash.new) self.new }
+        ensures down { write_lost result ≡ true → self.new.store.up ≡ false }
+    {
+        self.store.write(flash, id as u32, bytes, steps)
+    }
+
+    /// Deletes an item. Where the id has none, as the reserved id FFFF never has, nothing is programmed. It
+    /// always finds room.
+    ///
+    /// # Errors
+    /// `PowerLost`: the items are as before, or without this one, and the store is down.
+    pub fn delete<F: Flash, L: Ledger>(
+        &mut self,
+        flash: &mut F,
+        id: u16,
         steps: &mut Steps<L>,
     ) -> Result<(), PowerLost>
-        requires stands { StandsOn (F.device flash.old) self.old }
-        requires used { let d = F.device flash.old in is_blank_on d self.old.area self.old.scan.current ≡ false }
+        requires { StandsOn (F.device flash.old) self.old }
 
-        ensures touches { Touches (self.old.area ∷ []) (F.device flash.old) (F.device flash.new) (is_err result) }
-        ensures area { self.new.area ≡ self.old.area }
-        ensures items { KeepsItems (F.device flash.old) (F.device flash.new) self.old.area }
-
-        ensures stands { OnOk result (StandsOn (F.device flash.new) self.new) }
-        ensures turns { let d = F.device flash.old in
-            OnOk result (TurnsOn d (F.device flash.new) self.old.area self.old.scan.current) }
-        ensures units { let d = F.device flash.old in
-            OnOk result (Spends d (F.device flash.new) (round_units_on d self.old.area self.old.scan.current)) }
-
-        ensures down { OnErr result (self.new.up ≡ false) }
-        ensures bound { let d = F.device flash.old in
-            OnErr result (SpendsAtMost d (F.device flash.new) (round_units_on d self.old.area self.old.scan.current)) }
+        ensures touches { Touches (self.old.store.area ∷ []) (F.device flash.old)
+            (F.device flash.new) (is_err result) }
+        ensures area { self.new.store.area ≡ self.old.store.area }
+        ensures written { let d = F.device flash.old in
+            KeepsWritten d (F.device flash.new) self.old.store.area }
+        ensures ends { let d = F.device flash.old in
+            DeleteEnds d (F.device flash.new) self.old.store.area id result }
+        ensures undamaged { IsUndamaged (F.device flash.new) self.old.store.area }
+        ensures stands { is_err result ≡ false → StandsOn (F.device flash.new) self.new }
+        ensures down { is_err result ≡ true → self.new.store.up ≡ false }
     {
-        self.up = false;
-        self.scan = round(flash, &self.area, &self.scan, steps)?;
-        self.up = true;
-        Ok(())
+        self.store.delete(flash, id as u32, steps)
     }
 }

@@ -8,7 +8,7 @@ use Rattle.flash_map.specs.Units.{IsUnit, padded}
 use Rattle.flash_map.proofs.Rounding.{padding, by_unit}
 use Rattle.pair_laws.specs.Rounds.{copies_cost}
 use Rattle.ring_store.specs.declared.entry.Entry.{Entry}
-use Rattle.ring_store.specs.Kind.{IsKind}
+use Rattle.ring_store.specs.Kind.{LiesIn, CoversWhole, AreUnits, IsKind}
 use Rattle.ring_store.proofs.ReadLemmas as own
 use Rattle.nvs_store.specs.declared.scan.Placed.{Placed}
 use Rattle.nvs_store.specs.Geometry.{slot_size, cost, capacity}
@@ -19,7 +19,7 @@ use Rattle.nvs_store.proofs.NvsEntries.{bytes_len, are_nvs}
 use Rattle.nvs_store.proofs.ScanLemmas.{blank-low, blank-data_end}
 use Rattle.nvs_store.proofs.SlotReads.{slot_widths}
 use Rattle.nvs_store.proofs.Sound.{sound-costs}
-use Rattle.nvs_kind.specs.Kinds.{entry_of, placed_bytes, kind}
+use Rattle.nvs_kind.specs.Kinds.{entry_of, placed_bytes, just, units_of, kind}
 
 pub slot_is : (unit : ℕ) (b : List ℕ) (n : ℕ) (p : Placed) → counting_entry unit (slot_at unit b n) ≡ Some p → (entry_of p).slot ≡ n
 slot_is unit b n p some = (are_nvs unit).slot b 0 n p some
@@ -76,6 +76,26 @@ module _ (unit : ℕ) (is-unit : IsUnit unit) where
       let all = le-div n size unit pad.positive (omega (arith, wide.no_more, unit_small unit is-unit)) in
       omega arith
 
+covered : (n : ℕ) → CoversWhole (just n)
+covered n = omega arith
+
+inside : (n : ℕ) → LiesIn (just n) (just n)
+inside n = record { least = omega arith; most = omega arith; lost = omega arith }
+
+units_are : (unit : ℕ) → AreUnits (units_of unit)
+units_are unit = record {
+  begins = λ b. covered 0;
+  puts = λ b len. covered (cost unit len / unit);
+  closes = λ b. covered (slot_size unit / unit);
+  clears = λ b. covered 1;
+  any_copies = λ len. covered (cost unit len / unit);
+  any_dones = covered (slot_size unit / unit);
+  any_clears = covered 1;
+  copy_in = λ b len. inside (cost unit len / unit);
+  done_in = λ b. inside (slot_size unit / unit);
+  clear_in = λ b. inside 1;
+}
+
 pub nvs_is_kind : (unit : ℕ) → IsUnit unit → IsKind (kind unit)
 nvs_is_kind unit is-unit = record {
   reads = reads-blank unit;
@@ -94,6 +114,7 @@ nvs_is_kind unit is-unit = record {
       omega (arith, wide.no_more, wide.no_less);
   used = λ b long sound used open_here. refl;
   begun = λ b ready. refl;
+  units = units_are unit;
   least = λ len. let rounded = (padding unit is-unit).no_less len in omega arith;
   most = λ size. omega arith;
   round = λ size closed opened pairs large long room. round_most unit is-unit size pairs large room;

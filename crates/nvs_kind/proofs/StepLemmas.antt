@@ -1,8 +1,10 @@
 -- What the steps of NVS make of a sector, in the words of a store of items.
-use Rattle.std.proofs.Common.{◌≡◌, ℕ, ◌+◌, ◌-◌, ◌*◌, ◌<◌, ◌≤◌, ◌⊎◌, Bool, true, false, cond, eqb, leb, List, [], length, Option, Some, refl, sym, ap, subst, ◌∙◌, inl, inr, arith}
+use Rattle.std.proofs.Common.{◌≡◌, ℕ, ◌+◌, ◌-◌, ◌*◌, ◌<◌, ◌≤◌, ◌⊎◌, Bool, true, false, cond, eqb, leb, List, [], ◌∷◌, ◌++◌, length, map, Option, Some, refl, sym, ap, subst, ◌∙◌, inl, inr, arith}
 use Rattle.std.specs.Prelude.{slice_range}
 use Rattle.std.specs.Option.{option_map, option_map_or}
+use Rattle.std.specs.List.{range_with_len}
 use Rattle.std.proofs.Math.Nat.{zero-mod}
+use Rattle.std.proofs.lemmas.List.{map_push}
 use Rattle.std.proofs.lemmas.Bool.{cases_eq, cond-true, cond-false, eq-eqb, ne_eqb, leb-true}
 use Rattle.flash_map.specs.Area.{sector_at, ChangesOnly}
 use Rattle.flash_map.specs.Units.{IsUnit, padded, is_erased}
@@ -10,27 +12,51 @@ use Rattle.flash_map.proofs.Rounding.{padding}
 use Rattle.ring_laws.specs.Area.{open_sector}
 use Rattle.ring_laws.proofs.Collects.{done-not_blank}
 use Rattle.ring_laws.proofs.LiveLemmas.{option_cases, some_none}
+use Rattle.ring_store.specs.declared.entry.Entry.{Entry}
 use Rattle.ring_store.specs.declared.entry.Placed.{Placed}
-use Rattle.ring_store.specs.Kind.{placed_at, fits}
-use Rattle.ring_store.specs.Steps.{Keeps, KeepsMarks, Adds, Marks, Closes}
+use Rattle.ring_store.specs.Kind.{placed_at, fits, entries as kind_entries}
+use Rattle.ring_store.specs.Steps.{new_entry, Keeps, KeepsMarks, Adds, Marks, Closes}
+use Rattle.ring_store.proofs.ReadLemmas as own
 use Rattle.nvs_store.specs.declared.scan.Found.{Found}
 use Rattle.nvs_store.specs.declared.scan.Placed.{Placed as NvsPlaced}
 use Rattle.nvs_store.specs.declared.scan.Scan.{Scan}
 use Rattle.nvs_store.specs.Geometry.{slot_size, cost, capacity}
-use Rattle.nvs_store.specs.Sector.{slot_at, counting_entry, low, data_end, has_gc_done, is_closed, is_sound, pairs, pairs_cost, KeepsList, AddsPair, StopsAdding, MarksDone, Closes as nvs_closes}
+use Rattle.nvs_store.specs.Sector.{slot_at, used_slots, entries, counting_entry, low, data_end, has_gc_done, is_closed, is_sound, pairs, pairs_cost, KeepsList, AddsPair, StopsAdding, MarksDone, Closes as nvs_closes}
 use Rattle.nvs_store.specs.Scans.{reading, scan_at, scan_of, found_at, found_bytes, AddsPairAt, MarksDoneAt}
 use Rattle.nvs_store.proofs.Appending.{open_after}
 use Rattle.nvs_store.proofs.Blank.{reads-blank}
-use Rattle.nvs_store.proofs.NvsEntries.{bytes_len}
+use Rattle.nvs_store.proofs.NvsEntries.{bytes_len, are_nvs}
 use Rattle.nvs_store.proofs.Sound.{adds-used, close-sound}
 use Rattle.nvs_kind.specs.Kinds.{entry_of, placed_bytes, ReadsAs, kind}
+use Rattle.nvs_kind.proofs.KindLemmas.{slot_is}
+
+-- the entries of a sector, as a store of items tells them
+entries_are : (unit : ℕ) (b : List ℕ) → kind_entries (kind unit) b ≡ map entry_of (entries unit b)
+entries_are unit b =
+    own.entries_read (λ n. counting_entry unit (slot_at unit b n)) entry_of (placed_bytes b) (slot_is unit b) (range_with_len 1 ((kind unit).count b))
+    ∙ ap (map entry_of) (sym ((are_nvs unit).listed b))
+
+-- an entry, by what it says
+entry_by : (e : Entry) (slot id len : ℕ) → e.slot ≡ slot → e.id ≡ id → e.len ≡ len → e ≡ new_entry slot id len
+entry_by e slot id len at named long =
+    ap (λ (n : ℕ). new_entry n e.id e.len) at
+    ∙ ap (λ (n : ℕ). new_entry slot n e.len) named
+    ∙ ap (λ (n : ℕ). new_entry slot id n) long
 
 module _ (unit : ℕ) (b e : List ℕ) where
+  -- one entry more
+  adds_entry : (id : ℕ) (bytes : List ℕ) → AddsPair unit b e id bytes → kind_entries (kind unit) e ≡ kind_entries (kind unit) b ++ new_entry (1 + length (used_slots unit b)) id (length bytes) ∷ []
+  adds_entry id bytes h =
+      let slot = h.slot in
+      entries_are unit e ∙ ap (map entry_of) h.more ∙ map_push entry_of (entries unit b) h.found
+      ∙ ap (λ (es : List Entry). es ++ entry_of h.found ∷ []) (sym (entries_are unit b))
+      ∙ ap (λ (x : Entry). kind_entries (kind unit) b ++ x ∷ []) (entry_by (entry_of h.found) (1 + length (used_slots unit b)) id (length bytes) (omega arith) h.entry_id h.entry_len)
+
   pub adds : (id : ℕ) (bytes : List ℕ) → cost unit (length bytes) ≤ low unit b - data_end unit b → AddsPair unit b e id bytes → Adds (kind unit) b e id bytes
   adds id bytes room h =
       let lower = h.lower in
       let grown = h.grown in
-      record { list = record { list = h.list; gc_done = h.gc_done; closed = h.closed }; long = h.long; ready = refl; free = omega arith }
+      record { list = record { list = h.list; gc_done = h.gc_done; closed = h.closed }; long = h.long; entry = adds_entry id bytes h; count = h.count; ready = refl; free = omega arith }
 
   pub marks : slot_size unit ≤ low unit b - data_end unit b → (pairs_cost unit (pairs unit b) ≤ capacity unit (length b) → is_sound unit e ≡ true) → MarksDone unit b e → Marks (kind unit) b e
   marks room sound h =

@@ -1,5 +1,5 @@
 -- What collections, rounds and mounts of NVS spend, to the unit.
-use Rattle.std.proofs.Common.{◌≡◌, ℕ, ◌+◌, ◌*◌, ◌/◌, Bool, true, false, cond, List, ap, ◌∙◌, arith}
+use Rattle.std.proofs.Common.{◌≡◌, ℕ, ◌+◌, ◌*◌, ◌/◌, max, Bool, true, false, cond, List, ap, ◌∙◌, arith}
 use Rattle.std.proofs.Math.Nat.{add-mul, div-eq_of_eq-mul_left}
 use Rattle.flash_sim.specs.Device.{Device, counted}
 use Rattle.flash_map.specs.Spending.{Spends}
@@ -8,6 +8,7 @@ use Rattle.flash_map.proofs.Rounding.{padding}
 use Rattle.pair_laws.specs.Rounds.{copies_cost}
 use Rattle.ring_laws.specs.Area.{next, is_blank_at}
 use Rattle.ring_laws.specs.Forms.{to_copy}
+use Rattle.ring_store.specs.Kind.{Range}
 use Rattle.ring_store.specs.Spending.{none, both, collect_units, again_units, round_units}
 use Rattle.ring_store.specs.Standing.{SpendsIn}
 use Rattle.nvs_store.specs.Geometry.{slot_size, cost}
@@ -24,6 +25,13 @@ spends-just old new units spent =
     let same : spent.units ≡ units = omega arith in
     spent.spent ∙ ap (counted old.spent) same
 
+abbrev up_to : ℕ → ℕ → Range
+up_to units lost = record { least = units; most = units; lost = lost }
+
+-- one after the other
+both-just : (a b : ℕ) → both (just a) (just b) ≡ just (a + b)
+both-just a b = let more : max a (a + b) ≡ a + b = omega arith in ap (λ (n : ℕ). up_to (a + b) n) more
+
 module _ (unit : ℕ) (is-unit : IsUnit unit) where
   -- whole numbers of units, in one quotient
   in_one : (a b m n : ℕ) → a * unit ≡ m → b * unit ≡ n → (m + n) / unit ≡ a + b
@@ -39,13 +47,18 @@ module _ (unit : ℕ) (is-unit : IsUnit unit) where
     abbrev copied : ℕ
     copied = copies_cost (cost unit) (to_copy (reading unit) sectors place)
 
+    collect-sum : collect_units (kind unit) sectors place ≡ just (copies_cost (λ len. cost unit len / unit) (to_copy (reading unit) sectors place) + (slot_size unit / unit + 1))
+    collect-sum =
+        let n : ℕ = copies_cost (λ len. cost unit len / unit) (to_copy (reading unit) sectors place) in
+        ap (λ (r : Range). both (just n) r) (both-just (slot_size unit / unit) 1) ∙ both-just n (slot_size unit / unit + 1)
+
     -- the copies, gc-done and an erase
     pub collect-exact : collect_units (kind unit) sectors place ≡ just ((copies_cost (cost unit) (to_copy (reading unit) sectors place) + slot_size unit) / unit + 1)
-    collect-exact = (let row = copies_in (to_copy (reading unit) sectors place) in ap just (omega arith))
+    collect-exact = collect-sum ∙ (let row = copies_in (to_copy (reading unit) sectors place) in ap just (omega arith))
 
     first_erase : (t : Bool) (n : ℕ) → both (cond t (just 0) (just 1)) (just n) ≡ just (n + cond t 0 1)
-    first_erase true n = ap just (omega arith)
-    first_erase false n = ap just (omega arith)
+    first_erase true n = both-just 0 n ∙ ap just (omega arith)
+    first_erase false n = both-just 1 n ∙ ap just (omega arith)
 
     -- the open sector is erased before, unless it is blank
     pub again-exact : again_units (kind unit) sectors place ≡ just ((copies_cost (cost unit) (to_copy (reading unit) sectors place) + slot_size unit) / unit + 1 + cond (is_blank_at (reading unit) sectors place) 0 1)
@@ -54,8 +67,8 @@ module _ (unit : ℕ) (is-unit : IsUnit unit) where
         ∙ first_erase (is_blank_at (reading unit) sectors place) ((copied + slot_size unit) / unit + 1)
 
   close_first : (t : Bool) (close all : ℕ) → both (just close) (cond t none (both (just 0) (just all))) ≡ just (cond t close (close + all))
-  close_first true close all = ap just (omega arith)
-  close_first false close all = ap just (omega arith)
+  close_first true close all = both-just close 0 ∙ ap just (omega arith)
+  close_first false close all = ap (both (just close)) (both-just 0 all) ∙ both-just close (0 + all) ∙ ap just (omega arith)
 
   two_slots : (copied : ℕ) → (rest : ℕ) → rest * unit ≡ copied + slot_size unit → slot_size unit / unit + (rest + 1) ≡ (2 * slot_size unit + copied) / unit + 1
   two_slots copied rest same =
@@ -74,5 +87,6 @@ module _ (unit : ℕ) (is-unit : IsUnit unit) where
       let rest : ℕ = copies + slot_size unit / unit in
       let split = add-mul copies (slot_size unit / unit) unit in
       let row = two_slots (copies_cost (cost unit) pairs) rest (let c = copies_whole unit is-unit pairs in let s = slots_whole in omega arith) in
-      close_first blank (slot_size unit / unit) (copies + (slot_size unit / unit + 1))
+      ap (λ (r : Range). both (just (slot_size unit / unit)) (cond blank none (both (just 0) r))) (collect-sum sectors (next sectors place))
+      ∙ close_first blank (slot_size unit / unit) (copies + (slot_size unit / unit + 1))
       ∙ ap (λ (n : ℕ). just (cond blank (slot_size unit / unit) n)) (omega arith)

@@ -30,17 +30,21 @@ pub record ReadsAs (unit : ℕ) (sectors : List (List ℕ)) (p : Placed) (f : Fo
 abbrev pub placed_bytes : List ℕ → NvsPlaced → List ℕ
 placed_bytes b p = slice_range b p.entry.offset (p.entry.offset + p.entry.len)
 
+-- a step that ends whole spends just so many, and one that is cut no more
 abbrev pub just : ℕ → Range
-just units = record { least = units; most = units }
+just units = record { least = units; most = units; lost = units }
 
 abbrev pub units_of : ℕ → Units
 units_of unit = record {
   begin = λ b. just 0;
   put = λ b len. just (cost unit len / unit);
-  copy = λ len. just (cost unit len / unit);
-  done = just (slot_size unit / unit);
+  copy = λ b len. just (cost unit len / unit);
+  done = λ b. just (slot_size unit / unit);
   close = λ b. just (slot_size unit / unit);
-  clear = just 1;
+  clear = λ b. just 1;
+  any_copy = λ len. just (cost unit len / unit);
+  any_done = just (slot_size unit / unit);
+  any_clear = just 1;
   round = λ size. size / unit + 1;
   mount = λ size. size / unit;
   entry = λ len. cost unit len / unit;

@@ -16,7 +16,7 @@ use Rattle.nvs_store.specs.Sector.{slot_at, is_used, used_slots, counting_entry,
 use Rattle.flash_map.proofs.Rounding.{IsPadding, padding}
 use Rattle.ring_laws.proofs.SlotChanges.{SameFrom, slot_at-from, used_slots-kept, used_slots-more}
 use Rattle.ring_laws.proofs.SlotCosts.{fold_max-ge}
-use Rattle.ring_laws.proofs.SlotLemmas.{HasFence, HasFence-from_low, slot_within}
+use Rattle.ring_laws.proofs.SlotLemmas.{HasFence, HasFence-from_low, index-slot_at, slot_within}
 use Rattle.ring_laws.proofs.SlotWalks.{any_push}
 use Rattle.nvs_store.proofs.SlotReads.{slot_widths, slot_at-parts}
 use Rattle.flash_map.proofs.Sectors.{length-overwritten}
@@ -246,6 +246,12 @@ put_entry unit b e bytes h next =
       gc_done = ap (list_any is_gc_done) more.slots ∙ any_push is_gc_done (used_slots unit b) slot (is_gc_done-encoded slot e (replicate (slot_size unit - 8) 0xFF) entry next.ordinary slot-bytes);
       closed = more.closed;
       long = more.long;
+      found = f;
+      more = found;
+      slot = index-slot_at (slot_size unit) new (length (used_slots unit b) + 1);
+      entry_id = refl;
+      entry_len = next.long;
+      count = ap length more.slots ∙ length-append (used_slots unit b) (slot ∷ []);
       lower = more.lower;
       grown = data_end-grown unit b new f found next.place (omega arith) ∙ ap (λ (m : ℕ). data_end unit b + m) same-padding;
     }

@@ -19,3 +19,4 @@ pub mod SlotReads
 pub mod Sound
 pub mod Views
 pub mod Walking
+pub mod WantedSlots

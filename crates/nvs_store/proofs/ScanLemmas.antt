@@ -1,5 +1,5 @@
 -- What a scan says, by its parts.
-use Rattle.std.proofs.Common.{◌≡◌, ℕ, ◌+◌, ◌-◌, ◌*◌, ◌≤◌, ◌<◌, Bool, true, false, eqb, List, [], length, get_or, map, max, replicate, refl, sym, ap, ◌∙◌, arith}
+use Rattle.std.proofs.Common.{◌≡◌, ℕ, ◌+◌, ◌-◌, ◌*◌, ◌≤◌, ◌<◌, Bool, true, eqb, List, [], length, get_or, map, max, replicate, refl, sym, ap, ◌∙◌, arith}
 use Rattle.std.specs.Prelude.{fold, sum_by}
 use Rattle.std.specs.List.{filter_map}
 use Rattle.std.proofs.Math.Nat.{zero-mod}
@@ -15,7 +15,7 @@ use Rattle.nvs_store.specs.Geometry.{slot_size}
 use Rattle.nvs_store.specs.Sector.{counting_entry, entries, entry_end, written_end, low, data_end, has_gc_done, AddsPair}
 use Rattle.nvs_store.specs.Scans.{sector_scan}
 use Rattle.nvs_store.proofs.Room.{written_end-le}
-use Rattle.nvs_store.proofs.Blank.{blank-used, blank-not_done}
+use Rattle.nvs_store.proofs.Blank.{blank-used}
 
 pub scan_is : (unit place : ℕ) (b : List ℕ) (lowest end : ℕ) (gc_done : Bool) → lowest ≡ low unit b → end ≡ data_end unit b → gc_done ≡ has_gc_done unit b
     → record { current = place; low = lowest; data_end = end; gc_done = gc_done; redo = Nothing } ≡ sector_scan unit place b
@@ -53,7 +53,3 @@ blank-data_end unit b is-unit blank =
     let written : written_end unit (low unit b - slot_size unit) b ≤ 0 =
     written_end-le unit (low unit b - slot_size unit) b 0 is-unit (zero-mod unit) (omega arith) (λ k from below. blank-byte b blank k (omega arith)) in
     omega arith
-
-pub blank-scan : (unit place : ℕ) (b : List ℕ) → IsUnit unit → is_erased b ≡ true → record { current = place; low = length b - slot_size unit; data_end = 0; gc_done = false; redo = Nothing } ≡ sector_scan unit place b
-blank-scan unit place b is-unit blank =
-    scan_is unit place b (length b - slot_size unit) 0 false (sym (blank-low unit b blank)) (sym (blank-data_end unit b is-unit blank)) (sym (blank-not_done unit b blank))

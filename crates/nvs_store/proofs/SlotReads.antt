@@ -1,5 +1,5 @@
 -- The slots of a sector of NVS, by index.
-use Rattle.std.proofs.Common.{◌≡◌, ℕ, ◌+◌, ◌-◌, ◌*◌, ◌%◌, ◌≤◌, List, length, refl, arith}
+use Rattle.std.proofs.Common.{◌≡◌, ℕ, ◌+◌, ◌-◌, ◌*◌, ◌%◌, ◌≤◌, max, List, length, refl, arith}
 use Rattle.std.specs.Prelude.{slice_range}
 use Rattle.flash_map.specs.Units.{IsUnit, padded}
 use Rattle.flash_map.proofs.Rounding.{by_unit}
@@ -21,6 +21,11 @@ slot_widths = by_unit HasSlotWidth
 
 pub slot_size_bounds : (unit : ℕ) → IsUnit unit → (8 ≤ slot_size unit) × (slot_size unit ≤ 16)
 slot_size_bounds unit h = let widths = slot_widths unit h in (widths.no_less, widths.no_more)
+
+-- with no division
+pub slot_size-is : (unit : ℕ) → IsUnit unit → max unit 8 ≡ slot_size unit
+unfolding slot_size padded
+slot_size-is = by_unit (λ unit. max unit 8 ≡ slot_size unit) refl refl refl
 
 pub slot_at-parts : (unit : ℕ) (b : List ℕ) (k : ℕ) → ((slot_at unit b k).start ≡ length b - (k + 1) * slot_size unit)
     × ((slot_at unit b k).bytes ≡ slice_range b (length b - (k + 1) * slot_size unit) (length b - (k + 1) * slot_size unit + slot_size unit))

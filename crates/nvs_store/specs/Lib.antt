@@ -5,3 +5,4 @@ pub mod On
 pub mod Scans
 pub mod Sector
 pub mod Sought
+pub mod Searches

@@ -138,6 +138,13 @@ pub record AddsPair (unit : ℕ) (old new : List ℕ) (id : ℕ) (bytes : List �
   pub gc_done : has_gc_done unit new ≡ has_gc_done unit old
   pub closed : is_closed unit new ≡ is_closed unit old
   pub long : length new ≡ length old
+  -- the entry that was put, in what was the fence
+  pub found : Placed
+  pub more : entries unit new ≡ entries unit old ++ found ∷ []
+  pub slot : found.slot ≡ length (used_slots unit old) + 1
+  pub entry_id : found.entry.id ≡ id
+  pub entry_len : found.entry.len ≡ length bytes
+  pub count : length (used_slots unit new) ≡ length (used_slots unit old) + 1
   pub lower : low unit new + slot_size unit ≡ low unit old
   pub grown : data_end unit new ≡ data_end unit old + padded unit (length bytes)
 

@@ -1,21 +1,20 @@
 // Units, slots and room.
-ghost use Rattle.std.specs.Prelude.{◌≡◌, ◌+◌, ◌-◌, ◌<◌, ◌≤◌, ◌^◌, replicate, false};
+ghost use Rattle.std.specs.Prelude.{◌≡◌, ◌+◌, ◌-◌, ◌<◌, ◌≤◌, ◌^◌};
 ghost use Rattle.flash_map.specs.Units.{IsUnit};
 ghost use Rattle.nvs_store.specs.Geometry.{slot_size, cost, capacity};
-ghost use Rattle.nvs_store.specs.Scans.{fits, sector_scan};
+ghost use Rattle.nvs_store.specs.Scans.{fits};
 
-use crate::scan::{Redo, Scan};
-use flash_map::{Geometry, padded};
+use crate::scan::Scan;
+use flash_map::Geometry;
 
-/// The bytes of a slot: an entry's eight, rounded up to the unit.
-#[tactic(auto, using(crate::proofs::SlotReads::slot_size_bounds), unfolding(crate::specs::Geometry::slot_size))]
+/// The bytes of a slot: an entry's eight, rounded up to the unit. A search asks for it at each slot, so it does not divide.
 pub fn slot_size(unit: u32) -> u32
     requires { IsUnit unit }
     ensures size { result ≡ slot_size unit }
     ensures at_least { 8 ≤ result }
     ensures at_most { result ≤ 16 }
 {
-    padded(unit, 8)
+    unit.max(8)
 }
 
 /// What data of `len` bytes and its entry take up, in bytes.
@@ -51,23 +50,4 @@ pub fn fits(g: &Geometry, scan: &Scan, len: u32) -> bool
     }
     let reserve = if scan.gc_done { 2 } else { 3 };
     cost(g.unit, len) + reserve * size <= free
-}
-
-/// The scan of a blank sector.
-pub fn blank_scan(g: &Geometry) -> Scan
-    requires unit { IsUnit g.now.unit }
-    requires at_least { 512 ≤ g.now.sector }
-    requires at_most { g.now.sector ≤ 32768 }
-    ensures scan { result ≡ sector_scan g.now.unit 0 (replicate g.now.sector 0xFF) }
-    ensures low { result.low + slot_size g.now.unit ≡ g.now.sector }
-    ensures data_end { result.data_end ≡ 0 }
-    ensures gc_done { result.gc_done ≡ false }
-{
-    Scan {
-        current: 0,
-        low: g.sector - slot_size(g.unit),
-        data_end: 0,
-        gc_done: false,
-        redo: Redo::Nothing,
-    }
 }

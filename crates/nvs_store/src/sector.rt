@@ -1,11 +1,13 @@
 // How one sector reads, over its bytes.
-ghost use Rattle.std.specs.Prelude.{◌≡◌, ◌+◌, ◌^◌, ◌≤◌, ◌<◌, length, nat_lt, false};
+ghost use Rattle.std.specs.Prelude.{◌≡◌, ◌+◌, ◌*◌, ◌^◌, ◌≤◌, ◌<◌, length, nat_lt, false};
 ghost use Rattle.std.specs.Option.{option_map, option_map_or};
 ghost use Rattle.flash_map.specs.Units.{IsUnit};
-ghost use Rattle.nvs_store.specs.Sector.{entries, entries_within, is_wanted, last_placed, placed_cost, has_fence, is_overfull, is_closed};
+ghost use Rattle.nvs_store.specs.Geometry.{slot_size};
+ghost use Rattle.nvs_store.specs.Entries.{entry_of};
+ghost use Rattle.nvs_store.specs.Sector.{slot_at, counting_entry, entries, entries_within, is_wanted, last_placed, placed_cost, has_fence, is_overfull, is_closed};
+ghost use Rattle.nvs_store.specs.Searches.{wanted_in};
 ghost use Rattle.nvs_store.specs.Scans.{sector_scan, found_at};
 
-use crate::entry::Entry;
 use crate::geometry::{capacity, cost, slot_size};
 use crate::scan::{Found, Placed, Redo, Scan};
 use crate::slots::{
@@ -103,13 +105,29 @@ pub fn is_closed(bytes: &[u8], unit: u32) -> bool
     !is_erased(slot_of(bytes, unit, 0))
 }
 
-/// Whether an entry is of the id; where none is given, each is.
-fn is_wanted(wanted: Option<u16>, entry: &Entry) -> bool
-    ensures { result ≡ is_wanted wanted entry.now }
+/// Whether a slot's bytes have the id that is looked for where an entry has its own; where none is given, each has. Their
+/// CRC is not looked at.
+fn names(wanted: Option<u16>, slot: &[u8]) -> bool
+    requires { 8 ≤ length slot.now }
+    ensures { result ≡ is_wanted wanted (entry_of slot.now) }
 {
     match wanted {
-        Some(id) => entry.id == id,
+        Some(id) => u16::from_le_bytes([slot[0], slot[1]]) == id,
         None => true,
+    }
+}
+
+/// The entry in a slot, if it counts and is looked for. Most slots are of other ids, so the id is read before the CRC.
+fn wanted_entry(bytes: &[u8], unit: u32, index: u32, wanted: Option<u16>) -> Option<Placed>
+    requires unit { IsUnit unit }
+    requires short { length bytes.now ≤ 2 ^ 15 }
+    requires inside { (index + 1) * slot_size unit ≤ length bytes.now }
+    ensures { result ≡ wanted_in wanted (counting_entry unit (slot_at unit bytes.now index)) }
+{
+    if names(wanted, slot_of(bytes, unit, index)) {
+        counting_entry(bytes, unit, index)
+    } else {
+        None
     }
 }
 
@@ -128,10 +146,8 @@ pub fn find_in(
 {
     let mut index = used_count(bytes, unit).min(slots);
     while index > 0 {
-        if let Some(placed) = counting_entry(bytes, unit, index) {
-            if is_wanted(wanted, &placed.entry) {
-                return Some(placed.at(place));
-            }
+        if let Some(placed) = wanted_entry(bytes, unit, index, wanted) {
+            return Some(placed.at(place));
         }
         index -= 1;
     }

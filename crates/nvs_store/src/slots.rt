@@ -1,5 +1,5 @@
 // The slots of one sector, over its bytes. Slot k starts k + 1 slots before the sector's end.
-ghost use Rattle.std.specs.Prelude.{◌≡◌, ◌+◌, ◌-◌, ◌*◌, ◌^◌, ◌≤◌, ◌<◌, length, ◌==◌};
+ghost use Rattle.std.specs.Prelude.{◌≡◌, ◌+◌, ◌-◌, ◌*◌, ◌%◌, ◌^◌, ◌≤◌, ◌<◌, length, ◌==◌};
 ghost use Rattle.std.specs.List.{suffix_len};
 ghost use Rattle.std.specs.Option.{option_map_or};
 ghost use Rattle.flash_map.specs.Units.{IsUnit, padded};
@@ -63,13 +63,27 @@ fn entry_in(bytes: &[u8], unit: u32, index: u32) -> Option<Entry>
     decode_entry(slot_of(bytes, unit, index))
 }
 
+/// Whether an offset is at the start of a unit. A division by a number that is known here takes no time.
+fn is_aligned(offset: u32, unit: u32) -> bool
+    requires { IsUnit unit }
+    ensures { result ≡ (offset % unit == 0) }
+{
+    if unit == 4 {
+        return offset % 4 == 0;
+    }
+    if unit == 8 {
+        return offset % 8 == 0;
+    }
+    offset % 16 == 0
+}
+
 /// Whether the entry is an ordinary one whose data is aligned and ends under its slot.
 fn counts(entry: &Entry, unit: u32, start: u32) -> bool
     requires { IsUnit unit }
     ensures { result ≡ counts unit start entry.now }
 {
     entry.id != SPECIAL_ID
-        && u32::from(entry.offset) % unit == 0
+        && is_aligned(u32::from(entry.offset), unit)
         && u32::from(entry.offset) + u32::from(entry.len) <= start
 }
 

@@ -10,6 +10,14 @@ abbrev pub IsBehind : Option ℕ → ℕ → Type 0
 IsBehind None id = Unit {0}
 IsBehind (Some after) id = after < id
 
+-- the least id behind this one that has a value
+abbrev pub IsNextId : Items → Option ℕ → Option ℕ → Type 0
+IsNextId items after None = (id : ℕ) → IsBehind after id → get items id ≡ None
+IsNextId items after (Some next) =
+    IsBehind after next
+    × (get items next ≡ None → ⊥)
+    × ((id : ℕ) → IsBehind after id → id < next → get items id ≡ None)
+
 abbrev pub is_between : ℕ → Option ℕ → Option ℕ → Bool
 is_between id after least = option_map_or (λ a. nat_lt a id) after true && option_map_or (λ l. nat_lt id l) least true
 

@@ -1,5 +1,5 @@
 -- Rounds that make room and the entry behind them, in the words of the code.
-use Rattle.std.proofs.Common.{◌≡◌, ℕ, ◌+◌, ◌*◌, ◌<◌, ◌≤◌, true, false, List, [], ◌∷◌, ◌++◌, length, None, sym, ap, subst, ◌∙◌, inr, arith}
+use Rattle.std.proofs.Common.{◌≡◌, ℕ, ◌<◌, true, List, [], ◌∷◌, ◌++◌, length, None, ap, ◌∙◌, inr}
 use Rattle.flash_sim.specs.Bank.{IsLawful}
 use Rattle.flash_sim.specs.Device.{Device}
 use Rattle.flash_map.specs.declared.area.Area.{Area}
@@ -14,7 +14,7 @@ use Rattle.ring_store.specs.Kind.{Kind, IsKind}
 use Rattle.ring_store.specs.Room.{has_room, parts_of, collected, MakesRoom}
 use Rattle.ring_store.specs.Standing.{list_of}
 use Rattle.ring_store.specs.Stands.{StandsAt}
-use Rattle.ring_store.specs.Writing.{PutsPair, StopsPutting, Appends, StopsInEntry, StopsAppending}
+use Rattle.ring_store.specs.Writing.{PutsPair, StopsPutting, Appends, StopsAppending}
 use Rattle.ring_store.proofs.CallFacts.{to_unit, from_unit}
 use Rattle.ring_store.proofs.RoomFacts.{rest_open}
 use Rattle.ring_store.proofs.RoomSteps.{rounds-rest}

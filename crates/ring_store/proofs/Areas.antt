@@ -226,16 +226,23 @@ module _ (k : Kind) (law : IsKind k) where
     marked-keeps = keeps-by old new place place (inr (inl form)) (inr (inr one_marked.form)) one_marked.versions
 
     -- an emptying of the victim that was cut
-    pub victim_cut : (last_sectors : List (List ℕ)) → ChangesOnly new last_sectors (next old place) → k.reading.is_closed (sector_at last_sectors (next old place)) ≡ k.reading.is_closed (sector_at new (next old place)) → KeepsItems k old last_sectors
-    victim_cut last_sectors only shut =
+    pub cut_stands : (last_sectors : List (List ℕ)) → ChangesOnly new last_sectors (next old place) → k.reading.is_closed (sector_at last_sectors (next old place)) ≡ k.reading.is_closed (sector_at new (next old place))
+        → Collected k.reading last_sectors place × (area_pairs k.reading last_sectors place ≡ area_pairs k.reading new place)
+    cut_stands last_sectors only shut =
         let m = one_marked in
         let at : next new place ≡ next old place = ap (λ (n : ℕ). after n place) (only_length old new place m.only) in
         let closed : R.is_closed (sector_at last_sectors (next old place)) ≡ true =
         shut ∙ ap (λ (j : ℕ). R.is_closed (sector_at new j)) (sym at) ∙ next-closed R new place 0 m.form.ring ∙ refl in
         let step = put_victim R new place (sector_at last_sectors (next old place)) m.form closed in
         let is : last_sectors ≡ set new (next new place) (sector_at last_sectors (next old place)) = only ∙ ap (λ (j : ℕ). set new j (sector_at last_sectors (next old place))) (sym at) in
-        keeps-by old last_sectors place place (inr (inl form)) (inr (inr (subst (λ (s : List (List ℕ)). Collected R s place) (sym is) step.0)))
-        (keeps_more (area_pairs R old place) (area_pairs R new place) (area_pairs R last_sectors place) m.versions (keeps_all (area_pairs R new place) (area_pairs R last_sectors place) (ap (λ (s : List (List ℕ)). area_pairs R s place) is ∙ step.1)))
+        (subst (λ (s : List (List ℕ)). Collected R s place) (sym is) step.0, ap (λ (s : List (List ℕ)). area_pairs R s place) is ∙ step.1)
+
+    pub victim_cut : (last_sectors : List (List ℕ)) → ChangesOnly new last_sectors (next old place) → k.reading.is_closed (sector_at last_sectors (next old place)) ≡ k.reading.is_closed (sector_at new (next old place)) → KeepsItems k old last_sectors
+    victim_cut last_sectors only shut =
+        let m = one_marked in
+        let cut = cut_stands last_sectors only shut in
+        keeps-by old last_sectors place place (inr (inl form)) (inr (inr cut.0))
+        (keeps_more (area_pairs R old place) (area_pairs R new place) (area_pairs R last_sectors place) m.versions (keeps_all (area_pairs R new place) (area_pairs R last_sectors place) cut.1))
 
     -- the victim is emptied: the collection is whole
     pub collected_at : (last_sectors : List (List ℕ)) → ChangesOnly new last_sectors (next old place) → k.reading.is_blank (sector_at last_sectors (next old place)) ≡ true → CollectsAt k old last_sectors place

@@ -1,24 +1,25 @@
 -- The calls of a collection, in the words of the code.
-use Rattle.std.proofs.Common.{◌≡◌, ℕ, ◌*◌, ◌≤◌, Bool, true, false, ◌&&◌, ◌||◌, not, cond, List, [], length, refl, sym, ap, subst, ◌∙◌, inl, inr, arith}
+use Rattle.std.proofs.Common.{◌≡◌, ℕ, ◌*◌, ◌≤◌, Bool, true, false, ◌&&◌, ◌||◌, not, List, [], length, refl, sym, ap, subst, ◌∙◌, inl, inr}
 use Rattle.flash_sim.specs.Bank.{IsLawful}
 use Rattle.flash_sim.specs.Device.{Device}
 use Rattle.flash_map.specs.declared.area.Area.{Area}
 use Rattle.flash_map.specs.declared.area.Role.{Role}
 use Rattle.flash_map.specs.Area.{unit_of, sector_at, sectors_of, ChangesOnly}
-use Rattle.flash_map.proofs.SpendingBounds.{between_then, between_within}
 use Rattle.ring_laws.specs.Area.{next, open_sector, is_closed_at, is_blank_at}
 use Rattle.ring_laws.specs.Forms.{Collecting, to_copy}
 use Rattle.ring_laws.specs.Reading.{is_sound}
 use Rattle.ring_laws.proofs.Places.{after-apart}
 use Rattle.ring_laws.proofs.Rings.{next-closed, open-not_closed}
 use Rattle.ring_laws.proofs.RingSteps.{reads}
-use Rattle.ring_store.specs.Kind.{Range, Kind, IsKind}
+use Rattle.ring_store.specs.Kind.{Range, LiesIn, Kind, IsKind}
 use Rattle.ring_store.specs.Steps.{KeepsMarks, Marks, Clears}
-use Rattle.ring_store.specs.Spending.{both, copies, collect_units, again_units}
+use Rattle.ring_store.specs.Spending.{both, copies, collect_units, ready_units, again_units}
 use Rattle.ring_store.specs.Standing.{IsStoreArea, KeepsItems, SpendsIn, SpendsUpTo}
-use Rattle.ring_store.specs.Collecting.{HasBegun, HasCopied, CollectsAt}
+use Rattle.ring_store.specs.Collecting.{HasBegun, HasCopied, CollectsAt, KeepsOrCollects}
 use Rattle.ring_store.proofs.Areas.{keeps_then, same_unit, size_there, large_there, stopped, has_stopped, stopped-keeps, victim_cut, collected_at, collects-keeps, only_else}
 use Rattle.ring_store.proofs.CollectSteps.{start_stops, start_form, start_none, start_copies, again_collects, mark_room, mark_cut}
+use Rattle.ring_store.proofs.ListSteps.{stopped-list, again-list, cut-list}
+use Rattle.ring_store.proofs.Ranges.{both-in, first-lost, then-lost, within-in, within-lost}
 use Rattle.ring_store.proofs.SlotFacts.{current_within, next_within}
 
 -- what is known of one unit is known of the same one
@@ -64,8 +65,20 @@ module _ (kind : ℕ → Kind) (role : Role) (a : Device) (area : Area) (place :
         stopped-keeps k law old (sectors_of e area) place form
         (mark_cut k law old (sectors_of d area) (sectors_of e area) place has only (to_unit (λ u. KeepsMarks (kind u) (sector_at (sectors_of d area) place) (sector_at (sectors_of e area) place)) a d area banks keeps))
 
-    pub mark_spends_lost : (e : Device) → SpendsIn a d (copies (kind (unit_of a area)) (to_copy (kind (unit_of a area)).reading (sectors_of a area) place)) → SpendsUpTo d e (kind (unit_of d area)).units.done → SpendsUpTo a e (collect_units (kind (unit_of a area)) (sectors_of a area) place)
-    mark_spends_lost e first mark = between_within (between_then first (to_unit (λ u. SpendsUpTo d e (kind u).units.done) a d area banks mark)) _ _ (omega arith) (omega arith)
+    pub mark_lost_list : (e : Device) → ChangesOnly (sectors_of d area) (sectors_of e area) place → KeepsMarks (kind (unit_of d area)) (sector_at (sectors_of d area) place) (sector_at (sectors_of e area) place) → KeepsOrCollects (kind (unit_of a area)) (sectors_of a area) (sectors_of e area) place
+    mark_lost_list e only keeps =
+        inl (stopped-list k law old place form (sectors_of e area)
+        (mark_cut k law old (sectors_of d area) (sectors_of e area) place has only (to_unit (λ u. KeepsMarks (kind u) (sector_at (sectors_of d area) place) (sector_at (sectors_of e area) place)) a d area banks keeps)))
+
+    done_in : LiesIn (k.units.done (sector_at (sectors_of d area) place)) k.units.any_done
+    done_in = law.units.done_in (sector_at (sectors_of d area) place)
+
+    pub mark_spends_lost : (e : Device) → SpendsIn a d (copies (kind (unit_of a area)) (to_copy (kind (unit_of a area)).reading (sectors_of a area) place))
+        → SpendsUpTo d e ((kind (unit_of d area)).units.done (sector_at (sectors_of d area) place)) → SpendsUpTo a e (collect_units (kind (unit_of a area)) (sectors_of a area) place)
+    mark_spends_lost e first mark =
+        let here : SpendsUpTo d e (k.units.done (sector_at (sectors_of d area) place)) = to_unit (λ u. SpendsUpTo d e ((kind u).units.done (sector_at (sectors_of d area) place))) a d area banks mark in
+        then-lost a d e (copies k (to_copy k.reading old place)) (both k.units.any_done k.units.any_clear) first
+        (first-lost d e k.units.any_done k.units.any_clear (within-lost d e (k.units.done (sector_at (sectors_of d area) place)) k.units.any_done done_in here))
 
     -- the emptying of the victim
 
@@ -90,16 +103,37 @@ module _ (kind : ℕ → Kind) (role : Role) (a : Device) (area : Area) (place :
           subst (λ (v : ℕ). KeepsMarks k (sector_at (sectors_of e area) v) (sector_at (sectors_of z area) v)) at (to_unit (λ u. KeepsMarks (kind u) (sector_at (sectors_of e area) victim) (sector_at (sectors_of z area) victim)) a e area more_banks keeps) in
           victim_cut k law old (sectors_of d area) (sectors_of e area) place form large same_long has only marks (sectors_of z area) here own.closed
 
+      pub clear_lost_list : (z : Device) → ChangesOnly (sectors_of e area) (sectors_of z area) victim → KeepsMarks (kind (unit_of e area)) (sector_at (sectors_of e area) victim) (sector_at (sectors_of z area) victim) → KeepsOrCollects (kind (unit_of a area)) (sectors_of a area) (sectors_of z area) place
+      clear_lost_list z changes keeps =
+          let here : ChangesOnly (sectors_of e area) (sectors_of z area) (next old place) = subst (λ (v : ℕ). ChangesOnly (sectors_of e area) (sectors_of z area) v) at changes in
+          let own : KeepsMarks k (sector_at (sectors_of e area) (next old place)) (sector_at (sectors_of z area) (next old place)) =
+          subst (λ (v : ℕ). KeepsMarks k (sector_at (sectors_of e area) v) (sector_at (sectors_of z area) v)) at (to_unit (λ u. KeepsMarks (kind u) (sector_at (sectors_of e area) victim) (sector_at (sectors_of z area) victim)) a e area more_banks keeps) in
+          inr (cut-list k law old place form (sectors_of d area) (sectors_of e area) large same_long has only marks (sectors_of z area) here own.closed)
+
       pub open_same : (z : Device) → ChangesOnly (sectors_of e area) (sectors_of z area) victim → sector_at (sectors_of z area) place ≡ sector_at (sectors_of e area) place
       open_same z changes = only_else (sectors_of e area) (sectors_of z area) victim place changes (λ (s : place ≡ victim). after-apart (length old) place form.ring.within form.ring.several (sym (s ∙ at)))
 
-      pub spends_all : (z : Device) → SpendsIn a d (copies (kind (unit_of a area)) (to_copy (kind (unit_of a area)).reading (sectors_of a area) place)) → SpendsIn d e (kind (unit_of d area)).units.done → SpendsIn e z (kind (unit_of e area)).units.clear → SpendsIn a z (collect_units (kind (unit_of a area)) (sectors_of a area) place)
-      spends_all z first mark clear =
-          between_within (between_then (between_then first (to_unit (λ u. SpendsIn d e (kind u).units.done) a d area banks mark)) (to_unit (λ u. SpendsIn e z (kind u).units.clear) a e area more_banks clear)) _ _ (omega arith) (omega arith)
+      marked_spends : SpendsIn d e ((kind (unit_of d area)).units.done (sector_at (sectors_of d area) place)) → SpendsIn d e k.units.any_done
+      marked_spends mark =
+          within-in d e (k.units.done (sector_at (sectors_of d area) place)) k.units.any_done done_in
+          (to_unit (λ u. SpendsIn d e ((kind u).units.done (sector_at (sectors_of d area) place))) a d area banks mark)
 
-      pub spends_all_lost : (z : Device) → SpendsIn a d (copies (kind (unit_of a area)) (to_copy (kind (unit_of a area)).reading (sectors_of a area) place)) → SpendsIn d e (kind (unit_of d area)).units.done → SpendsUpTo e z (kind (unit_of e area)).units.clear → SpendsUpTo a z (collect_units (kind (unit_of a area)) (sectors_of a area) place)
+      clear_in : LiesIn (k.units.clear (sector_at (sectors_of e area) victim)) k.units.any_clear
+      clear_in = law.units.clear_in (sector_at (sectors_of e area) victim)
+
+      pub spends_all : (z : Device) → SpendsIn a d (copies (kind (unit_of a area)) (to_copy (kind (unit_of a area)).reading (sectors_of a area) place))
+          → SpendsIn d e ((kind (unit_of d area)).units.done (sector_at (sectors_of d area) place)) → SpendsIn e z ((kind (unit_of e area)).units.clear (sector_at (sectors_of e area) victim)) → SpendsIn a z (collect_units (kind (unit_of a area)) (sectors_of a area) place)
+      spends_all z first mark clear =
+          let here : SpendsIn e z (k.units.clear (sector_at (sectors_of e area) victim)) = to_unit (λ u. SpendsIn e z ((kind u).units.clear (sector_at (sectors_of e area) victim))) a e area more_banks clear in
+          both-in a d z (copies k (to_copy k.reading old place)) (both k.units.any_done k.units.any_clear) first
+          (both-in d e z k.units.any_done k.units.any_clear (marked_spends mark) (within-in e z (k.units.clear (sector_at (sectors_of e area) victim)) k.units.any_clear clear_in here))
+
+      pub spends_all_lost : (z : Device) → SpendsIn a d (copies (kind (unit_of a area)) (to_copy (kind (unit_of a area)).reading (sectors_of a area) place))
+          → SpendsIn d e ((kind (unit_of d area)).units.done (sector_at (sectors_of d area) place)) → SpendsUpTo e z ((kind (unit_of e area)).units.clear (sector_at (sectors_of e area) victim)) → SpendsUpTo a z (collect_units (kind (unit_of a area)) (sectors_of a area) place)
       spends_all_lost z first mark clear =
-          between_within (between_then (between_then first (to_unit (λ u. SpendsIn d e (kind u).units.done) a d area banks mark)) (to_unit (λ u. SpendsUpTo e z (kind u).units.clear) a e area more_banks clear)) _ _ (omega arith) (omega arith)
+          let here : SpendsUpTo e z (k.units.clear (sector_at (sectors_of e area) victim)) = to_unit (λ u. SpendsUpTo e z ((kind u).units.clear (sector_at (sectors_of e area) victim))) a e area more_banks clear in
+          then-lost a d z (copies k (to_copy k.reading old place)) (both k.units.any_done k.units.any_clear) first
+          (then-lost d e z k.units.any_done k.units.any_clear (marked_spends mark) (within-lost e z (k.units.clear (sector_at (sectors_of e area) victim)) k.units.any_clear clear_in here))
 
   -- a sector with no entry is sound
   pub blank_sound : is_blank_at (kind (unit_of a area)).reading (sectors_of a area) place ≡ true → is_sound (kind (unit_of a area)).reading (sector_at (sectors_of a area) place) ≡ true
@@ -125,15 +159,16 @@ module _ (kind : ℕ → Kind) (role : Role) (a : Device) (area : Area) (place :
         keeps_then k law old (sectors_of d area) (sectors_of e area) (stopped-keeps k law old (sectors_of d area) place form (start_stops k law old (sectors_of d area) place form begun))
         (to_unit (λ u. KeepsItems (kind u) (sectors_of d area) (sectors_of e area)) a d area banks keeps)
 
+    pub again_lists : (e : Device) → KeepsOrCollects (kind (unit_of d area)) (sectors_of d area) (sectors_of e area) place → KeepsOrCollects (kind (unit_of a area)) (sectors_of a area) (sectors_of e area) place
+    again_lists e either = again-list k law old place form (sectors_of d area) begun (sectors_of e area) (to_unit (λ u. KeepsOrCollects (kind u) (sectors_of d area) (sectors_of e area) place) a d area banks either)
+
     units_same : collect_units (kind (unit_of d area)) (sectors_of d area) place ≡ collect_units k old place
     units_same =
         ap (λ (u : ℕ). collect_units (kind u) (sectors_of d area) place) (same_unit a d area banks)
-        ∙ ap (λ ps. both (copies k ps) (both k.units.done k.units.clear)) (start_copies k law old (sectors_of d area) place form begun)
+        ∙ ap (λ ps. both (copies k ps) (both k.units.any_done k.units.any_clear)) (start_copies k law old (sectors_of d area) place form begun)
 
-    pub again_spends : (e : Device) → SpendsIn a d (cond (is_blank_at (kind (unit_of a area)).reading (sectors_of a area) place) ((kind (unit_of a area)).units.begin (sector_at (sectors_of a area) place)) (kind (unit_of a area)).units.clear)
-        → SpendsIn d e (collect_units (kind (unit_of d area)) (sectors_of d area) place) → SpendsIn a e (again_units (kind (unit_of a area)) (sectors_of a area) place)
-    again_spends e first later = between_then first (subst (λ (r : Range). SpendsIn d e r) units_same later)
+    pub again_spends : (e : Device) → SpendsIn a d (ready_units (kind (unit_of a area)) (sectors_of a area) place) → SpendsIn d e (collect_units (kind (unit_of d area)) (sectors_of d area) place) → SpendsIn a e (again_units (kind (unit_of a area)) (sectors_of a area) place)
+    again_spends e first later = both-in a d e (ready_units k old place) (collect_units k old place) first (subst (λ (r : Range). SpendsIn d e r) units_same later)
 
-    pub again_spends_lost : (e : Device) → SpendsIn a d (cond (is_blank_at (kind (unit_of a area)).reading (sectors_of a area) place) ((kind (unit_of a area)).units.begin (sector_at (sectors_of a area) place)) (kind (unit_of a area)).units.clear)
-        → SpendsUpTo d e (collect_units (kind (unit_of d area)) (sectors_of d area) place) → SpendsUpTo a e (again_units (kind (unit_of a area)) (sectors_of a area) place)
-    again_spends_lost e first later = between_within (between_then first (subst (λ (r : Range). SpendsUpTo d e r) units_same later)) _ _ (omega arith) (omega arith)
+    pub again_spends_lost : (e : Device) → SpendsIn a d (ready_units (kind (unit_of a area)) (sectors_of a area) place) → SpendsUpTo d e (collect_units (kind (unit_of d area)) (sectors_of d area) place) → SpendsUpTo a e (again_units (kind (unit_of a area)) (sectors_of a area) place)
+    again_spends_lost e first later = then-lost a d e (ready_units k old place) (collect_units k old place) first (subst (λ (r : Range). SpendsUpTo d e r) units_same later)

@@ -1,7 +1,6 @@
 -- A collection, step by step: the start, the copies, gc-done, the emptying of the victim; and what a mount has to do.
 use Rattle.std.proofs.Common.{◌≡◌, ℕ, ◌*◌, ◌≤◌, Bool, true, false, cond, List, [], length, refl, sym, ap, subst, ◌∙◌, inl, inr, arith}
 use Rattle.flash_map.specs.Area.{sector_at, ChangesOnly}
-use Rattle.pair_laws.specs.Items.{last}
 use Rattle.std.proofs.lemmas.Bool.{le-ltb}
 use Rattle.ring_laws.specs.Area.{next, area_pairs, is_closed_at}
 use Rattle.ring_laws.specs.Forms.{AtRest, Collecting, Collected, IsForm, to_copy}

@@ -26,6 +26,7 @@ use Rattle.ring_store.specs.Steps.{KeepsMarks, Adds}
 use Rattle.ring_store.specs.Spending.{copies}
 use Rattle.ring_store.specs.Standing.{SpendsIn, SpendsUpTo}
 use Rattle.ring_store.specs.Collecting.{HasCopied, StopsCopying, CopiesOne, copy_units}
+use Rattle.ring_store.proofs.Ranges.{copies-cover}
 use Rattle.ring_store.proofs.Areas.{stopped, has_stopped, one_copied, marks_stopped, victim-ring, copied-le, only_length, only_else}
 
 -- the same entries with another price
@@ -151,11 +152,15 @@ module _ (k : Kind) (law : IsKind k) where
               (subst (λ (bs : List ℕ). Adds k (sector_at (sectors_of d area) place) (sector_at (sectors_of e area) place) (p.id) bs) bytes put.1))
         ]
 
-    copy_least : (o : Option Placed) → (copy_units k o).least ≡ cost_of (priced (slots k) (λ len. (k.units.copy len).least)) o
+    copy_least : (o : Option Placed) → (copy_units k o).least ≡ cost_of (priced (slots k) (λ len. (k.units.any_copy len).least)) o
     copy_least None = refl
     copy_least (Some p) = refl
 
-    copy_most : (o : Option Placed) → (copy_units k o).most ≡ cost_of (priced (slots k) (λ len. (k.units.copy len).most)) o
+    copy_lost : (o : Option Placed) → (copy_units k o).lost ≡ cost_of (priced (slots k) (λ len. (k.units.any_copy len).lost)) o
+    copy_lost None = refl
+    copy_lost (Some p) = refl
+
+    copy_most : (o : Option Placed) → (copy_units k o).most ≡ cost_of (priced (slots k) (λ len. (k.units.any_copy len).most)) o
     copy_most None = refl
     copy_most (Some p) = refl
 
@@ -163,8 +168,8 @@ module _ (k : Kind) (law : IsKind k) where
         → SpendsIn a e (copies k (live_to (slots k) (sectors_of a area) victim (n + 1)))
     units_more e more spends =
         let here : SpendsIn d e (copy_units k (live_in (slots k) (sectors_of a area) victim (n + k.first))) = subst (λ (o : Option Placed). SpendsIn d e (copy_units k o)) (live_there (n + k.first)) spends in
-        let low = to_cost (λ len. (k.units.copy len).least) (sectors_of a area) victim n sound more in
-        let high = to_cost (λ len. (k.units.copy len).most) (sectors_of a area) victim n sound more in
+        let low = to_cost (λ len. (k.units.any_copy len).least) (sectors_of a area) victim n sound more in
+        let high = to_cost (λ len. (k.units.any_copy len).most) (sectors_of a area) victim n sound more in
         let l = copy_least (live_in (slots k) (sectors_of a area) victim (n + k.first)) in
         let m = copy_most (live_in (slots k) (sectors_of a area) victim (n + k.first)) in
         between_within (between_then so_far.spent here) _ _ (omega arith) (omega arith)
@@ -186,10 +191,11 @@ module _ (k : Kind) (law : IsKind k) where
     copying_most e more spends =
         let all = k.count (sector_at (sectors_of a area) victim) in
         let here : SpendsUpTo d e (copy_units k (live_in (slots k) (sectors_of a area) victim (n + k.first))) = subst (λ (o : Option Placed). SpendsUpTo d e (copy_units k o)) (live_there (n + k.first)) spends in
-        let high = to_cost (λ len. (k.units.copy len).most) (sectors_of a area) victim n sound more in
-        let m = copy_most (live_in (slots k) (sectors_of a area) victim (n + k.first)) in
-        let part = to_less (λ len. (k.units.copy len).most) (sectors_of a area) victim (n + 1) all (omega arith) in
-        let total = ap (copies_cost (λ len. (k.units.copy len).most)) (laws.copies-are (slots k) (are k law) (sectors_of a area) place form sound) in
+        let high = to_cost (λ len. (k.units.any_copy len).lost) (sectors_of a area) victim n sound more in
+        let m = copy_lost (live_in (slots k) (sectors_of a area) victim (n + k.first)) in
+        let part = to_less (λ len. (k.units.any_copy len).lost) (sectors_of a area) victim (n + 1) all (omega arith) in
+        let total = ap (copies_cost (λ len. (k.units.any_copy len).lost)) (laws.copies-are (slots k) (are k law) (sectors_of a area) place form sound) in
+        let covers = copies-cover (λ len. (k.units.any_copy len).most) (λ len. (k.units.any_copy len).lost) law.units.any_copies (live_to (slots k) (sectors_of a area) victim n) in
         between_within (between_then so_far.spent here) _ _ (omega arith) (omega arith)
 
   -- Its start and its end.

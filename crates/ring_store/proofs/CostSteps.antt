@@ -1,5 +1,5 @@
 -- What all items cost, from the newest sector to the oldest.
-use Rattle.std.proofs.Common.{◌≡◌, ◌≢◌, ℕ, ◌+◌, ◌-◌, ◌<◌, ◌≤◌, Bool, true, false, cond, eqb, ltb, List, [], ◌∷◌, ◌++◌, length, refl, sym, ap, subst, ◌∙◌, inl, inr, arith}
+use Rattle.std.proofs.Common.{◌≡◌, ◌≢◌, ℕ, ◌+◌, ◌-◌, ◌<◌, ◌≤◌, Bool, cond, eqb, ltb, List, [], ◌∷◌, ◌++◌, length, sym, ap, ◌∙◌, inl, inr, arith}
 use Rattle.std.specs.Prelude.{sum_by}
 use Rattle.std.specs.List.{flat_map, range_with_len}
 use Rattle.std.proofs.lemmas.Bool.{cases_eq, cases_lt, le-ltb, lt-ltb, cond-true, cond-false, eq-eqb, ne_eqb}
@@ -12,7 +12,6 @@ use Rattle.ring_laws.specs.Live.{counted_in, live_to}
 use Rattle.ring_laws.specs.RoundParts.{places_before, places_after}
 use Rattle.ring_laws.proofs.Places.{after, before, after-last, after-inner, range-append, range_from}
 use Rattle.ring_laws.proofs.RoundAt.{round-at, none_behind}
-use Rattle.ring_store.specs.declared.entry.Placed.{Placed}
 use Rattle.ring_store.specs.Kind.{Kind, slots}
 use Rattle.ring_store.specs.Seen.{behind}
 
@@ -87,13 +86,13 @@ oldest-front count current low =
           ∙ ap (range_with_len (current + 1)) none
     ]
 
-round-oldest : (count current : ℕ) → current < count → after count current < count → round count current ≡ after count current ∷ places_after count current (after count current)
+pub round-oldest : (count current : ℕ) → current < count → after count current < count → round count current ≡ after count current ∷ places_after count current (after count current)
 round-oldest count current low high =
     let at = round-at count current (after count current) low high in
     at.split ∙ ap (λ (xs : List ℕ). xs ++ after count current ∷ places_after count current (after count current)) (oldest-front count current low)
 
 -- a sum over the round is one over all places
-round-sum : (f : ℕ → ℕ) (count current : ℕ) → current < count → sum_by f (round count current) ≡ sum_by f (range_with_len 0 count)
+pub round-sum : (f : ℕ → ℕ) (count current : ℕ) → current < count → sum_by f (round count current) ≡ sum_by f (range_with_len 0 count)
 round-sum f count current low =
     let first = sum_by-append f (range_with_len (current + 1) (count - (current + 1))) (range_with_len 0 (current + 1)) in
     let second = sum_by-append f (range_with_len 0 (current + 1)) (range_with_len (0 + (current + 1)) (count - (current + 1))) in

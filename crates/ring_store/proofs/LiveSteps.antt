@@ -1,12 +1,11 @@
 -- Which entries are live, by what was seen behind them.
-use Rattle.std.proofs.Common.{◌≡◌, ◌≢◌, ℕ, zero, suc, ◌+◌, ◌-◌, ◌*◌, ◌/◌, ◌%◌, ◌^◌, ◌<◌, ◌≤◌, min, Bool, true, false, not, ◌&&◌, ◌||◌, cond, eqb, ltb, List, [], ◌∷◌, ◌++◌, length, map, Option, Some, None, refl, sym, ap, subst, ◌∙◌, inl, inr, append_assoc, arith}
+use Rattle.std.proofs.Common.{◌≡◌, ℕ, zero, suc, ◌+◌, ◌-◌, ◌^◌, ◌<◌, ◌≤◌, min, Bool, true, false, not, ◌&&◌, ◌||◌, cond, eqb, ltb, List, [], ◌∷◌, ◌++◌, length, map, Option, Some, None, refl, sym, ap, subst, ◌∙◌, inl, inr, append_assoc, arith}
 use Rattle.std.specs.Prelude.{is_some, IfSome, fold}
 use Rattle.std.specs.List.{All, filter_map, flat_map, list_any, range_with_len}
 use Rattle.std.specs.Option.{option_and_then, option_map, option_or, option_to_list}
-use Rattle.std.proofs.lemmas.Bool.{false≢true, cases_Bool, cases_eq, eqb-true, eq-eqb, ne_eqb, le-ltb, lt-ltb, or_from}
-use Rattle.std.proofs.lemmas.List.{append-nil, map-append}
+use Rattle.std.proofs.lemmas.Bool.{false≢true, cases_Bool, cases_eq, eqb-true, eq-eqb, ne_eqb, le-ltb, lt-ltb}
 use Rattle.std.proofs.lemmas.List.Concat.{flat_map-cons}
-use Rattle.std.proofs.lemmas.List.Elements.{All-nil, All-cons, All-head, All-tail, All-append, All-weaker, filter_map-append}
+use Rattle.std.proofs.lemmas.List.Elements.{All-nil, All-cons, All-head, All-tail, All-append, All-weaker}
 use Rattle.flash_map.specs.Area.{sector_at}
 use Rattle.flash_map.proofs.MapLemmas.{not_some}
 use Rattle.ring_laws.specs.Area.{next, counts_at, open_sector}
@@ -25,18 +24,18 @@ use Rattle.ring_laws.proofs.WalkLemmas.{list-split}
 use Rattle.ring_store.specs.declared.entry.Entry.{Entry}
 use Rattle.ring_store.specs.declared.entry.Placed.{Placed}
 use Rattle.ring_store.specs.Kind.{Kind, IsKind, placed_at, slots, entries}
-use Rattle.ring_store.specs.Seen.{class_of, has_bit, HasSeen, AreBehind, behind, holds_live}
+use Rattle.ring_store.specs.Seen.{key_of, is_other, usual_id, has_bit, HasSeen, AreBehind, behind, holds_live}
 use Rattle.ring_store.proofs.CopyLoop.{are}
 
--- ---- ids of a class
+-- ---- ids of a key
 
-pub class_below : (id : ℕ) → class_of id < 2 ^ 16
-unfolding class_of
-class_below id = omega arith
+key_below : (id : ℕ) → key_of id < 2 ^ 17
+unfolding key_of
+key_below id = omega arith
 
-class_short : (id : ℕ) → id < 2 ^ 16 → class_of id ≡ id
-unfolding class_of
-class_short id short = omega arith
+key_short : (id : ℕ) → id < 2 ^ 16 → key_of id ≡ id
+unfolding key_of
+key_short id short = omega arith
 
 or-left : (a b : Bool) → (a || b) ≡ false → a ≡ false
 or-left true b e = e
@@ -50,12 +49,12 @@ or-right false b e = e
 abbrev last_from : ℕ → Option Placed → List Placed → Option Placed
 last_from id o placed = fold (λ last p. cond (eqb p.id id) (Some p) last) o placed
 
-none_from : (id : ℕ) (placed : List Placed) (o : Option Placed) → list_any (λ q. eqb (class_of q.id) (class_of id)) placed ≡ false → last_from id o placed ≡ o
+none_from : (id : ℕ) (placed : List Placed) (o : Option Placed) → list_any (λ q. eqb (key_of q.id) (key_of id)) placed ≡ false → last_from id o placed ≡ o
 none_from id [] o none = refl
 none_from id (q ∷ qs) o none =
-    let apart : q.id ≡ id → ⊥ = λ (same : q.id ≡ id). false≢true (sym (or-left (eqb (class_of q.id) (class_of id)) (list_any (λ q. eqb (class_of q.id) (class_of id)) qs) none) ∙ eq-eqb (class_of q.id) (class_of id) (ap class_of same)) in
+    let apart : q.id ≡ id → ⊥ = λ (same : q.id ≡ id). false≢true (sym (or-left (eqb (key_of q.id) (key_of id)) (list_any (λ q. eqb (key_of q.id) (key_of id)) qs) none) ∙ eq-eqb (key_of q.id) (key_of id) (ap key_of same)) in
     ap (λ (t : Bool). last_from id (cond t (Some q) o) qs) (ne_eqb q.id id apart)
-    ∙ none_from id qs o (or-right (eqb (class_of q.id) (class_of id)) (list_any (λ q. eqb (class_of q.id) (class_of id)) qs) none)
+    ∙ none_from id qs o (or-right (eqb (key_of q.id) (key_of id)) (list_any (λ q. eqb (key_of q.id) (key_of id)) qs) none)
 
 stays_some : (id : ℕ) (placed : List Placed) (o : Option Placed) → is_some o ≡ true → is_some (last_from id o placed) ≡ true
 stays_some id [] o some = some
@@ -65,17 +64,30 @@ stays_some id (q ∷ qs) o some = stays_some id qs (cond (eqb q.id id) (Some q) 
     by_test true = refl
     by_test false = some
 
-some_from : (id : ℕ) → id < 2 ^ 16 → (placed : List Placed) (o : Option Placed) → All (λ q. q.id < 2 ^ 16) placed → list_any (λ q. eqb (class_of q.id) (class_of id)) placed ≡ true → is_some (last_from id o placed) ≡ true
-some_from id short [] o all seen = absurd (false≢true seen)
-some_from id short (q ∷ qs) o all seen =
-    elim (cases_Bool (eqb (class_of q.id) (class_of id))) [
+-- where those that have its key are the id itself
+some_from : (id : ℕ) (placed : List Placed) (o : Option Placed) → All (λ q. key_of q.id ≡ key_of id → q.id ≡ id) placed → list_any (λ q. eqb (key_of q.id) (key_of id)) placed ≡ true → is_some (last_from id o placed) ≡ true
+some_from id [] o all seen = absurd (false≢true seen)
+some_from id (q ∷ qs) o all seen =
+    elim (cases_Bool (eqb (key_of q.id) (key_of id))) [
       | inl here ↦
-          let own : q.id ≡ id = sym (class_short q.id (All-head (λ (q : Placed). q.id < 2 ^ 16) q qs all)) ∙ eqb-true (class_of q.id) (class_of id) here ∙ class_short id short in
+          let own : q.id ≡ id = All-head (λ (q : Placed). key_of q.id ≡ key_of id → q.id ≡ id) q qs all (eqb-true (key_of q.id) (key_of id) here) in
           ap (λ (t : Bool). is_some (last_from id (cond t (Some q) o) qs)) (eq-eqb q.id id own) ∙ stays_some id qs (Some q) refl
       | inr other ↦
-          let rest : list_any (λ q. eqb (class_of q.id) (class_of id)) qs ≡ true = sym (ap (λ (t : Bool). t || list_any (λ q. eqb (class_of q.id) (class_of id)) qs) other) ∙ seen in
-          some_from id short qs (cond (eqb q.id id) (Some q) o) (All-tail (λ (q : Placed). q.id < 2 ^ 16) q qs all) rest
+          let rest : list_any (λ q. eqb (key_of q.id) (key_of id)) qs ≡ true = sym (ap (λ (t : Bool). t || list_any (λ q. eqb (key_of q.id) (key_of id)) qs) other) ∙ seen in
+          some_from id qs (cond (eqb q.id id) (Some q) o) (All-tail (λ (q : Placed). key_of q.id ≡ key_of id → q.id ≡ id) q qs all) rest
     ]
+
+not-false : (a : Bool) → not a ≡ false → a ≡ true
+not-false true e = refl
+not-false false e = absurd (false≢true (sym e))
+
+-- usual ids
+usual_all : (id : ℕ) → id ≡ usual_id (key_of id) → (placed : List Placed) → list_any is_other placed ≡ false → All (λ q. key_of q.id ≡ key_of id → q.id ≡ id) placed
+usual_all id own [] plain = All-nil (λ (q : Placed). key_of q.id ≡ key_of id → q.id ≡ id)
+usual_all id own (q ∷ qs) plain =
+    let here : q.id ≡ usual_id (key_of q.id) = eqb-true q.id (usual_id (key_of q.id)) (not-false (eqb q.id (usual_id (key_of q.id))) (or-left (is_other q) (list_any is_other qs) plain)) in
+    All-cons (λ (q : Placed). key_of q.id ≡ key_of id → q.id ≡ id) q qs (λ same. here ∙ ap (usual_id) same ∙ sym own)
+    (usual_all id own qs (or-right (is_other q) (list_any is_other qs) plain))
 
 -- ---- one entry
 
@@ -118,19 +130,30 @@ module _ (k : Kind) (sectors : List (List ℕ)) (p : Placed) (later : List Place
       by_last None = refl
       by_last (Some q) = ap (λ (t : Bool). eqb q.sector p.sector && eqb q.slot p.slot && t) (le-ltb 0 p.len (omega arith)) ∙ no_and (eqb q.sector p.sector && eqb q.slot p.slot)
 
-  -- no id of its class is behind it
-  pub live_unseen : (limit : ℕ) (bits : List ℕ) → HasSeen limit bits later → (p.len ≡ 0 → ⊥) → has_bit bits (class_of p.id) ≡ false → true ≡ is_live (slots k) sectors p
-  live_unseen limit bits seen some unseen = sym (live_last (none_from p.id later None (sym (seen.bit (class_of p.id) (class_below p.id)) ∙ unseen)) (omega arith))
+  -- no id of its key is behind it
+  pub live_unseen : (limit : ℕ) (bits : List ℕ) (mixed : Bool) → HasSeen limit bits mixed later → (p.len ≡ 0 → ⊥) → has_bit bits (key_of p.id) ≡ false → true ≡ is_live (slots k) sectors p
+  live_unseen limit bits mixed seen some unseen = sym (live_last (none_from p.id later None (sym (seen.bit (key_of p.id) (key_below p.id)) ∙ unseen)) (omega arith))
 
   -- one is, and it has no other
-  pub live_seen : (limit : ℕ) (bits : List ℕ) → HasSeen limit bits later → limit ≤ 2 ^ 16 → p.id < limit → has_bit bits (class_of p.id) ≡ true → false ≡ is_live (slots k) sectors p
-  live_seen limit bits seen short own is_seen =
-      let all : All (λ q. q.id < 2 ^ 16) later = All-weaker (λ (q : Placed). q.id < limit) (λ (q : Placed). q.id < 2 ^ 16) (λ q h. omega arith) later seen.known in
-      let some = some_from p.id (omega arith) later None all (sym (seen.bit (class_of p.id) (class_below p.id)) ∙ is_seen) in
+  dead_from : (limit : ℕ) (bits : List ℕ) (mixed : Bool) → HasSeen limit bits mixed later → All (λ q. key_of q.id ≡ key_of p.id → q.id ≡ p.id) later → has_bit bits (key_of p.id) ≡ true → false ≡ is_live (slots k) sectors p
+  dead_from limit bits mixed seen own is_seen =
+      let some = some_from p.id later None own (sym (seen.bit (key_of p.id) (key_below p.id)) ∙ is_seen) in
       elim (option_cases (last_of (slots k) p.id later)) [
         | inl none ↦ absurd (false≢true (sym (ap (λ (o : Option Placed). is_some o) none) ∙ some))
         | inr (q, is) ↦ sym (dead_by q is)
       ]
+
+  -- since ids have 16 bits
+  pub live_seen : (limit : ℕ) (bits : List ℕ) (mixed : Bool) → HasSeen limit bits mixed later → limit ≤ 2 ^ 16 → p.id < limit → has_bit bits (key_of p.id) ≡ true → false ≡ is_live (slots k) sectors p
+  live_seen limit bits mixed seen short own is_seen =
+      let all : All (λ q. key_of q.id ≡ key_of p.id → q.id ≡ p.id) later =
+      All-weaker (λ (q : Placed). q.id < limit) (λ (q : Placed). key_of q.id ≡ key_of p.id → q.id ≡ p.id)
+      (λ q below same. sym (key_short q.id (omega arith)) ∙ same ∙ key_short p.id (omega arith)) later seen.known in
+      dead_from limit bits mixed seen all is_seen
+
+  -- since each is the usual one of its key
+  pub live_plain : (limit : ℕ) (bits : List ℕ) (mixed : Bool) → HasSeen limit bits mixed later → mixed ≡ false → p.id ≡ usual_id (key_of p.id) → has_bit bits (key_of p.id) ≡ true → false ≡ is_live (slots k) sectors p
+  live_plain limit bits mixed seen plain own is_seen = dead_from limit bits mixed seen (usual_all p.id own later (sym seen.others ∙ plain)) is_seen
 
 -- ---- the entry of a slot
 
@@ -206,7 +229,7 @@ module _ (k : Kind) (law : IsKind k) (sectors : List (List ℕ)) (current place 
       by_count true =
           All-weaker (λ (q : Placed). q.sector ≡ j) (λ (q : Placed). q.sector ≡ place → ⊥) (λ q at (e : q.sector ≡ place). apart (sym at ∙ e)) (map (placed_at j) (entries k (sector_at sectors j))) (places_of (slots k) (are k law) j (entries k (sector_at sectors j)))
 
-  elsewhere : (js : List ℕ) → All (λ j. j ≡ place → ⊥) js → All (λ q. q.sector ≡ place → ⊥) (flat_map (counted_in (slots k) sectors current) js)
+  pub elsewhere : (js : List ℕ) → All (λ j. j ≡ place → ⊥) js → All (λ q. q.sector ≡ place → ⊥) (flat_map (counted_in (slots k) sectors current) js)
   elsewhere [] apart = All-nil (λ (q : Placed). q.sector ≡ place → ⊥)
   elsewhere (j ∷ js) apart =
       subst (All (λ q. q.sector ≡ place → ⊥)) (sym (flat_map-cons (counted_in (slots k) sectors current) j js))

@@ -1,5 +1,5 @@
 -- What a mount spends at most.
-use Rattle.std.proofs.Common.{◌≡◌, ℕ, ◌+◌, ◌*◌, ◌<◌, ◌≤◌, max, Bool, true, false, cond, List, [], length, None, refl, sym, ap, subst, ◌∙◌, arith}
+use Rattle.std.proofs.Common.{◌≡◌, ℕ, ◌<◌, ◌≤◌, [], length, None, refl, subst, arith}
 use Rattle.flash_sim.specs.Bank.{IsLawful}
 use Rattle.flash_sim.specs.Device.{Device}
 use Rattle.flash_map.specs.declared.area.Area.{Area}
@@ -8,22 +8,18 @@ use Rattle.flash_map.specs.Area.{sector_at, sector_size, sectors_of}
 use Rattle.flash_map.specs.Spending.{SpendsBetween}
 use Rattle.flash_map.proofs.SpendingBounds.{between_none, between_within}
 use Rattle.pair_laws.specs.Rounds.{copies_cost}
-use Rattle.ring_laws.specs.Area.{next, open_sector, is_blank_at}
+use Rattle.ring_laws.specs.Area.{next, open_sector}
 use Rattle.ring_laws.specs.Forms.{IsForm, to_copy}
 use Rattle.ring_laws.proofs.AreaReads.{length-sectors}
 use Rattle.ring_laws.proofs.Places.{after-within}
 use Rattle.ring_store.specs.declared.entry.Redo.{Redo}
 use Rattle.ring_store.specs.declared.entry.Redo.TheVariants.{Nothing, ClearNext, CollectAgain}
-use Rattle.ring_store.specs.Kind.{Range, Kind, IsKind}
+use Rattle.ring_store.specs.Kind.{Kind, IsKind}
 use Rattle.ring_store.specs.Collecting.{redo_of, redo_units}
 use Rattle.ring_store.specs.Standing.{IsStoreArea, SpendsIn, SpendsUpTo}
 use Rattle.ring_store.proofs.Areas.{size_there, large_there, form_here, copied-le}
 use Rattle.ring_store.proofs.CollectSteps.{collecting_from}
-
--- one of two
-either_most : (t : Bool) (one other : Range) → (cond t one other).most ≤ max one.most other.most
-either_most true one other = omega arith
-either_most false one other = omega arith
+use Rattle.ring_store.proofs.Ranges.{again-lost, redo-covers}
 
 module _ (k : Kind) (law : IsKind k) (role : Role) (a : Device) (area : Area) (lawful : IsLawful a.banks a.bytes) (own : IsStoreArea role a.banks area) (undamaged : k.damage (sectors_of a area) ≡ None) (place : ℕ) (is : place ≡ open_sector k.reading (sectors_of a area)) where
   count : length (sectors_of a area) ≡ area.sectors
@@ -32,13 +28,14 @@ module _ (k : Kind) (law : IsKind k) (role : Role) (a : Device) (area : Area) (l
   form : IsForm k.reading (sectors_of a area) place
   form = form_here k law (sectors_of a area) place (omega (arith, own.lawful.several, count)) undamaged is
 
-  clear_most : k.units.clear.most ≤ k.units.mount (sector_size a area)
+  clear_most : (k.units.clear (sector_at (sectors_of a area) (next (sectors_of a area) place))).lost ≤ k.units.mount (sector_size a area)
   clear_most =
       let none : copies_cost k.cost [] ≤ k.cap (sector_size a area) = omega arith in
       let all = law.mount (sector_size a area) (sector_at (sectors_of a area) place) [] own.lawful.at_least none in
+      let wide = (law.units.clear_in (sector_at (sectors_of a area) (next (sectors_of a area) place))).lost in
       omega arith
 
-  redo_most : (redo : Redo) → redo_of k (sectors_of a area) place ≡ redo → (redo_units k (sectors_of a area) place redo).most ≤ k.units.mount (sector_size a area)
+  redo_most : (redo : Redo) → redo_of k (sectors_of a area) place ≡ redo → (redo_units k (sectors_of a area) place redo).lost ≤ k.units.mount (sector_size a area)
   redo_most Nothing nothing = omega arith
   redo_most ClearNext clears = clear_most
   redo_most CollectAgain again =
@@ -48,11 +45,14 @@ module _ (k : Kind) (law : IsKind k) (role : Role) (a : Device) (area : Area) (l
       let large = large_there role a area lawful own (next (sectors_of a area) place) victim in
       let few : copies_cost k.cost (to_copy k.reading (sectors_of a area) place) ≤ k.cap (sector_size a area) = subst (λ (n : ℕ). copies_cost k.cost (to_copy k.reading (sectors_of a area) place) ≤ k.cap n) long (copied-le k law (sectors_of a area) place collecting large) in
       let all = law.mount (sector_size a area) (sector_at (sectors_of a area) place) (to_copy k.reading (sectors_of a area) place) own.lawful.at_least few in
-      let first = either_most (is_blank_at k.reading (sectors_of a area) place) (k.units.begin (sector_at (sectors_of a area) place)) k.units.clear in
+      let parts = again-lost k law (sectors_of a area) place in
       omega arith
 
   pub mount-most : (d : Device) → SpendsIn a d (redo_units k (sectors_of a area) place (redo_of k (sectors_of a area) place)) → SpendsBetween a d 0 (k.units.mount (sector_size a area))
-  mount-most d spent = let most = redo_most (redo_of k (sectors_of a area) place) refl in between_within spent 0 (k.units.mount (sector_size a area)) (omega arith) most
+  mount-most d spent =
+      let most = redo_most (redo_of k (sectors_of a area) place) refl in
+      let covers = redo-covers k law (sectors_of a area) place (redo_of k (sectors_of a area) place) in
+      between_within spent 0 (k.units.mount (sector_size a area)) (omega arith) (omega arith)
 
   pub mount-most_lost : (d : Device) → SpendsUpTo a d (redo_units k (sectors_of a area) place (redo_of k (sectors_of a area) place)) → SpendsBetween a d 0 (k.units.mount (sector_size a area))
   mount-most_lost d spent = let most = redo_most (redo_of k (sectors_of a area) place) refl in between_within spent 0 (k.units.mount (sector_size a area)) (omega arith) most

@@ -8,14 +8,13 @@ use Rattle.std.proofs.lemmas.List.Elements.{filter_map-append}
 use Rattle.flash_map.specs.Area.{sector_at}
 use Rattle.pair_laws.specs.Items.{Items}
 use Rattle.ring_laws.specs.Area.{open_sector}
-use Rattle.ring_laws.specs.NextIds.{Follows, IsAtMost, IsLeastOf}
+use Rattle.ring_laws.specs.NextIds.{Follows, IsAtMost, IsLeastOf, IsNextId}
 use Rattle.ring_laws.proofs.LiveLemmas.{option_cases}
 use Rattle.ring_laws.proofs.NextIds.{least_kept, least_none, least_push, no_value}
 use Rattle.ring_laws.proofs.Places.{range-append, range_one}
 use Rattle.ring_store.specs.declared.entry.Entry.{Entry}
 use Rattle.ring_store.specs.declared.entry.Placed.{Placed}
 use Rattle.ring_store.specs.Kind.{Kind, IsKind, placed_at}
-use Rattle.ring_store.specs.NextId.{IsNextId}
 use Rattle.ring_store.specs.Standing.{items}
 
 module _ (k : Kind) where

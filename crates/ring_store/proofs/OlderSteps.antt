@@ -1,7 +1,7 @@
 -- From an entry of the list to the one before it.
 use Rattle.std.proofs.Common.{◌≡◌, ℕ, ◌+◌, ◌-◌, ◌<◌, ◌≤◌, Bool, true, false, cond, List, [], ◌∷◌, ◌++◌, length, map, Option, Some, None, refl, sym, ap, ◌∙◌, inl, inr, arith}
 use Rattle.std.specs.Prelude.{is_some}
-use Rattle.std.specs.List.{filter_map, flat_map, last_or, range_with_len}
+use Rattle.std.specs.List.{filter_map, last_or, range_with_len}
 use Rattle.std.specs.Option.{option_map}
 use Rattle.std.proofs.lemmas.List.{map-append, append-nil}
 use Rattle.std.proofs.lemmas.List.Elements.{filter_map-append}
@@ -15,7 +15,6 @@ use Rattle.ring_laws.proofs.Newest as newest
 use Rattle.ring_laws.proofs.Places.{range-append, range_one}
 use Rattle.ring_laws.proofs.SlotWalks.{last_that}
 use Rattle.ring_laws.proofs.WalkLemmas as walks
-use Rattle.ring_store.specs.declared.entry.Entry.{Entry}
 use Rattle.ring_store.specs.declared.entry.Placed.{Placed}
 use Rattle.ring_store.specs.Kind.{Kind, IsKind, placed_at, slots}
 use Rattle.ring_store.specs.Older.{IsNextOlder}

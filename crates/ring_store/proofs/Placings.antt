@@ -1,5 +1,5 @@
 -- Each entry of the list of an area stands in its slot.
-use Rattle.std.proofs.Common.{◌≡◌, ℕ, zero, suc, ◌+◌, ◌-◌, ◌<◌, ◌≤◌, Bool, true, cond, eqb, List, [], ◌∷◌, length, map, Option, Some, None, sym, ap, subst, ◌∙◌, inl, inr, arith}
+use Rattle.std.proofs.Common.{◌≡◌, ℕ, zero, suc, ◌+◌, ◌-◌, ◌<◌, ◌≤◌, Bool, true, cond, List, [], ◌∷◌, length, map, Option, Some, None, sym, ap, subst, ◌∙◌, inl, inr, arith}
 use Rattle.std.specs.Prelude.{IfSome}
 use Rattle.std.specs.List.{filter_map, flat_map, range_with_len, All}
 use Rattle.std.specs.Option.{option_map}
@@ -8,7 +8,7 @@ use Rattle.std.proofs.lemmas.List.Concat.{flat_map-cons}
 use Rattle.std.proofs.lemmas.List.Elements.{All-nil, All-cons, All-head, All-tail, All-append, All-map}
 use Rattle.flash_map.specs.Area.{sector_at}
 use Rattle.ring_laws.specs.Area.{round, counts_at, open_sector}
-use Rattle.ring_laws.specs.Live.{counted_in, all_placed, last_placed}
+use Rattle.ring_laws.specs.Live.{counted_in, all_placed}
 use Rattle.ring_laws.proofs.LiveLemmas.{option_cases}
 use Rattle.ring_laws.proofs.Newest.{last-all, last_that}
 use Rattle.ring_laws.proofs.Places.{All-range}

@@ -1,5 +1,5 @@
 -- A pair that is put into the open sector, in the words of the code.
-use Rattle.std.proofs.Common.{◌≡◌, ℕ, ◌+◌, ◌*◌, ◌<◌, ◌≤◌, ◌⊎◌, Bool, true, false, List, [], ◌∷◌, ◌++◌, length, None, refl, sym, ap, subst, ◌∙◌, inl, inr, arith}
+use Rattle.std.proofs.Common.{◌≡◌, ℕ, ◌+◌, ◌<◌, ◌≤◌, ◌⊎◌, true, false, List, length, sym, ap, subst, ◌∙◌, inl, inr, arith}
 use Rattle.std.specs.Prelude.{IsTrue, Result, Ok, Err, OnOk, OnErr}
 use Rattle.flash_sim.specs.Bank.{IsLawful}
 use Rattle.flash_sim.specs.Device.{Device}
@@ -12,17 +12,19 @@ use Rattle.ring_laws.specs.Forms.{AtRest}
 use Rattle.ring_laws.specs.Reading.{is_sound}
 use Rattle.ring_laws.proofs.RingSteps.{reads}
 use Rattle.ring_laws.proofs.Rings.{open-not_closed}
-use Rattle.ring_store.specs.Kind.{Range, Kind, IsKind, fits}
+use Rattle.ring_store.specs.Cached.{AddsEntry}
+use Rattle.ring_store.specs.Kind.{Kind, IsKind, fits}
 use Rattle.ring_store.specs.Room.{has_room, open_bytes}
-use Rattle.ring_store.specs.Spending.{both}
-use Rattle.ring_store.specs.Standing.{IsStoreArea, SpendsIn, SpendsUpTo}
+use Rattle.ring_store.specs.Standing.{IsStoreArea, RestsAt, SpendsIn, SpendsUpTo}
 use Rattle.ring_store.specs.Stands.{StandsAt}
-use Rattle.ring_store.specs.Steps.{Keeps, Begins, Adds}
-use Rattle.ring_store.specs.Writing.{SpendsEntry, PutsPair, StopsPutting}
-use Rattle.ring_store.proofs.Areas.{still_area, large_there}
+use Rattle.ring_store.specs.Steps.{Keeps, LeavesRoom, Begins, Adds}
+use Rattle.ring_store.specs.Writing.{open_at, SpendsEntry, StopsInValue, StopsEntry, PutsPair, StopsPutting}
+use Rattle.ring_store.proofs.Areas.{still_area, large_there, only_then}
 use Rattle.ring_store.proofs.CallFacts.{to_unit, from_unit}
 use Rattle.ring_store.proofs.CollectSteps.{rest_closed}
-use Rattle.ring_store.proofs.PutSteps.{HasPut, HasNotPut, has_not_put, begun-form, begun-room, then-put, then-kept}
+use Rattle.ring_store.proofs.EntrySteps.{adds-entry}
+use Rattle.ring_store.proofs.PutSteps.{HasPut, HasNotPut, has_not_put, begun-form, begun-free, begun-room, then-put, then-kept}
+use Rattle.ring_store.proofs.Ranges.{then-lost}
 use Rattle.ring_store.proofs.RoomFacts.{inside, rest_on}
 use Rattle.ring_store.proofs.Standings.{stands}
 
@@ -45,15 +47,31 @@ module _ {T : Type 0} (role : Role) (kind : ℕ → Kind) (kept : ℕ → List �
   pub open_not_closed : is_closed_at (kind (unit_of a area)).reading (sectors_of a area) place ≡ false
   open_not_closed = open-not_closed k.reading old place form.blanks form.ring
 
+  -- an area that is at rest with this sector open: nothing is to do, and its room is that of this sector
+  rests_in : (e : Device) → AtRest (kind (unit_of a area)).reading (sectors_of e area) place → RestsAt (kind (unit_of a area)) e area
+  rests_in e rested =
+      subst (λ (p : ℕ). AtRest k.reading (sectors_of e area) p) (sym (reads k.reading (sectors_of e area) place (inl rested)).0) rested
+
+  free_in : (e : Device) → AtRest (kind (unit_of a area)).reading (sectors_of e area) place
+      → (kind (unit_of a area)).free (open_at (kind (unit_of a area)) e area) ≡ (kind (unit_of a area)).free (sector_at (sectors_of e area) place)
+  free_in e rested =
+      ap (λ (p : ℕ). k.free (sector_at (sectors_of e area) p)) (reads k.reading (sectors_of e area) place (inl rested)).0
+
   -- power was lost while the sector was made ready
   pub begin_stops : (e : Device) (id : ℕ) (bytes : List ℕ) → ChangesOnly (sectors_of a area) (sectors_of e area) place → Keeps (kind (unit_of a area)) (sector_at (sectors_of a area) place) (sector_at (sectors_of e area) place)
+      → LeavesRoom (kind (unit_of a area)) (sector_at (sectors_of a area) place) (sector_at (sectors_of e area) place) 0
       → SpendsUpTo a e ((kind (unit_of a area)).units.begin (sector_at (sectors_of a area) place)) → StopsPutting (kind (unit_of a area)) a e area id bytes
-  begin_stops e id bytes only keeps spends =
+  begin_stops e id bytes only keeps room spends =
       let not_put = has_not_put k law old (sectors_of e area) place form only keeps.list keeps.used (keeps.sound open_sound) in
+      let free_old = free_in a form in
+      let free_new = free_in e not_put.form in
       let le = law.entry (sector_at old place) (sector_at old place) (length bytes) in
       record {
         list = inl not_put.list;
         undamaged = not_put.undamaged;
+        rests = rests_in e not_put.form;
+        room = omega arith;
+        entry = subst (λ (p : ℕ). StopsEntry k a e (sector_at old p) (length bytes)) on.current (inl spends);
         at_most = between_within spends 0 (k.units.entry (length bytes)) (omega arith) (omega arith);
       }
 
@@ -109,23 +127,44 @@ module _ {T : Type 0} (role : Role) (kind : ℕ → Kind) (kept : ℕ → List �
           → PutsPair (kind (unit_of a area)) a e area id bytes
       put_puts adds more =
           let has = has_pair adds in
+          let own : Adds k (sector_at (sectors_of b area) place) (sector_at (sectors_of e area) place) id bytes = to_unit (λ u. Adds (kind u) (sector_at (sectors_of b area) place) (sector_at (sectors_of e area) place) id bytes) a b area banks adds in
+          let taken = own.free in
+          let free_mid = begun-free k law old (sectors_of b area) (sectors_of b area) place form large first begins in
+          let free_old = free_in a form in
+          let free_new = free_in e has.form in
           let there : SpendsIn b e (k.units.put (sector_at (sectors_of b area) place) (length bytes)) = to_unit (λ u. SpendsIn b e ((kind u).units.put (sector_at (sectors_of b area) place) (length bytes))) a b area banks more in
           record {
             list = has.list;
             undamaged = has.undamaged;
+            rests = rests_in e has.form;
+            room = omega arith;
             entry = subst (λ (p : ℕ). SpendsEntry k a e (sector_at old p) (length bytes)) on.current (record { begun = sector_at (sectors_of b area) place; begins = begins; spends = between_then spends there });
           }
 
       -- power was lost
       put_stops : Keeps (kind (unit_of b area)) (sector_at (sectors_of b area) place) (sector_at (sectors_of e area) place) ⊎ Adds (kind (unit_of b area)) (sector_at (sectors_of b area) place) (sector_at (sectors_of e area) place) id bytes
+          → LeavesRoom (kind (unit_of b area)) (sector_at (sectors_of b area) place) (sector_at (sectors_of e area) place) ((kind (unit_of b area)).cost (length bytes))
           → SpendsUpTo b e ((kind (unit_of b area)).units.put (sector_at (sectors_of b area) place) (length bytes)) → StopsPutting (kind (unit_of a area)) a e area id bytes
-      put_stops either more =
+      put_stops either room more =
+          let left : LeavesRoom k (sector_at (sectors_of b area) place) (sector_at (sectors_of e area) place) (k.cost (length bytes)) =
+          to_unit (λ u. LeavesRoom (kind u) (sector_at (sectors_of b area) place) (sector_at (sectors_of e area) place) ((kind u).cost (length bytes))) a b area banks room in
+          let free_mid = begun-free k law old (sectors_of b area) (sectors_of b area) place form large first begins in
+          let free_old = free_in a form in
+          let leaves : AtRest k.reading (sectors_of e area) place → k.free (open_at k a area) ≤ k.free (open_at k e area) + k.cost (length bytes) =
+          λ rested. let free_new = free_in e rested in omega arith in
           let there : SpendsUpTo b e (k.units.put (sector_at (sectors_of b area) place) (length bytes)) = to_unit (λ u. SpendsUpTo b e ((kind u).units.put (sector_at (sectors_of b area) place) (length bytes))) a b area banks more in
           let le = law.entry (sector_at old place) (sector_at (sectors_of b area) place) (length bytes) in
+          let covers = law.units.begins (sector_at old place) in
+          let cut : StopsInValue k a e (sector_at old place) (length bytes) = record {
+            begun = sector_at (sectors_of b area) place;
+            begins = begins;
+            spends = then-lost a b e (k.units.begin (sector_at old place)) (k.units.put (sector_at (sectors_of b area) place) (length bytes)) spends there;
+          } in
+          let own : StopsEntry k a e (open_bytes k old) (length bytes) = subst (λ (p : ℕ). StopsEntry k a e (sector_at old p) (length bytes)) on.current (inr cut) in
           let all = between_within (between_then spends there) 0 (k.units.entry (length bytes)) (omega arith) (omega arith) in
           elim either [
-            | inl keeps ↦ let has = has_list keeps in record { list = inl has.list; undamaged = has.undamaged; at_most = all }
-            | inr adds ↦ let has = has_pair adds in record { list = inr has.list; undamaged = has.undamaged; at_most = all }
+            | inl keeps ↦ let has = has_list keeps in record { list = inl has.list; undamaged = has.undamaged; rests = rests_in e has.form; room = leaves has.form; entry = own; at_most = all }
+            | inr adds ↦ let has = has_pair adds in record { list = inr has.list; undamaged = has.undamaged; rests = rests_in e has.form; room = leaves has.form; entry = own; at_most = all }
           ]
 
       -- so the call ends
@@ -133,10 +172,18 @@ module _ {T : Type 0} (role : Role) (kind : ℕ → Kind) (kept : ℕ → List �
       put_ends_stands (Ok x) later more adds known = put_stands later more adds known
       put_ends_stands (Err x) later more adds known = tt
 
+      pub put_ends_entry : {X E : Type 0} (r : Result X E) → OnOk r (Adds (kind (unit_of b area)) (sector_at (sectors_of b area) place) (sector_at (sectors_of e area) place) id bytes) → OnOk r (AddsEntry (kind (unit_of a area)) (sectors_of a area) (sectors_of e area) place id (length bytes))
+      put_ends_entry (Ok x) adds =
+          adds-entry k law old (sectors_of e area) place form (has_pair adds).form (only_then old (sectors_of b area) (sectors_of e area) place first second) (sector_at (sectors_of b area) place) id bytes begins
+          (to_unit (λ u. Adds (kind u) (sector_at (sectors_of b area) place) (sector_at (sectors_of e area) place) id bytes) a b area banks adds)
+      put_ends_entry (Err x) adds = tt
+
       pub put_ends_puts : {X E : Type 0} (r : Result X E) → OnOk r (Adds (kind (unit_of b area)) (sector_at (sectors_of b area) place) (sector_at (sectors_of e area) place) id bytes) → OnOk r (SpendsIn b e ((kind (unit_of b area)).units.put (sector_at (sectors_of b area) place) (length bytes))) → OnOk r (PutsPair (kind (unit_of a area)) a e area id bytes)
       put_ends_puts (Ok x) adds more = put_puts adds more
       put_ends_puts (Err x) adds more = tt
 
-      pub put_ends_stops : {X E : Type 0} (r : Result X E) → OnErr r (Keeps (kind (unit_of b area)) (sector_at (sectors_of b area) place) (sector_at (sectors_of e area) place) ⊎ Adds (kind (unit_of b area)) (sector_at (sectors_of b area) place) (sector_at (sectors_of e area) place) id bytes) → OnErr r (SpendsUpTo b e ((kind (unit_of b area)).units.put (sector_at (sectors_of b area) place) (length bytes))) → OnErr r (StopsPutting (kind (unit_of a area)) a e area id bytes)
-      put_ends_stops (Ok x) either more = tt
-      put_ends_stops (Err x) either more = put_stops either more
+      pub put_ends_stops : {X E : Type 0} (r : Result X E) → OnErr r (Keeps (kind (unit_of b area)) (sector_at (sectors_of b area) place) (sector_at (sectors_of e area) place) ⊎ Adds (kind (unit_of b area)) (sector_at (sectors_of b area) place) (sector_at (sectors_of e area) place) id bytes)
+          → OnErr r (LeavesRoom (kind (unit_of b area)) (sector_at (sectors_of b area) place) (sector_at (sectors_of e area) place) ((kind (unit_of b area)).cost (length bytes)))
+          → OnErr r (SpendsUpTo b e ((kind (unit_of b area)).units.put (sector_at (sectors_of b area) place) (length bytes))) → OnErr r (StopsPutting (kind (unit_of a area)) a e area id bytes)
+      put_ends_stops (Ok x) either room more = tt
+      put_ends_stops (Err x) either room more = put_stops either room more

@@ -1,8 +1,8 @@
 -- A pair that is put into the open sector of an area at rest, whole or cut.
-use Rattle.std.proofs.Common.{◌≡◌, ℕ, ◌+◌, ◌*◌, ◌≤◌, ◌⊎◌, Bool, true, false, cond, eqb, leb, List, [], ◌∷◌, ◌++◌, length, None, refl, sym, ap, subst, ◌∙◌, inl, inr, length-append, arith}
+use Rattle.std.proofs.Common.{◌≡◌, ℕ, ◌+◌, ◌*◌, ◌≤◌, Bool, true, false, cond, eqb, leb, List, [], ◌∷◌, ◌++◌, length, None, refl, sym, ap, subst, ◌∙◌, inl, inr, length-append, arith}
 use Rattle.std.proofs.lemmas.Bool.{false≢true, cases_Bool}
 use Rattle.flash_map.specs.Area.{sector_at, ChangesOnly}
-use Rattle.ring_laws.specs.Area.{open_sector, area_pairs}
+use Rattle.ring_laws.specs.Area.{area_pairs}
 use Rattle.ring_laws.specs.Forms.{AtRest}
 use Rattle.ring_laws.specs.Reading.{Reading, is_sound}
 use Rattle.ring_laws.specs.Steps as ring
@@ -114,6 +114,9 @@ module _ (k : Kind) (law : IsKind k) where
 
     pub begun-form : AtRest k.reading mid place
     begun-form = (has_not_put old mid place form first begun-list still.blank begun-sound).form
+
+    pub begun-free : k.free (sector_at mid place) ≡ k.free (sector_at old place)
+    begun-free = still.free
 
     pub begun-room : (len : ℕ) → fits k (sector_at mid place) len ≡ fits k (sector_at old place) len
     begun-room len = begun_fits (sector_at old place) (sector_at mid place) len still

@@ -1,5 +1,5 @@
 -- Rounds until a value has room, in the words of the code.
-use Rattle.std.proofs.Common.{◌≡◌, ℕ, ◌+◌, ◌-◌, ◌*◌, ◌<◌, ◌≤◌, Bool, true, false, List, [], ◌∷◌, length, None, refl, sym, ap, subst, ◌∙◌, inl, inr, arith}
+use Rattle.std.proofs.Common.{◌≡◌, ◌⊎◌, ℕ, suc, ◌+◌, ◌-◌, ◌*◌, ◌<◌, ◌≤◌, Bool, true, false, List, [], ◌∷◌, length, Option, refl, sym, ap, subst, ◌∙◌, inl, inr, arith}
 use Rattle.std.proofs.lemmas.Bool.{false≢true, cases_eq}
 use Rattle.flash_sim.specs.Bank.{IsLawful}
 use Rattle.flash_sim.specs.Device.{Device}
@@ -10,8 +10,8 @@ use Rattle.flash_map.specs.Spending.{SpendsBetween}
 use Rattle.flash_map.specs.Touches.{Touches}
 use Rattle.flash_map.proofs.SpendingBounds.{between_none, between_then, between_within}
 use Rattle.flash_map.proofs.Touches.{then, untouched}
-use Rattle.pair_laws.specs.Rounds.{joined, live_cost, FindsNoRoom}
-use Rattle.ring_laws.specs.Area.{next, open_sector, area_pairs}
+use Rattle.pair_laws.specs.Rounds.{joined, collect_oldest, live_cost, FindsNoRoom}
+use Rattle.ring_laws.specs.Area.{next, open_sector}
 use Rattle.ring_laws.specs.Forms.{AtRest}
 use Rattle.ring_laws.specs.Rounds.{IsCrammed}
 use Rattle.ring_laws.proofs.AreaReads.{length-sectors}
@@ -19,14 +19,16 @@ use Rattle.ring_laws.proofs.Parts.{parts-list, parts-count}
 use Rattle.ring_laws.proofs.Rounding.{no_room, crammed}
 use Rattle.ring_store.specs.declared.store.Store.{Store}
 use Rattle.ring_store.specs.Kind.{Range, Kind, IsKind, fits}
-use Rattle.ring_store.specs.Collecting.{TurnsAt}
+use Rattle.ring_store.specs.Cached.{IsCacheOn}
+use Rattle.ring_store.specs.Collecting.{KeepsOrTurns, TurnsAt}
 use Rattle.ring_store.specs.Room.{has_room, IsShort, parts_of, collected, Rounds, rounds_units, MakesRoom, IsFull, StopsMakingRoom}
-use Rattle.ring_store.specs.Spending.{none, both, round_units}
-use Rattle.ring_store.specs.Standing.{IsStoreArea, list_of, KeepsItems, SpendsIn, SpendsUpTo}
+use Rattle.ring_store.specs.Spending.{none, round_units}
+use Rattle.ring_store.specs.Standing.{list_of, KeepsItems, SpendsIn, SpendsUpTo}
 use Rattle.ring_store.specs.Stands.{StandsOn, StandsAt}
 use Rattle.ring_store.proofs.Areas.{same_unit, same_size, size_there, open_inside, keeps_then}
 use Rattle.ring_store.proofs.CallFacts.{to_unit, from_unit}
 use Rattle.ring_store.proofs.RoundFacts.{rests}
+use Rattle.ring_store.proofs.Ranges.{round-covers}
 use Rattle.ring_store.proofs.RoomSteps.{turned, rounds-rest, rounds-parts, rounds-live, rounds-items, rounds-exact, rounds-least, rounds-full, used_by, round-le}
 use Rattle.ring_store.proofs.Standings.{stands}
 
@@ -122,9 +124,9 @@ module _ {T : Type 0} (role : Role) (kind : ℕ → Kind) (kept : ℕ → List �
     touches_more e lost more = then so_far.touches more
 
     -- what one more round spends at most
-    least_most : (round_units (kind (unit_of d area)) (sectors_of d area) current).most ≤ (kind (unit_of a area)).units.round (sector_size a area)
-    least_most =
-        from_unit (λ u. (round_units (kind u) (sectors_of d area) current).most ≤ k.units.round size) a d area banks
+    cut_most : (round_units (kind (unit_of d area)) (sectors_of d area) current).lost ≤ (kind (unit_of a area)).units.round (sector_size a area)
+    cut_most =
+        from_unit (λ u. (round_units (kind u) (sectors_of d area) current).lost ≤ k.units.round size) a d area banks
         (round-le k law size len (sectors_of d area) current large widths (to_unit (λ u. AtRest (kind u).reading (sectors_of d area) current) a d area banks (rest_on d area current opened law_d lawful_d so_far.standing)))
 
     units_same : round_units (kind (unit_of d area)) (sectors_of d area) current ≡ round_units (kind (unit_of a area)) (sectors_of d area) (open_sector (kind (unit_of a area)).reading (sectors_of d area))
@@ -132,9 +134,11 @@ module _ {T : Type 0} (role : Role) (kind : ℕ → Kind) (kept : ℕ → List �
         ap (λ (u : ℕ). round_units (kind u) (sectors_of d area) current) unit
         ∙ ap (λ (p : ℕ). round_units k (sectors_of d area) p) (to_unit (λ u. current ≡ open_sector (kind u).reading (sectors_of d area)) a d area banks so_far.standing.current)
 
-    most_more : (e : Device) (least : ℕ) → SpendsBetween d e least (round_units (kind (unit_of d area)) (sectors_of d area) current).most → SpendsBetween a e 0 ((made + 1) * (kind (unit_of a area)).units.round (sector_size a area))
-    most_more e least spends =
-        let le = least_most in
+    whole_most : (round_units (kind (unit_of d area)) (sectors_of d area) current).most ≤ (kind (unit_of a area)).units.round (sector_size a area)
+    whole_most = let covers = round-covers (kind (unit_of d area)) law_d (sectors_of d area) current in let le = cut_most in omega arith
+
+    most_more : (e : Device) (least most : ℕ) → most ≤ (kind (unit_of a area)).units.round (sector_size a area) → SpendsBetween d e least most → SpendsBetween a e 0 ((made + 1) * (kind (unit_of a area)).units.round (sector_size a area))
+    most_more e least most le spends =
         let sum : made * k.units.round size + k.units.round size ≡ (made + 1) * k.units.round size = omega arith in
         between_within (between_then so_far.at_most spends) 0 ((made + 1) * k.units.round size) (omega arith) (omega arith)
 
@@ -150,11 +154,29 @@ module _ {T : Type 0} (role : Role) (kind : ℕ → Kind) (kept : ℕ → List �
           ]
 
       -- a round was cut
-      pub stops_now : made + 1 < area.sectors → KeepsItems (kind (unit_of d area)) (sectors_of d area) (sectors_of e area) → SpendsUpTo d e (round_units (kind (unit_of d area)) (sectors_of d area) current) → StopsMakingRoom (kind (unit_of a area)) a e area len
-      stops_now few keeps spends =
+      list_here : list_of (kind (unit_of a area)) (sectors_of d area) ≡ joined (collected (length so_far.before) (parts_of (kind (unit_of a area)) (sectors_of a area)))
+      list_here =
+          let rested = rounds-rest k law size len (sectors_of a area) so_far.before (sectors_of d area) start_rest so_far.rounds in
+          parts-list k.reading law.reads (sectors_of d area) (open_sector k.reading (sectors_of d area)) rested
+          ∙ ap joined (rounds-parts k law size len (sectors_of a area) so_far.before (sectors_of d area) so_far.rounds)
+
+      list_cut : KeepsOrTurns (kind (unit_of d area)) (sectors_of d area) (sectors_of e area) current
+          → (list_of (kind (unit_of a area)) (sectors_of e area) ≡ joined (collected (length so_far.before) (parts_of (kind (unit_of a area)) (sectors_of a area))))
+          ⊎ (list_of (kind (unit_of a area)) (sectors_of e area) ≡ joined (collected (suc (length so_far.before)) (parts_of (kind (unit_of a area)) (sectors_of a area))))
+      list_cut either =
+          let here : KeepsOrTurns k (sectors_of d area) (sectors_of e area) (open_sector k.reading (sectors_of d area)) =
+          subst (λ (p : ℕ). KeepsOrTurns k (sectors_of d area) (sectors_of e area) p) (to_unit (λ u. current ≡ open_sector (kind u).reading (sectors_of d area)) a d area banks so_far.standing.current)
+          (to_unit (λ u. KeepsOrTurns (kind u) (sectors_of d area) (sectors_of e area) current) a d area banks either) in
+          elim here [
+            | inl same ↦ inl (same ∙ list_here)
+            | inr turned ↦ inr (turned ∙ ap (λ ps. joined (collect_oldest ps)) (rounds-parts k law size len (sectors_of a area) so_far.before (sectors_of d area) so_far.rounds))
+          ]
+
+      pub stops_now : made + 1 < area.sectors → KeepsItems (kind (unit_of d area)) (sectors_of d area) (sectors_of e area) → KeepsOrTurns (kind (unit_of d area)) (sectors_of d area) (sectors_of e area) current → SpendsUpTo d e (round_units (kind (unit_of d area)) (sectors_of d area) current) → StopsMakingRoom (kind (unit_of a area)) a e area len
+      stops_now few keeps lists spends =
           let count = so_far.count in
           let s = between_then so_far.spends spends in
-          let is = ap (λ (r : Range). r.most) units_same in
+          let is = ap (λ (r : Range). r.lost) units_same in
           record {
             before = so_far.before;
             mid = sectors_of d area;
@@ -163,8 +185,9 @@ module _ {T : Type 0} (role : Role) (kind : ℕ → Kind) (kept : ℕ → List �
             few = omega arith;
             once = λ none. no_elements so_far.before (let zero_rounds = first_round none in omega arith);
             items = keeps_then k law (sectors_of a area) (sectors_of d area) (sectors_of e area) (rounds-items k law size len (sectors_of a area) so_far.before (sectors_of d area) start_rest so_far.rounds) (to_unit (λ u. KeepsItems (kind u) (sectors_of d area) (sectors_of e area)) a d area banks keeps);
+            list = list_cut lists;
             spends = between_within s _ _ (omega arith) (omega arith);
-            at_most = subst (λ (n : ℕ). SpendsBetween a e 0 ((n + 1) * k.units.round size)) (sym count) (most_more e 0 spends);
+            at_most = subst (λ (n : ℕ). SpendsBetween a e 0 ((n + 1) * k.units.round size)) (sym count) (most_more e 0 (round_units (kind (unit_of d area)) (sectors_of d area) current).lost cut_most spends);
           }
 
       pub searching_more : (place : ℕ) (later : T) → Touches (area ∷ []) d e false → place ≡ next (sectors_of d area) current → AtRest (kind (unit_of d area)).reading (sectors_of e area) (next (sectors_of d area) current)
@@ -187,7 +210,7 @@ module _ {T : Type 0} (role : Role) (kind : ℕ → Kind) (kept : ℕ → List �
             count = omega arith;
             none = λ e. absurd (not_none (sectors_of d area) so_far.before e);
             spends = between_then so_far.spends (subst (λ (r : Range). SpendsIn d e r) units_same spends);
-            at_most = most_more e (round_units (kind (unit_of d area)) (sectors_of d area) current).least spends;
+            at_most = most_more e (round_units (kind (unit_of d area)) (sectors_of d area) current).least (round_units (kind (unit_of d area)) (sectors_of d area) current).most whole_most spends;
             delete = λ none. (
               let zero_rounds = first_round none in omega arith,
               λ _. delete_after open_turns,
@@ -268,4 +291,10 @@ module _ {T : Type 0} (role : Role) (kind : ℕ → Kind) (kept : ℕ → List �
 
 -- A store that is up, with what it knows.
 pub at_of : {T : Type 0} (role : Role) (kind : ℕ → Kind) (kept : ℕ → List ℕ → T) (d : Device) (store : Store T) → StandsOn role kind kept d store → StandsAt role kind kept d store.area store.current store.opened
-at_of role kind kept d store on = record { area = on.area; up = refl; current = on.current; opened = on.opened; rested = on.rested; undamaged = on.undamaged }
+at_of role kind kept d store on = record { area = on.area; current = on.current; opened = on.opened; rested = on.rested; undamaged = on.undamaged }
+
+-- The other way, with its cache.
+pub stands_with : {T : Type 0} (role : Role) (kind : ℕ → Kind) (kept : ℕ → List ℕ → T) (d : Device) (area : Area) (current : ℕ) (opened : T) (cache : List (Option (ℕ × ℕ))) → StandsAt role kind kept d area current opened → IsCacheOn kind d area cache
+    → StandsOn role kind kept d (record { area = area; current = current; opened = opened; cache = cache; up = true })
+stands_with role kind kept d area current opened cache at cached =
+    record { area = at.area; up = refl; current = at.current; opened = at.opened; rested = at.rested; undamaged = at.undamaged; cached = cached }

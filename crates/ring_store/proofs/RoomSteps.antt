@@ -1,5 +1,5 @@
 -- Rounds one after the other: what they keep, what they make of the parts, and when none of them finds room.
-use Rattle.std.proofs.Common.{◌≡◌, ℕ, ◌+◌, ◌*◌, ◌<◌, ◌≤◌, Bool, true, false, leb, List, [], ◌∷◌, ◌++◌, length, map, Option, Some, None, refl, sym, ap, subst, ◌∙◌, inl, inr, arith}
+use Rattle.std.proofs.Common.{◌≡◌, ℕ, ◌+◌, ◌<◌, ◌≤◌, true, false, leb, List, [], ◌∷◌, ◌++◌, length, map, Option, Some, None, refl, sym, ap, subst, ◌∙◌, inl, inr, arith}
 use Rattle.std.specs.Prelude.{fold}
 use Rattle.std.specs.List.{flat_map}
 use Rattle.std.proofs.lemmas.Bool.{false≢true, cases_Bool, cases_eq, leb-false}
@@ -7,7 +7,7 @@ use Rattle.std.proofs.lemmas.List.Sums.{fold_push}
 use Rattle.flash_map.specs.Area.{sector_at}
 use Rattle.pair_laws.specs.Live.{live_pairs}
 use Rattle.pair_laws.specs.Rounds.{copies_cost, joined, live_cost, collect_oldest, FindsNoRoom}
-use Rattle.ring_laws.specs.Area.{next, open_sector, area_pairs, is_blank_at}
+use Rattle.ring_laws.specs.Area.{next, open_sector, area_pairs}
 use Rattle.ring_laws.specs.Forms.{AtRest, pairs_at, rest, to_copy}
 use Rattle.ring_laws.specs.Reading.{Reading}
 use Rattle.ring_laws.specs.Rounds.{parts}
@@ -15,11 +15,12 @@ use Rattle.ring_laws.proofs.LiveCost.{live-le}
 use Rattle.ring_laws.proofs.Places.{after-within}
 use Rattle.ring_laws.proofs.RingSteps.{reads}
 use Rattle.ring_laws.proofs.Rounding.{oldest-is, round-live, no_round, round_more}
-use Rattle.ring_store.specs.Kind.{Range, Kind, IsKind, fits}
+use Rattle.ring_store.specs.Kind.{Kind, IsKind, fits}
 use Rattle.ring_store.specs.Collecting.{TurnsAt}
 use Rattle.ring_store.specs.Room.{has_room, parts_of, collected, newest, leaves_room, Rounds}
-use Rattle.ring_store.specs.Spending.{none, both, collect_units, round_units}
-use Rattle.ring_store.specs.Standing.{list_of, items, KeepsItems}
+use Rattle.ring_store.specs.Spending.{none, round_units}
+use Rattle.ring_store.specs.Standing.{list_of, KeepsItems}
+use Rattle.ring_store.proofs.Ranges.{round-lost}
 use Rattle.ring_store.proofs.Areas.{form_undamaged, keeps_none, keeps-by, keeps_then}
 use Rattle.ring_store.proofs.RoundSteps.{unused-room}
 use Rattle.ring_store.proofs.VersionSteps.{turned-versions}
@@ -144,8 +145,8 @@ module _ (k : Kind) (law : IsKind k) (size len : ℕ) where
             ]
       ]
 
-  -- what a round spends at most
-  pub round-le : (sectors : List (List ℕ)) (place : ℕ) → 512 ≤ size → ((j : ℕ) → j < length sectors → length (sector_at sectors j) ≡ size) → AtRest k.reading sectors place → (round_units k sectors place).most ≤ k.units.round size
+  -- what a round spends at most, whole or cut
+  pub round-le : (sectors : List (List ℕ)) (place : ℕ) → 512 ≤ size → ((j : ℕ) → j < length sectors → length (sector_at sectors j) ≡ size) → AtRest k.reading sectors place → (round_units k sectors place).lost ≤ k.units.round size
   round-le sectors place large widths form =
       let ring = form.ring in
       let opened = next sectors place in
@@ -158,15 +159,5 @@ module _ (k : Kind) (law : IsKind k) (size len : ℕ) where
       let cap : k.cap (length (sector_at sectors (next sectors (next sectors place)))) ≡ k.cap size = ap k.cap long in
       let small : copies_cost k.cost (to_copy R sectors (next sectors place)) ≤ k.cap size = omega arith in
       let all = law.round size (sector_at sectors place) (sector_at sectors (next sectors place)) (to_copy R sectors (next sectors place)) large (widths place ring.within) small in
-      elim (cases_Bool (is_blank_at R sectors (next sectors (next sectors place)))) [
-        | inl blank ↦
-            let same : round_units k sectors place ≡ both (k.units.close (sector_at sectors place)) none =
-            (rw blank refl) in
-            let is = ap (λ (r : Range). r.most) same in
-            omega arith
-        | inr used ↦
-            let same : round_units k sectors place ≡ both (k.units.close (sector_at sectors place)) (both (k.units.begin (sector_at sectors (next sectors place))) (collect_units k sectors (next sectors place))) =
-            (rw used refl) in
-            let is = ap (λ (r : Range). r.most) same in
-            omega arith
-      ]
+      let parts = round-lost k law sectors place in
+      omega arith

@@ -5,7 +5,6 @@ use Rattle.flash_sim.specs.Device.{Device}
 use Rattle.flash_map.specs.declared.area.Area.{Area}
 use Rattle.flash_map.specs.declared.area.Role.{Role}
 use Rattle.flash_map.specs.Area.{unit_of, sector_at, sector_size, sectors_of, ChangesOnly}
-use Rattle.flash_map.proofs.SpendingBounds.{between_then, between_within}
 use Rattle.ring_laws.specs.Area.{next, open_sector, is_closed_at, is_blank_at}
 use Rattle.ring_laws.specs.Forms.{AtRest, Collecting, IsForm}
 use Rattle.ring_laws.specs.Reading.{is_sound}
@@ -16,10 +15,12 @@ use Rattle.ring_store.specs.Kind.{Range, Kind, IsKind}
 use Rattle.ring_store.specs.Steps.{Keeps, Closes}
 use Rattle.ring_store.specs.Spending.{none, both, collect_units, round_units}
 use Rattle.ring_store.specs.Standing.{IsStoreArea, KeepsItems, SpendsIn, SpendsUpTo}
-use Rattle.ring_store.specs.Collecting.{CollectsAt, TurnsAt, redo_of, redo_units}
+use Rattle.ring_store.specs.Collecting.{CollectsAt, KeepsOrTurns, KeepsOrRedoes, TurnsAt, redo_of, redo_units}
 use Rattle.ring_store.proofs.Areas.{same_unit, same_size, still_area, size_there, form_here, keeps_then}
 use Rattle.ring_store.proofs.CallFacts.{to_unit, from_unit}
 use Rattle.ring_store.proofs.CollectSteps.{redo_is, rest_from, redo-at_rest, redo-collecting}
+use Rattle.ring_store.proofs.ListSteps.{kept-list, shut-list, round-list}
+use Rattle.ring_store.proofs.Ranges.{both-in, then-lost}
 use Rattle.ring_store.proofs.RoundSteps.{rest-keeps, closed-form, closed-is, closed-keeps, turns-blank, turns-collected, units-rested, units-collecting}
 use Rattle.ring_store.proofs.SlotFacts.{current_within, next_within}
 
@@ -56,6 +57,13 @@ module _ (kind : ℕ → Kind) (role : Role) (a : Device) (area : Area) (place :
           | inr closes ↦ closed-keeps k law old (sectors_of b area) place rests only closes
         ]
 
+    pub close_lost_list : Keeps (kind (unit_of a area)) (sector_at (sectors_of a area) place) (sector_at (sectors_of b area) place) ⊎ Closes (kind (unit_of a area)) (sector_at (sectors_of a area) place) (sector_at (sectors_of b area) place) → KeepsOrTurns (kind (unit_of a area)) (sectors_of a area) (sectors_of b area) place
+    close_lost_list either =
+        elim either [
+          | inl keeps ↦ inl (kept-list k law old (sectors_of b area) place rests only used keeps)
+          | inr closes ↦ inl (shut-list k law old (sectors_of b area) place rests only closes)
+        ]
+
     module _ (closes : Closes (kind (unit_of a area)) (sector_at (sectors_of a area) place) (sector_at (sectors_of b area) place)) (opened : ℕ) (follows : opened ≡ next (sectors_of a area) place) where
       form : IsForm k.reading (sectors_of b area) (next old place)
       form = closed-is k law old (sectors_of b area) place rests only closes
@@ -70,6 +78,11 @@ module _ (kind : ℕ → Kind) (role : Role) (a : Device) (area : Area) (place :
       redo_keeps e keeps =
           keeps_then k law old (sectors_of b area) (sectors_of e area) (closed-keeps k law old (sectors_of b area) place rests only closes)
           (to_unit (λ u. KeepsItems (kind u) (sectors_of b area) (sectors_of e area)) a b area banks keeps)
+
+      pub redo_lost_list : (e : Device) → KeepsOrRedoes (kind (unit_of b area)) (sectors_of b area) (sectors_of e area) opened → KeepsOrTurns (kind (unit_of a area)) (sectors_of a area) (sectors_of e area) place
+      redo_lost_list e either =
+          round-list k law old (sectors_of b area) place rests only closes (sectors_of e area)
+          (subst (λ (p : ℕ). KeepsOrRedoes k (sectors_of b area) (sectors_of e area) p) follows (to_unit (λ u. KeepsOrRedoes (kind u) (sectors_of b area) (sectors_of e area) opened) a b area banks either))
 
       pub redo_rests : (e : Device) → AtRest (kind (unit_of b area)).reading (sectors_of e area) opened → AtRest (kind (unit_of a area)).reading (sectors_of e area) (next (sectors_of a area) place)
       redo_rests e rest = subst (λ (p : ℕ). AtRest k.reading (sectors_of e area) p) follows (to_unit (λ u. AtRest (kind u).reading (sectors_of e area) opened) a b area banks rest)
@@ -105,8 +118,11 @@ module _ (kind : ℕ → Kind) (role : Role) (a : Device) (area : Area) (place :
             | inr collecting ↦ ap (redo_units k (sectors_of b area) (next old place)) (redo-collecting k law (sectors_of b area) (next old place) collecting) ∙ sym (units-collecting k law old (sectors_of b area) place rests only closes used collecting)
           ]
 
+      abbrev rest : Range
+      rest = cond (is_blank_at k.reading old (next old (next old place))) none (both (k.units.begin (sector_at old (next old place))) (collect_units k old (next old place)))
+
       pub round_spends : (e : Device) → SpendsIn a b ((kind (unit_of a area)).units.close (sector_at (sectors_of a area) place)) → SpendsIn b e (redo_units (kind (unit_of b area)) (sectors_of b area) opened (redo_of (kind (unit_of b area)) (sectors_of b area) opened)) → SpendsIn a e (round_units (kind (unit_of a area)) (sectors_of a area) place)
-      round_spends e first later = between_then first (subst (λ (r : Range). SpendsIn b e r) units_same later)
+      round_spends e first later = both-in a b e (k.units.close (sector_at old place)) rest first (subst (λ (r : Range). SpendsIn b e r) units_same later)
 
       pub round_spends_lost : (e : Device) → SpendsIn a b ((kind (unit_of a area)).units.close (sector_at (sectors_of a area) place)) → SpendsUpTo b e (redo_units (kind (unit_of b area)) (sectors_of b area) opened (redo_of (kind (unit_of b area)) (sectors_of b area) opened)) → SpendsUpTo a e (round_units (kind (unit_of a area)) (sectors_of a area) place)
-      round_spends_lost e first later = between_within (between_then first (subst (λ (r : Range). SpendsUpTo b e r) units_same later)) _ _ (omega arith) (omega arith)
+      round_spends_lost e first later = then-lost a b e (k.units.close (sector_at old place)) rest first (subst (λ (r : Range). SpendsUpTo b e r) units_same later)

@@ -4,7 +4,6 @@ use Rattle.std.specs.List.{flat_map, All}
 use Rattle.std.proofs.lemmas.Bool.{false≢true, cases_Bool, cases_eq, cond-true, cond-false, ne_eqb, leb-true, le-leb}
 use Rattle.std.proofs.lemmas.List.Elements.{All-nil, All-cons}
 use Rattle.flash_map.specs.Area.{sector_at, ChangesOnly}
-use Rattle.pair_laws.specs.Items.{last}
 use Rattle.pair_laws.specs.Live.{live_pairs}
 use Rattle.ring_laws.specs.Area.{next, area_pairs, is_blank_at}
 use Rattle.ring_laws.specs.Forms.{AtRest, Collecting, IsForm, pairs_at, rest, to_copy}
@@ -97,7 +96,7 @@ module _ (k : Kind) (law : IsKind k) where
         let step = close R law.reads old place (sector_at mid place) form closes.list sound in
         subst (λ (s : List (List ℕ)). AtRest R s (next old place) ⊎ Collecting R s (next old place)) (sym only) step.0
 
-    closed-list : area_pairs R mid (next old place) ≡ area_pairs R old place
+    pub closed-list : area_pairs k.reading mid (next old place) ≡ area_pairs k.reading old place
     closed-list =
         let step = close R law.reads old place (sector_at mid place) form closes.list sound in
         ap (λ (s : List (List ℕ)). area_pairs R s (next old place)) only ∙ step.1
@@ -209,6 +208,6 @@ module _ (k : Kind) (law : IsKind k) where
         → cond (is_blank_at k.reading old (next old (next old place))) none (both (k.units.begin (sector_at old (next old place))) (collect_units k old (next old place))) ≡ again_units k mid (next old place)
     units-collecting used collecting =
         cond-false (is_blank_at R old (next old (next old place))) none (both (k.units.begin (sector_at old (next old place))) (collect_units k old (next old place))) (victim-used used collecting)
-        ∙ ap (λ ps. both (k.units.begin (sector_at old (next old place))) (both (copies k ps) (both k.units.done k.units.clear))) (sym copies-same)
+        ∙ ap (λ ps. both (k.units.begin (sector_at old (next old place))) (both (copies k ps) (both k.units.any_done k.units.any_clear))) (sym copies-same)
         ∙ ap (λ (b : List ℕ). both (k.units.begin b) (collect_units k mid (next old place))) (sym opened-same)
-        ∙ ap (λ (r : Range). both r (collect_units k mid (next old place))) (sym (cond-true (is_blank_at R mid (next old place)) (k.units.begin (sector_at mid (next old place))) k.units.clear opened-unused))
+        ∙ ap (λ (r : Range). both r (collect_units k mid (next old place))) (sym (cond-true (is_blank_at R mid (next old place)) (k.units.begin (sector_at mid (next old place))) (k.units.clear (sector_at mid (next old place))) opened-unused))

@@ -1,10 +1,10 @@
 -- What a set of bits tells of the ids of some entries, one entry after another.
 use Rattle.std.proofs.Common.{◌≡◌, ◌≢◌, ℕ, ◌+◌, ◌-◌, ◌*◌, ◌/◌, ◌%◌, ◌^◌, ◌<◌, ◌≤◌, Bool, true, false, ◌||◌, cond, eqb, List, [], ◌∷◌, ◌++◌, length, map, Option, Some, None, refl, sym, ap, subst, ◌∙◌, inl, inr, append_assoc, arith}
-use Rattle.std.specs.Prelude.{bit_or, replicate, slice_set, slice_index, is_some, IfSome}
+use Rattle.std.specs.Prelude.{bit_or, replicate, slice_set, slice_index}
 use Rattle.std.specs.Int.{bit_at, w8}
-use Rattle.std.specs.List.{All, filter_map, flat_map, list_any, range_with_len}
+use Rattle.std.specs.List.{filter_map, flat_map, list_any, range_with_len}
 use Rattle.std.specs.Option.{option_map, option_to_list}
-use Rattle.std.proofs.lemmas.Bool.{cases_eq, cases_lt, eq-eqb, ne_eqb, le-ltb, lt-ltb}
+use Rattle.std.proofs.lemmas.Bool.{cases_eq, eq-eqb, ne_eqb, le-ltb, lt-ltb}
 use Rattle.std.proofs.lemmas.List.{append-nil, get_or-replicate, get_or-set_same, get_or-set_other}
 use Rattle.std.proofs.lemmas.List.Concat.{flat_map-append, flat_map-cons}
 use Rattle.std.proofs.lemmas.List.Elements.{All-nil, All-cons, All-append}
@@ -14,13 +14,12 @@ use Rattle.std.proofs.lemmas.Nat.Bits.{bit_at-zero, bit_at_set_same, bit_at_set_
 use Rattle.flash_map.specs.Area.{sector_at}
 use Rattle.ring_laws.specs.Area.{counts_at}
 use Rattle.ring_laws.specs.Live.{counted_in}
-use Rattle.ring_laws.specs.RoundParts.{places_after}
 use Rattle.ring_laws.proofs.LastLemmas.{among}
 use Rattle.ring_laws.proofs.Places.{range-append, range_one}
 use Rattle.ring_store.specs.declared.entry.Entry.{Entry}
 use Rattle.ring_store.specs.declared.entry.Placed.{Placed}
 use Rattle.ring_store.specs.Kind.{Kind, placed_at, slots}
-use Rattle.ring_store.specs.Seen.{class_of, has_bit, HasSeen, behind}
+use Rattle.ring_store.specs.Seen.{key_of, is_other, has_bit, HasSeen, behind}
 use Rattle.ring_store.proofs.OlderSteps.{placed_to, to_more}
 
 or-comm : (a b : Bool) → (a || b) ≡ (b || a)
@@ -73,26 +72,30 @@ set_others bytes n inside m other =
 
 -- ---- one entry more
 
-pub seen_none : (limit : ℕ) → HasSeen limit (replicate 0x2000 0) []
-seen_none limit = record { bit = λ class below. no_bit 0x2000 class (omega arith); known = All-nil (λ (p : Placed). p.id < limit) }
+pub seen_none : (limit : ℕ) → HasSeen limit (replicate 0x4000 0) false []
+seen_none limit = record { bit = λ key below. no_bit 0x4000 key (omega arith); others = refl; known = All-nil (λ (p : Placed). p.id < limit) }
 
 abbrev pub Noted : List ℕ → List ℕ → ℕ → Type 0
-Noted old new id = (class : ℕ) → class < 2 ^ 16 → has_bit new class ≡ (has_bit old class || eqb (class_of id) class)
+Noted old new id = (key : ℕ) → key < 2 ^ 17 → has_bit new key ≡ (has_bit old key || eqb (key_of id) key)
 
-pub seen_push : (limit : ℕ) (old new : List ℕ) (before : List Placed) (p : Placed) → p.id < limit → Noted old new p.id → HasSeen limit old before → HasSeen limit new (before ++ p ∷ [])
-seen_push limit old new before p small noted seen = record {
-  bit = λ class below.
-      noted class below ∙ ap (λ (t : Bool). t || eqb (class_of p.id) class) (seen.bit class below)
-      ∙ ap (λ (t : Bool). list_any (λ (q : Placed). eqb (class_of q.id) class) before || t) (sym (or-false (eqb (class_of p.id) class)))
-      ∙ sym (list_any-append (λ (q : Placed). eqb (class_of q.id) class) before (p ∷ []));
+pub seen_push : (limit : ℕ) (old new : List ℕ) (mixed more : Bool) (before : List Placed) (p : Placed) → p.id < limit → Noted old new p.id → more ≡ (mixed || is_other p) → HasSeen limit old mixed before → HasSeen limit new more (before ++ p ∷ [])
+seen_push limit old new mixed more before p small noted is seen = record {
+  bit = λ key below.
+      noted key below ∙ ap (λ (t : Bool). t || eqb (key_of p.id) key) (seen.bit key below)
+      ∙ ap (λ (t : Bool). list_any (λ (q : Placed). eqb (key_of q.id) key) before || t) (sym (or-false (eqb (key_of p.id) key)))
+      ∙ sym (list_any-append (λ (q : Placed). eqb (key_of q.id) key) before (p ∷ []));
+  others = is ∙ ap (λ (t : Bool). t || is_other p) seen.others
+      ∙ ap (λ (t : Bool). list_any is_other before || t) (sym (or-false (is_other p)))
+      ∙ sym (list_any-append is_other before (p ∷ []));
   known = All-append (λ (q : Placed). q.id < limit) before (p ∷ []) seen.known (All-cons (λ (q : Placed). q.id < limit) p [] small (All-nil (λ (q : Placed). q.id < limit)));
 }
 
-seen_front : (limit : ℕ) (old new : List ℕ) (later : List Placed) (p : Placed) → p.id < limit → Noted old new p.id → HasSeen limit old later → HasSeen limit new (p ∷ later)
-seen_front limit old new later p small noted seen = record {
-  bit = λ class below.
-      noted class below ∙ ap (λ (t : Bool). t || eqb (class_of p.id) class) (seen.bit class below)
-      ∙ or-comm (list_any (λ (q : Placed). eqb (class_of q.id) class) later) (eqb (class_of p.id) class);
+seen_front : (limit : ℕ) (old new : List ℕ) (mixed more : Bool) (later : List Placed) (p : Placed) → p.id < limit → Noted old new p.id → more ≡ (mixed || is_other p) → HasSeen limit old mixed later → HasSeen limit new more (p ∷ later)
+seen_front limit old new mixed more later p small noted is seen = record {
+  bit = λ key below.
+      noted key below ∙ ap (λ (t : Bool). t || eqb (key_of p.id) key) (seen.bit key below)
+      ∙ or-comm (list_any (λ (q : Placed). eqb (key_of q.id) key) later) (eqb (key_of p.id) key);
+  others = is ∙ ap (λ (t : Bool). t || is_other p) seen.others ∙ or-comm (list_any is_other later) (is_other p);
   known = All-cons (λ (q : Placed). q.id < limit) p later small seen.known;
 }
 
@@ -104,11 +107,12 @@ pub seen_some : (P : List Placed → Type 0) (before : List Placed) (p : Placed)
 seen_some P before p o is seen = subst (λ (o : Option Placed). P (before ++ option_to_list o)) is seen
 
 -- in front of others
-pub seen_before : (limit : ℕ) (old new : List ℕ) (later : List Placed) (p : Placed) (o : Option Placed) → Some p ≡ o → p.id < limit → Noted old new p.id → HasSeen limit old later → HasSeen limit new (option_to_list o ++ later)
-seen_before limit old new later p o is small noted seen = subst (λ (o : Option Placed). HasSeen limit new (option_to_list o ++ later)) is (seen_front limit old new later p small noted seen)
+pub seen_before : (limit : ℕ) (old new : List ℕ) (mixed more : Bool) (later : List Placed) (p : Placed) (o : Option Placed) → Some p ≡ o → p.id < limit → Noted old new p.id → more ≡ (mixed || is_other p)
+    → HasSeen limit old mixed later → HasSeen limit new more (option_to_list o ++ later)
+seen_before limit old new mixed more later p o there small noted is seen = subst (λ (o : Option Placed). HasSeen limit new more (option_to_list o ++ later)) there (seen_front limit old new mixed more later p small noted is seen)
 
-pub seen_still : (limit : ℕ) (bits : List ℕ) (later : List Placed) (o : Option Placed) → None ≡ o → HasSeen limit bits later → HasSeen limit bits (option_to_list o ++ later)
-seen_still limit bits later o is seen = subst (λ (o : Option Placed). HasSeen limit bits (option_to_list o ++ later)) is seen
+pub seen_still : (limit : ℕ) (bits : List ℕ) (mixed : Bool) (later : List Placed) (o : Option Placed) → None ≡ o → HasSeen limit bits mixed later → HasSeen limit bits mixed (option_to_list o ++ later)
+seen_still limit bits mixed later o is seen = subst (λ (o : Option Placed). HasSeen limit bits mixed (option_to_list o ++ later)) is seen
 
 -- ---- slot by slot, and sector by sector
 

@@ -1,5 +1,5 @@
 -- What collections and rounds keep of the versions that an area's list has.
-use Rattle.std.proofs.Common.{◌≡◌, ℕ, ◌<◌, List, [], ◌∷◌, ◌++◌, length, map, set, refl, sym, ap, ◌∙◌, inl}
+use Rattle.std.proofs.Common.{◌≡◌, ℕ, List, [], ◌∷◌, ◌++◌, length, map, set, refl, sym, ap, ◌∙◌, inl}
 use Rattle.std.specs.List.{flat_map}
 use Rattle.std.proofs.lemmas.List.{append-nil, length-set}
 use Rattle.std.proofs.lemmas.List.Concat.{flat_map-append}
@@ -29,29 +29,33 @@ module _ (reading : Reading) (old new : List (List ℕ)) (place : ℕ) where
   before form = let ring = form.ring in list-collecting reading old place ring form.not_done ∙ others-victim reading old place ring.within ring.several
 
   -- gc-done stands behind all copies
-  pub marked-versions : Collecting reading old place → Collected reading new place → ChangesOnly old new place → reading.pairs (sector_at new place) ≡ to_copy reading old place → KeepsVersions (area_pairs reading old place) (area_pairs reading new place)
-  marked-versions form done only list =
+  pub marked-list : Collecting reading old place → Collected reading new place → ChangesOnly old new place → reading.pairs (sector_at new place) ≡ to_copy reading old place
+      → area_pairs reading new place ≡ flat_map (pairs_at reading old) (rest (length old) place) ++ to_copy reading old place
+  marked-list form done only list =
       let ring = form.ring in
-      let b = sector_at new place in
-      let now : area_pairs reading new place ≡ later ++ to_copy reading old place =
       list-collected reading new place done.ring done.done
       ∙ ap (λ (s : List (List ℕ)). flat_map (pairs_at reading s) (rest (length s) place) ++ pairs_at reading new place) only
       ∙ ap (λ (n : ℕ). flat_map (pairs_at reading (set old place (sector_at new place))) (rest n place) ++ pairs_at reading new place) (length-set old place (sector_at new place))
       ∙ ap (λ ps. ps ++ pairs_at reading new place) (rest-kept reading old place place (sector_at new place) ring.within ring.several (inl refl))
-      ∙ ap (λ ps. later ++ ps) list in
-      keeps_as (area_pairs reading old place) (pairs_at reading old (next old place) ++ later) (area_pairs reading new place) (later ++ to_copy reading old place) (before form) now
+      ∙ ap (λ ps. later ++ ps) list
+
+  pub marked-versions : Collecting reading old place → Collected reading new place → ChangesOnly old new place → reading.pairs (sector_at new place) ≡ to_copy reading old place → KeepsVersions (area_pairs reading old place) (area_pairs reading new place)
+  marked-versions form done only list =
+      keeps_as (area_pairs reading old place) (pairs_at reading old (next old place) ++ later) (area_pairs reading new place) (later ++ to_copy reading old place) (before form) (marked-list form done only list)
       (collected-versions (pairs_at reading old (next old place)) later)
 
   module _ (laws : IsReading reading) where
     -- a whole collection
-    pub collects-versions : Collecting reading old place → Collects reading old place new → KeepsVersions (area_pairs reading old place) (area_pairs reading new place)
-    collects-versions form collects =
-        let now : area_pairs reading new place ≡ later ++ to_copy reading old place =
+    pub collects-list : Collects reading old place new → area_pairs reading new place ≡ flat_map (pairs_at reading old) (rest (length old) place) ++ to_copy reading old place
+    collects-list collects =
         parts-list reading laws new place collects.form ∙ ap joined collects.parts
         ∙ flat_map-append (λ (part : List (ℕ × List ℕ)). part) (map (pairs_at reading old) (rest (length old) place)) (to_copy reading old place ∷ [])
         ∙ ap (λ ps. ps ++ joined (to_copy reading old place ∷ [])) (flat_map-map (λ (part : List (ℕ × List ℕ)). part) (pairs_at reading old) (rest (length old) place))
-        ∙ ap (λ ps. later ++ ps) (append-nil (to_copy reading old place)) in
-        keeps_as (area_pairs reading old place) (pairs_at reading old (next old place) ++ later) (area_pairs reading new place) (later ++ to_copy reading old place) (before form) now
+        ∙ ap (λ ps. later ++ ps) (append-nil (to_copy reading old place))
+
+    pub collects-versions : Collecting reading old place → Collects reading old place new → KeepsVersions (area_pairs reading old place) (area_pairs reading new place)
+    collects-versions form collects =
+        keeps_as (area_pairs reading old place) (pairs_at reading old (next old place) ++ later) (area_pairs reading new place) (later ++ to_copy reading old place) (before form) (collects-list collects)
         (collected-versions (pairs_at reading old (next old place)) later)
 
     -- a whole round of close and collect

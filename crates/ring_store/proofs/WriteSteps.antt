@@ -1,6 +1,6 @@
 -- How writing and deleting end.
 use Rattle.std.proofs.Common.{◌≡◌, ℕ, ◌+◌, ◌-◌, ◌*◌, ◌<◌, ◌≤◌, Bool, true, false, ◌^◌, cond, eqb, ltb, List, [], ◌∷◌, ◌++◌, length, Option, Some, None, refl, sym, ap, subst, ◌∙◌, inl, inr, ◌⊎◌, arith}
-use Rattle.std.specs.Prelude.{Result, Ok, Err, option_map, is_some}
+use Rattle.std.specs.Prelude.{Ok, option_map, is_some}
 use Rattle.std.specs.FinMap as map
 use Rattle.std.proofs.Math.Nat.{mul-le-mul_left}
 use Rattle.std.proofs.lemmas.Bool.{false≢true, cases_Bool, cond-false, ne_eqb, eqb-true, ltb-false, ltb-true}
@@ -19,9 +19,9 @@ use Rattle.pair_laws.proofs.Pairs.{last-push}
 use Rattle.ring_laws.specs.Area.{open_sector}
 use Rattle.ring_laws.specs.Forms.{AtRest}
 use Rattle.ring_store.specs.Kind.{Kind, IsKind}
-use Rattle.ring_store.specs.Room.{open_bytes, has_room, IsShort, Rounds, MakesRoom, FindsFull, StopsMakingRoom}
+use Rattle.ring_store.specs.Room.{open_bytes, has_room, IsShort, Rounds, MakesRoom, FindsFull}
 use Rattle.ring_store.specs.Standing.{list_of, items}
-use Rattle.ring_store.specs.Writing.{SpendsEntry, Appends, StopsInEntry, StopsAppending, AppendEnds, most_units, Holds, IsAbsent, Writes, FindsNoSpace, StopsWriting, Deletes, StopsDeleting}
+use Rattle.ring_store.specs.Writing.{SpendsEntry, StopsEntry, Appends, StopsAppending, AppendEnds, most_units, Holds, IsAbsent, Writes, FindsNoSpace, StopsWriting, Deletes, StopsDeleting}
 use Rattle.ring_store.proofs.RoomSteps.{rounds-live, rounds-none}
 use Rattle.ring_store.proofs.VersionWrites.{appends-versions, stops-versions}
 
@@ -98,6 +98,8 @@ module _ (k : Kind) (law : IsKind k) (a : Device) (area : Area) (form : AtRest k
     appended-most rounds few =
         let entry = appends.puts.entry in
         let le = law.entry (open_bytes k (sectors_of appends.mid area)) entry.begun (length bytes) in
+        let first = law.units.begins (open_bytes k (sectors_of appends.mid area)) in
+        let second = law.units.puts entry.begun (length bytes) in
         most_then appends.mid e (length bytes) (length appends.makes.before) rounds few appends.makes.at_most (between_within entry.spends 0 (k.units.entry (length bytes)) (omega arith) (omega arith))
 
   module _ (e : Device) (id : ℕ) (bytes : List ℕ) (stops : StopsAppending k a e area id bytes) where
@@ -117,6 +119,13 @@ module _ (k : Kind) (law : IsKind k) (a : Device) (area : Area) (form : AtRest k
         elim stops [
           | inl round ↦ absurd (no_round round.mid (length bytes) round.before fitting round.rounds round.unfit)
           | inr entry ↦ subst (λ (x : Device). SpendsBetween x e 0 (k.units.entry (length bytes))) (same_device entry.mid (length bytes) entry.makes fitting) entry.stops.at_most
+        ]
+
+    stopped-entry : has_room k (sectors_of a area) (length bytes) ≡ true → StopsEntry k a e (open_bytes k (sectors_of a area)) (length bytes)
+    stopped-entry fitting =
+        elim stops [
+          | inl round ↦ absurd (no_round round.mid (length bytes) round.before fitting round.rounds round.unfit)
+          | inr entry ↦ subst (λ (x : Device). StopsEntry k x e (open_bytes k (sectors_of x area)) (length bytes)) (same_device entry.mid (length bytes) entry.makes fitting) entry.stops.entry
         ]
 
     stopped-most : (rounds : ℕ) → ((n : ℕ) → n < area.sectors → (length bytes ≡ 0 → n ≤ 1) → n ≤ rounds) → SpendsBetween a e 0 (most_units k (sector_size a area) rounds (length bytes))
@@ -178,6 +187,7 @@ module _ (k : Kind) (law : IsKind k) (a : Device) (area : Area) (form : AtRest k
     items = elim (stopped-items e id bytes stops) [ inl same ↦ inl same | inr put ↦ inr (put ∙ pair_is (items k old) id bytes some) ];
     versions = stops-versions k a e area id bytes stops;
     fitting = stopped-fitting e id bytes stops;
+    entry = stopped-entry e id bytes stops;
     at_most = stopped-most e id bytes stops (area.sectors - 1) (λ n few _. omega arith);
   }
 
@@ -210,6 +220,7 @@ module _ (k : Kind) (law : IsKind k) (a : Device) (area : Area) (form : AtRest k
     items = stopped-items e id [] stops;
     versions = stops-versions k a e area id [] stops;
     fitting = stopped-fitting e id [] stops;
+    entry = stopped-entry e id [] stops;
     at_most = stopped-most e id [] stops 1 (λ n few once. once refl);
   }
 

@@ -1,16 +1,18 @@
 -- How far a collection has come, and what its steps make of an area.
-use Rattle.std.specs.Prelude.{◌≡◌, ℕ, ◌+◌, ◌*◌, ◌<◌, ◌≤◌, Bool, true, false, List, length, Option, Some, None, nat_le}
+use Rattle.std.specs.Prelude.{◌≡◌, ◌⊎◌, ℕ, ◌+◌, ◌*◌, ◌<◌, Bool, true, false, List, ◌++◌, length, Option, Some, None, nat_le}
+use Rattle.std.specs.List.{flat_map}
 use Rattle.flash_map.specs.Area.{sector_at, ChangesOnly}
 use Rattle.ring_laws.specs.Area.{next, is_closed_at}
-use Rattle.ring_laws.specs.Forms.{to_copy, pairs_at}
-use Rattle.pair_laws.specs.Rounds.{copies_cost}
-use Rattle.ring_laws.specs.Rounds.{Collects, IsRound}
+use Rattle.ring_laws.specs.Forms.{rest, to_copy, pairs_at}
+use Rattle.pair_laws.specs.Rounds.{copies_cost, joined, collect_oldest}
+use Rattle.ring_laws.specs.Rounds.{Collects, IsRound, parts}
 use Rattle.ring_laws.specs.Live as live
 use Rattle.ring_store.specs.declared.entry.Placed.{Placed}
 use Rattle.ring_store.specs.declared.entry.Redo.{Redo}
 use Rattle.ring_store.specs.declared.entry.Redo.TheVariants.{Nothing, ClearNext, CollectAgain}
 use Rattle.ring_store.specs.Kind.{Range, Kind, slots, fits}
 use Rattle.ring_store.specs.Spending.{none, again_units}
+use Rattle.ring_store.specs.Standing.{list_of}
 use Rattle.ring_store.specs.Steps.{Adds}
 use Rattle.std.specs.Prelude.{if◌then◌else◌}
 
@@ -46,7 +48,7 @@ CopiesOne k old new place (Some p) = ChangesOnly old new place × Adds k (sector
 -- what the copy of an entry spends, if there is one
 abbrev pub copy_units : Kind → Option Placed → Range
 copy_units k None = none
-copy_units k (Some p) = k.units.copy p.len
+copy_units k (Some p) = k.units.any_copy p.len
 
 -- a whole collection, and the room that it leaves in the open sector
 pub record CollectsAt (k : Kind) (old new : List (List ℕ)) (place : ℕ) : Type 0 where
@@ -67,12 +69,44 @@ pub record TurnsAt (k : Kind) (size : ℕ) (old new : List (List ℕ)) (place : 
       ≡ fits_beside k size (pairs_at k.reading new (next old place)) len
   pub delete : fits k (sector_at new (next old place)) 0 ≡ true
 
+-- ---- the list
+
+-- that of an area whose victim is gone: its live pairs stand last
+abbrev pub collected_list : Kind → List (List ℕ) → ℕ → List (ℕ × List ℕ)
+collected_list k sectors place =
+    flat_map (pairs_at k.reading sectors) (rest (length sectors) place) ++ to_copy k.reading sectors place
+
+-- a collection may have been cut: the list is as before, or what it leaves
+abbrev pub KeepsOrCollects : Kind → List (List ℕ) → List (List ℕ) → ℕ → Type 0
+KeepsOrCollects k old new place =
+    (list_of k new ≡ list_of k old) ⊎ (list_of k new ≡ collected_list k old place)
+
+-- the same of a round from an area at rest, by the parts of its list
+abbrev pub KeepsOrTurns : Kind → List (List ℕ) → List (List ℕ) → ℕ → Type 0
+KeepsOrTurns k old new place =
+    (list_of k new ≡ list_of k old)
+    ⊎ (list_of k new ≡ joined (collect_oldest (parts k.reading old place)))
+
+-- ---- mounting
+
 -- What a mount has to do with this sector open. The next sector is closed only while a collection lasts.
 abbrev pub redo_of : Kind → List (List ℕ) → ℕ → Redo
 redo_of k sectors place = if is_closed_at k.reading sectors (next sectors place) then (if k.reading.has_gc_done (sector_at sectors place) then ClearNext else CollectAgain) else Nothing
 
+-- the list that it leaves
+abbrev pub redo_list : Kind → List (List ℕ) → ℕ → Redo → List (ℕ × List ℕ)
+redo_list k sectors place Nothing = list_of k sectors
+redo_list k sectors place ClearNext = list_of k sectors
+redo_list k sectors place CollectAgain = collected_list k sectors place
+
+-- a mount that was cut
+abbrev pub KeepsOrRedoes : Kind → List (List ℕ) → List (List ℕ) → ℕ → Type 0
+KeepsOrRedoes k old new place =
+    (list_of k new ≡ list_of k old)
+    ⊎ (list_of k new ≡ redo_list k old place (redo_of k old place))
+
 -- what that spends
 abbrev pub redo_units : Kind → List (List ℕ) → ℕ → Redo → Range
 redo_units k sectors place Nothing = none
-redo_units k sectors place ClearNext = k.units.clear
+redo_units k sectors place ClearNext = k.units.clear (sector_at sectors (next sectors place))
 redo_units k sectors place CollectAgain = again_units k sectors place

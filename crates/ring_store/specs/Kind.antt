@@ -10,28 +10,56 @@ use Rattle.ring_laws.specs.Entries.{Entries}
 use Rattle.ring_store.specs.declared.entry.Entry.{Entry}
 use Rattle.ring_store.specs.declared.entry.Placed.{Placed}
 
--- so many units at least, and so many at most
+-- A step that ends whole spends so many units at least, and so many at most. One that is cut spends no more than `lost`.
 pub record Range : Type 0 where
   pub least : ℕ
   pub most : ℕ
+  pub lost : ℕ
 
--- What the steps in one sector spend.
+-- the one range lies in the other
+pub record LiesIn (one wide : Range) : Type 0 where
+  pub least : wide.least ≤ one.least
+  pub most : one.most ≤ wide.most
+  pub lost : one.lost ≤ wide.lost
+
+-- a cut step may spend as much as a whole one
+abbrev pub CoversWhole : Range → Type 0
+CoversWhole range = range.most ≤ range.lost
+
+-- What the steps in one sector spend, by the bytes of the sector before.
 pub record Units : Type 0 where
   -- making a sector that is in use by no list ready for entries
   pub begin : List ℕ → Range
   -- a value of this length and its entry, in a ready sector
   pub put : List ℕ → ℕ → Range
-  -- a copy of an entry with a value of this length
-  pub copy : ℕ → Range
-  pub done : Range
+  -- a copy of an entry with a value of this length, in a ready sector
+  pub copy : List ℕ → ℕ → Range
+  pub done : List ℕ → Range
   pub close : List ℕ → Range
-  pub clear : Range
+  pub clear : List ℕ → Range
+  -- the same in any sector: a collection is told by what is copied, not by what the bytes of a sector become on the way
+  pub any_copy : ℕ → Range
+  pub any_done : Range
+  pub any_clear : Range
   -- a round of close and collect in sectors of this size, at most
   pub round : ℕ → ℕ
   -- a mount in an area with sectors of this size, at most
   pub mount : ℕ → ℕ
   -- a value of this length and its entry, at most, with what makes their sector ready
   pub entry : ℕ → ℕ
+
+-- Each range covers whole steps, and those of any sector have room for each one's.
+pub record AreUnits (u : Units) : Type 0 where
+  pub begins : (b : List ℕ) → CoversWhole (u.begin b)
+  pub puts : (b : List ℕ) (len : ℕ) → CoversWhole (u.put b len)
+  pub closes : (b : List ℕ) → CoversWhole (u.close b)
+  pub clears : (b : List ℕ) → CoversWhole (u.clear b)
+  pub any_copies : (len : ℕ) → CoversWhole (u.any_copy len)
+  pub any_dones : CoversWhole u.any_done
+  pub any_clears : CoversWhole u.any_clear
+  pub copy_in : (b : List ℕ) (len : ℕ) → LiesIn (u.copy b len) (u.any_copy len)
+  pub done_in : (b : List ℕ) → LiesIn (u.done b) u.any_done
+  pub clear_in : (b : List ℕ) → LiesIn (u.clear b) u.any_clear
 
 pub record Kind : Type 0 where
   pub reading : Reading
@@ -98,17 +126,18 @@ pub record IsKind (k : Kind) : Type 0 where
   pub room : (b : List ℕ) → 512 ≤ length b → k.reading.is_blank b ≡ true → k.free b ≡ k.cap (length b) + 3 * k.slot
   -- an open sector in use takes entries
   pub used : (b : List ℕ) → 512 ≤ length b → is_sound k.reading b ≡ true → k.reading.is_blank b ≡ false → k.reading.is_closed b ≡ false → k.is_ready b ≡ true
-  pub begun : (b : List ℕ) → k.is_ready b ≡ true → k.units.begin b ≡ record { least = 0; most = 0 }
+  pub begun : (b : List ℕ) → k.is_ready b ≡ true → k.units.begin b ≡ record { least = 0; most = 0; lost = 0 }
+  pub units : AreUnits k.units
   -- no bytes take up less than they are, and no sector has more than its size
   pub least : (len : ℕ) → len ≤ k.cost len
   pub most : (size : ℕ) → k.cap size ≤ size
   -- a round's close, and its copies of pairs that a sector has room for
   pub round : (size : ℕ) (closed opened : List ℕ) (pairs : List (ℕ × List ℕ)) → 512 ≤ size → length closed ≡ size → copies_cost k.cost pairs ≤ k.cap size
-      → (k.units.close closed).most + ((k.units.begin opened).most + (copies_cost (λ len. (k.units.copy len).most) pairs + (k.units.done.most + k.units.clear.most))) ≤ k.units.round size
+      → (k.units.close closed).lost + ((k.units.begin opened).lost + (copies_cost (λ len. (k.units.any_copy len).lost) pairs + (k.units.any_done.lost + k.units.any_clear.lost))) ≤ k.units.round size
   -- the copies of a mount, which makes their sector ready or empties it first
   pub mount : (size : ℕ) (opened : List ℕ) (pairs : List (ℕ × List ℕ)) → 512 ≤ size → copies_cost k.cost pairs ≤ k.cap size
-      → max (k.units.begin opened).most k.units.clear.most + (copies_cost (λ len. (k.units.copy len).most) pairs + (k.units.done.most + k.units.clear.most)) ≤ k.units.mount size
-  pub entry : (before begun : List ℕ) (len : ℕ) → (k.units.begin before).most + (k.units.put begun len).most ≤ k.units.entry len
+      → max (k.units.begin opened).lost k.units.any_clear.lost + (copies_cost (λ len. (k.units.any_copy len).lost) pairs + (k.units.any_done.lost + k.units.any_clear.lost)) ≤ k.units.mount size
+  pub entry : (before begun : List ℕ) (len : ℕ) → (k.units.begin before).lost + (k.units.put begun len).lost ≤ k.units.entry len
   pub damaged : (sectors : List (List ℕ)) → k.damage sectors ≡ None → first_damage k.reading sectors ≡ None
   pub undamaged : (sectors : List (List ℕ)) → first_damage k.reading sectors ≡ None → k.damage sectors ≡ None
 

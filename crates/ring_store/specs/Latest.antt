@@ -1,52 +1,84 @@
--- Where the last entry of each key of ids stands.
-use Rattle.std.specs.Prelude.{◌≡◌, ℕ, ◌+◌, ◌*◌, ◌/◌, ◌%◌, ◌^◌, ◌<◌, Bool, not, List, length, fold, slice_index, Option, Some, None, ◌==◌, if◌then◌else◌}
-use Rattle.std.specs.List.{All, list_any}
-use Rattle.std.specs.Option.{option_map_or}
+-- The last entries of ids: a table of those that have bytes, up to a bound.
+use Rattle.std.specs.Prelude.{◌≡◌, ℕ, ◌+◌, ◌<◌, ◌≤◌, List, [], ◌∷◌, ◌++◌, length, fold, Option, Some, None, Result, Ok, Err, ◌==◌, if◌then◌else◌}
+use Rattle.std.specs.List.{All, AllPairs, AllWithin, Contains, HoldsAt}
+use Rattle.std.specs.Option.{option_and_then}
 use Rattle.flash_sim.specs.Device.{Device}
 use Rattle.flash_map.specs.declared.area.Area.{Area}
+use Rattle.ring_laws.specs.NextIds.{IsBehind}
 use Rattle.ring_store.specs.declared.entry.Placed.{Placed}
 use Rattle.ring_store.specs.declared.latest.LastSlots.{LastSlots}
 use Rattle.ring_store.specs.Kind.{Kind}
 use Rattle.ring_store.specs.Listed.{kind_on, entries_on}
 
--- The key of an id. Ids that differ in bit 30 or in their low 16 bits have keys of their own.
-unfoldable pub key_of : ℕ → ℕ
-key_of id = id / 0x4000_0000 % 2 * 0x1_0000 + id % 0x1_0000
+-- the last of these entries that has the id, a delete too
+abbrev pub last_of_id : ℕ → List Placed → Option Placed
+last_of_id id placed = fold (λ last p. if p.id == id then Some p else last) None placed
 
--- The usual id of a key, where ids have 16 bits or not: it has no bit but those of the key, and bit 31 where ids are longer.
-unfoldable pub usual_id : Bool → ℕ → ℕ
-usual_id short key = (if short then 0 else 0x8000_0000) + key / 0x1_0000 * 0x4000_0000 + key % 0x1_0000
+-- the entry, where it has bytes
+abbrev pub with_bytes : Option Placed → Option Placed
+with_bytes placed = option_and_then (λ p. if p.len == 0 then None else Some p) placed
 
--- the entry has another id than the usual one of its key
-abbrev pub is_other : Bool → Placed → Bool
-is_other short p = not (p.id == usual_id short (key_of p.id))
+-- the entry alone, or none where it has no bytes
+abbrev pub held : Placed → List Placed
+held p = if p.len == 0 then [] else p ∷ []
 
--- the last of these entries whose id has the key
-abbrev pub last_of_key : ℕ → List Placed → Option Placed
-last_of_key key placed = fold (λ last p. if key_of p.id == key then Some p else last) None placed
+-- an id below the bound; where there is none, each id
+abbrev pub IsTold : Option ℕ → ℕ → Type 0
+IsTold None id = Unit {0}
+IsTold (Some bound) id = id < bound
 
--- the sector of an entry, and the number after its slot; both 0 for none
-abbrev pub sector_in : Option Placed → ℕ
-sector_in placed = option_map_or (λ p. p.sector) placed 0
+-- each entry has a lesser id than those behind it
+abbrev pub Rises : List Placed → Type 0
+Rises entries = AllPairs (λ p q. p.id < q.id) entries
 
-abbrev pub slot_in : Option Placed → ℕ
-slot_in placed = option_map_or (λ p. p.slot + 1) placed 0
-
--- Two tables by keys have the sector and the number after the slot of each key's last one of these entries, and `mixed` says whether one of
--- them has another id than the usual one of its key. Their ids are below a limit.
-pub record Tells (limit : ℕ) (sectors slots : List ℕ) (short mixed : Bool) (placed : List Placed) : Type 0 where
-  pub sectors_long : length sectors ≡ 2 ^ 17
-  pub slots_long : length slots ≡ 2 ^ 17
-  pub sector : (key : ℕ) → key < 2 ^ 17 → slice_index sectors key ≡ sector_in (last_of_key key placed)
-  pub slot : (key : ℕ) → key < 2 ^ 17 → slice_index slots key ≡ slot_in (last_of_key key placed)
-  pub others : mixed ≡ list_any (is_other short) placed
+-- A table tells of the ids below its bound: of each it has the last one of these entries, where that has bytes. It has no
+-- other entries, and they stand in the order of their ids. These entries' ids are below a limit.
+pub record TellsBelow (limit : ℕ) (last : LastSlots) (placed : List Placed) : Type 0 where
+  pub told : (id : ℕ) → IsTold last.bound id → last_of_id id last.entries.items ≡ with_bytes (last_of_id id placed)
+  pub within : All (λ p. IsTold last.bound p.id) last.entries.items
+  pub rises : Rises last.entries.items
+  pub few : length last.entries.items ≤ 1000
   pub known : All (λ p. p.id < limit) placed
 
--- the sector and the slot that the tables have for a key, where they have one
-abbrev pub IsPlaceIn : ℕ → ℕ → Option (ℕ × ℕ) → Type 0
-IsPlaceIn sector slot None = slot ≡ 0
-IsPlaceIn sector slot (Some place) = (place.0 ≡ sector) × (place.1 + 1 ≡ slot)
+-- Among these entries are some with bytes, of so many different ids, none above the greatest.
+pub record HadBytes (ids greatest : ℕ) (placed : List Placed) : Type 0 where
+  pub entries : List Placed
+  pub long : length entries ≡ ids
+  pub rises : Rises entries
+  pub up_to : All (λ p. p.id ≤ greatest) entries
+  pub bytes : All (λ p. ¬ (p.len ≡ 0)) entries
+  pub among : All (Contains placed) entries
 
--- they are those of the entries of an area
+-- So does a table of 1000 places. It has a bound only where there were more ids with bytes than it has places, up to that
+-- bound; otherwise it tells of each id.
+pub record Tells (limit : ℕ) (last : LastSlots) (placed : List Placed) : Type 0 where
+  pub below : TellsBelow limit last placed
+  pub full : (bound : ℕ) → last.bound ≡ Some bound → HadBytes 1001 bound placed
+
+-- the table tells of the entries of an area
 abbrev pub TellsOn : (ℕ → Kind) → Device → Area → LastSlots → Type 0
-TellsOn kind d area last = Tells (kind_on kind d area).ids last.sectors last.slots last.short last.mixed (entries_on kind d area)
+TellsOn kind d area last = Tells (kind_on kind d area).ids last (entries_on kind d area)
+
+-- ---- reading a table
+
+-- at this place is the entry of an id, with lesser ones before it and greater ones behind it, or none between them
+abbrev pub Splits : List Placed → ℕ → Result ℕ ℕ → Type 0
+Splits entries id (Ok at) =
+    AllWithin (λ p. p.id < id) entries 0 at × HoldsAt (λ p. p.id ≡ id) entries at × AllWithin (λ p. id < p.id) entries (at + 1) (length entries)
+Splits entries id (Err at) = AllWithin (λ p. p.id < id) entries 0 at × AllWithin (λ p. id < p.id) entries at (length entries)
+
+-- the entry of the least id behind this one
+abbrev pub IsNextIn : Option ℕ → List Placed → Option Placed → Type 0
+IsNextIn after entries None = (id : ℕ) → IsBehind after id → last_of_id id entries ≡ None
+IsNextIn after entries (Some next) =
+    IsBehind after next.id
+    × (last_of_id next.id entries ≡ Some next)
+    × ((id : ℕ) → IsBehind after id → id < next.id → last_of_id id entries ≡ None)
+
+-- ---- putting an entry into it
+
+-- the one of the greatest id is taken out, and its id is the bound
+pub record DropsGreatest (old new : LastSlots) : Type 0 where
+  pub greatest : Placed
+  pub entries : old.entries.items ≡ new.entries.items ++ greatest ∷ []
+  pub bound : new.bound ≡ Some greatest.id

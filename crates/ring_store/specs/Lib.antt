@@ -1,8 +1,8 @@
+pub mod Cached
 pub mod Collecting
 pub mod Kind
 pub mod Latest
 pub mod Listed
-pub mod NextId
 pub mod Older
 pub mod Room
 pub mod Seen
@@ -11,5 +11,6 @@ pub mod Standing
 pub mod Stands
 pub mod Steps
 pub mod Versions
+pub mod Wrapped
 pub mod Writing
 pub mod Written

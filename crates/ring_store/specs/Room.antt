@@ -1,10 +1,10 @@
 -- Room for a value: rounds of close and collect, as many as it takes.
-use Rattle.std.specs.Prelude.{◌≡◌, ℕ, zero, suc, ◌+◌, ◌-◌, ◌*◌, ◌<◌, ◌≤◌, Bool, true, false, List, [], ◌∷◌, length, fold}
+use Rattle.std.specs.Prelude.{◌≡◌, ◌⊎◌, ℕ, zero, suc, ◌+◌, ◌-◌, ◌*◌, ◌<◌, ◌≤◌, Bool, true, false, List, [], ◌∷◌, length, fold}
 use Rattle.flash_sim.specs.Device.{Device}
 use Rattle.flash_map.specs.declared.area.Area.{Area}
 use Rattle.flash_map.specs.Area.{sector_at, sector_size, sectors_of}
 use Rattle.flash_map.specs.Spending.{SpendsBetween}
-use Rattle.pair_laws.specs.Rounds.{collect_oldest, live_cost}
+use Rattle.pair_laws.specs.Rounds.{joined, collect_oldest, live_cost}
 use Rattle.ring_laws.specs.Area.{open_sector}
 use Rattle.ring_laws.specs.Rounds.{parts, IsCrammed}
 use Rattle.ring_store.specs.Kind.{Range, Kind, fits}
@@ -123,7 +123,11 @@ pub record StopsMakingRoom (k : Kind) (old new : Device) (area : Area) (len : �
   pub few : length before + 1 < area.sectors
   pub once : len ≡ 0 → before ≡ []
   pub items : KeepsItems k (sectors_of old area) (sectors_of new area)
+  -- the list is what the whole rounds leave, or what one more does
+  pub list :
+      (list_at k new area ≡ joined (collected (length before) (parts_at k old area)))
+      ⊎ (list_at k new area ≡ joined (collected (suc (length before)) (parts_at k old area)))
   pub spends :
       let whole = rounds_units k before in
-      SpendsBetween old new whole.least (whole.most + (round_at k mid).most)
+      SpendsBetween old new whole.least (whole.most + (round_at k mid).lost)
   pub at_most : SpendsBetween old new 0 (most_rounds k old area (length before + 1))

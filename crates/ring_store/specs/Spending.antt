@@ -1,5 +1,5 @@
 -- How many units collections and rounds spend.
-use Rattle.std.specs.Prelude.{ℕ, ◌+◌, List, if◌then◌else◌}
+use Rattle.std.specs.Prelude.{ℕ, ◌+◌, max, List, if◌then◌else◌}
 use Rattle.flash_map.specs.Area.{sector_at}
 use Rattle.ring_laws.specs.Area.{next, is_blank_at}
 use Rattle.ring_laws.specs.Forms.{to_copy}
@@ -7,23 +7,38 @@ use Rattle.pair_laws.specs.Rounds.{copies_cost}
 use Rattle.ring_store.specs.Kind.{Range, Kind}
 
 abbrev pub none : Range
-none = record { least = 0; most = 0 }
+none = record { least = 0; most = 0; lost = 0 }
 
--- one and then the other
+-- One and then the other. A loss in the other comes behind the whole of the one.
 abbrev pub both : Range → Range → Range
-both one other = record { least = one.least + other.least; most = one.most + other.most }
+both one other = record {
+  least = one.least + other.least;
+  most = one.most + other.most;
+  lost = max one.lost (one.most + other.lost);
+}
 
 -- the copies of these pairs
 abbrev pub copies : Kind → List (ℕ × List ℕ) → Range
-copies k pairs = record { least = copies_cost (λ len. (k.units.copy len).least) pairs; most = copies_cost (λ len. (k.units.copy len).most) pairs }
+copies k pairs = record {
+  least = copies_cost (λ len. (k.units.any_copy len).least) pairs;
+  most = copies_cost (λ len. (k.units.any_copy len).most) pairs;
+  lost = copies_cost (λ len. (k.units.any_copy len).lost) pairs;
+}
 
 -- copying, gc-done and the emptying of the victim, with this sector open
 abbrev pub collect_units : Kind → List (List ℕ) → ℕ → Range
-collect_units k sectors place = both (copies k (to_copy k.reading sectors place)) (both k.units.done k.units.clear)
+collect_units k sectors place =
+    both (copies k (to_copy k.reading sectors place)) (both k.units.any_done k.units.any_clear)
+
+-- the open sector is made ready
+abbrev pub ready_units : Kind → List (List ℕ) → ℕ → Range
+ready_units k sectors place =
+    if is_blank_at k.reading sectors place then k.units.begin (sector_at sectors place)
+    else k.units.clear (sector_at sectors place)
 
 -- the open sector is made ready before
 abbrev pub again_units : Kind → List (List ℕ) → ℕ → Range
-again_units k sectors place = both (if is_blank_at k.reading sectors place then k.units.begin (sector_at sectors place) else k.units.clear) (collect_units k sectors place)
+again_units k sectors place = both (ready_units k sectors place) (collect_units k sectors place)
 
 -- A round of close and collect from this open sector. The victim is the sector after the next one; where it is blank
 -- there is nothing to collect.

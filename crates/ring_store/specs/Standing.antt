@@ -1,26 +1,34 @@
 -- When a store stands on the bytes of its area. A kind is that of the area's unit.
-use Rattle.std.specs.Prelude.{◌≡◌, ℕ, List, None}
+use Rattle.std.specs.Prelude.{◌≡◌, ℕ, Bool, true, false, List, None}
 use Rattle.flash_sim.specs.Bank.{bank_at}
 use Rattle.flash_sim.specs.Device.{Device}
 use Rattle.flash_sim.specs.declared.flash.Bank.{Bank}
 use Rattle.flash_sim.specs.declared.flash.Kind.TheVariants.{Rewritable}
 use Rattle.flash_map.specs.declared.area.Area.{Area}
 use Rattle.flash_map.specs.declared.area.Role.{Role}
-use Rattle.flash_map.specs.declared.area.Role.TheVariants.{Zms}
+use Rattle.flash_map.specs.declared.area.Role.TheVariants.{Nvs, Zms, Fcb, Sel}
 use Rattle.flash_map.specs.Area.{sectors_of}
 use Rattle.flash_map.specs.Lawful.{IsLawfulFor}
 use Rattle.flash_map.specs.Spending.{SpendsBetween}
 use Rattle.pair_laws.specs.Items.{Items, items_of}
+use Rattle.ring_laws.specs.Area.{open_sector}
+use Rattle.ring_laws.specs.Forms.{AtRest}
 use Rattle.ring_laws.specs.Live as live
 use Rattle.ring_store.specs.Kind.{Range, Kind, slots}
 use Rattle.ring_store.specs.Versions.{KeepsVersions}
+
+-- Whether a store in an area of this role stands on a bank that is never erased. Each role decides.
+abbrev pub is_never_erased : Role → Bool
+is_never_erased Nvs = false
+is_never_erased Zms = true
+is_never_erased Fcb = false
+is_never_erased Sel = false
 
 -- an area of this role, lawful on these banks
 pub record IsStoreArea (role : Role) (banks : List Bank) (area : Area) : Type 0 where
   pub lawful : IsLawfulFor banks area
   pub role_is : area.role ≡ role
-  -- a store of ZMS stands on a bank that is never erased
-  pub rewritable : role ≡ Zms → (bank_at banks area.bank).kind ≡ Rewritable
+  pub rewritable : is_never_erased role ≡ true → (bank_at banks area.bank).kind ≡ Rewritable
 
 -- ids with their bytes, from the oldest to the newest
 abbrev pub list_of : Kind → List (List ℕ) → List (ℕ × List ℕ)
@@ -40,6 +48,10 @@ items_at k d area = items k (sectors_of d area)
 abbrev pub IsUndamagedAt : Kind → Device → Area → Type 0
 IsUndamagedAt k d area = k.damage (sectors_of d area) ≡ None
 
+-- a mount has nothing to do
+abbrev pub RestsAt : Kind → Device → Area → Type 0
+RestsAt k d area = AtRest k.reading (sectors_of d area) (open_sector k.reading (sectors_of d area))
+
 -- the sectors read as the same items, of each of which the newest versions stay, and are not damaged
 pub record KeepsItems (k : Kind) (old new : List (List ℕ)) : Type 0 where
   pub items : items k new ≡ items k old
@@ -51,4 +63,4 @@ SpendsIn old new range = SpendsBetween old new range.least range.most
 
 -- a call that was cut
 abbrev pub SpendsUpTo : Device → Device → Range → Type 0
-SpendsUpTo old new range = SpendsBetween old new 0 range.most
+SpendsUpTo old new range = SpendsBetween old new 0 range.lost

@@ -9,11 +9,13 @@ use Rattle.flash_map.specs.Area.{unit_of, sectors_of, sector_at}
 use Rattle.ring_laws.specs.Area.{next, is_closed_at, open_sector}
 use Rattle.ring_laws.specs.Forms.{AtRest}
 use Rattle.ring_store.specs.declared.store.Store.{Store}
+use Rattle.ring_store.specs.Cached.{IsCacheOn}
 use Rattle.ring_store.specs.Kind.{Kind}
-use Rattle.ring_store.specs.Collecting.{redo_of, redo_units}
-use Rattle.ring_store.specs.Standing.{IsStoreArea, KeepsItems, SpendsIn, SpendsUpTo}
+use Rattle.ring_store.specs.Collecting.{redo_of, redo_list, redo_units, KeepsOrRedoes}
+use Rattle.ring_store.specs.Standing.{IsStoreArea, list_at, KeepsItems, SpendsIn, SpendsUpTo}
 
--- The store is up: the area is not damaged and at rest, and the store knows its open sector.
+-- The store is up: the area is not damaged and at rest, and the store knows its open sector and where the latest
+-- entries stand.
 pub record StandsOn {T : Type 0} (role : Role) (kind : ℕ → Kind) (kept : ℕ → List ℕ → T) (d : Device) (store : Store T) : Type 0 where
   pub area : IsStoreArea role d.banks store.area
   pub up : store.up ≡ true
@@ -21,13 +23,19 @@ pub record StandsOn {T : Type 0} (role : Role) (kind : ℕ → Kind) (kept : ℕ
   pub opened : store.opened ≡ kept (unit_of d store.area) (sector_at (sectors_of d store.area) store.current)
   pub rested : is_closed_at (kind (unit_of d store.area)).reading (sectors_of d store.area) (next (sectors_of d store.area) store.current) ≡ false
   pub undamaged : (kind (unit_of d store.area)).damage (sectors_of d store.area) ≡ None
+  pub cached : IsCacheOn kind d store.area store.cache
 
--- so it does with this sector open
-abbrev pub StandsAt : {T : Type 0} → Role → (ℕ → Kind) → (ℕ → List ℕ → T) → Device → Area → ℕ → T → Type 0
-StandsAt role kind kept d area current opened = StandsOn role kind kept d (record { area = area; current = current; opened = opened; up = true })
+-- So it does on this area with this sector open, but for the cache, which is told of by itself.
+pub record StandsAt {T : Type 0} (role : Role) (kind : ℕ → Kind) (kept : ℕ → List ℕ → T) (d : Device) (on : Area) (place : ℕ) (known : T) : Type 0 where
+  pub area : IsStoreArea role d.banks on
+  pub current : place ≡ open_sector (kind (unit_of d on)).reading (sectors_of d on)
+  pub opened : known ≡ kept (unit_of d on) (sector_at (sectors_of d on) place)
+  pub rested : is_closed_at (kind (unit_of d on)).reading (sectors_of d on) (next (sectors_of d on) place) ≡ false
+  pub undamaged : (kind (unit_of d on)).damage (sectors_of d on) ≡ None
 
 -- The area is damaged, and then nothing changed; or it is not, and its items stay, whether power is lost or not. What is
--- spent is what there is to redo: at rest nothing is done.
+-- spent is what there is to redo: at rest nothing is done. The list is the one that this leaves; where power was lost, that
+-- or the one before. Where memory is wanting nothing changed.
 abbrev pub MountEnds : {T : Type 0} → Role → (ℕ → Kind) → (ℕ → List ℕ → T) → Device → Device → Area → Result (Store T) MountFault → Type 0
 MountEnds role kind kept old new area (Ok store) =
     let k = kind (unit_of old area) in
@@ -38,6 +46,7 @@ MountEnds role kind kept old new area (Ok store) =
     × KeepsItems k (sectors_of old area) (sectors_of new area)
     × SpendsIn old new (redo_units k (sectors_of old area) place (redo_of k (sectors_of old area) place))
     × (AtRest k.reading (sectors_of old area) place → new ≡ old)
+    × (list_at k new area ≡ redo_list k (sectors_of old area) place (redo_of k (sectors_of old area) place))
 MountEnds role kind kept old new area (Err (HasDamage damaged)) = ((kind (unit_of old area)).damage (sectors_of old area) ≡ Some damaged) × (new ≡ old)
 MountEnds role kind kept old new area (Err MountLost) =
     let k = kind (unit_of old area) in
@@ -46,4 +55,5 @@ MountEnds role kind kept old new area (Err MountLost) =
     × KeepsItems k (sectors_of old area) (sectors_of new area)
     × SpendsUpTo old new (redo_units k (sectors_of old area) place (redo_of k (sectors_of old area) place))
     × ¬ AtRest k.reading (sectors_of old area) place
-MountEnds role kind kept old new area (Err NoMemory) = ⊥
+    × KeepsOrRedoes k (sectors_of old area) (sectors_of new area) place
+MountEnds role kind kept old new area (Err NoMemory) = new ≡ old

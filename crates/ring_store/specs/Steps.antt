@@ -1,9 +1,10 @@
 -- What a step makes of its sector.
-use Rattle.std.specs.Prelude.{◌≡◌, ℕ, ◌+◌, ◌≤◌, true, false, List, length}
+use Rattle.std.specs.Prelude.{◌≡◌, ℕ, ◌+◌, ◌≤◌, true, false, List, [], ◌∷◌, ◌++◌, length}
 use Rattle.ring_laws.specs.Reading.{is_sound}
 use Rattle.pair_laws.specs.Rounds.{stored_cost}
 use Rattle.ring_laws.specs.Steps as ring
-use Rattle.ring_store.specs.Kind.{Kind}
+use Rattle.ring_store.specs.declared.entry.Entry.{Entry}
+use Rattle.ring_store.specs.Kind.{Kind, entries}
 
 -- the sector's list and marks stay, and it is in use and sound as before
 pub record Keeps (k : Kind) (old new : List ℕ) : Type 0 where
@@ -12,22 +13,34 @@ pub record Keeps (k : Kind) (old new : List ℕ) : Type 0 where
   pub used : k.reading.is_blank old ≡ false → k.reading.is_blank new ≡ false
   pub sound : is_sound k.reading old ≡ true → is_sound k.reading new ≡ true
 
+-- no more is gone of what was free between its values and its slots than this
+abbrev pub LeavesRoom : Kind → List ℕ → List ℕ → ℕ → Type 0
+LeavesRoom k old new cost = k.free old ≤ k.free new + cost
+
 -- its marks stay
 pub record KeepsMarks (k : Kind) (old new : List ℕ) : Type 0 where
   pub closed : k.reading.is_closed new ≡ k.reading.is_closed old
   pub gc_done : k.reading.has_gc_done new ≡ k.reading.has_gc_done old
 
--- A sector with no entry is ready for one, and has none yet; one in use is as it was.
+-- A sector with no entry is ready for one, and has none yet; one in use, or ready before, is as it was.
 pub record Begins (k : Kind) (old new : List ℕ) : Type 0 where
   pub blank : k.reading.is_blank old ≡ true → k.reading.is_blank new ≡ true
+  pub idle : k.is_ready old ≡ true → new ≡ old
   pub used : k.reading.is_blank old ≡ false → new ≡ old
   pub ready : k.is_ready new ≡ true
   pub long : length new ≡ length old
+
+-- the entry of an id in a slot, with so many bytes
+abbrev pub new_entry : ℕ → ℕ → ℕ → Entry
+new_entry slot id len = record { slot = slot; id = id; len = len }
 
 -- the sector's list has one pair more, whose cost is gone from the room
 pub record Adds (k : Kind) (old new : List ℕ) (id : ℕ) (bytes : List ℕ) : Type 0 where
   pub list : ring.AddsPair k.reading old new id bytes
   pub long : length new ≡ length old
+  -- the entry stands in the slot behind the last one
+  pub entry : entries k new ≡ entries k old ++ new_entry (k.first + k.count old) id (length bytes) ∷ []
+  pub count : k.count new ≡ k.count old + 1
   pub ready : k.is_ready new ≡ true
   pub free : k.free new + k.cost (length bytes) ≡ k.free old
 

@@ -1,5 +1,5 @@
 -- How writing and deleting end.
-use Rattle.std.specs.Prelude.{◌≡◌, ◌⊎◌, ℕ, ◌+◌, ◌-◌, ◌*◌, List, [], ◌∷◌, ◌++◌, Bool, true, false, length, Some, None, Result, Ok, Err}
+use Rattle.std.specs.Prelude.{◌≡◌, ◌⊎◌, ℕ, ◌+◌, ◌-◌, ◌*◌, ◌≤◌, List, [], ◌∷◌, ◌++◌, Bool, true, false, length, Some, None, Result, Ok, Err}
 use Rattle.std.specs.FinMap.{get, insert, remove}
 use Rattle.flash_sim.specs.Device.{Device}
 use Rattle.flash_sim.specs.declared.flash.PowerLost.{PowerLost as Lost}
@@ -12,7 +12,7 @@ use Rattle.pair_laws.specs.Rounds.{joined, live_cost}
 use Rattle.ring_store.specs.Kind.{Kind}
 use Rattle.ring_store.specs.Room.{open_bytes, has_room_at, IsShort, parts_at, collected, rounds_units, MakesRoom, FindsFull, StopsMakingRoom}
 use Rattle.ring_store.specs.Spending.{both}
-use Rattle.ring_store.specs.Standing.{list_at, items_at, IsUndamagedAt, SpendsIn}
+use Rattle.ring_store.specs.Standing.{list_at, items_at, IsUndamagedAt, RestsAt, SpendsIn, SpendsUpTo}
 use Rattle.ring_store.specs.Steps.{Begins}
 use Rattle.ring_store.specs.Versions.{KeepsVersions, AddsVersion}
 
@@ -23,6 +23,17 @@ pub record SpendsEntry (k : Kind) (old new : Device) (sector : List ℕ) (len : 
   pub begun : List ℕ
   pub begins : Begins k sector begun
   pub spends : SpendsIn old new (both (k.units.begin sector) (k.units.put begun len))
+
+-- Power was lost in it, behind what made its sector ready.
+pub record StopsInValue (k : Kind) (old new : Device) (sector : List ℕ) (len : ℕ) : Type 0 where
+  pub begun : List ℕ
+  pub begins : Begins k sector begun
+  pub spends : SpendsUpTo old new (both (k.units.begin sector) (k.units.put begun len))
+
+-- Power was lost in it, or while its sector was made ready.
+abbrev pub StopsEntry : Kind → Device → Device → List ℕ → ℕ → Type 0
+StopsEntry k old new sector len =
+    SpendsUpTo old new (k.units.begin sector) ⊎ StopsInValue k old new sector len
 
 -- the bytes of the open sector
 abbrev pub open_at : Kind → Device → Area → List ℕ
@@ -39,16 +50,22 @@ KeepsOrAddsVersion k old new area id bytes =
     KeepsVersions (list_at k old area) (list_at k new area)
     ⊎ AddsVersion (list_at k old area) (list_at k new area) id bytes
 
--- the list has one pair more
+-- The list has one pair more, whose cost is gone from what was free in the open sector, and a mount would have nothing to do.
 pub record PutsPair (k : Kind) (old new : Device) (area : Area) (id : ℕ) (bytes : List ℕ) : Type 0 where
   pub list : list_at k new area ≡ list_at k old area ++ (id, bytes) ∷ []
   pub undamaged : IsUndamagedAt k new area
+  pub rests : RestsAt k new area
+  pub room : k.free (open_at k new area) + k.cost (length bytes) ≡ k.free (open_at k old area)
   pub entry : SpendsEntry k old new (open_at k old area) (length bytes)
 
--- power was lost: the list is the old one, or has the pair
+-- Power was lost: the list is the old one, or has the pair. No more is gone of what was free than the pair costs, and a mount
+-- would have nothing to do.
 pub record StopsPutting (k : Kind) (old new : Device) (area : Area) (id : ℕ) (bytes : List ℕ) : Type 0 where
   pub list : KeepsOrAdds k old new area (id, bytes)
   pub undamaged : IsUndamagedAt k new area
+  pub rests : RestsAt k new area
+  pub room : k.free (open_at k old area) ≤ k.free (open_at k new area) + k.cost (length bytes)
+  pub entry : StopsEntry k old new (open_at k old area) (length bytes)
   pub at_most : SpendsBetween old new 0 (k.units.entry (length bytes))
 
 -- ---- rounds that make room, and the entry behind them
@@ -128,6 +145,8 @@ pub record StopsWriting (k : Kind) (old new : Device) (area : Area) (id : ℕ) (
   pub versions : KeepsOrAddsVersion k old new area id bytes
   pub fitting : has_room_at k old area (length bytes) ≡ true
       → SpendsBetween old new 0 (k.units.entry (length bytes))
+  pub entry : has_room_at k old area (length bytes) ≡ true
+      → StopsEntry k old new (open_at k old area) (length bytes)
   pub at_most : SpendsBetween old new 0 (most_write k old area (length bytes))
 
 abbrev pub WriteEnds : {T : Type 0} → Kind → Device → Device → Area → ℕ → List ℕ → Result T WriteFault → Type 0
@@ -161,6 +180,7 @@ pub record StopsDeleting (k : Kind) (old new : Device) (area : Area) (id : ℕ) 
       ⊎ (items_at k new area ≡ remove (items_at k old area) id)
   pub versions : KeepsOrAddsVersion k old new area id []
   pub fitting : has_room_at k old area 0 ≡ true → SpendsBetween old new 0 (k.units.entry 0)
+  pub entry : has_room_at k old area 0 ≡ true → StopsEntry k old new (open_at k old area) 0
   pub at_most : SpendsBetween old new 0 (most_units k (sector_size old area) 1 0)
 
 abbrev pub DeleteEnds : {T : Type 0} → Kind → Device → Device → Area → ℕ → Result T Lost → Type 0

@@ -1,5 +1,5 @@
 // Closing, collecting, and what a mount has to do again.
-ghost use Rattle.std.specs.Prelude.{◌≡◌, ℕ, ◌+◌, ◌*◌, ◌<◌, ◌≤◌, ◌∷◌, [], true, false, None, is_err, IfOk, IfSome, OnOk, OnErr, ◌⊎◌, if◌then◌else◌};
+ghost use Rattle.std.specs.Prelude.{◌≡◌, ℕ, ◌+◌, ◌*◌, ◌<◌, ◌≤◌, ◌∷◌, [], true, false, None, is_err, IfOk, IfSome, OnOk, OnErr, ◌⊎◌};
 ghost use Rattle.flash_map.specs.Area.{unit_of, sector_size, sectors_of, sector_at, ChangesOnly};
 ghost use Rattle.flash_map.specs.Touches.{Touches};
 ghost use Rattle.ring_laws.specs.Area.{next, is_blank_at, is_closed_at, open_sector};
@@ -9,9 +9,9 @@ ghost use Rattle.ring_laws.specs.Live.{live_in, cost_of};
 ghost use Rattle.ring_store.specs.Kind.{slots};
 ghost use Rattle.ring_store.specs.Listed.{kind_on, HasSlotOn};
 ghost use Rattle.ring_store.specs.Seen.{holds_live};
-ghost use Rattle.ring_store.specs.Collecting.{HasBegun, HasCopied, StopsCopying, CopiesOne, copy_units, CollectsAt, TurnsAt, redo_of, redo_units};
-ghost use Rattle.ring_store.specs.Spending.{copies, collect_units, again_units, round_units};
-ghost use Rattle.ring_store.specs.Standing.{IsStoreArea, KeepsItems, SpendsIn, SpendsUpTo};
+ghost use Rattle.ring_store.specs.Collecting.{HasBegun, HasCopied, StopsCopying, CopiesOne, copy_units, CollectsAt, KeepsOrCollects, KeepsOrTurns, KeepsOrRedoes, TurnsAt, redo_of, redo_list, redo_units};
+ghost use Rattle.ring_store.specs.Spending.{copies, collect_units, ready_units, again_units, round_units};
+ghost use Rattle.ring_store.specs.Standing.{IsStoreArea, list_of, KeepsItems, SpendsIn, SpendsUpTo};
 ghost use Rattle.ring_store.specs.Steps.{KeepsMarks};
 ghost use Rattle.ring_store.specs.Written.{IsWritten};
 
@@ -111,6 +111,8 @@ fn collect<T: SlotSectors, F: Flash, L: Ledger>(
     ensures touches { Touches (area.now ∷ []) (F.device flash.old) (F.device flash.new) (is_err result) }
     ensures collects { let d = F.device flash.old in OnOk result (CollectsAt (T.kind (unit_of d area.now)) (sectors_of d area.now) (sectors_of (F.device flash.new) area.now) current) }
     ensures items { let d = F.device flash.old in KeepsItems (T.kind (unit_of d area.now)) (sectors_of d area.now) (sectors_of (F.device flash.new) area.now) }
+    ensures list_lost { let d = F.device flash.old in
+        OnErr result (KeepsOrCollects (T.kind (unit_of d area.now)) (sectors_of d area.now) (sectors_of (F.device flash.new) area.now) current) }
     ensures written { IsWritten (T.kind (unit_of (F.device flash.old) area.now)) (sectors_of (F.device flash.new) area.now) }
     ensures kept { let d = F.device flash.old in OnOk result (opened.new ≡ T.kept (unit_of d area.now) (sector_at (sectors_of (F.device flash.new) area.now) current)) }
     ensures spends { let d = F.device flash.old in OnOk result (SpendsIn d (F.device flash.new) (collect_units (T.kind (unit_of d area.now)) (sectors_of d area.now) current)) }
@@ -139,9 +141,9 @@ fn prepare<T: SlotSectors, F: Flash, L: Ledger>(
     ensures kept { let d = F.device flash.old in OnOk result (opened.new ≡ T.kept (unit_of d area.now) (sector_at (sectors_of (F.device flash.new) area.now) current)) }
     ensures lost { let d = F.device flash.old in OnErr result (StopsCopying (T.kind (unit_of d area.now)) (sectors_of d area.now) (sectors_of (F.device flash.new) area.now) current) }
     ensures spends { let d = F.device flash.old in let k = T.kind (unit_of d area.now) in
-        OnOk result (SpendsIn d (F.device flash.new) (if is_blank_at k.reading (sectors_of d area.now) current then k.units.begin (sector_at (sectors_of d area.now) current) else k.units.clear)) }
+        OnOk result (SpendsIn d (F.device flash.new) (ready_units k (sectors_of d area.now) current)) }
     ensures spends_lost { let d = F.device flash.old in let k = T.kind (unit_of d area.now) in
-        OnErr result (SpendsUpTo d (F.device flash.new) (if is_blank_at k.reading (sectors_of d area.now) current then k.units.begin (sector_at (sectors_of d area.now) current) else k.units.clear)) }
+        OnErr result (SpendsUpTo d (F.device flash.new) (ready_units k (sectors_of d area.now) current)) }
 {
     if T::is_blank(flash, area, current, steps) {
         return opened.begin(flash, area, current, steps);
@@ -165,6 +167,8 @@ fn collect_again<T: SlotSectors, F: Flash, L: Ledger>(
     ensures touches { Touches (area.now ∷ []) (F.device flash.old) (F.device flash.new) (is_err result) }
     ensures collects { let d = F.device flash.old in OnOk result (CollectsAt (T.kind (unit_of d area.now)) (sectors_of d area.now) (sectors_of (F.device flash.new) area.now) current) }
     ensures items { let d = F.device flash.old in KeepsItems (T.kind (unit_of d area.now)) (sectors_of d area.now) (sectors_of (F.device flash.new) area.now) }
+    ensures list_lost { let d = F.device flash.old in
+        OnErr result (KeepsOrCollects (T.kind (unit_of d area.now)) (sectors_of d area.now) (sectors_of (F.device flash.new) area.now) current) }
     ensures written { IsWritten (T.kind (unit_of (F.device flash.old) area.now)) (sectors_of (F.device flash.new) area.now) }
     ensures kept { let d = F.device flash.old in OnOk result (opened.new ≡ T.kept (unit_of d area.now) (sector_at (sectors_of (F.device flash.new) area.now) current)) }
     ensures spends { let d = F.device flash.old in OnOk result (SpendsIn d (F.device flash.new) (again_units (T.kind (unit_of d area.now)) (sectors_of d area.now) current)) }
@@ -213,6 +217,10 @@ pub fn redo<T: SlotSectors, F: Flash, L: Ledger>(
     ensures touches { Touches (area.now ∷ []) (F.device flash.old) (F.device flash.new) (is_err result) }
     ensures rested { let d = F.device flash.old in OnOk result (AtRest (T.kind (unit_of d area.now)).reading (sectors_of (F.device flash.new) area.now) current) }
     ensures items { let d = F.device flash.old in KeepsItems (T.kind (unit_of d area.now)) (sectors_of d area.now) (sectors_of (F.device flash.new) area.now) }
+    ensures list { let d = F.device flash.old in let k = T.kind (unit_of d area.now) in
+        OnOk result (list_of k (sectors_of (F.device flash.new) area.now) ≡ redo_list k (sectors_of d area.now) current (redo_of k (sectors_of d area.now) current)) }
+    ensures list_lost { let d = F.device flash.old in
+        OnErr result (KeepsOrRedoes (T.kind (unit_of d area.now)) (sectors_of d area.now) (sectors_of (F.device flash.new) area.now) current) }
     ensures written { let d = F.device flash.old in
         (F.device flash.new ≡ d) ⊎ IsWritten (T.kind (unit_of d area.now)) (sectors_of (F.device flash.new) area.now) }
     ensures same { let d = F.device flash.old in AtRest (T.kind (unit_of d area.now)).reading (sectors_of d area.now) current → F.device flash.new ≡ d }
@@ -248,6 +256,8 @@ pub fn round<T: SlotSectors, F: Flash, L: Ledger>(
     ensures opened { let d = F.device flash.old in IfOk result (λ place. place ≡ next (sectors_of d area.now) current) }
     ensures rested { let d = F.device flash.old in OnOk result (AtRest (T.kind (unit_of d area.now)).reading (sectors_of (F.device flash.new) area.now) (next (sectors_of d area.now) current)) }
     ensures items { let d = F.device flash.old in KeepsItems (T.kind (unit_of d area.now)) (sectors_of d area.now) (sectors_of (F.device flash.new) area.now) }
+    ensures list_lost { let d = F.device flash.old in
+        OnErr result (KeepsOrTurns (T.kind (unit_of d area.now)) (sectors_of d area.now) (sectors_of (F.device flash.new) area.now) current) }
     ensures written { IsWritten (T.kind (unit_of (F.device flash.old) area.now)) (sectors_of (F.device flash.new) area.now) }
     ensures kept { let d = F.device flash.old in OnOk result (opened.new ≡ T.kept (unit_of d area.now) (sector_at (sectors_of (F.device flash.new) area.now) (next (sectors_of d area.now) current))) }
     ensures turns { let d = F.device flash.old in OnOk result (TurnsAt (T.kind (unit_of d area.now)) (sector_size d area.now) (sectors_of d area.now) (sectors_of (F.device flash.new) area.now) current) }

@@ -9,7 +9,7 @@ pub struct Entry {
 }
 
 /// The same with the number of its sector.
-#[derive(Clone, Copy, Debug, PartialEq, Eq)]
+#[derive(Clone, Copy, Debug, Default, Drop, PartialEq, Eq)]
 pub struct Placed {
     pub sector: u32,
     pub slot: u32,

@@ -1,166 +1,186 @@
-// Where the last entry of each key of ids stands, by one walk over the list of an area.
-ghost use Rattle.std.specs.Prelude.{◌≡◌, ◌+◌, ◌-◌, ◌^◌, ◌<◌, ◌≤◌, ◌||◌, ℕ, [], slice_set, slice_index, true, false};
+// The last entries of ids, by one walk over the list of an area.
+ghost use Rattle.std.specs.Prelude.{◌≡◌, ◌+◌, ◌<◌, ◌≤◌, ◌++◌, ◌∷◌, ℕ, List, [], true, false, None, take, drop, length};
+ghost use Rattle.std.specs.List.Sorted.{IsSearchInRange};
+ghost use Rattle.std.specs.List.{AllWithin};
 ghost use Rattle.flash_map.specs.Area.{unit_of, sectors_of, sector_at};
 ghost use Rattle.ring_laws.specs.Area.{open_sector};
 ghost use Rattle.ring_laws.specs.NextIds.{IsBehind};
-ghost use Rattle.ring_store.specs.Latest.{key_of, is_other, usual_id, IsPlaceIn, Tells, TellsOn};
+ghost use Rattle.ring_store.specs.declared.entry.Placed.{Placed as PlacedEntry};
+ghost use Rattle.ring_store.specs.Latest.{last_of_id, held, IsTold, Rises, Splits, IsNextIn, DropsGreatest, Tells, TellsOn};
 ghost use Rattle.ring_store.specs.Listed.{kind_on};
 ghost use Rattle.ring_store.specs.Standing.{IsStoreArea};
 
 use crate::entry::Placed;
 use crate::noting::{Notes, note_among};
 use crate::sectors::SlotSectors;
+use arrayvec::ArrayVec;
 use flash_map::Area;
 use flash_sim::{Flash, Steps};
 use std::sync::ledger::Ledger;
 
-// There are so many keys.
-const KEYS: usize = 0x2_0000;
+// A table has so many entries at most, of 16 bytes each.
+const ENTRIES: usize = 1000;
 
-/// More than each key.
-pub const KEYS_END: u32 = 0x2_0000;
-
-/// For each key of ids the sector and the slot of the last entry with such an id, among some entries.
+/// Of each id below a bound the last one of some entries, where that has bytes. There is a bound only where more ids than the
+/// table has places had bytes.
 #[derive(Drop)]
 pub struct LastSlots {
-    pub(crate) sectors: [u8; KEYS],
-    // each slot's number and 1; 0 where a key has none
-    pub(crate) slots: [u16; KEYS],
-    // ids have 16 bits
-    pub(crate) short: bool,
-    // some entry has another id than the usual one of its key
-    pub(crate) mixed: bool,
+    // in the order of their ids
+    pub(crate) entries: ArrayVec<Placed, ENTRIES>,
+    // Of this id and greater ones nothing is told. Where there is no bound, each id is told of.
+    pub(crate) bound: Option<u32>,
 }
 
-// The key of an id, a number of 17 bits.
-#[tactic(auto, unfolding(crate::specs::Latest::key_of))]
-fn key_of(id: u32) -> u32
-    ensures key { result ≡ key_of id }
-    ensures below { result < 2 ^ 17 }
+// Where the entry of an id stands among entries in the order of their ids, or where it would stand.
+fn search(entries: &[Placed], id: u32) -> Result<usize, usize>
+    ensures inside { IsSearchInRange result (length entries.now) }
+    ensures splits { Rises entries.now → Splits entries.now id result }
 {
-    id / 0x4000_0000 % 2 * 0x1_0000 + id % 0x1_0000
-}
-
-// Where the usual ids begin.
-fn first_usual(short: bool) -> u32
-    ensures short { short ≡ true → result ≡ 0 }
-    ensures long { short ≡ false → result ≡ 0x8000_0000 }
-{
-    if short { 0 } else { 0x8000_0000 }
-}
-
-/// The id of a key that has no bit but those of the key, and bit 31 where ids are longer than 16 bits.
-pub fn usual_id(short: bool, key: u32) -> u32
-    requires { key < 2 ^ 17 }
-    ensures { result ≡ usual_id short key }
-{
-    first_usual(short) + key / 0x1_0000 * 0x4000_0000 + key % 0x1_0000
-}
-
-/// From this key on the usual id of each is behind `after`, and before it that of none.
-pub fn first_key(short: bool, after: Option<u32>) -> u32
-    ensures within { result ≤ 2 ^ 17 }
-    ensures behind { (key : ℕ) → result ≤ key → key < 2 ^ 17 → IsBehind after (usual_id short key) }
-    ensures before { (key : ℕ) → key < result → ¬ IsBehind after (usual_id short key) }
-{
-    match after {
-        Some(id) => key_after(short, id),
-        None => 0,
+    let at = entries.partition_point(|placed| placed.id < id);
+    if at < entries.len() && entries[at].id == id {
+        Ok(at)
+    } else {
+        Err(at)
     }
-}
-
-// The same of one id.
-fn key_after(short: bool, id: u32) -> u32
-    ensures within { result ≤ 2 ^ 17 }
-    ensures behind { (key : ℕ) → result ≤ key → key < 2 ^ 17 → id < usual_id short key }
-    ensures before { (key : ℕ) → key < result → usual_id short key ≤ id }
-{
-    let first = first_usual(short);
-    if id < first {
-        return 0;
-    }
-    key_behind(id - first)
-}
-
-// The same where the usual ids begin with 0.
-fn key_behind(id: u32) -> u32
-    ensures within { result ≤ 2 ^ 17 }
-    ensures behind { (key : ℕ) → result ≤ key → key < 2 ^ 17 → id < usual_id true key }
-    ensures before { (key : ℕ) → key < result → usual_id true key ≤ id }
-{
-    if id >= 0x8000_0000 {
-        return KEYS_END;
-    }
-    id / 0x4000_0000 * 0x1_0000 + (id % 0x4000_0000).min(0xFFFF) + 1
 }
 
 impl LastSlots {
     // Among no entries.
-    fn new(short: bool) -> LastSlots
-        ensures tells { (limit : ℕ) → Tells limit result.sectors result.slots result.short result.mixed [] }
-        ensures short { result.short ≡ short }
+    fn new() -> LastSlots
+        ensures { (limit : ℕ) → Tells limit result [] }
     {
         LastSlots {
-            sectors: [0; KEYS],
-            slots: [0; KEYS],
-            short,
-            mixed: false,
+            entries: ArrayVec::new(),
+            bound: None,
         }
     }
 
-    // Takes an entry as the last one of its key.
+    /// Whether the table tells of an id.
+    pub fn tells_of(&self, id: u32) -> bool
+        ensures yes_it { result ≡ true → IsTold self.now.bound id }
+        ensures not_it { result ≡ false → IsTold self.now.bound id → ⊥ }
+    {
+        match self.bound {
+            Some(bound) => id < bound,
+            None => true,
+        }
+    }
+
+    /// Whether the table tells of each id.
+    pub fn tells_of_all(&self) -> bool
+        ensures yes_it { result ≡ true → self.now.bound ≡ None }
+        ensures not_it { result ≡ false → self.now.bound ≡ None → ⊥ }
+    {
+        self.bound.is_none()
+    }
+
+    /// The entry of an id, where the table has one.
+    pub fn entry_of(&self, id: u32) -> Option<Placed>
+        ensures { Rises self.now.entries.items → result ≡ last_of_id id self.now.entries.items }
+    {
+        match search(self.entries.as_slice(), id) {
+            Ok(at) => Some(self.entries.as_slice()[at]),
+            Err(_) => None,
+        }
+    }
+
+    // From this place on the ids are behind the given one, and before it none is.
+    fn first_behind(&self, after: Option<u32>) -> usize
+        ensures before { Rises self.now.entries.items → AllWithin (λ p. IsBehind after p.id → ⊥) self.now.entries.items 0 result }
+        ensures behind { Rises self.now.entries.items → AllWithin (λ p. IsBehind after p.id) self.now.entries.items result (length self.now.entries.items) }
+    {
+        match after {
+            Some(after) => match search(self.entries.as_slice(), after) {
+                Ok(at) => at + 1,
+                Err(at) => at,
+            },
+            None => 0,
+        }
+    }
+
+    /// The entry of the least id behind this one, or of the least of all.
+    pub fn next(&self, after: Option<u32>) -> Option<Placed>
+        ensures { Rises self.now.entries.items → IsNextIn after self.now.entries.items result }
+    {
+        let first = self.first_behind(after);
+        if first < self.entries.len() {
+            Some(self.entries.as_slice()[first])
+        } else {
+            None
+        }
+    }
+
+    // Puts an entry in place of the one there, or takes that out where the new one has no bytes.
+    fn replace(&mut self, at: usize, placed: &Placed)
+        requires { at < length self.old.entries.items }
+        ensures entries { self.new.entries.items ≡ take at self.old.entries.items ++ (held placed.now ++ drop (at + 1) self.old.entries.items) }
+        ensures bound { self.new.bound ≡ self.old.bound }
+    {
+        if placed.len == 0 {
+            self.entries.remove(at);
+            return;
+        }
+        self.entries.as_mut_slice()[at] = *placed;
+    }
+
+    // Takes out the entry of the greatest id.
+    fn drop_greatest(&mut self)
+        requires { 0 < length self.old.entries.items }
+        ensures { DropsGreatest self.old self.new }
+    {
+        if let Some(greatest) = self.entries.pop() {
+            self.bound = Some(greatest.id);
+        }
+    }
+
+    // Puts an entry with bytes at its place, as the last one of an id of which the table has none. Where the table is full, the
+    // greatest id goes out of it, this one or another.
+    fn put_new(&mut self, at: usize, placed: &Placed)
+        requires inside { at ≤ length self.old.entries.items }
+        ensures { (limit : ℕ) (before : List PlacedEntry) → placed.now.id < limit → ¬ (placed.now.len ≡ 0)
+            → AllWithin (λ p. p.id < placed.now.id) self.old.entries.items 0 at
+            → AllWithin (λ p. placed.now.id < p.id) self.old.entries.items at (length self.old.entries.items)
+            → IsTold self.old.bound placed.now.id → Tells limit self.old before → Tells limit self.new (before ++ placed.now ∷ []) }
+    {
+        if !self.entries.is_full() {
+            self.entries.insert(at, *placed);
+            return;
+        }
+        if at == self.entries.len() {
+            self.bound = Some(placed.id);
+            return;
+        }
+        self.drop_greatest();
+        self.entries.insert(at, *placed);
+    }
+
+    // Takes an entry as the last one of its id, of which the table tells.
     fn put(&mut self, placed: &Placed)
-        requires sector { placed.now.sector < 2 ^ 8 }
-        requires slot { placed.now.slot < 2 ^ 16 - 1 }
-        ensures sectors { self.new.sectors ≡ slice_set self.old.sectors (key_of placed.now.id) placed.now.sector }
-        ensures slots { self.new.slots ≡ slice_set self.old.slots (key_of placed.now.id) (placed.now.slot + 1) }
-        ensures short { self.new.short ≡ self.old.short }
-        ensures mixed { self.new.mixed ≡ (self.old.mixed || is_other self.old.short placed.now) }
+        ensures { (limit : ℕ) (before : List PlacedEntry) → placed.now.id < limit
+            → IsTold self.old.bound placed.now.id → Tells limit self.old before → Tells limit self.new (before ++ placed.now ∷ []) }
     {
-        let key = key_of(placed.id);
-        self.sectors[key as usize] = placed.sector as u8;
-        self.slots[key as usize] = (placed.slot + 1) as u16;
-        self.mixed = self.mixed || placed.id != usual_id(self.short, key);
-    }
-
-    /// The sector and the slot of the last entry of an id's key, if there is one.
-    pub fn place(&self, id: u32) -> Option<(u32, u32)>
-        ensures { IsPlaceIn (slice_index self.now.sectors (key_of id)) (slice_index self.now.slots (key_of id)) result }
-    {
-        let key = key_of(id) as usize;
-        let slot = u32::from(self.slots[key]);
-        if slot == 0 {
-            return None;
-        }
-        Some((u32::from(self.sectors[key]), slot - 1))
-    }
-
-    /// The first key from this one on that has an entry; `KEYS_END` where none has.
-    pub fn next_key(&self, first: u32) -> u32
-        requires { first ≤ 2 ^ 17 }
-        ensures from { first ≤ result }
-        ensures within { result ≤ 2 ^ 17 }
-        ensures none_before { (key : ℕ) → first ≤ key → key < result → slice_index self.now.slots key ≡ 0 }
-        ensures some { result < 2 ^ 17 → ¬ (slice_index self.now.slots result ≡ 0) }
-    {
-        for key in first..KEYS_END {
-            if self.slots[key as usize] != 0 {
-                return key;
+        match search(self.entries.as_slice(), placed.id) {
+            Ok(at) => self.replace(at, placed),
+            Err(at) => {
+                if placed.len > 0 {
+                    self.put_new(at, placed);
+                }
             }
         }
-        KEYS_END
     }
 }
 
 impl Notes for LastSlots {
-    ghost noted = { λ limit last placed. Tells limit last.sectors last.slots last.short last.mixed placed };
+    ghost noted = { λ limit last placed. Tells limit last placed };
 
     fn note(&mut self, placed: &Placed) {
-        self.put(placed);
+        if self.tells_of(placed.id) {
+            self.put(placed);
+        }
     }
 }
 
-/// For each key of ids the sector and the slot of its last entry in the list. Each sector that counts is looked at once.
+/// The last entry of each id in the list, as far as a table tells of it. Each sector that counts is looked at once.
 pub fn last_slots<T: SlotSectors, F: Flash, L: Ledger>(
     flash: &F,
     area: &Area,
@@ -173,7 +193,7 @@ pub fn last_slots<T: SlotSectors, F: Flash, L: Ledger>(
     requires current { let d = F.device flash.now in current ≡ open_sector (kind_on T.kind d area.now).reading (sectors_of d area.now) }
     ensures { TellsOn T.kind (F.device flash.now) area.now result }
 {
-    let mut last = LastSlots::new(T::has_short_ids());
+    let mut last = LastSlots::new();
     let older = current + 1;
     note_among(
         flash,

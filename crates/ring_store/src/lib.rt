@@ -2,6 +2,7 @@
 #![tactic(auto)]
 
 mod bits;
+mod cached;
 #[tactic(auto, using(flash_map::proofs::Touches::then))]
 mod collecting;
 mod costs;
@@ -15,6 +16,7 @@ mod noting;
 mod reading;
 #[tactic(auto, using(flash_map::proofs::Touches::then))]
 mod room;
+mod searching;
 mod sectors;
 mod seen;
 mod store;

@@ -74,7 +74,7 @@ pub fn is_live<T: SlotSectors, F: Flash, L: Ledger>(
     }
 }
 
-// The same by what was seen behind it. The list is searched only where an id of the same class was seen that may be another one.
+// The same by what was seen behind it. The list is searched only where an id of the same key was seen that may be another one.
 fn is_live_by<T: SlotSectors, F: Flash, L: Ledger>(
     flash: &F,
     area: &Area,
@@ -89,7 +89,7 @@ fn is_live_by<T: SlotSectors, F: Flash, L: Ledger>(
     requires current { let d = F.device flash.now in current ≡ open_sector (T.kind (unit_of d area.now)).reading (sectors_of d area.now) }
     requires known { let d = F.device flash.now in placed.now.id < (kind_on T.kind d area.now).ids }
     ensures { let d = F.device flash.now in let k = kind_on T.kind d area.now in
-        (later : List PlacedEntry) → AreBehind k (sectors_of d area.now) placed.now later → HasSeen k.ids seen.now.bits later
+        (later : List PlacedEntry) → AreBehind k (sectors_of d area.now) placed.now later → HasSeen k.ids seen.now.bits seen.now.mixed later
         → result ≡ is_live (slots k) (sectors_of d area.now) placed.now }
 {
     if placed.len == 0 {
@@ -99,6 +99,9 @@ fn is_live_by<T: SlotSectors, F: Flash, L: Ledger>(
         return true;
     }
     if T::has_short_ids() {
+        return false;
+    }
+    if seen.is_plain(placed.id) {
         return false;
     }
     is_live(flash, area, opened, current, placed, steps)
@@ -123,10 +126,10 @@ fn look_at<T: SlotSectors, F: Flash, L: Ledger>(
     ensures live { let d = F.device flash.now in let k = kind_on T.kind d area.now in
         (later : List PlacedEntry)
         → ((p : PlacedEntry) → option_map (placed_at place) (k.in_slot (sector_at (sectors_of d area.now) place) slot) ≡ Some p → AreBehind k (sectors_of d area.now) p later)
-        → HasSeen k.ids seen.old.bits later → result ≡ holds_live k (sectors_of d area.now) place slot }
+        → HasSeen k.ids seen.old.bits seen.old.mixed later → result ≡ holds_live k (sectors_of d area.now) place slot }
     ensures seen { let d = F.device flash.now in let k = kind_on T.kind d area.now in
-        (later : List PlacedEntry) → HasSeen k.ids seen.old.bits later
-        → HasSeen k.ids seen.new.bits (option_to_list (option_map (placed_at place) (k.in_slot (sector_at (sectors_of d area.now) place) slot)) ++ later) }
+        (later : List PlacedEntry) → HasSeen k.ids seen.old.bits seen.old.mixed later
+        → HasSeen k.ids seen.new.bits seen.new.mixed (option_to_list (option_map (placed_at place) (k.in_slot (sector_at (sectors_of d area.now) place) slot)) ++ later) }
 {
     match T::entry_in(flash, area, place, slot, steps) {
         Some(placed) => {
@@ -153,11 +156,11 @@ pub fn live_by<T: SlotSectors, F: Flash, L: Ledger>(
     requires current { let d = F.device flash.now in current ≡ open_sector (T.kind (unit_of d area.now)).reading (sectors_of d area.now) }
     requires inside { place < area.now.sectors }
     requires counts { let d = F.device flash.now in counts_at (kind_on T.kind d area.now).reading (sectors_of d area.now) current place ≡ true }
-    requires seen { let d = F.device flash.now in let k = kind_on T.kind d area.now in HasSeen k.ids seen.old.bits (behind k (sectors_of d area.now) current place) }
+    requires seen { let d = F.device flash.now in let k = kind_on T.kind d area.now in HasSeen k.ids seen.old.bits seen.old.mixed (behind k (sectors_of d area.now) current place) }
     ensures live { let d = F.device flash.now in let k = kind_on T.kind d area.now in
         (index : ℕ) → index < k.count (sector_at (sectors_of d area.now) place) → has_bit result.bits index ≡ holds_live k (sectors_of d area.now) place (k.first + index) }
     ensures seen { let d = F.device flash.now in let k = kind_on T.kind d area.now in
-        HasSeen k.ids seen.new.bits (counted_in (slots k) (sectors_of d area.now) current place ++ behind k (sectors_of d area.now) current place) }
+        HasSeen k.ids seen.new.bits seen.new.mixed (counted_in (slots k) (sectors_of d area.now) current place ++ behind k (sectors_of d area.now) current place) }
 {
     let mut live = LiveSlots::new();
     let first = T::first_slot();

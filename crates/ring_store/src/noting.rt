@@ -1,5 +1,5 @@
 // Noting the entries of the list, sector by sector.
-ghost use Rattle.std.specs.Prelude.{◌≡◌, ◌+◌, ◌-◌, ◌^◌, ◌<◌, ◌≤◌, ℕ, List, [], ◌∷◌, ◌++◌, length, map};
+ghost use Rattle.std.specs.Prelude.{◌≡◌, ◌-◌, ◌<◌, ◌≤◌, ℕ, List, [], ◌∷◌, ◌++◌, length, map};
 ghost use Rattle.std.specs.List.{flat_map, range_with_len};
 ghost use Rattle.std.specs.Option.{option_map, option_to_list};
 ghost use Rattle.flash_map.specs.Area.{unit_of, sectors_of, sector_at};
@@ -22,8 +22,6 @@ pub trait Notes {
     ghost noted: { ℕ → Self → List PlacedEntry → Type 0 };
 
     fn note(&mut self, placed: &Placed)
-        requires sector { placed.now.sector < 2 ^ 8 }
-        requires slot { placed.now.slot < 2 ^ 16 - 1 }
         ensures { (limit : ℕ) (before : List PlacedEntry) → placed.now.id < limit → noted limit self.old before → noted limit self.new (before ++ placed.now ∷ []) };
 }
 
@@ -39,7 +37,6 @@ fn note_slot<T: SlotSectors, N: Notes, F: Flash, L: Ledger>(
     requires area { IsStoreArea T.role (F.device flash.now).banks area.now }
     requires inside { place < area.now.sectors }
     requires listed { HasSlotOn T.kind (F.device flash.now) area.now place slot }
-    requires low { slot < 2 ^ 16 - 1 }
     ensures { let d = F.device flash.now in let k = kind_on T.kind d area.now in
         (before : List PlacedEntry) → N.noted k.ids notes.old before
         → N.noted k.ids notes.new (before ++ option_to_list (option_map (placed_at place) (k.in_slot (sector_at (sectors_of d area.now) place) slot))) }

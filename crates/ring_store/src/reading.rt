@@ -1,18 +1,20 @@
 // Reading items.
-ghost use Rattle.std.specs.Prelude.{◌≡◌, ◌+◌, ◌<◌, ◌≤◌, ℕ, None, IfSome, option_map};
+ghost use Rattle.std.specs.Prelude.{◌≡◌, ◌+◌, ◌<◌, ◌≤◌, ℕ, false, Some, None, is_some, IfSome, option_map};
 ghost use Rattle.std.specs.FinMap as map;
+ghost use Rattle.flash_sim.specs.Bank.{IsLawful};
+ghost use Rattle.flash_sim.specs.Device.{Device};
 ghost use Rattle.flash_map.specs.Area.{unit_of, sectors_of, sector_at};
 ghost use Rattle.pair_laws.specs.Items.{value_of};
 ghost use Rattle.ring_laws.specs.Live.{bytes_of};
-ghost use Rattle.ring_laws.specs.NextIds.{is_between, Follows, IsAtMost, IsLeastOf};
+ghost use Rattle.ring_laws.specs.NextIds.{is_between, Follows, IsAtMost, IsLeastOf, IsNextId};
+ghost use Rattle.ring_store.specs.Cached.{latest_on};
 ghost use Rattle.ring_store.specs.Kind.{slots};
 ghost use Rattle.ring_store.specs.Listed.{kind_on, items_on, entries_on, IsPlacedOn};
-ghost use Rattle.ring_store.specs.NextId.{IsNextId};
-ghost use Rattle.ring_store.specs.Older.{IsNextOlder};
+ghost use Rattle.ring_store.specs.Older.{IsNextOlder, newest_before};
 ghost use Rattle.ring_store.specs.Stands.{StandsOn};
 
 use crate::entry::Placed;
-use crate::lookup::find;
+use crate::searching::find_up_to;
 use crate::sectors::SlotSectors;
 use crate::store::Store;
 use crate::walking::walk;
@@ -27,7 +29,9 @@ fn is_between(id: u32, after: Option<u32>, least: Option<u32>) -> bool
 }
 
 impl<T: SlotSectors> Store<T> {
-    /// The bytes of an item: none where the id has no entry, or its last one is a delete.
+    /// The bytes of an item: none where the id has no entry, or its last one is a delete. Where no entry has an id of the
+    /// same cache slot there is no step, and where the latest such entry has this id there are at most two; else the list
+    /// is searched.
     pub fn get<'a, F: Flash, L: Ledger>(
         &self,
         flash: &'a F,
@@ -35,9 +39,64 @@ impl<T: SlotSectors> Store<T> {
         steps: &mut Steps<L>,
     ) -> Option<&'a [u8]>
         requires { StandsOn T.role T.kind T.kept (F.device flash.now) self.now }
+        ensures value { option_map (λ bytes. bytes.now) result ≡ map.get (items_on T.kind (F.device flash.now) self.now.area) id }
+        ensures none { latest_on T.kind (F.device flash.now) self.now.area id ≡ None → steps.new ≡ steps.old }
+        ensures few { IfSome (latest_on T.kind (F.device flash.now) self.now.area id) (λ p. p.id ≡ id → steps.new ≤ steps.old + 2) }
+    {
+        let latest = self.latest(flash, id, steps)?;
+        if latest.id == id {
+            return self.bytes_at(flash, &latest, steps);
+        }
+        self.search(flash, &latest, id, steps)
+    }
+
+    /// Whether an item may be there: `true` exactly where an entry of the list has an id of the same cache slot. Else the id
+    /// has none. It looks at the cache alone.
+    pub fn may_hold(&self, id: u32) -> bool
+        ensures exactly { (d : Device) → StandsOn T.role T.kind T.kept d self.now → result ≡ is_some (latest_on T.kind d self.now.area id) }
+        ensures none { (d : Device) → IsLawful d.banks d.bytes → StandsOn T.role T.kind T.kept d self.now → result ≡ false
+            → map.get (items_on T.kind d self.now.area) id ≡ None }
+    {
+        self.cache.start_of(id).is_some()
+    }
+
+    // The latest entry of the id's cache slot, a delete too.
+    fn latest<F: Flash, L: Ledger>(
+        &self,
+        flash: &F,
+        id: u32,
+        steps: &mut Steps<L>,
+    ) -> Option<Placed>
+        requires { StandsOn T.role T.kind T.kept (F.device flash.now) self.now }
+        ensures entry { result ≡ latest_on T.kind (F.device flash.now) self.now.area id }
+        ensures none { result ≡ None → steps.new ≡ steps.old }
+        ensures step { steps.new ≤ steps.old + 1 }
+    {
+        let (sector, slot) = self.cache.start_of(id)?;
+        T::entry_in(flash, &self.area, sector, slot, steps)
+    }
+
+    // The bytes of an item, by its last entry: no entry behind the sector of the latest one of its cache slot has the id.
+    fn search<'a, F: Flash, L: Ledger>(
+        &self,
+        flash: &'a F,
+        latest: &Placed,
+        id: u32,
+        steps: &mut Steps<L>,
+    ) -> Option<&'a [u8]>
+        requires stands { StandsOn T.role T.kind T.kept (F.device flash.now) self.now }
+        requires latest { Some latest.now ≡ latest_on T.kind (F.device flash.now) self.now.area id }
         ensures { option_map (λ bytes. bytes.now) result ≡ map.get (items_on T.kind (F.device flash.now) self.now.area) id }
     {
-        let placed = find(flash, &self.area, &self.opened, self.current, id, steps)?;
+        let placed = find_up_to(
+            flash,
+            &self.area,
+            &self.opened,
+            self.current,
+            latest.sector,
+            id,
+            steps,
+        )?;
         self.bytes_at(flash, &placed, steps)
     }
 
@@ -50,8 +109,9 @@ impl<T: SlotSectors> Store<T> {
     ) -> Option<&'a [u8]>
         requires stands { StandsOn T.role T.kind T.kept (F.device flash.now) self.now }
         requires placed { IsPlacedOn T.kind (F.device flash.now) self.now.area self.now.current placed.now }
-        ensures { let d = F.device flash.now in
+        ensures value { let d = F.device flash.now in
             option_map (λ bytes. bytes.now) result ≡ value_of (bytes_of (slots (kind_on T.kind d self.now.area)) (sectors_of d self.now.area) placed.now) }
+        ensures step { steps.new ≤ steps.old + 1 }
     {
         if placed.len == 0 {
             return None;
@@ -159,7 +219,8 @@ impl<T: SlotSectors> Store<T> {
     }
 
     /// The next older entry of the list: the one before the entry in this sector and slot, or the newest one where no
-    /// place is given. Deletes are among them. `None` comes exactly at the front of the list.
+    /// place is given. Deletes are among them. `None` comes exactly at the front of the list. From a place without an entry
+    /// it is the newest of the entries before that place, in the round to the open sector.
     pub fn walk<F: Flash, L: Ledger>(
         &self,
         flash: &F,
@@ -170,6 +231,8 @@ impl<T: SlotSectors> Store<T> {
         requires inside { IfSome after (λ place. place.0 < self.now.area.sectors) }
 
         ensures older { IsNextOlder (entries_on T.kind (F.device flash.now) self.now.area) after result }
+        ensures before { let d = F.device flash.now in
+            IfSome after (λ place. result ≡ newest_before (kind_on T.kind d self.now.area) (sectors_of d self.now.area) place) }
         ensures placed { IfSome result (IsPlacedOn T.kind (F.device flash.now) self.now.area self.now.current) }
     {
         walk(flash, &self.area, &self.opened, self.current, after, steps)

@@ -11,7 +11,7 @@ ghost use Rattle.ring_laws.specs.Live.{last_in, bytes_of};
 ghost use Rattle.ring_store.specs.Kind.{Kind, IsKind, placed_at, slots, fits};
 ghost use Rattle.ring_store.specs.Listed.{IsListedOn, IsWithinOn};
 ghost use Rattle.ring_store.specs.Standing.{IsStoreArea, SpendsIn, SpendsUpTo};
-ghost use Rattle.ring_store.specs.Steps.{Keeps, KeepsMarks, Begins, Adds, Marks, Closes, Clears};
+ghost use Rattle.ring_store.specs.Steps.{Keeps, KeepsMarks, LeavesRoom, Begins, Adds, Marks, Closes, Clears};
 
 use crate::entry::Placed;
 use flash_map::{Area, Damaged};
@@ -38,7 +38,8 @@ pub trait SlotSectors: Copy {
 
     /// Whether the ids of items have 16 bits.
     fn has_short_ids() -> bool
-        ensures { (unit : ℕ) → IsTrue result → (kind unit).ids ≤ 2 ^ 16 };
+        ensures short { (unit : ℕ) → IsTrue result → (kind unit).ids ≤ 2 ^ 16 }
+        ensures wide { (unit : ℕ) → (kind unit).ids ≤ 2 ^ 16 → IsTrue result };
 
     /// What bytes of this length and their entry take up, in bytes.
     fn cost(unit: u32, len: u32) -> u64
@@ -109,7 +110,7 @@ pub trait SlotSectors: Copy {
         ensures value { let d = F.device flash.now in result ≡ (kind (unit_of d area.now)).count (sector_at (sectors_of d area.now) place) }
         ensures few { result ≤ 2 ^ 15 };
 
-    /// The entry in a slot of a sector's list.
+    /// The entry in a slot of a sector's list. It is one step at most.
     fn entry_in<F: Flash, L: Ledger>(
         flash: &F,
         area: &Area,
@@ -124,9 +125,10 @@ pub trait SlotSectors: Copy {
         ensures entry { let d = F.device flash.now in let k = kind (unit_of d area.now) in
             result ≡ option_map (placed_at place) (k.in_slot (sector_at (sectors_of d area.now) place) slot) }
         ensures small { let d = F.device flash.now in IfSome result (λ p. p.id < (kind (unit_of d area.now)).ids) }
-        ensures short { IfSome result (λ p. p.len < 2 ^ 16) };
+        ensures short { IfSome result (λ p. p.len < 2 ^ 16) }
+        ensures step { steps.new ≤ steps.old + 1 };
 
-    /// The bytes of an entry of a sector's list.
+    /// The bytes of an entry of a sector's list. It is one step at most.
     fn value<'a, F: Flash, L: Ledger>(
         flash: &'a F,
         area: &Area,
@@ -136,7 +138,8 @@ pub trait SlotSectors: Copy {
         requires area { IsStoreArea role (F.device flash.now).banks area.now }
         requires listed { IsListedOn kind (F.device flash.now) area.now placed.now }
         requires within { IsWithinOn kind (F.device flash.now) area.now placed.now.sector }
-        ensures { let d = F.device flash.now in result.now ≡ bytes_of (slots (kind (unit_of d area.now))) (sectors_of d area.now) placed.now };
+        ensures bytes { let d = F.device flash.now in result.now ≡ bytes_of (slots (kind (unit_of d area.now))) (sectors_of d area.now) placed.now }
+        ensures step { steps.new ≤ steps.old + 1 };
 
     /// The last entry of an id in a sector.
     fn find_in<F: Flash, L: Ledger>(
@@ -153,10 +156,10 @@ pub trait SlotSectors: Copy {
 
     // ---- steps in the open sector
 
-    /// Makes the sector ready for entries.
+    /// Makes the sector ready for entries. One that is ready stays as it is.
     ///
     /// # Errors
-    /// `PowerLost`: its marks are as before, and its list where it is in use.
+    /// `PowerLost`: its marks are as before, and its list where it is in use; nothing is gone of what was free.
     fn begin<F: Flash, L: Ledger>(
         &mut self,
         flash: &mut F,
@@ -174,13 +177,15 @@ pub trait SlotSectors: Copy {
         ensures begins { let d = F.device flash.old in OnOk result (Begins (kind (unit_of d area.now)) (sector_at (sectors_of d area.now) place) (sector_at (sectors_of (F.device flash.new) area.now) place)) }
         ensures kept { let d = F.device flash.old in OnOk result (self.new ≡ kept (unit_of d area.now) (sector_at (sectors_of (F.device flash.new) area.now) place)) }
         ensures lost { let d = F.device flash.old in OnErr result (Keeps (kind (unit_of d area.now)) (sector_at (sectors_of d area.now) place) (sector_at (sectors_of (F.device flash.new) area.now) place)) }
+        ensures room_lost { let d = F.device flash.old in let k = kind (unit_of d area.now) in
+            OnErr result (LeavesRoom k (sector_at (sectors_of d area.now) place) (sector_at (sectors_of (F.device flash.new) area.now) place) 0) }
         ensures spends { let d = F.device flash.old in OnOk result (SpendsIn d (F.device flash.new) ((kind (unit_of d area.now)).units.begin (sector_at (sectors_of d area.now) place))) }
         ensures spends_lost { let d = F.device flash.old in OnErr result (SpendsUpTo d (F.device flash.new) ((kind (unit_of d area.now)).units.begin (sector_at (sectors_of d area.now) place))) };
 
     /// Puts an item's bytes and their entry. No bytes are a delete.
     ///
     /// # Errors
-    /// `PowerLost`: the sector's list is as before, or with the pair.
+    /// `PowerLost`: the sector's list is as before, or with the pair, and no more is gone of what was free than the pair costs.
     fn put<F: Flash, L: Ledger>(
         &mut self,
         flash: &mut F,
@@ -204,6 +209,8 @@ pub trait SlotSectors: Copy {
         ensures kept { let d = F.device flash.old in OnOk result (self.new ≡ kept (unit_of d area.now) (sector_at (sectors_of (F.device flash.new) area.now) place)) }
         ensures lost { let d = F.device flash.old in let k = kind (unit_of d area.now) in let b = sector_at (sectors_of d area.now) place in let e = sector_at (sectors_of (F.device flash.new) area.now) place in
             OnErr result (Keeps k b e ⊎ Adds k b e id bytes.now) }
+        ensures room_lost { let d = F.device flash.old in let k = kind (unit_of d area.now) in
+            OnErr result (LeavesRoom k (sector_at (sectors_of d area.now) place) (sector_at (sectors_of (F.device flash.new) area.now) place) (k.cost (length bytes.now))) }
         ensures sound { let d = F.device flash.old in let k = kind (unit_of d area.now) in is_sound k.reading (sector_at (sectors_of d area.now) place) ≡ true → is_sound k.reading (sector_at (sectors_of (F.device flash.new) area.now) place) ≡ true }
         ensures spends { let d = F.device flash.old in OnOk result (SpendsIn d (F.device flash.new) ((kind (unit_of d area.now)).units.put (sector_at (sectors_of d area.now) place) (length bytes.now))) }
         ensures spends_lost { let d = F.device flash.old in OnErr result (SpendsUpTo d (F.device flash.new) ((kind (unit_of d area.now)).units.put (sector_at (sectors_of d area.now) place) (length bytes.now))) };
@@ -241,8 +248,10 @@ pub trait SlotSectors: Copy {
         ensures adds { let d = F.device flash.old in OnOk result (Adds (kind (unit_of d area.now)) (sector_at (sectors_of d area.now) place) (sector_at (sectors_of (F.device flash.new) area.now) place) from.now.id (bytes_of (slots (kind (unit_of d area.now))) (sectors_of d area.now) from.now)) }
         ensures kept { let d = F.device flash.old in OnOk result (self.new ≡ kept (unit_of d area.now) (sector_at (sectors_of (F.device flash.new) area.now) place)) }
         ensures lost { let d = F.device flash.old in OnErr result (KeepsMarks (kind (unit_of d area.now)) (sector_at (sectors_of d area.now) place) (sector_at (sectors_of (F.device flash.new) area.now) place)) }
-        ensures spends { let d = F.device flash.old in OnOk result (SpendsIn d (F.device flash.new) ((kind (unit_of d area.now)).units.copy from.now.len)) }
-        ensures spends_lost { let d = F.device flash.old in OnErr result (SpendsUpTo d (F.device flash.new) ((kind (unit_of d area.now)).units.copy from.now.len)) };
+        ensures spends { let d = F.device flash.old in
+            OnOk result (SpendsIn d (F.device flash.new) ((kind (unit_of d area.now)).units.copy (sector_at (sectors_of d area.now) place) from.now.len)) }
+        ensures spends_lost { let d = F.device flash.old in
+            OnErr result (SpendsUpTo d (F.device flash.new) ((kind (unit_of d area.now)).units.copy (sector_at (sectors_of d area.now) place) from.now.len)) };
 
     /// Marks the sector as one that has all copies.
     ///
@@ -268,8 +277,8 @@ pub trait SlotSectors: Copy {
         ensures marks { let d = F.device flash.old in OnOk result (Marks (kind (unit_of d area.now)) (sector_at (sectors_of d area.now) place) (sector_at (sectors_of (F.device flash.new) area.now) place)) }
         ensures kept { let d = F.device flash.old in OnOk result (self.new ≡ kept (unit_of d area.now) (sector_at (sectors_of (F.device flash.new) area.now) place)) }
         ensures lost { let d = F.device flash.old in OnErr result (KeepsMarks (kind (unit_of d area.now)) (sector_at (sectors_of d area.now) place) (sector_at (sectors_of (F.device flash.new) area.now) place)) }
-        ensures spends { let d = F.device flash.old in OnOk result (SpendsIn d (F.device flash.new) (kind (unit_of d area.now)).units.done) }
-        ensures spends_lost { let d = F.device flash.old in OnErr result (SpendsUpTo d (F.device flash.new) (kind (unit_of d area.now)).units.done) };
+        ensures spends { let d = F.device flash.old in OnOk result (SpendsIn d (F.device flash.new) ((kind (unit_of d area.now)).units.done (sector_at (sectors_of d area.now) place))) }
+        ensures spends_lost { let d = F.device flash.old in OnErr result (SpendsUpTo d (F.device flash.new) ((kind (unit_of d area.now)).units.done (sector_at (sectors_of d area.now) place))) };
 
     /// Closes the open sector, which is in use.
     ///
@@ -316,8 +325,8 @@ pub trait SlotSectors: Copy {
         ensures only { ChangesOnly (sectors_of (F.device flash.old) area.now) (sectors_of (F.device flash.new) area.now) place }
         ensures clears { let d = F.device flash.old in OnOk result (Clears (kind (unit_of d area.now)) (sector_at (sectors_of d area.now) place) (sector_at (sectors_of (F.device flash.new) area.now) place)) }
         ensures lost { let d = F.device flash.old in OnErr result (KeepsMarks (kind (unit_of d area.now)) (sector_at (sectors_of d area.now) place) (sector_at (sectors_of (F.device flash.new) area.now) place)) }
-        ensures spends { let d = F.device flash.old in OnOk result (SpendsIn d (F.device flash.new) (kind (unit_of d area.now)).units.clear) }
-        ensures spends_lost { let d = F.device flash.old in OnErr result (SpendsUpTo d (F.device flash.new) (kind (unit_of d area.now)).units.clear) };
+        ensures spends { let d = F.device flash.old in OnOk result (SpendsIn d (F.device flash.new) ((kind (unit_of d area.now)).units.clear (sector_at (sectors_of d area.now) place))) }
+        ensures spends_lost { let d = F.device flash.old in OnErr result (SpendsUpTo d (F.device flash.new) ((kind (unit_of d area.now)).units.clear (sector_at (sectors_of d area.now) place))) };
 
     // ---- reading an area
 

@@ -1,8 +1,8 @@
 // Which ids the entries behind a place of the list have.
-ghost use Rattle.std.specs.Prelude.{◌≡◌, ◌^◌, ◌<◌, ◌||◌, ◌==◌, ℕ, []};
+ghost use Rattle.std.specs.Prelude.{◌≡◌, ◌^◌, ◌<◌, ◌||◌, ◌==◌, ℕ, [], false, not, IsTrue};
 ghost use Rattle.flash_map.specs.Area.{unit_of, sectors_of, sector_at};
 ghost use Rattle.ring_store.specs.Listed.{kind_on};
-ghost use Rattle.ring_store.specs.Seen.{class_of, has_bit, HasSeen, behind};
+ghost use Rattle.ring_store.specs.Seen.{key_of, usual_id, has_bit, HasSeen, behind};
 ghost use Rattle.ring_store.specs.Standing.{IsStoreArea};
 
 use crate::bits::{has_bit, set_bit};
@@ -13,49 +13,75 @@ use flash_map::Area;
 use flash_sim::{Flash, Steps};
 use std::sync::ledger::Ledger;
 
-// A bit for each class of ids.
-const BYTES: usize = 0x2000;
+// A bit for each key of ids.
+const BYTES: usize = 0x4000;
 
-/// Which classes the ids of some entries are of.
+// The key of an id, a number of 17 bits.
+#[tactic(auto, unfolding(crate::specs::Seen::key_of))]
+fn key_of(id: u32) -> u32
+    ensures key { result ≡ key_of id }
+    ensures below { result < 2 ^ 17 }
+{
+    id / 0x4000_0000 % 2 * 0x1_0000 + id % 0x1_0000
+}
+
+// The id of a key, where ids are long, that has bit 31 and the bits of the key, and no others.
+#[tactic(auto, unfolding(crate::specs::Seen::usual_id))]
+fn usual_id(key: u32) -> u32
+    requires { key < 2 ^ 17 }
+    ensures { result ≡ usual_id key }
+{
+    0x8000_0000 + key / 0x1_0000 * 0x4000_0000 + key % 0x1_0000
+}
+
+/// Which keys the ids of some entries have.
 #[derive(Drop)]
 pub struct Seen {
     pub(crate) bits: [u8; BYTES],
-}
-
-// The class of an id, one of 65,536.
-#[tactic(auto, unfolding(crate::specs::Seen::class_of))]
-fn class_of(id: u32) -> u32
-    ensures class { result ≡ class_of id }
-    ensures below { result < 2 ^ 16 }
-{
-    (id % 0x1_0000 + id / 0x4000_0000 % 2 * 0x8000) % 0x1_0000
+    // some id is another one than the usual one of its key, where ids are long
+    pub(crate) mixed: bool,
 }
 
 impl Seen {
     /// None so far.
     pub fn new() -> Seen
-        ensures { (limit : ℕ) → HasSeen limit result.bits [] }
+        ensures { (limit : ℕ) → HasSeen limit result.bits result.mixed [] }
     {
-        Seen { bits: [0; BYTES] }
+        Seen {
+            bits: [0; BYTES],
+            mixed: false,
+        }
     }
 
-    /// Whether an id of the same class was noted.
+    /// Whether an id of the same key was noted.
     pub fn has(&self, id: u32) -> bool
-        ensures { result ≡ has_bit self.now.bits (class_of id) }
+        ensures { result ≡ has_bit self.now.bits (key_of id) }
     {
-        has_bit(&self.bits, class_of(id))
+        has_bit(&self.bits, key_of(id))
+    }
+
+    /// Whether this id and each one that was noted are the usual ones of their keys, where ids are long. Then one that has
+    /// the key of this id is this id.
+    pub fn is_plain(&self, id: u32) -> bool
+        ensures noted { IsTrue result → self.now.mixed ≡ false }
+        ensures own { IsTrue result → id ≡ usual_id (key_of id) }
+    {
+        !self.mixed && id == usual_id(key_of(id))
     }
 
     /// Adds an id.
     pub fn add(&mut self, id: u32)
-        ensures { (class : ℕ) → class < 2 ^ 16 → has_bit self.new.bits class ≡ (has_bit self.old.bits class || (class_of id == class)) }
+        ensures bits { (key : ℕ) → key < 2 ^ 17 → has_bit self.new.bits key ≡ (has_bit self.old.bits key || (key_of id == key)) }
+        ensures mixed { self.new.mixed ≡ (self.old.mixed || not (id == usual_id (key_of id))) }
     {
-        set_bit(&mut self.bits, class_of(id));
+        let key = key_of(id);
+        set_bit(&mut self.bits, key);
+        self.mixed = self.mixed || id != usual_id(key);
     }
 }
 
 impl Notes for Seen {
-    ghost noted = { λ limit seen placed. HasSeen limit seen.bits placed };
+    ghost noted = { λ limit seen placed. HasSeen limit seen.bits seen.mixed placed };
 
     fn note(&mut self, placed: &Placed) {
         self.add(placed.id);
@@ -77,7 +103,7 @@ pub fn note_behind<T: SlotSectors, F: Flash, L: Ledger>(
     requires current { current < area.now.sectors }
     requires inside { place < area.now.sectors }
     ensures { let d = F.device flash.now in let k = kind_on T.kind d area.now in
-        HasSeen k.ids seen.old.bits [] → HasSeen k.ids seen.new.bits (behind k (sectors_of d area.now) current place) }
+        HasSeen k.ids seen.old.bits seen.old.mixed [] → HasSeen k.ids seen.new.bits seen.new.mixed (behind k (sectors_of d area.now) current place) }
 {
     let after = place + 1;
     if place <= current {

@@ -1,5 +1,6 @@
 // The state of a store.
 use flash_map::Area;
+use lookup_cache::Cache;
 
 /// A store over the sectors of one area.
 #[derive(Debug, Drop)]
@@ -9,6 +10,8 @@ pub struct Store<T> {
     pub(crate) current: u32,
     // what is kept of it
     pub(crate) opened: T,
+    // where the latest entry of each cache slot's ids stands
+    pub(crate) cache: Cache,
     // no call answered that power was lost
     pub(crate) up: bool,
 }

@@ -1,21 +1,23 @@
 // Mounting, and closing with a collection.
-ghost use Rattle.std.specs.Prelude.{◌≡◌, ◌∷◌, [], true, false, is_err, OnOk, OnErr, ◌⊎◌};
+ghost use Rattle.std.specs.Prelude.{◌≡◌, ◌∷◌, [], true, false, is_err, length, OnOk, OnErr, ◌⊎◌};
 ghost use Rattle.flash_map.specs.Area.{unit_of, sector_size, sectors_of};
 ghost use Rattle.flash_map.specs.Faults.{mount_lost};
 ghost use Rattle.flash_map.specs.Spending.{SpendsBetween};
 ghost use Rattle.flash_map.specs.Touches.{Touches};
 ghost use Rattle.ring_laws.specs.Area.{is_blank_at};
-ghost use Rattle.ring_store.specs.Collecting.{TurnsAt};
+ghost use Rattle.ring_store.specs.Collecting.{KeepsOrTurns, TurnsAt};
 ghost use Rattle.ring_store.specs.Spending.{none, round_units};
 ghost use Rattle.ring_store.specs.Standing.{IsStoreArea, KeepsItems, SpendsIn, SpendsUpTo};
 ghost use Rattle.ring_store.specs.Stands.{StandsOn, MountEnds};
 ghost use Rattle.ring_store.specs.Written.{IsWritten};
 
+use crate::cached::{CACHE_SLOTS, fill};
 use crate::collecting::{redo, round};
 use crate::sectors::SlotSectors;
 use crate::store::Store;
 use flash_map::{Area, MountFault};
 use flash_sim::{Flash, PowerLost, Steps};
+use lookup_cache::Cache;
 use std::alloc::Global;
 use std::sync::ledger::Ledger;
 
@@ -24,14 +26,37 @@ impl<T: SlotSectors> Store<T> {
     /// rest nothing changes; an area in which anything changed is not blank then, also where power is lost.
     ///
     /// # Errors
-    /// `Damaged`, and then nothing was programmed; `PowerLost`. Never `NoMemory`.
+    /// `NoMemory`, before anything else; `Damaged`; in both nothing was programmed. `PowerLost`.
     pub fn mount<F: Flash, L: Ledger>(
-        _alloc: Global,
+        alloc: Global,
         flash: &mut F,
         area: Area,
         steps: &mut Steps<L>,
     ) -> Result<Store<T>, MountFault>
         requires { IsStoreArea T.role (F.device flash.old).banks area }
+        ensures touches { Touches (area ∷ []) (F.device flash.old) (F.device flash.new) (mount_lost result) }
+        ensures ends { MountEnds T.role T.kind T.kept (F.device flash.old) (F.device flash.new) area result }
+        ensures at_most { let d = F.device flash.old in SpendsBetween d (F.device flash.new) 0 ((T.kind (unit_of d area)).units.mount (sector_size d area)) }
+        ensures written { let d = F.device flash.old in let k = T.kind (unit_of d area) in
+            IsWritten k (sectors_of d area) → IsWritten k (sectors_of (F.device flash.new) area) }
+        ensures changed { let d = F.device flash.old in
+            (F.device flash.new ≡ d) ⊎ IsWritten (T.kind (unit_of d area)) (sectors_of (F.device flash.new) area) }
+    {
+        match Cache::with_slots(alloc, CACHE_SLOTS) {
+            Err(_) => Err(MountFault::NoMemory),
+            Ok(cache) => Store::<T>::mount_with(cache, flash, area, steps),
+        }
+    }
+
+    // The same with the memory of its cache.
+    fn mount_with<F: Flash, L: Ledger>(
+        mut cache: Cache,
+        flash: &mut F,
+        area: Area,
+        steps: &mut Steps<L>,
+    ) -> Result<Store<T>, MountFault>
+        requires area { IsStoreArea T.role (F.device flash.old).banks area }
+        requires slots { length cache ≡ 64 }
         ensures touches { Touches (area ∷ []) (F.device flash.old) (F.device flash.new) (mount_lost result) }
         ensures ends { MountEnds T.role T.kind T.kept (F.device flash.old) (F.device flash.new) area result }
         ensures at_most { let d = F.device flash.old in SpendsBetween d (F.device flash.new) 0 ((T.kind (unit_of d area)).units.mount (sector_size d area)) }
@@ -46,15 +71,26 @@ impl<T: SlotSectors> Store<T> {
                 let mut opened = T::keep(flash, &area, current, steps);
                 match redo(flash, &area, &mut opened, current, steps) {
                     Err(_) => Err(MountFault::PowerLost),
-                    Ok(()) => Ok(Store {
-                        area,
-                        current,
-                        opened,
-                        up: true,
-                    }),
+                    Ok(()) => {
+                        fill(flash, &area, &opened, current, &mut cache, steps);
+                        Ok(Store {
+                            area,
+                            current,
+                            opened,
+                            cache,
+                            up: true,
+                        })
+                    }
                 }
             }
         }
+    }
+
+    /// The area that the store stands on.
+    pub fn area(&self) -> &Area
+        ensures { result.now ≡ self.now.area }
+    {
+        &self.area
     }
 
     /// Whether no call answered that power was lost.
@@ -64,11 +100,19 @@ impl<T: SlotSectors> Store<T> {
         self.up
     }
 
+    /// The number of the open sector, where the newest entries stand.
+    pub fn open_sector(&self) -> u32
+        ensures { result ≡ self.now.current }
+    {
+        self.current
+    }
+
     /// Closes the open sector and collects the oldest one, where the open one is in use. The items stay, also where power
     /// is lost. What does not fit then is kept out by the copied items alone, and a delete fits.
     ///
     /// # Errors
-    /// `PowerLost`. The store is then down.
+    /// `PowerLost`, only where the open sector is in use. The list is as before or as after the collection, and the store is
+    /// down.
     pub fn close_and_collect<F: Flash, L: Ledger>(
         &mut self,
         flash: &mut F,
@@ -92,6 +136,10 @@ impl<T: SlotSectors> Store<T> {
             → OnOk result (SpendsIn d (F.device flash.new) (round_units k (sectors_of d self.old.area) self.old.current)) }
 
         ensures down { OnErr result (self.new.up ≡ false) }
+        ensures used { let d = F.device flash.old in
+            OnErr result (is_blank_at (T.kind (unit_of d self.old.area)).reading (sectors_of d self.old.area) self.old.current ≡ false) }
+        ensures list_lost { let d = F.device flash.old in
+            OnErr result (KeepsOrTurns (T.kind (unit_of d self.old.area)) (sectors_of d self.old.area) (sectors_of (F.device flash.new) self.old.area) self.old.current) }
         ensures bound { let d = F.device flash.old in OnErr result (SpendsUpTo d (F.device flash.new) (round_units (T.kind (unit_of d self.old.area)) (sectors_of d self.old.area) self.old.current)) }
     {
         if T::is_blank(flash, &self.area, self.current, steps) {
@@ -121,10 +169,20 @@ impl<T: SlotSectors> Store<T> {
             OnOk result (SpendsIn d (F.device flash.new) (round_units k (sectors_of d self.old.area) self.old.current)) }
 
         ensures down { OnErr result (self.new.up ≡ false) }
+        ensures list_lost { let d = F.device flash.old in
+            OnErr result (KeepsOrTurns (T.kind (unit_of d self.old.area)) (sectors_of d self.old.area) (sectors_of (F.device flash.new) self.old.area) self.old.current) }
         ensures bound { let d = F.device flash.old in OnErr result (SpendsUpTo d (F.device flash.new) (round_units (T.kind (unit_of d self.old.area)) (sectors_of d self.old.area) self.old.current)) }
     {
         self.up = false;
         self.current = round(flash, &self.area, &mut self.opened, self.current, steps)?;
+        fill(
+            flash,
+            &self.area,
+            &self.opened,
+            self.current,
+            &mut self.cache,
+            steps,
+        );
         self.up = true;
         Ok(())
     }

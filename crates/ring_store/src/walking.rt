@@ -8,7 +8,7 @@ ghost use Rattle.ring_laws.specs.RoundParts.{places_before};
 ghost use Rattle.ring_laws.specs.Walk.{entries_within, counted_within, placed_up_to};
 ghost use Rattle.ring_store.specs.Kind.{placed_at, slots};
 ghost use Rattle.ring_store.specs.Listed.{kind_on, entries_on, IsListedOn, IsPlacedOn};
-ghost use Rattle.ring_store.specs.Older.{IsNextOlder};
+ghost use Rattle.ring_store.specs.Older.{IsNextOlder, newest_before as newest_before_place};
 ghost use Rattle.ring_store.specs.Standing.{IsStoreArea};
 
 use crate::entry::Placed;
@@ -181,7 +181,8 @@ fn newest_up_to<T: SlotSectors, F: Flash, L: Ledger>(
 }
 
 /// The next older entry of the list: the one before the entry in this sector and slot, or the newest one where no
-/// place is given. `None` comes exactly at the front of the list.
+/// place is given. `None` comes exactly at the front of the list. From a place without an entry it is the newest of the
+/// entries before that place, in the round to the open sector.
 pub fn walk<T: SlotSectors, F: Flash, L: Ledger>(
     flash: &F,
     area: &Area,
@@ -196,6 +197,8 @@ pub fn walk<T: SlotSectors, F: Flash, L: Ledger>(
     requires inside { IfSome after (λ place. place.0 < area.now.sectors) }
 
     ensures older { IsNextOlder (entries_on T.kind (F.device flash.now) area.now) after result }
+    ensures before { let d = F.device flash.now in
+        IfSome after (λ place. result ≡ newest_before_place (kind_on T.kind d area.now) (sectors_of d area.now) place) }
     ensures placed { IfSome result (IsPlacedOn T.kind (F.device flash.now) area.now current) }
 {
     match after {

@@ -1,20 +1,23 @@
 // Writing and deleting items.
-ghost use Rattle.std.specs.Prelude.{◌≡◌, ◌^◌, ◌<◌, ◌≤◌, ◌∷◌, [], true, false, None, length, is_err, OnOk, OnErr};
+ghost use Rattle.std.specs.Prelude.{◌≡◌, ◌^◌, ◌<◌, ◌≤◌, ◌∷◌, [], true, false, None, length, is_err, IfOk, OnOk, OnErr};
 ghost use Rattle.std.specs.Bool.{MatchBool};
 ghost use Rattle.flash_map.specs.Area.{unit_of, sectors_of};
 ghost use Rattle.flash_map.specs.Faults.{write_lost};
 ghost use Rattle.flash_map.specs.Touches.{Touches};
+ghost use Rattle.ring_store.specs.Cached.{AddsEntry, IsCacheOn};
 ghost use Rattle.ring_store.specs.Listed.{kind_on};
-ghost use Rattle.ring_store.specs.Room.{has_room, IsShort};
+ghost use Rattle.ring_store.specs.Room.{has_room, IsShort, MakesRoom, IsFull, StopsMakingRoom};
 ghost use Rattle.ring_store.specs.Stands.{StandsOn, StandsAt};
 ghost use Rattle.ring_store.specs.Written.{IsWritten};
 ghost use Rattle.ring_store.specs.Writing.{PutsPair, StopsPutting, AppendEnds, Holds, WriteEnds, DeleteEnds};
 
-use crate::room::{is_too_long, make_room};
+use crate::cached::fill;
+use crate::room::{fits, is_too_long, make_room};
 use crate::sectors::SlotSectors;
 use crate::store::Store;
 use flash_map::{Area, WriteFault, geometry};
 use flash_sim::{Flash, PowerLost, Steps};
+use lookup_cache::Cache;
 use std::sync::ledger::Ledger;
 
 // Appends a pair that fits the open sector. No bytes are a delete.
@@ -39,6 +42,8 @@ fn put<T: SlotSectors, F: Flash, L: Ledger>(
     ensures stands { OnOk result (StandsAt T.role T.kind T.kept (F.device flash.new) area.now current opened.new) }
     ensures puts { let d = F.device flash.old in
         OnOk result (PutsPair (T.kind (unit_of d area.now)) d (F.device flash.new) area.now id bytes.now) }
+    ensures entry { let d = F.device flash.old in let k = T.kind (unit_of d area.now) in
+        OnOk result (AddsEntry k (sectors_of d area.now) (sectors_of (F.device flash.new) area.now) current id (length bytes.now)) }
 
     ensures stops { let d = F.device flash.old in
         OnErr result (StopsPutting (T.kind (unit_of d area.now)) d (F.device flash.new) area.now id bytes.now) }
@@ -47,17 +52,96 @@ fn put<T: SlotSectors, F: Flash, L: Ledger>(
     opened.put(flash, area, current, id, bytes, steps)
 }
 
+// The same, noted in the cache.
+fn put_noted<T: SlotSectors, F: Flash, L: Ledger>(
+    flash: &mut F,
+    area: &Area,
+    opened: &mut T,
+    current: u32,
+    cache: &mut Cache,
+    id: u32,
+    bytes: &[u8],
+    steps: &mut Steps<L>,
+) -> Result<(), PowerLost>
+    requires stands { StandsAt T.role T.kind T.kept (F.device flash.old) area.now current opened.old }
+    requires cached { IsCacheOn T.kind (F.device flash.old) area.now cache.old }
+    requires ordinary { id < (T.kind (unit_of (F.device flash.old) area.now)).ids }
+    requires room { let d = F.device flash.old in
+        has_room (T.kind (unit_of d area.now)) (sectors_of d area.now) (length bytes.now) ≡ true }
+
+    ensures touches { Touches (area.now ∷ []) (F.device flash.old) (F.device flash.new) (is_err result) }
+    ensures written { let d = F.device flash.old in let k = T.kind (unit_of d area.now) in
+        IsWritten k (sectors_of d area.now) → IsWritten k (sectors_of (F.device flash.new) area.now) }
+
+    ensures stands { OnOk result (StandsAt T.role T.kind T.kept (F.device flash.new) area.now current opened.new) }
+    ensures cached { OnOk result (IsCacheOn T.kind (F.device flash.new) area.now cache.new) }
+    ensures puts { let d = F.device flash.old in
+        OnOk result (PutsPair (T.kind (unit_of d area.now)) d (F.device flash.new) area.now id bytes.now) }
+
+    ensures stops { let d = F.device flash.old in
+        OnErr result (StopsPutting (T.kind (unit_of d area.now)) d (F.device flash.new) area.now id bytes.now) }
+{
+    put(flash, area, opened, current, id, bytes, steps)?;
+    let first = T::first_slot();
+    let count = T::slots(flash, area, current, steps);
+    let slot = first + count - 1;
+    cache.note(id, current, slot);
+    Ok(())
+}
+
+// Makes room for a value of this length. Where it takes rounds, the cache is filled again behind them.
+fn make_room_noted<T: SlotSectors, F: Flash, L: Ledger>(
+    flash: &mut F,
+    area: &Area,
+    opened: &mut T,
+    current: &mut u32,
+    cache: &mut Cache,
+    len: u32,
+    steps: &mut Steps<L>,
+) -> Result<bool, PowerLost>
+    requires stands { StandsAt T.role T.kind T.kept (F.device flash.old) area.now current.old opened.old }
+    requires cached { IsCacheOn T.kind (F.device flash.old) area.now cache.old }
+    requires narrow { len < 2 ^ 16 }
+    requires short { let d = F.device flash.old in
+        0 < len → IsShort (T.kind (unit_of d area.now)) d area.now len }
+
+    ensures touches { Touches (area.now ∷ []) (F.device flash.old) (F.device flash.new) (is_err result) }
+    ensures written { let d = F.device flash.old in let k = T.kind (unit_of d area.now) in
+        IsWritten k (sectors_of d area.now) → IsWritten k (sectors_of (F.device flash.new) area.now) }
+
+    ensures stands { OnOk result (StandsAt T.role T.kind T.kept (F.device flash.new) area.now current.new opened.new) }
+    ensures cached { OnOk result (IsCacheOn T.kind (F.device flash.new) area.now cache.new) }
+    ensures makes { let d = F.device flash.old in
+        OnOk result (MakesRoom (T.kind (unit_of d area.now)) d (F.device flash.new) area.now len) }
+    ensures room { let k = T.kind (unit_of (F.device flash.old) area.now) in
+        IfOk result (λ room. room ≡ has_room k (sectors_of (F.device flash.new) area.now) len) }
+    ensures full { let d = F.device flash.old in
+        IfOk result (λ room. room ≡ false → IsFull (T.kind (unit_of d area.now)) d (F.device flash.new) area.now len) }
+
+    ensures stops { let d = F.device flash.old in
+        OnErr result (StopsMakingRoom (T.kind (unit_of d area.now)) d (F.device flash.new) area.now len) }
+{
+    if fits(flash, area, opened, *current, len, steps) {
+        return Ok(true);
+    }
+    let room = make_room(flash, area, opened, current, len, steps)?;
+    fill(flash, area, opened, *current, cache, steps);
+    Ok(room)
+}
+
 // Makes room for a pair, and appends it where there is some. Says whether there is.
 fn append<T: SlotSectors, F: Flash, L: Ledger>(
     flash: &mut F,
     area: &Area,
     opened: &mut T,
     current: &mut u32,
+    cache: &mut Cache,
     id: u32,
     bytes: &[u8],
     steps: &mut Steps<L>,
 ) -> Result<bool, PowerLost>
     requires stands { StandsAt T.role T.kind T.kept (F.device flash.old) area.now current.old opened.old }
+    requires cached { IsCacheOn T.kind (F.device flash.old) area.now cache.old }
     requires ordinary { id < (T.kind (unit_of (F.device flash.old) area.now)).ids }
     requires narrow { length bytes.now < 2 ^ 16 }
     requires short { let d = F.device flash.old in
@@ -67,16 +151,20 @@ fn append<T: SlotSectors, F: Flash, L: Ledger>(
     ensures written { let d = F.device flash.old in let k = T.kind (unit_of d area.now) in
         IsWritten k (sectors_of d area.now) → IsWritten k (sectors_of (F.device flash.new) area.now) }
     ensures stands { OnOk result (StandsAt T.role T.kind T.kept (F.device flash.new) area.now current.new opened.new) }
+    ensures cached { OnOk result (IsCacheOn T.kind (F.device flash.new) area.now cache.new) }
     ensures ends { let d = F.device flash.old in
         AppendEnds (T.kind (unit_of d area.now)) d (F.device flash.new) area.now id bytes.now result }
     ensures undamaged { (T.kind (unit_of (F.device flash.old) area.now)).damage (sectors_of (F.device flash.new) area.now) ≡ None }
 {
-    let room = make_room(flash, area, opened, current, bytes.len() as u32, steps)?;
+    let len = bytes.len() as u32;
+    let room = make_room_noted(flash, area, opened, current, cache, len, steps)?;
     if !room {
         return Ok(false);
     }
-    put(flash, area, opened, *current, id, bytes, steps)?;
-    Ok(true)
+    match put_noted(flash, area, opened, *current, cache, id, bytes, steps) {
+        Ok(()) => Ok(true),
+        Err(lost) => Err(lost),
+    }
 }
 
 impl<T: SlotSectors> Store<T> {
@@ -139,6 +227,7 @@ impl<T: SlotSectors> Store<T> {
             &self.area,
             &mut self.opened,
             &mut self.current,
+            &mut self.cache,
             id,
             bytes,
             steps,
@@ -189,6 +278,7 @@ impl<T: SlotSectors> Store<T> {
             &self.area,
             &mut self.opened,
             &mut self.current,
+            &mut self.cache,
             id,
             &[],
             steps,

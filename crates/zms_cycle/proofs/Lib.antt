@@ -12,5 +12,6 @@ pub mod OverwrittenValue
 pub mod PairCalls
 pub mod Rooms
 pub mod Scanning
+pub mod SlotSearch
 pub mod Slots16
 pub mod UnitCalls

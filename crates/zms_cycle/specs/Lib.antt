@@ -1,5 +1,6 @@
 pub mod Areas
 pub mod Entries
+pub mod Searches
 pub mod Sector
 pub mod States
 pub mod Changes

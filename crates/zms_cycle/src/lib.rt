@@ -11,6 +11,7 @@ mod guarding;
 #[tactic(auto, using(flash_map::proofs::Touches::then))]
 mod marking;
 mod reading;
+mod searching;
 
 pub use appending::{put_done, put_entry};
 pub use copying::copy_entry;
@@ -21,3 +22,4 @@ pub use reading::{
     FIRST, Found, SLOT, SectorState, TAIL, TAIL_AT, capacity, cost, data_len, entry_in, offset_of,
     read_sector, state,
 };
+pub use searching::{has_close, listed_slots, reach_in};

@@ -24,7 +24,7 @@ pub const TAIL: u16 = 8;
 pub const TAIL_AT: u32 = 8;
 
 // The id of entries that hold no value.
-pub const SPECIAL_ID: u32 = 0xFFFF_FFFF;
+pub(crate) const SPECIAL_ID: u32 = 0xFFFF_FFFF;
 
 /// The slot in which entries begin.
 pub const FIRST: u32 = 2;
@@ -87,7 +87,7 @@ fn is_done(entry: &ZEntry) -> bool
 }
 
 // The bytes of a slot.
-fn slot_of(sector: &[u8], slot: u32) -> &[u8]
+pub(crate) fn slot_of(sector: &[u8], slot: u32) -> &[u8]
     requires { (slot + 1) * 16 ≤ length sector.now }
     ensures bytes { result.now ≡ (slot_of sector.now slot).bytes }
     ensures len { length result.now ≡ 16 }
@@ -105,7 +105,7 @@ fn entry_at(sector: &[u8], slot: u32) -> Option<ZEntry>
 }
 
 // Whether the entry was put in this cycle.
-pub fn is_of_cycle(entry: &Option<ZEntry>, cycle: u8) -> bool
+pub(crate) fn is_of_cycle(entry: &Option<ZEntry>, cycle: u8) -> bool
     ensures { result ≡ option_map_or (λ e. e.cycle == cycle) entry.now false }
 {
     match entry {
@@ -115,7 +115,7 @@ pub fn is_of_cycle(entry: &Option<ZEntry>, cycle: u8) -> bool
 }
 
 // The cycle of the empty entry in slot 0.
-fn cycle_of(sector: &[u8]) -> Option<u8>
+pub(crate) fn cycle_of(sector: &[u8]) -> Option<u8>
     requires { 16 ≤ length sector.now }
     ensures { result ≡ cycle_of sector.now }
 {
@@ -133,7 +133,7 @@ fn is_valid(sector: &[u8], slot: u32, cycle: u8) -> bool
 }
 
 // Whether slot 1 closes a sector of this cycle.
-fn is_closed(sector: &[u8], cycle: u8) -> bool
+pub(crate) fn is_closed(sector: &[u8], cycle: u8) -> bool
     requires { 32 ≤ length sector.now }
     ensures { result ≡ (is_valid_under cycle (slot_of sector.now 1) && holds_close (slot_of sector.now 1)) }
 {
@@ -143,22 +143,28 @@ fn is_closed(sector: &[u8], cycle: u8) -> bool
     }
 }
 
+// How many of the first so many slots from slot 2 on are valid under the cycle, before the first that is not.
+pub(crate) fn valid_within(sector: &[u8], cycle: u8, limit: u32) -> u32
+    requires short { length sector.now ≤ 2 ^ 15 }
+    requires inside { (limit + 2) * 16 ≤ length sector.now }
+    ensures { result ≡ min limit (length (used_slots (is_valid (Some cycle)) 2 16 sector.now)) }
+{
+    for valid in 0..limit {
+        if !is_valid(sector, FIRST + valid, cycle) {
+            return valid;
+        }
+    }
+    limit
+}
+
 // How many slots from slot 2 on are valid under the cycle.
-fn valid_count(sector: &[u8], cycle: u8) -> u32
+pub(crate) fn valid_count(sector: &[u8], cycle: u8) -> u32
     requires long { 48 ≤ length sector.now }
     requires short { length sector.now ≤ 2 ^ 15 }
     ensures count { result ≡ length (used_slots (is_valid (Some cycle)) 2 16 sector.now) }
     ensures fits { (result + 2) * 16 ≤ length sector.now }
 {
-    let count = sector.len() as u32 / SLOT;
-    let mut valid = 0;
-    for slot in FIRST..count {
-        if !is_valid(sector, slot, cycle) {
-            return valid;
-        }
-        valid += 1;
-    }
-    valid
+    valid_within(sector, cycle, sector.len() as u32 / SLOT - FIRST)
 }
 
 // The entry of a slot, where it is no special one.
@@ -313,7 +319,7 @@ pub fn state<F: Flash, L: Ledger>(
 }
 
 // The cycle of a sector, or none where it is blank.
-pub fn sector_cycle<F: Flash, L: Ledger>(
+pub(crate) fn sector_cycle<F: Flash, L: Ledger>(
     flash: &F,
     area: &Area,
     sector: u32,
@@ -328,14 +334,14 @@ pub fn sector_cycle<F: Flash, L: Ledger>(
 
 /// A used sector: its cycle, the number of its valid slots, and the end of its values, in bytes.
 #[derive(Clone, Copy, Debug, PartialEq, Eq)]
-pub struct Opened {
+pub(crate) struct Opened {
     pub cycle: u8,
     pub slots: u32,
     pub data_end: u32,
 }
 
 // What a step has to know of a used sector.
-pub fn opened_sector<F: Flash, L: Ledger>(
+pub(crate) fn opened_sector<F: Flash, L: Ledger>(
     flash: &F,
     area: &Area,
     sector: u32,

@@ -8,20 +8,20 @@ use Rattle.flash_map.specs.Units.{padded}
 use Rattle.pair_laws.specs.Rounds.{copies_cost}
 use Rattle.ring_laws.specs.Slots.{Slot}
 use Rattle.ring_laws.specs.Reading.{is_sound as ring_sound}
-use Rattle.ring_store.specs.Kind.{Range, Kind, IsKind}
+use Rattle.ring_store.specs.Kind.{Range, LiesIn, CoversWhole, AreUnits, Kind, IsKind}
 use Rattle.ring_store.proofs.ReadLemmas as own
 use Rattle.ring_store.specs.declared.entry.Entry.{Entry}
 use Rattle.zms_cycle.specs.declared.reading.Found.{Found}
-use Rattle.zms_cycle.specs.Sector.{slot_of, cycle_of, valid_slots, is_closed, entry_in, pair_of, is_sound, value_of, cost, capacity, data_len}
+use Rattle.zms_cycle.specs.Sector.{slot_of, is_valid, cycle_of, valid_slots, is_closed, entry_in, pair_of, is_sound, value_of, cost, capacity, data_len}
 use Rattle.zms_cycle.proofs.CopyCalls.{ordinary_id}
-use Rattle.zms_store.specs.Area.{reading, is_unused}
-use Rattle.zms_store.proofs.Areas.{roomy_of, unused_end}
-use Rattle.zms_store.proofs.Damages.{ring_undamaged, undamaged_ring}
-use Rattle.zms_store.proofs.EntryReads.{bytes_len}
-use Rattle.zms_store.proofs.RoundSteps.{begun_open, begun_cycle}
-use Rattle.zms_store.proofs.Sectors.{laws, read_room, unused_slots}
-use Rattle.zms_store.proofs.ZmsEntries.{are_zms}
-use Rattle.zms_kind.specs.Kinds.{entry_of, kind, just, begin_of, units_of}
+use Rattle.zms_cycle.specs.Changes.{guard_units, next_cycle}
+use Rattle.zms_kind.specs.Area.{reading, is_unused}
+use Rattle.zms_kind.proofs.Roomy.{roomy_of, unused_end, begun_open, begun_cycle}
+use Rattle.zms_kind.proofs.Damages.{ring_undamaged, undamaged_ring}
+use Rattle.zms_kind.proofs.EntryReads.{bytes_len}
+use Rattle.zms_kind.proofs.Sectors.{laws, read_room, unused_slots}
+use Rattle.zms_kind.proofs.ZmsEntries.{are_zms}
+use Rattle.zms_kind.specs.Kinds.{entry_of, kind, just, emptying, emptying_units, entry_units, units_of}
 
 pub slot_is : (b : List ℕ) (n : ℕ) (f : Found) → entry_in (slot_of b n) ≡ Some f → (entry_of f).slot ≡ n
 slot_is b n f some = are_zms.slot b 0 n f some
@@ -35,42 +35,83 @@ and_true true true a b = refl
 and_true true false a b = b
 and_true false y a b = a
 
-begun_none : (unit : ℕ) (b : List ℕ) → is_some (cycle_of b) ≡ true → (kind unit).units.begin b ≡ record { least = 0; most = 0 }
+begun_none : (unit : ℕ) (b : List ℕ) → is_some (cycle_of b) ≡ true → (kind unit).units.begin b ≡ record { least = 0; most = 0; lost = 0 }
 begun_none unit b some = (rw some refl)
 
 -- ---- what steps spend at most
 
-begin_most : (b : List ℕ) → (units_of.begin b).most ≤ 3
+begin_most : (b : List ℕ) → (units_of.begin b).lost ≤ 3
 begin_most b = by_flag (is_some (cycle_of b))
   where
-    by_flag : (used : Bool) → (cond used (just 0) (record { least = begin_of b; most = 3 })).most ≤ 3
+    by_flag : (used : Bool) → (cond used (just 0) (emptying_units b)).lost ≤ 3
     by_flag true = omega arith
     by_flag false = omega arith
 
+-- a guard is a unit at most
+guard_most : (cycle : Option ℕ) (slot : ℕ) (b : List ℕ) → guard_units cycle slot b ≤ 1
+guard_most cycle slot b = by_flag (is_valid cycle (slot_of b slot))
+  where
+    by_flag : (valid : Bool) → cond valid 1 0 ≤ 1
+    by_flag true = omega arith
+    by_flag false = omega arith
+
+emptying_most : (b : List ℕ) → emptying b ≤ 3
+emptying_most b =
+    let first = guard_most (Some (next_cycle (cycle_of b))) 1 b in
+    let second = guard_most (Some (next_cycle (cycle_of b))) 2 b in
+    omega arith
+
+entry_covers : (b : List ℕ) (units : ℕ) → CoversWhole (entry_units b units)
+entry_covers b units = let guard = guard_most (cycle_of b) (length (valid_slots b) + 2 + 1) b in omega arith
+
+entry_in_any : (b : List ℕ) (units : ℕ) → LiesIn (entry_units b units) (record { least = units; most = units + 1; lost = units + 1 })
+entry_in_any b units = let guard = guard_most (cycle_of b) (length (valid_slots b) + 2 + 1) b in record { least = omega arith; most = omega arith; lost = omega arith }
+
+begin_covers : (b : List ℕ) → CoversWhole (units_of.begin b)
+begin_covers b = by_flag (is_some (cycle_of b))
+  where
+    by_flag : (used : Bool) → CoversWhole (cond used (just 0) (emptying_units b))
+    by_flag true = omega arith
+    by_flag false = emptying_most b
+
+units_are : AreUnits units_of
+units_are = record {
+  begins = begin_covers;
+  puts = λ b len. entry_covers b (cost len / 16);
+  closes = λ b. omega arith;
+  clears = emptying_most;
+  any_copies = λ len. omega arith;
+  any_dones = omega arith;
+  any_clears = omega arith;
+  copy_in = λ b len. entry_in_any b (cost len / 16);
+  done_in = λ b. entry_in_any b 1;
+  clear_in = λ b. let most = emptying_most b in record { least = omega arith; most = omega arith; lost = omega arith };
+}
+
 -- the copy of a pair, with a guard, spends no more than twice the units of the pair
-copies_most : (pairs : List (ℕ × List ℕ)) → 8 * copies_cost (λ len. (units_of.copy len).most) pairs ≤ copies_cost cost pairs
+copies_most : (pairs : List (ℕ × List ℕ)) → 8 * copies_cost (λ len. (units_of.any_copy len).lost) pairs ≤ copies_cost cost pairs
 copies_most [] = omega arith
 copies_most (p ∷ ps) =
     let rest = copies_most ps in
     let all : copies_cost cost (p ∷ ps) ≡ cost (length p.1) + copies_cost cost ps = sum_by-cons (λ (q : ℕ × List ℕ). cost (length q.1)) p ps in
-    let units : copies_cost (λ len. (units_of.copy len).most) (p ∷ ps) ≡ cost (length p.1) / 16 + 1 + copies_cost (λ len. (units_of.copy len).most) ps = sum_by-cons (λ (q : ℕ × List ℕ). cost (length q.1) / 16 + 1) p ps in
+    let units : copies_cost (λ len. (units_of.any_copy len).lost) (p ∷ ps) ≡ cost (length p.1) / 16 + 1 + copies_cost (λ len. (units_of.any_copy len).lost) ps = sum_by-cons (λ (q : ℕ × List ℕ). cost (length q.1) / 16 + 1) p ps in
     omega arith
 
 round_most : (size : ℕ) (closed opened : List ℕ) (pairs : List (ℕ × List ℕ)) → 512 ≤ size → length closed ≡ size → copies_cost cost pairs ≤ capacity size
-    → (units_of.close closed).most + ((units_of.begin opened).most + (copies_cost (λ len. (units_of.copy len).most) pairs + (units_of.done.most + units_of.clear.most))) ≤ units_of.round size
+    → (units_of.close closed).lost + ((units_of.begin opened).lost + (copies_cost (λ len. (units_of.any_copy len).lost) pairs + (units_of.any_done.lost + units_of.any_clear.lost))) ≤ units_of.round size
 round_most size closed opened pairs large long costs =
     let begun = begin_most opened in
     let copied = copies_most pairs in
     omega arith
 
 mount_most : (size : ℕ) (opened : List ℕ) (pairs : List (ℕ × List ℕ)) → 512 ≤ size → copies_cost cost pairs ≤ capacity size
-    → max (units_of.begin opened).most units_of.clear.most + (copies_cost (λ len. (units_of.copy len).most) pairs + (units_of.done.most + units_of.clear.most)) ≤ units_of.mount size
+    → max (units_of.begin opened).lost units_of.any_clear.lost + (copies_cost (λ len. (units_of.any_copy len).lost) pairs + (units_of.any_done.lost + units_of.any_clear.lost)) ≤ units_of.mount size
 mount_most size opened pairs large costs =
     let begun = begin_most opened in
     let copied = copies_most pairs in
     omega arith
 
-entry_most : (before begun : List ℕ) (len : ℕ) → (units_of.begin before).most + (units_of.put begun len).most ≤ units_of.entry len
+entry_most : (before begun : List ℕ) (len : ℕ) → (units_of.begin before).lost + (units_of.put begun len).lost ≤ units_of.entry len
 entry_most before begun len = let most = begin_most before in omega arith
 
 least_cost : (len : ℕ) → len ≤ cost len
@@ -105,6 +146,7 @@ zms_is_kind unit = record {
       omega arith;
   used = λ b long sound used open_here.
       and_true (is_some (cycle_of b)) (is_sound b) (some_flag (cycle_of b) (begun_cycle b (begun_open b open_here used))) (roomy_of b (omega arith) sound).sound;
+  units = units_are;
   begun = λ b ready. (begun_none unit b (and_parts (is_some (cycle_of b)) (is_sound b) ready).0);
   least = least_cost;
   most = λ size. omega arith;

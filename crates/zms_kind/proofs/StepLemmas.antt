@@ -8,35 +8,33 @@ use Rattle.ring_laws.specs.Reading.{is_sound as ring_sound}
 use Rattle.pair_laws.specs.Rounds.{stored_cost}
 use Rattle.ring_laws.proofs.Collects.{blank-sound}
 use Rattle.ring_store.specs.Kind.{Kind, IsKind}
-use Rattle.ring_store.specs.Steps.{Keeps, KeepsMarks, Begins, Adds, Marks, Closes, Clears}
+use Rattle.ring_store.specs.Steps.{new_entry, Keeps, KeepsMarks, Begins, Adds, Marks, Closes, Clears}
 use Rattle.zms_cycle.specs.Changes.{KeepsList, KeepsSlots, AddsPair, MarksDone, Closes as zms_closes, Empties, StopsEmptying}
 use Rattle.zms_cycle.specs.Sector.{slot_of, is_valid, cycle_of, valid_slots, is_closed, has_gc_done, entries, cost, capacity, data_len, low, data_end, free, fits, is_sound, pairs}
 use Rattle.zms_cycle.proofs.Frames.{data_len-short}
-use Rattle.zms_store.specs.Area.{reading, is_begun, is_unused}
-use Rattle.zms_store.proofs.Areas.{empties_unused, roomy_of, ring_sound_of, unused_end}
-use Rattle.zms_store.proofs.RoundSteps.{ring_same, begun_open, begun_cycle}
-use Rattle.zms_store.proofs.Sectors.{laws, begun_count, unused_slots}
-use Rattle.zms_kind.specs.Kinds.{kind}
-use Rattle.zms_kind.proofs.KindLemmas.{some_flag, and_true}
+use Rattle.zms_kind.specs.Area.{reading, is_begun, is_unused}
+use Rattle.zms_kind.proofs.Roomy.{empties_unused, roomy_of, ring_sound_of, unused_end, ring_same, begun_open, begun_cycle}
+use Rattle.zms_kind.proofs.Sectors.{laws, begun_count, unused_slots}
+use Rattle.zms_kind.specs.Kinds.{entry_of, record_of, kind}
+use Rattle.zms_kind.proofs.KindLemmas.{some_flag, and_true, slot_is}
 use Rattle.std.specs.Option.{option_map, option_map_or}
 use Rattle.std.specs.List.{range_with_len}
+use Rattle.std.proofs.lemmas.List.{map_push}
 use Rattle.std.proofs.lemmas.List.Sums.{sum_by_push}
 use Rattle.ring_laws.proofs.LiveLemmas.{option_cases, some_none}
 use Rattle.ring_laws.specs.Live.{last_in as last_here}
+use Rattle.ring_store.specs.declared.entry.Entry.{Entry}
 use Rattle.ring_store.specs.declared.entry.Placed.{Placed}
 use Rattle.ring_store.specs.Kind.{placed_at, slots, entries as kind_entries}
 use Rattle.ring_store.proofs.ReadLemmas as own
 use Rattle.zms_cycle.specs.declared.reading.Found.{Found}
 use Rattle.zms_cycle.specs.Sector.{entry_in, value_of, pair_of, pair_at, holds_close, has_guard, holds_too_much}
 use Rattle.zms_cycle.proofs.CopyCalls.{pair_is}
-use Rattle.zms_store.specs.declared.sector.Placed.{Placed as ZmsPlaced}
-use Rattle.zms_store.specs.Area.{placed_at as zms_placed_at, last_in}
-use Rattle.zms_store.proofs.EntryReads.{bytes_len}
-use Rattle.zms_store.proofs.Putting.{fits-costs}
-use Rattle.zms_store.proofs.Sectors.{read_room}
-use Rattle.zms_store.proofs.ZmsEntries.{are_zms}
-use Rattle.zms_kind.specs.Kinds.{entry_of}
-use Rattle.zms_kind.proofs.KindLemmas.{slot_is}
+use Rattle.zms_kind.specs.Area.{placed_at as zms_placed_at, last_in}
+use Rattle.zms_kind.proofs.EntryReads.{bytes_len}
+use Rattle.zms_kind.proofs.FitCosts.{fits-costs}
+use Rattle.zms_kind.proofs.Sectors.{read_room}
+use Rattle.zms_kind.proofs.ZmsEntries.{are_zms}
 
 pub ready_of : (b : List ℕ) → IsSome (cycle_of b) → is_sound b ≡ true → (is_some (cycle_of b) && is_sound b) ≡ true
 ready_of b cycle sound = and_true (is_some (cycle_of b)) (is_sound b) (some_flag (cycle_of b) cycle) sound
@@ -57,6 +55,27 @@ ready_sound b ready = (and_parts (is_some (cycle_of b)) (is_sound b) ready).1
 
 pub open_cycle : (b : List ℕ) → is_closed b ≡ false → is_unused b ≡ false → IsSome (cycle_of b)
 open_cycle b open_here used = begun_cycle b (begun_open b open_here used)
+
+-- the entries of a sector, as a store of items tells them
+entries_are : (unit : ℕ) (b : List ℕ) → kind_entries (kind unit) b ≡ map entry_of (entries b)
+entries_are unit b =
+    own.entries_read (λ n. entry_in (slot_of b n)) entry_of (λ f. value_of b f.entry) (slot_is b) (range_with_len 2 (length (valid_slots b)))
+    ∙ ap (map entry_of) (sym (are_zms.listed b))
+
+-- an entry, by what it says
+entry_by : (e : Entry) (slot id len : ℕ) → e.slot ≡ slot → e.id ≡ id → e.len ≡ len → e ≡ new_entry slot id len
+entry_by e slot id len at named long =
+    ap (λ (n : ℕ). new_entry n e.id e.len) at
+    ∙ ap (λ (n : ℕ). new_entry slot n e.len) named
+    ∙ ap (λ (n : ℕ). new_entry slot id n) long
+
+-- the slots of a list lie in its sector
+slots_inside : (b : List ℕ) → 512 ≤ length b → (length (valid_slots b) + 2) * 16 ≤ length b
+slots_inside b wide =
+    elim (cases_eq (length (valid_slots b)) 0) [
+      | inl none ↦ omega arith
+      | inr some ↦ let last = read_room b (length (valid_slots b) + 1) (omega (arith, some)) (omega arith) in omega arith
+    ]
 
 module _ (unit : ℕ) (b e : List ℕ) (wide : 512 ≤ length b) where
   pub clears : Empties b e → Clears (kind unit) b e
@@ -84,6 +103,22 @@ module _ (unit : ℕ) (b e : List ℕ) (wide : 512 ≤ length b) where
     sound = λ sound. ring_same b e (omega arith) h.kept.long h.kept.lower h.kept.same_entries h.list sound;
   }
 
+  -- one entry more
+  adds_entry : (id : ℕ) (bytes : List ℕ) → AddsPair b e id bytes → kind_entries (kind unit) e ≡ kind_entries (kind unit) b ++ new_entry (2 + length (valid_slots b)) id (length bytes) ∷ []
+  adds_entry id bytes h =
+      let slot = h.slot in
+      entries_are unit e ∙ ap (map entry_of) h.more ∙ map_push entry_of (entries b) h.found
+      ∙ ap (λ (es : List Entry). es ++ entry_of h.found ∷ []) (sym (entries_are unit b))
+      ∙ ap (λ (x : Entry). kind_entries (kind unit) b ++ x ∷ []) (entry_by (entry_of h.found) (2 + length (valid_slots b)) id (length bytes) (omega arith) h.entry_id h.entry_len)
+
+  one_slot : (id : ℕ) (bytes : List ℕ) → AddsPair b e id bytes → length (valid_slots e) ≡ length (valid_slots b) + 1
+  one_slot id bytes h =
+      let lower = h.lower in
+      let long = h.long in
+      let old_inside = slots_inside b wide in
+      let inside = slots_inside e (omega arith) in
+      omega arith
+
   pub adds : (id : ℕ) (bytes : List ℕ) → cost (length bytes) ≤ free b → AddsPair b e id bytes → Adds (kind unit) b e id bytes
   adds id bytes room h =
       let lower = h.lower in
@@ -91,6 +126,8 @@ module _ (unit : ℕ) (b e : List ℕ) (wide : 512 ≤ length b) where
       record {
         list = record { list = h.list; gc_done = h.gc_done; closed = h.closed };
         long = h.long;
+        entry = adds_entry id bytes h;
+        count = one_slot id bytes h;
         ready = and_true (is_some (cycle_of e)) (is_sound e) (ap (λ (x : Option ℕ). is_some x) h.cycle ∙ some_here (cycle_of b) h.found.entry.cycle h.of_cycle) h.sound;
         free = omega arith;
       }
@@ -124,7 +161,7 @@ module _ (unit : ℕ) (b e : List ℕ) (wide : 512 ≤ length b) where
 
   -- a sector with a cycle is ready as it is
   pub begins_as : IsSome (cycle_of b) → ring_sound reading b ≡ true → Begins (kind unit) b b
-  begins_as cycle sound = record { blank = λ h. h; used = λ h. refl; ready = ready_of b cycle (roomy_of b (omega arith) sound).sound; long = refl }
+  begins_as cycle sound = record { blank = λ h. h; idle = λ h. refl; used = λ h. refl; ready = ready_of b cycle (roomy_of b (omega arith) sound).sound; long = refl }
 
   -- what is put leaves a sound sector sound
   pub put_sound : (id : ℕ) (bytes : List ℕ) → fits b (length bytes) ≡ true → AddsPair b e id bytes → ring_sound reading b ≡ true → ring_sound reading e ≡ true
@@ -171,9 +208,6 @@ adds_copy unit b e from p wide sound first listed is room h =
 
 -- The last entry of an id.
 
-abbrev pub record_of : ZmsPlaced → Placed
-record_of p = record { sector = p.sector; slot = p.slot; id = p.entry.id; len = p.entry.len }
-
 pub last_same : (unit : ℕ) (b : List ℕ) (place id : ℕ) → option_map record_of (option_map (zms_placed_at place) (last_in id (entries b))) ≡ option_map (placed_at place) (last_here (slots (kind unit)) place id (kind_entries (kind unit) b))
 last_same unit b place id =
     both_ways (last_in id (entries b))
@@ -196,10 +230,14 @@ no_cycle b none =
 pub begins_empty : (unit : ℕ) (b e : List ℕ) → cycle_of b ≡ None → Empties b e → Begins (kind unit) b e
 begins_empty unit b e none empties = record {
   blank = λ h. empties_unused b e empties;
+  idle = λ ready. absurd (none_ready ready);
   used = λ used. absurd (false≢true (sym used ∙ no_cycle b none));
   ready = and_true (is_some (cycle_of e)) (is_sound e) (ap (λ (x : Option ℕ). is_some x) empties.cycle) empties.sound;
   long = empties.long;
 }
+  where
+    none_ready : (is_some (cycle_of b) && is_sound b) ≡ true → ⊥
+    none_ready ready = false≢true (sym (ap (λ (o : Option ℕ). is_some o) none) ∙ (and_parts (is_some (cycle_of b)) (is_sound b) ready).0)
 
 pub begin_cut : (unit : ℕ) (b e : List ℕ) → cycle_of b ≡ None → StopsEmptying b e → Keeps (kind unit) b e
 begin_cut unit b e none stops =

@@ -1,1 +1,4 @@
+pub mod Area
 pub mod Kinds
+pub mod Parts
+pub mod Sought

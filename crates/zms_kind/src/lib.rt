@@ -1,2 +1,13 @@
-//! The sectors of ZMS as one store of items asks for them.
+//! How ZMS sectors read: marks, entries, damage, the scan of a mount; and that they are sectors as the one store
+//! of items asks for them.
 #![tactic(auto)]
+
+mod laws;
+mod mounting;
+mod places;
+mod sector;
+
+pub use laws::parts_of_list;
+pub use mounting::scan;
+pub use places::marks_at;
+pub use sector::{Marks, Placed, find_in};

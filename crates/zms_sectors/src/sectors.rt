@@ -13,9 +13,9 @@ use ring_store::{Placed, SlotSectors};
 use std::sync::ledger::Ledger;
 use zms_cycle::{
     FIRST, Found, SLOT, TAIL, TAIL_AT, capacity, close, copy_entry, cost, empty_sector, entry_in,
-    offset_of, put_done, put_entry,
+    has_close, listed_slots, offset_of, put_done, put_entry,
 };
-use zms_store::{find_in, marks_at, scan};
+use zms_kind::{find_in, marks_at, scan};
 
 /// What is kept of an open sector.
 #[derive(Clone, Copy, Debug, PartialEq, Eq)]
@@ -95,7 +95,7 @@ impl SlotSectors for ZmsOpen {
         place: u32,
         steps: &mut Steps<L>,
     ) -> bool {
-        marks_at(flash, area, place, steps).closed
+        has_close(sector_view(flash, area, place, steps))
     }
 
     fn keep<F: Flash, L: Ledger>(
@@ -127,7 +127,7 @@ impl SlotSectors for ZmsOpen {
     }
 
     fn slots<F: Flash, L: Ledger>(flash: &F, area: &Area, place: u32, steps: &mut Steps<L>) -> u32 {
-        marks_at(flash, area, place, steps).slots
+        listed_slots(sector_view(flash, area, place, steps))
     }
 
     fn entry_in<F: Flash, L: Ledger>(
@@ -163,8 +163,7 @@ impl SlotSectors for ZmsOpen {
         id: u32,
         steps: &mut Steps<L>,
     ) -> Option<Placed> {
-        let slots = marks_at(flash, area, place, steps).slots;
-        match find_in(sector_view(flash, area, place, steps), slots, place, id) {
+        match find_in(sector_view(flash, area, place, steps), place, id) {
             Some(found) => Some(Placed {
                 sector: found.sector,
                 slot: found.slot,

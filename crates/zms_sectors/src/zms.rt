@@ -1,8 +1,9 @@
 // A ZMS store as one of such sectors.
-ghost use Rattle.std.specs.Prelude.{◌≡◌, ℕ, ◌∷◌, [], List, is_err};
+ghost use Rattle.std.specs.Prelude.{◌*◌, ◌/◌, ◌∷◌, []};
 ghost use Rattle.flash_map.specs.declared.area.Role.TheVariants.{Zms as zms_role};
-ghost use Rattle.flash_map.specs.Area.{unit_of, sectors_of};
+ghost use Rattle.flash_map.specs.Area.{sector_size};
 ghost use Rattle.flash_map.specs.Faults.{mount_lost};
+ghost use Rattle.flash_map.specs.Spending.{SpendsBetween};
 ghost use Rattle.flash_map.specs.Touches.{Touches};
 ghost use Rattle.ring_store.specs.Standing.{IsStoreArea};
 ghost use Rattle.ring_store.specs.Stands.{MountEnds};
@@ -24,6 +25,8 @@ pub fn mount<F: Flash, L: Ledger>(
 ) -> Result<Store<ZmsOpen>, MountFault>
     requires { IsStoreArea zms_role (F.device flash.old).banks area }
     ensures touches { Touches (area ∷ []) (F.device flash.old) (F.device flash.new) (mount_lost result) }
+    ensures at_most { let d = F.device flash.old in
+        SpendsBetween d (F.device flash.new) 0 (2 * (sector_size d area / 16)) }
     ensures ends { MountEnds zms_role kind ⟦<ZmsOpen as SlotSectors>⟧.kept (F.device flash.old) (F.device flash.new) area result }
 {
     Store::mount(alloc, flash, area, steps)

@@ -1,10 +1,2 @@
-pub mod Area
-pub mod Collecting
 pub mod Ends
-pub mod Latest
-pub mod OnStore
-pub mod Parts
-pub mod Sought
-pub mod Spending
 pub mod Standing
-pub mod Walk

@@ -1,57 +1,64 @@
--- When a store stands on the bytes of its area.
-use Rattle.std.specs.Prelude.{◌≡◌, ℕ, true, false, List, Option, None}
-use Rattle.flash_sim.specs.Bank.{bank_at}
+-- When a store of ZMS stands on the bytes of its area: the definitions of the one store over any sectors, at
+-- those of ZMS.
+use Rattle.std.specs.Prelude.{ℕ, List}
 use Rattle.flash_sim.specs.Device.{Device}
 use Rattle.flash_sim.specs.declared.flash.Bank.{Bank}
-use Rattle.flash_sim.specs.declared.flash.Kind.TheVariants.{Rewritable}
 use Rattle.flash_map.specs.declared.area.Area.{Area}
 use Rattle.flash_map.specs.declared.area.Role.TheVariants.{Zms as ZmsRole}
-use Rattle.flash_map.specs.Area.{sectors_of}
-use Rattle.flash_map.specs.Lawful.{IsLawfulFor}
-use Rattle.pair_laws.specs.Items.{Items, items_of}
-use Rattle.ring_laws.specs.Area.{next, is_closed_at, open_sector}
-use Rattle.flash_map.specs.declared.faults.Damaged.{Damaged}
-use Rattle.zms_store.specs.declared.sector.Placed.{Placed}
+use Rattle.flash_map.specs.Area.{unit_of, sectors_of}
+use Rattle.pair_laws.specs.Items.{Items}
+use Rattle.pair_laws.specs.Rounds.{live_cost}
+use Rattle.ring_store.specs.declared.entry.Placed.{Placed as PlacedEntry}
+use Rattle.ring_store.specs.Kind.{Kind}
+use Rattle.ring_store.specs.Listed as listed
+use Rattle.ring_store.specs.Standing as ring
+use Rattle.ring_store.specs.Stands as stands
+use Rattle.zms_cycle.specs.Sector.{cost, has_gc_done}
+use Rattle.zms_kind.specs.declared.sector.Placed.{Placed}
+use Rattle.zms_kind.specs.Area.{IsPlaced}
+use Rattle.zms_kind.specs.Kinds.{kind}
+use Rattle.zms_sectors.specs.declared.sectors.ZmsOpen.{ZmsOpen}
 use Rattle.zms_store.specs.declared.store.Zms.{Zms}
-use Rattle.zms_store.specs.Area.{reading, damage_of, list_of, all_placed, IsPlaced}
+
+-- how its sectors read
+abbrev pub kind_on : Device → Area → Kind
+kind_on d area = kind (unit_of d area)
+
+-- what is kept of the open sector, by its bytes
+abbrev pub kept : ℕ → List ℕ → ZmsOpen
+kept unit b = record { gc_done = has_gc_done b }
 
 -- an area on which a store may stand: its bank is never erased
-pub record IsZmsArea (banks : List Bank) (area : Area) : Type 0 where
-  pub lawful : IsLawfulFor banks area
-  pub role : area.role ≡ ZmsRole
-  pub rewritable : (bank_at banks area.bank).kind ≡ Rewritable
+abbrev pub IsZmsArea : List Bank → Area → Type 0
+IsZmsArea banks area = ring.IsStoreArea ZmsRole banks area
 
--- the pairs of the area, from the oldest to the newest
+-- ids with their bytes, from the oldest to the newest
 abbrev pub list_on : Device → Area → List (ℕ × List ℕ)
-list_on d area = list_of (sectors_of d area)
+list_on d area = listed.list_on kind d area
 
 -- the map of ids to bytes that the area holds
 abbrev pub items_on : Device → Area → Items
-items_on d area = items_of (list_on d area)
+items_on d area = listed.items_on kind d area
 
-abbrev pub damage_on : Device → Area → Option Damaged
-damage_on d area = damage_of (sectors_of d area)
-
-abbrev pub IsUndamaged : Device → Area → Type 0
-IsUndamaged d area = damage_on d area ≡ None
+-- what all items cost, in bytes: the bytes of each, padded, and its entry
+abbrev pub live_cost_on : Device → Area → ℕ
+live_cost_on d area = live_cost cost (list_on d area)
 
 -- the entries of the list, with their places
-abbrev pub placed_on : Device → Area → List Placed
-placed_on d area = all_placed (sectors_of d area)
+abbrev pub entries_on : Device → Area → List PlacedEntry
+entries_on d area = listed.entries_on kind d area
+
+-- an entry of a sector that counts, as its slot has it
+abbrev pub IsPlacedOn : Device → Zms → Placed → Type 0
+IsPlacedOn d zms p = IsPlaced (sectors_of d zms.store.area) zms.store.current p
+
+abbrev pub IsUndamaged : Device → Area → Type 0
+IsUndamaged d area = ring.IsUndamagedAt (kind_on d area) d area
 
 -- The store is up: the area is not damaged and at rest, and the store knows its open sector.
-pub record StandsOn (d : Device) (zms : Zms) : Type 0 where
-  pub area : IsZmsArea d.banks zms.area
-  pub up : zms.up ≡ true
-  pub current : zms.current ≡ open_sector reading (sectors_of d zms.area)
-  pub rested : is_closed_at reading (sectors_of d zms.area) (next (sectors_of d zms.area) zms.current) ≡ false
-  pub undamaged : IsUndamaged d zms.area
+abbrev pub StandsOn : Device → Zms → Type 0
+StandsOn d zms = stands.StandsOn ZmsRole kind kept d zms.store
 
--- an entry of a sector that counts
-abbrev pub IsPlacedOn : Device → Zms → Placed → Type 0
-IsPlacedOn d zms p = IsPlaced (sectors_of d zms.area) zms.current p
-
--- the area holds the same items, and is not damaged
-pub record KeepsItems (old new : Device) (area : Area) : Type 0 where
-  pub items : items_on new area ≡ items_on old area
-  pub undamaged : IsUndamaged new area
+-- the area holds the same items, the newest versions of each stay, and it is not damaged
+abbrev pub KeepsItems : Device → Device → Area → Type 0
+KeepsItems old new area = ring.KeepsItems (kind_on old area) (sectors_of old area) (sectors_of new area)

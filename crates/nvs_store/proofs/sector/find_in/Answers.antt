@@ -1,14 +1,14 @@
 use Rattle.std.proofs.Common.{◌≡◌, ℕ, Some, ap, ◌∙◌, sym, arith}
 use Rattle.std.specs.Option.{option_map}
 use Rattle.nvs_store.specs.declared.scan.Found.{Found}
-use Rattle.nvs_store.specs.Sector.{counting_entry, is_wanted, last_placed}
+use Rattle.nvs_store.specs.Sector.{slot_at, counting_entry, is_wanted, last_placed}
 use Rattle.nvs_store.specs.Scans.{found_at}
 use Rattle.nvs_store.proofs.SlotReads.{slot_size_bounds}
-use Rattle.ring_laws.proofs.SlotWalks.{found_here, found_other, found_none}
+use Rattle.ring_laws.proofs.SlotWalks.{found_here}
 use Rattle.nvs_store.specs.Geometry.{slot_size}
 use Rattle.nvs_store.proofs.Lookups.{entries_to, used_inside, entries_to_within}
+use Rattle.nvs_store.proofs.WantedSlots.{wanted_some, wanted_none}
 use Rattle.nvs_store.proofs.sector.find_in.Goals as goal
-use Rattle.nvs_store.proofs.sector.find_in.Goals.{in-Some+else-is_wanted, in_default}
 
 pub loop-index-init : goal.loop-index-init
 loop-index-init c = record {
@@ -16,21 +16,20 @@ loop-index-init c = record {
   later = ap (last_placed c.args.wanted) (entries_to_within c.args.unit c.args.bytes.now c.args.slots c.min-index.result (omega arith));
 }
 
-pub counting_entry-requires-clause-inside : goal.counting_entry-requires-clause-inside
-counting_entry-requires-clause-inside c =
+pub wanted_entry-requires-clause-inside : goal.wanted_entry-requires-clause-inside
+wanted_entry-requires-clause-inside c =
     let size = slot_size_bounds c.args.unit c.requires.unit in
     used_inside c.args.unit c.args.bytes.now c.loop-index.index (omega arith) (omega arith) c.loop-index.invariant.inside
 
-pub returns-then-is_wanted : goal.returns-then-is_wanted
-returns-then-is_wanted c = ap (λ (f : Found). Some f) c.at.ensures ∙ ap (option_map (found_at c.args.place)) (found_here (counting_entry c.args.unit) 1 (slot_size c.args.unit) c.args.bytes.now (λ f. is_wanted c.args.wanted f.entry) c.loop-index.index c.loop-index.index c.loop-index-test.true (omega arith) c.in-Some.placed _ c.in-Some.ensures (sym c.is_wanted.ensures ∙ c.if-is_wanted.true) c.loop-index.invariant.later)
+pub returns-in-Some : goal.returns-in-Some
+returns-in-Some c =
+    let found = wanted_some c.args.wanted (counting_entry c.args.unit (slot_at c.args.unit c.args.bytes.now c.loop-index.index)) c.in-Some.placed c.in-Some.ensures in
+    ap (λ (f : Found). Some f) c.at.ensures ∙ ap (option_map (found_at c.args.place)) (found_here (counting_entry c.args.unit) 1 (slot_size c.args.unit) c.args.bytes.now (λ f. is_wanted c.args.wanted f.entry) c.loop-index.index c.loop-index.index c.loop-index-test.true (omega arith) c.in-Some.placed _ found.0 found.1 c.loop-index.invariant.later)
 
 pub loop-index-preserved : goal.loop-index-preserved
 loop-index-preserved c = record {
   inside = omega arith;
-  later = elim c.match-counting_entry.branch [
-    | in-Some+else-is_wanted w ↦ found_other (counting_entry c.args.unit) 1 (slot_size c.args.unit) c.args.bytes.now (λ f. is_wanted c.args.wanted f.entry) c.loop-index.index c.loop-index.index c.loop-index-test.true (omega arith) w.in-Some.placed _ w.in-Some.ensures (sym w.is_wanted.ensures ∙ w.if-is_wanted.false) c.loop-index.invariant.later
-    | in_default w ↦ found_none (counting_entry c.args.unit) 1 (slot_size c.args.unit) c.args.bytes.now (λ f. is_wanted c.args.wanted f.entry) c.loop-index.index c.loop-index.index c.loop-index-test.true (omega arith) _ (sym w.in_default.is ∙ c.counting_entry.ensures) c.loop-index.invariant.later
-  ];
+  later = wanted_none c.args.unit c.args.bytes.now c.args.wanted c.loop-index.index _ c.loop-index-test.true (sym c.in_default.is ∙ c.wanted_entry.ensures) c.loop-index.invariant.later;
 }
 
 pub returns : goal.returns

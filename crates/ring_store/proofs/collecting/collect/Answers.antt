@@ -1,4 +1,4 @@
-use Rattle.std.proofs.Common.{◌≡◌, ℕ, ◌∙◌}
+use Rattle.std.proofs.Common.{◌≡◌, ℕ, ◌∙◌, inl}
 use Rattle.std.proofs.lemmas.Result.{on_ok_weaker, on_err_weaker}
 use Rattle.flash_sim.specs.Device.{Device}
 use Rattle.flash_map.specs.declared.area.Area.{Area}
@@ -7,11 +7,15 @@ use Rattle.flash_map.proofs.PieceLemmas.{on_err}
 use Rattle.flash_map.proofs.Touches.{then}
 use Rattle.ring_laws.specs.Area.{next}
 use Rattle.ring_laws.proofs.AreaReads.{next_there}
-use Rattle.ring_store.specs.Kind.{IsKind}
+use Rattle.ring_laws.specs.Forms.{to_copy}
+use Rattle.ring_store.specs.Kind.{Kind, IsKind}
+use Rattle.ring_store.specs.Spending.{both, copies}
 use Rattle.ring_store.proofs.Areas.{unit_is, stopped-keeps}
 use Rattle.ring_store.proofs.CopyLoop.{either}
+use Rattle.ring_store.proofs.ListSteps.{stopped-list}
+use Rattle.ring_store.proofs.Ranges.{first-lost}
 use Rattle.ring_store.proofs.SlotFacts.{current_within}
-use Rattle.ring_store.proofs.CallFacts.{mark_opened, mark_has_room, mark_lost, mark_spends_lost, cleared, cleared_keeps, clear_lost, spends_all, spends_all_lost}
+use Rattle.ring_store.proofs.CallFacts.{mark_opened, mark_has_room, mark_lost, mark_lost_list, mark_spends_lost, cleared, cleared_keeps, clear_lost, clear_lost_list, spends_all, spends_all_lost}
 use Rattle.ring_store.proofs.WrittenSteps.{stopped-written}
 use Rattle.ring_store.proofs.WrittenFacts.{mark_cut-written, clear-written}
 use Rattle.ring_store.proofs.collecting.collect.Goals as goal
@@ -70,6 +74,13 @@ returns-in_err-mark_done-clause-items g c =
     let did = c.in_ok-copy_live.ensures in
     let e : Device = g.F.Flash.device c.mark_done.new.flash in
     mark_lost g.T.SlotSectors.kind g.T.SlotSectors.role a area place law (g.met.F.Flash.is_lawful c.args.flash.now) c.requires.area c.requires.collecting d did.touches.banks did.copies e c.in_err-mark_done.ensures.only c.in_err-mark_done.ensures.lost
+
+pub returns-in_err-copy_live-clause-spends_lost : goal.returns-in_err-copy_live-clause-spends_lost
+returns-in_err-copy_live-clause-spends_lost g c =
+    let a : Device = g.F.Flash.device c.args.flash.now in
+    let k : Kind = g.T.SlotSectors.kind (unit_of a c.args.area.now) in
+    on_err c.from_residual.result
+    (first-lost a (g.F.Flash.device c.copy_live.new.flash) (copies k (to_copy k.reading (sectors_of a c.args.area.now) c.args.current)) (both k.units.any_done k.units.any_clear) c.in_err-copy_live.ensures.spends_lost)
 
 pub returns-in_err-mark_done-clause-spends_lost : goal.returns-in_err-mark_done-clause-spends_lost
 returns-in_err-mark_done-clause-spends_lost g c =
@@ -180,3 +191,37 @@ returns-clause-written g c =
     let z : Device = g.F.Flash.device c.clear.new.flash in
     let at : c.next-victim.result ≡ next (sectors_of a area) place = c.next-victim.ensures.value ∙ next_there a area place in
     clear-written g.T.SlotSectors.kind a area place law c.requires.collecting d did.touches.banks e marked.only marked.marks c.next-victim.result at z c.clear.ensures.only
+
+pub returns-in_err-copy_live-clause-list_lost : goal.returns-in_err-copy_live-clause-list_lost
+returns-in_err-copy_live-clause-list_lost g c =
+    let a : Device = g.F.Flash.device c.args.flash.now in
+    let area : Area = c.args.area.now in
+    let place : ℕ = c.args.current in
+    let law : IsKind (g.T.SlotSectors.kind (unit_of a area)) = g.met.T.SlotSectors.lawful (unit_of a area) (unit_is a area (g.met.F.Flash.is_lawful c.args.flash.now) c.requires.area.lawful) in
+    on_err c.from_residual.result (inl (stopped-list (g.T.SlotSectors.kind (unit_of a area)) law (sectors_of a area) place c.requires.collecting (sectors_of (g.F.Flash.device c.copy_live.new.flash) area) c.in_err-copy_live.ensures.lost))
+
+pub returns-in_err-mark_done-clause-list_lost : goal.returns-in_err-mark_done-clause-list_lost
+returns-in_err-mark_done-clause-list_lost g c =
+    let a : Device = g.F.Flash.device c.args.flash.now in
+    let area : Area = c.args.area.now in
+    let place : ℕ = c.args.current in
+    let law : IsKind (g.T.SlotSectors.kind (unit_of a area)) = g.met.T.SlotSectors.lawful (unit_of a area) (unit_is a area (g.met.F.Flash.is_lawful c.args.flash.now) c.requires.area.lawful) in
+    let d : Device = g.F.Flash.device c.copy_live.new.flash in
+    let did = c.in_ok-copy_live.ensures in
+    let e : Device = g.F.Flash.device c.mark_done.new.flash in
+    on_err c.from_residual-in_err-mark_done.result (mark_lost_list g.T.SlotSectors.kind g.T.SlotSectors.role a area place law (g.met.F.Flash.is_lawful c.args.flash.now) c.requires.area c.requires.collecting d did.touches.banks did.copies e c.in_err-mark_done.ensures.only c.in_err-mark_done.ensures.lost)
+
+pub returns-clause-list_lost : goal.returns-clause-list_lost
+returns-clause-list_lost g c =
+    let a : Device = g.F.Flash.device c.args.flash.now in
+    let area : Area = c.args.area.now in
+    let place : ℕ = c.args.current in
+    let law : IsKind (g.T.SlotSectors.kind (unit_of a area)) = g.met.T.SlotSectors.lawful (unit_of a area) (unit_is a area (g.met.F.Flash.is_lawful c.args.flash.now) c.requires.area.lawful) in
+    let d : Device = g.F.Flash.device c.copy_live.new.flash in
+    let did = c.in_ok-copy_live.ensures in
+    let e : Device = g.F.Flash.device c.mark_done.new.flash in
+    let both = then did.touches c.in_ok-mark_done.ensures.touches in
+    let marked = c.in_ok-mark_done.ensures in
+    let z : Device = g.F.Flash.device c.clear.new.flash in
+    let at : c.next-victim.result ≡ next (sectors_of a area) place = c.next-victim.ensures.value ∙ next_there a area place in
+    on_err_weaker c.clear.result (λ keeps. clear_lost_list g.T.SlotSectors.kind g.T.SlotSectors.role a area place law (g.met.F.Flash.is_lawful c.args.flash.now) c.requires.area c.requires.collecting d did.touches.banks did.copies e both.banks marked.only marked.marks c.next-victim.result at z c.clear.ensures.only keeps) c.clear.ensures.lost

@@ -1,4 +1,4 @@
-use Rattle.std.proofs.Common.{◌≡◌, ℕ, List, inl, inr, refl, sym, ap, subst, ◌∙◌, arith}
+use Rattle.std.proofs.Common.{◌≡◌, ◌⊎◌, ℕ, List, inl, inr, refl, sym, ap, subst, ◌∙◌, arith}
 use Rattle.std.proofs.lemmas.Result.{on_ok_weaker, on_err_weaker}
 use Rattle.flash_sim.specs.Device.{Device}
 use Rattle.flash_map.specs.declared.area.Area.{Area}
@@ -10,8 +10,8 @@ use Rattle.ring_laws.specs.Forms.{IsForm}
 use Rattle.ring_laws.proofs.AreaReads.{next_there, length-sectors}
 use Rattle.ring_store.specs.Kind.{IsKind}
 use Rattle.ring_store.specs.Steps.{Clears, KeepsMarks}
-use Rattle.ring_store.specs.Standing.{SpendsIn, SpendsUpTo}
-use Rattle.ring_store.specs.Collecting.{redo_units}
+use Rattle.ring_store.specs.Standing.{list_of, SpendsIn, SpendsUpTo}
+use Rattle.ring_store.specs.Collecting.{redo_list, redo_units}
 use Rattle.ring_store.specs.declared.entry.Redo.{Redo}
 use Rattle.ring_store.proofs.Areas.{keeps_none, unit_is, open_inside, form_here}
 use Rattle.ring_store.proofs.CopyLoop.{either}
@@ -19,6 +19,7 @@ use Rattle.std.specs.Prelude.{OnOk, OnErr}
 use Rattle.ring_store.proofs.Areas.{only_else}
 use Rattle.ring_laws.proofs.Places.{after-apart}
 use Rattle.ring_store.proofs.CollectSteps.{rest_from, collecting_from, collected_from, redo-at_rest, redo-collecting, not_again, not_next, next_not_again, victim_emptied, victim_stays}
+use Rattle.ring_store.proofs.ListSteps.{whole-list, emptied-list, stays-list}
 use Rattle.ring_store.proofs.WrittenSteps.{victim-written}
 use Rattle.ring_store.proofs.collecting.redo.Goals as goal
 
@@ -182,7 +183,10 @@ returns-in-ClearNext-clause-spends g c =
     let count = length-sectors a area in
     let form : IsForm (g.T.SlotSectors.kind (unit_of a area)).reading (sectors_of a area) place = form_here (g.T.SlotSectors.kind (unit_of a area)) law (sectors_of a area) place (omega (arith, c.requires.area.lawful.several)) c.requires.undamaged c.requires.current in
     let what = sym c.what_to_redo.ensures ∙ c.in-ClearNext.is in
-    subst (λ (what : Redo). OnOk c.clear.result (SpendsIn a (g.F.Flash.device c.clear.new.flash) (redo_units (g.T.SlotSectors.kind (unit_of a area)) (sectors_of a area) place what))) (sym what) c.clear.ensures.spends
+    let d : Device = g.F.Flash.device c.clear.new.flash in
+    let at : c.next.result ≡ next (sectors_of a area) place = c.next.ensures.value ∙ next_there a area place in
+    subst (λ (what : Redo). OnOk c.clear.result (SpendsIn a d (redo_units (g.T.SlotSectors.kind (unit_of a area)) (sectors_of a area) place what))) (sym what)
+    (subst (λ (v : ℕ). OnOk c.clear.result (SpendsIn a d ((g.T.SlotSectors.kind (unit_of a area)).units.clear (sector_at (sectors_of a area) v)))) at c.clear.ensures.spends)
 
 pub returns-in-ClearNext-clause-spends_lost : goal.returns-in-ClearNext-clause-spends_lost
 returns-in-ClearNext-clause-spends_lost g c =
@@ -193,7 +197,10 @@ returns-in-ClearNext-clause-spends_lost g c =
     let count = length-sectors a area in
     let form : IsForm (g.T.SlotSectors.kind (unit_of a area)).reading (sectors_of a area) place = form_here (g.T.SlotSectors.kind (unit_of a area)) law (sectors_of a area) place (omega (arith, c.requires.area.lawful.several)) c.requires.undamaged c.requires.current in
     let what = sym c.what_to_redo.ensures ∙ c.in-ClearNext.is in
-    subst (λ (what : Redo). OnErr c.clear.result (SpendsUpTo a (g.F.Flash.device c.clear.new.flash) (redo_units (g.T.SlotSectors.kind (unit_of a area)) (sectors_of a area) place what))) (sym what) c.clear.ensures.spends_lost
+    let d : Device = g.F.Flash.device c.clear.new.flash in
+    let at : c.next.result ≡ next (sectors_of a area) place = c.next.ensures.value ∙ next_there a area place in
+    subst (λ (what : Redo). OnErr c.clear.result (SpendsUpTo a d (redo_units (g.T.SlotSectors.kind (unit_of a area)) (sectors_of a area) place what))) (sym what)
+    (subst (λ (v : ℕ). OnErr c.clear.result (SpendsUpTo a d ((g.T.SlotSectors.kind (unit_of a area)).units.clear (sector_at (sectors_of a area) v)))) at c.clear.ensures.spends_lost)
 
 pub returns-in-CollectAgain-clause-rested : goal.returns-in-CollectAgain-clause-rested
 returns-in-CollectAgain-clause-rested g c =
@@ -280,3 +287,71 @@ returns-in-ClearNext-clause-written g c =
 pub returns-in-CollectAgain-clause-written : goal.returns-in-CollectAgain-clause-written
 returns-in-CollectAgain-clause-written g c =
     inr c.collect_again.ensures.written
+
+pub returns-in-Nothing-clause-list : goal.returns-in-Nothing-clause-list
+returns-in-Nothing-clause-list g c =
+    let a : Device = g.F.Flash.device c.args.flash.now in
+    let area : Area = c.args.area.now in
+    let place : ℕ = c.args.current in
+    let what = sym c.what_to_redo.ensures ∙ c.in-Nothing.is in
+    ap (redo_list (g.T.SlotSectors.kind (unit_of a area)) (sectors_of a area) place) (sym what)
+
+pub returns-in-ClearNext-clause-list : goal.returns-in-ClearNext-clause-list
+returns-in-ClearNext-clause-list g c =
+    let a : Device = g.F.Flash.device c.args.flash.now in
+    let area : Area = c.args.area.now in
+    let place : ℕ = c.args.current in
+    let law : IsKind (g.T.SlotSectors.kind (unit_of a area)) = g.met.T.SlotSectors.lawful (unit_of a area) (unit_is a area (g.met.F.Flash.is_lawful c.args.flash.now) c.requires.area.lawful) in
+    let count = length-sectors a area in
+    let form : IsForm (g.T.SlotSectors.kind (unit_of a area)).reading (sectors_of a area) place = form_here (g.T.SlotSectors.kind (unit_of a area)) law (sectors_of a area) place (omega (arith, c.requires.area.lawful.several)) c.requires.undamaged c.requires.current in
+    let what = sym c.what_to_redo.ensures ∙ c.in-ClearNext.is in
+    let d : Device = g.F.Flash.device c.clear.new.flash in
+    let at : c.next.result ≡ next (sectors_of a area) place = c.next.ensures.value ∙ next_there a area place in
+    let only : ChangesOnly (sectors_of a area) (sectors_of d area) (next (sectors_of a area) place) = subst (λ (v : ℕ). ChangesOnly (sectors_of a area) (sectors_of d area) v) at c.clear.ensures.only in
+    let collected = collected_from (g.T.SlotSectors.kind (unit_of a area)) law (sectors_of a area) place form what in
+    subst (λ (what : Redo). OnOk c.clear.result (list_of (g.T.SlotSectors.kind (unit_of a area)) (sectors_of d area) ≡ redo_list (g.T.SlotSectors.kind (unit_of a area)) (sectors_of a area) place what)) (sym what)
+    (on_ok_weaker c.clear.result
+    (λ e. emptied-list (g.T.SlotSectors.kind (unit_of a area)) law (sectors_of a area) (sectors_of d area) place collected only (subst (λ (v : ℕ). Clears (g.T.SlotSectors.kind (unit_of a area)) (sector_at (sectors_of a area) v) (sector_at (sectors_of d area) v)) at e))
+    c.clear.ensures.clears)
+
+pub returns-in-ClearNext-clause-list_lost : goal.returns-in-ClearNext-clause-list_lost
+returns-in-ClearNext-clause-list_lost g c =
+    let a : Device = g.F.Flash.device c.args.flash.now in
+    let area : Area = c.args.area.now in
+    let place : ℕ = c.args.current in
+    let law : IsKind (g.T.SlotSectors.kind (unit_of a area)) = g.met.T.SlotSectors.lawful (unit_of a area) (unit_is a area (g.met.F.Flash.is_lawful c.args.flash.now) c.requires.area.lawful) in
+    let count = length-sectors a area in
+    let form : IsForm (g.T.SlotSectors.kind (unit_of a area)).reading (sectors_of a area) place = form_here (g.T.SlotSectors.kind (unit_of a area)) law (sectors_of a area) place (omega (arith, c.requires.area.lawful.several)) c.requires.undamaged c.requires.current in
+    let what = sym c.what_to_redo.ensures ∙ c.in-ClearNext.is in
+    let d : Device = g.F.Flash.device c.clear.new.flash in
+    let at : c.next.result ≡ next (sectors_of a area) place = c.next.ensures.value ∙ next_there a area place in
+    let only : ChangesOnly (sectors_of a area) (sectors_of d area) (next (sectors_of a area) place) = subst (λ (v : ℕ). ChangesOnly (sectors_of a area) (sectors_of d area) v) at c.clear.ensures.only in
+    let collected = collected_from (g.T.SlotSectors.kind (unit_of a area)) law (sectors_of a area) place form what in
+    on_err_weaker c.clear.result
+    (λ e. inl (stays-list (g.T.SlotSectors.kind (unit_of a area)) law (sectors_of a area) (sectors_of d area) place collected only (subst (λ (v : ℕ). KeepsMarks (g.T.SlotSectors.kind (unit_of a area)) (sector_at (sectors_of a area) v) (sector_at (sectors_of d area) v)) at e)))
+    c.clear.ensures.lost
+
+pub returns-in-CollectAgain-clause-list : goal.returns-in-CollectAgain-clause-list
+returns-in-CollectAgain-clause-list g c =
+    let a : Device = g.F.Flash.device c.args.flash.now in
+    let area : Area = c.args.area.now in
+    let place : ℕ = c.args.current in
+    let law : IsKind (g.T.SlotSectors.kind (unit_of a area)) = g.met.T.SlotSectors.lawful (unit_of a area) (unit_is a area (g.met.F.Flash.is_lawful c.args.flash.now) c.requires.area.lawful) in
+    let count = length-sectors a area in
+    let form : IsForm (g.T.SlotSectors.kind (unit_of a area)).reading (sectors_of a area) place = form_here (g.T.SlotSectors.kind (unit_of a area)) law (sectors_of a area) place (omega (arith, c.requires.area.lawful.several)) c.requires.undamaged c.requires.current in
+    let what = sym c.what_to_redo.ensures ∙ c.in-CollectAgain.is in
+    let d : Device = g.F.Flash.device c.collect_again.new.flash in
+    subst (λ (what : Redo). OnOk c.collect_again.result (list_of (g.T.SlotSectors.kind (unit_of a area)) (sectors_of d area) ≡ redo_list (g.T.SlotSectors.kind (unit_of a area)) (sectors_of a area) place what)) (sym what)
+    (on_ok_weaker c.collect_again.result (λ at. whole-list (g.T.SlotSectors.kind (unit_of a area)) law (sectors_of a area) place (collecting_from (g.T.SlotSectors.kind (unit_of a area)) law (sectors_of a area) place form what) (sectors_of d area) at) c.collect_again.ensures.collects)
+
+pub returns-in-CollectAgain-clause-list_lost : goal.returns-in-CollectAgain-clause-list_lost
+returns-in-CollectAgain-clause-list_lost g c =
+    let a : Device = g.F.Flash.device c.args.flash.now in
+    let area : Area = c.args.area.now in
+    let place : ℕ = c.args.current in
+    let law : IsKind (g.T.SlotSectors.kind (unit_of a area)) = g.met.T.SlotSectors.lawful (unit_of a area) (unit_is a area (g.met.F.Flash.is_lawful c.args.flash.now) c.requires.area.lawful) in
+    let count = length-sectors a area in
+    let form : IsForm (g.T.SlotSectors.kind (unit_of a area)).reading (sectors_of a area) place = form_here (g.T.SlotSectors.kind (unit_of a area)) law (sectors_of a area) place (omega (arith, c.requires.area.lawful.several)) c.requires.undamaged c.requires.current in
+    let what = sym c.what_to_redo.ensures ∙ c.in-CollectAgain.is in
+    let d : Device = g.F.Flash.device c.collect_again.new.flash in
+    subst (λ (what : Redo). OnErr c.collect_again.result ((list_of (g.T.SlotSectors.kind (unit_of a area)) (sectors_of d area) ≡ list_of (g.T.SlotSectors.kind (unit_of a area)) (sectors_of a area)) ⊎ (list_of (g.T.SlotSectors.kind (unit_of a area)) (sectors_of d area) ≡ redo_list (g.T.SlotSectors.kind (unit_of a area)) (sectors_of a area) place what))) (sym what) c.collect_again.ensures.list_lost

@@ -1,14 +1,15 @@
-use Rattle.std.proofs.Common.{◌≡◌, ℕ, subst, ◌∙◌, arith}
+use Rattle.std.proofs.Common.{◌≡◌, ℕ, cond, subst, ◌∙◌, arith}
 use Rattle.flash_sim.specs.Device.{Device}
 use Rattle.flash_map.specs.declared.area.Area.{Area}
 use Rattle.flash_map.specs.Area.{unit_of, sectors_of, sector_at}
 use Rattle.flash_map.proofs.PieceLemmas.{on_err}
-use Rattle.flash_map.proofs.SpendingBounds.{between_within}
-use Rattle.ring_laws.specs.Area.{next}
+use Rattle.ring_laws.specs.Area.{next, is_blank_at}
 use Rattle.ring_laws.proofs.AreaReads.{next_there}
-use Rattle.ring_store.specs.Kind.{IsKind}
+use Rattle.ring_store.specs.Kind.{Kind, IsKind}
+use Rattle.ring_store.specs.Spending.{none, both, collect_units}
 use Rattle.ring_store.proofs.Areas.{unit_is}
-use Rattle.ring_store.proofs.RoundFacts.{open_within, open_sound, open_not_closed, close_lost, redo_undamaged, redo_opened, redo_keeps, redo_rests, redo_turns, round_spends, round_spends_lost}
+use Rattle.ring_store.proofs.Ranges.{first-lost}
+use Rattle.ring_store.proofs.RoundFacts.{open_within, open_sound, open_not_closed, close_lost, close_lost_list, redo_undamaged, redo_opened, redo_keeps, redo_lost_list, redo_rests, redo_turns, round_spends, round_spends_lost}
 use Rattle.ring_store.proofs.CallFacts.{to_unit}
 use Rattle.ring_laws.proofs.AreaReads.{length-sectors}
 use Rattle.ring_store.proofs.WrittenSteps.{close-written}
@@ -50,7 +51,12 @@ returns-in_err-close-clause-items g c =
 
 pub returns-in_err-close-clause-spends_lost : goal.returns-in_err-close-clause-spends_lost
 returns-in_err-close-clause-spends_lost g c =
-    on_err c.from_residual.result (between_within c.in_err-close.ensures.spends_lost _ _ (omega arith) (omega arith))
+    let a : Device = g.F.Flash.device c.args.flash.now in
+    let k : Kind = g.T.SlotSectors.kind (unit_of a c.args.area.now) in
+    let old = sectors_of a c.args.area.now in
+    let opened = next old c.args.current in
+    on_err c.from_residual.result
+    (first-lost a (g.F.Flash.device c.close.new.flash) (k.units.close (sector_at old c.args.current)) (cond (is_blank_at k.reading old (next old opened)) none (both (k.units.begin (sector_at old opened)) (collect_units k old opened))) c.in_err-close.ensures.spends_lost)
 
 pub next-place-requires : goal.next-place-requires
 next-place-requires g c =
@@ -210,3 +216,24 @@ returns-clause-written g c =
     let did = c.in_ok-close.ensures in
     let e : Device = g.F.Flash.device c.redo.new.flash in
     redo-written g.T.SlotSectors.kind a area place law (open_within g.T.SlotSectors.kind g.T.SlotSectors.role a area place law (g.met.F.Flash.is_lawful c.args.flash.now) c.requires.area c.requires.undamaged c.requires.current c.requires.rested) b did.touches.banks did.only did.closes e c.in_ok-redo.ensures.written
+
+pub returns-in_err-close-clause-list_lost : goal.returns-in_err-close-clause-list_lost
+returns-in_err-close-clause-list_lost g c =
+    let a : Device = g.F.Flash.device c.args.flash.now in
+    let area : Area = c.args.area.now in
+    let place : ℕ = c.args.current in
+    let law : IsKind (g.T.SlotSectors.kind (unit_of a area)) = g.met.T.SlotSectors.lawful (unit_of a area) (unit_is a area (g.met.F.Flash.is_lawful c.args.flash.now) c.requires.area.lawful) in
+    let b : Device = g.F.Flash.device c.close.new.flash in
+    on_err c.from_residual.result (close_lost_list g.T.SlotSectors.kind g.T.SlotSectors.role a area place law (g.met.F.Flash.is_lawful c.args.flash.now) c.requires.area c.requires.undamaged c.requires.current c.requires.rested c.requires.used b c.in_err-close.ensures.touches.banks c.in_err-close.ensures.only c.in_err-close.ensures.lost)
+
+pub returns-in_err-redo-clause-list_lost : goal.returns-in_err-redo-clause-list_lost
+returns-in_err-redo-clause-list_lost g c =
+    let a : Device = g.F.Flash.device c.args.flash.now in
+    let area : Area = c.args.area.now in
+    let place : ℕ = c.args.current in
+    let law : IsKind (g.T.SlotSectors.kind (unit_of a area)) = g.met.T.SlotSectors.lawful (unit_of a area) (unit_is a area (g.met.F.Flash.is_lawful c.args.flash.now) c.requires.area.lawful) in
+    let b : Device = g.F.Flash.device c.close.new.flash in
+    let did = c.in_ok-close.ensures in
+    let at : c.next-place.result ≡ next (sectors_of a area) place = c.next-place.ensures.value ∙ next_there a area place in
+    let e : Device = g.F.Flash.device c.redo.new.flash in
+    on_err c.from_residual-in_err-redo.result (redo_lost_list g.T.SlotSectors.kind g.T.SlotSectors.role a area place law (g.met.F.Flash.is_lawful c.args.flash.now) c.requires.area c.requires.undamaged c.requires.current c.requires.rested c.requires.used b did.touches.banks did.only did.closes c.next-place.result at e c.in_err-redo.ensures.list_lost)

@@ -1,14 +1,14 @@
-use Rattle.std.proofs.Common.{◌≡◌, ◌≢◌, ℕ, zero, suc, ◌+◌, ◌-◌, ◌*◌, ◌/◌, ◌%◌, ◌<◌, ◌≤◌, ◌^◌, ◌⊎◌, min, Bool, true, false, not, ◌&&◌, ◌||◌, cond, eqb, List, [], ◌∷◌, ◌++◌, length, map, Option, Some, None, refl, sym, ap, subst, ◌∙◌, inl, inr, append_assoc, arith}
+use Rattle.std.proofs.Common.{ℕ, ◌+◌, ◌-◌, List, [], sym, arith}
 use Rattle.ring_laws.proofs.AreaReads.{length-sectors}
 use Rattle.ring_laws.proofs.LastLemmas.{among}
 use Rattle.ring_store.specs.declared.entry.Placed.{Placed}
 use Rattle.ring_store.specs.Latest.{Tells}
-use Rattle.ring_store.proofs.KeyTables.{whole_list}
+use Rattle.ring_store.proofs.LastIds.{whole_list}
 use Rattle.flash_sim.specs.Device.{Device}
 use Rattle.flash_map.specs.declared.area.Area.{Area}
-use Rattle.flash_map.specs.Area.{unit_of, sectors_of, sector_at}
-use Rattle.ring_store.specs.Kind.{Kind, IsKind, placed_at, slots}
-use Rattle.ring_store.proofs.Areas.{unit_is, open_inside}
+use Rattle.flash_map.specs.Area.{unit_of, sectors_of}
+use Rattle.ring_store.specs.Kind.{Kind, slots}
+use Rattle.ring_store.proofs.Areas.{open_inside}
 use Rattle.ring_store.proofs.latest.last_slots.Goals as goal
 
 pub overflow_add-older : goal.overflow_add-older
@@ -62,6 +62,5 @@ returns g c =
     let area : Area = c.args.area.now in
     let k : Kind = g.T.SlotSectors.kind (unit_of d area) in
     let sectors : List (List ℕ) = sectors_of d area in
-    let last = c.note_among-2.new.notes in
-    whole_list k (λ (placed : List Placed). Tells k.ids c.note_among-2.new.notes.sectors c.note_among-2.new.notes.slots c.note_among-2.new.notes.short c.note_among-2.new.notes.mixed placed) sectors c.args.current area.sectors (sym (length-sectors d area)) c.requires.current
-    (c.note_among-2.ensures (among (slots k) sectors c.args.current (c.args.current + 1) (area.sectors - (c.args.current + 1))) (c.note_among.ensures [] (c.new-last.ensures.tells k.ids)))
+    whole_list k (λ (placed : List Placed). Tells k.ids c.note_among-2.new.notes placed) sectors c.args.current area.sectors (sym (length-sectors d area)) c.requires.current
+    (c.note_among-2.ensures (among (slots k) sectors c.args.current (c.args.current + 1) (area.sectors - (c.args.current + 1))) (c.note_among.ensures [] (c.new-last.ensures k.ids)))

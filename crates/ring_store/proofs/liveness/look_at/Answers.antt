@@ -1,12 +1,11 @@
-use Rattle.std.proofs.Common.{◌≡◌, ◌≢◌, ℕ, zero, suc, ◌+◌, ◌-◌, ◌*◌, ◌/◌, ◌%◌, ◌<◌, ◌≤◌, ◌^◌, ◌⊎◌, min, Bool, true, false, not, ◌&&◌, ◌||◌, cond, eqb, List, [], ◌∷◌, ◌++◌, length, map, Option, Some, None, refl, sym, ap, subst, ◌∙◌, inl, inr, append_assoc, arith}
+use Rattle.std.proofs.Common.{ℕ, List, sym, ◌∙◌}
 use Rattle.std.specs.Option.{option_map}
 use Rattle.ring_store.proofs.LiveSteps.{live_none, live_some}
 use Rattle.ring_store.proofs.SeenSteps.{seen_before, seen_still}
 use Rattle.flash_sim.specs.Device.{Device}
 use Rattle.flash_map.specs.declared.area.Area.{Area}
 use Rattle.flash_map.specs.Area.{unit_of, sectors_of, sector_at}
-use Rattle.ring_store.specs.Kind.{Kind, IsKind, placed_at, slots}
-use Rattle.ring_store.proofs.Areas.{unit_is, open_inside}
+use Rattle.ring_store.specs.Kind.{Kind, placed_at}
 use Rattle.ring_store.proofs.liveness.look_at.Goals as goal
 
 pub is_live_by-live-requires-clause-known : goal.is_live_by-live-requires-clause-known
@@ -29,7 +28,7 @@ returns-in-Some-clause-seen g c =
     let area : Area = c.args.area.now in
     let k : Kind = g.T.SlotSectors.kind (unit_of d area) in
     let sectors : List (List ℕ) = sectors_of d area in
-    λ later seen. seen_before k.ids c.args.seen.now.bits c.add.new.self.bits later c.in-Some.placed (option_map (placed_at c.args.place) (k.in_slot (sector_at sectors c.args.place) c.args.slot)) (sym c.in-Some.is ∙ c.entry_in.ensures.entry) c.in-Some.ensures.small c.add.ensures seen
+    λ later seen. seen_before k.ids c.args.seen.now.bits c.add.new.self.bits c.args.seen.now.mixed c.add.new.self.mixed later c.in-Some.placed (option_map (placed_at c.args.place) (k.in_slot (sector_at sectors c.args.place) c.args.slot)) (sym c.in-Some.is ∙ c.entry_in.ensures.entry) c.in-Some.ensures.small c.add.ensures.bits c.add.ensures.mixed seen
 
 pub returns-in-None-clause-live : goal.returns-in-None-clause-live
 returns-in-None-clause-live g c =
@@ -45,4 +44,4 @@ returns-in-None-clause-seen g c =
     let area : Area = c.args.area.now in
     let k : Kind = g.T.SlotSectors.kind (unit_of d area) in
     let sectors : List (List ℕ) = sectors_of d area in
-    λ later seen. seen_still k.ids c.args.seen.now.bits later (option_map (placed_at c.args.place) (k.in_slot (sector_at sectors c.args.place) c.args.slot)) (sym c.in-None.is ∙ c.entry_in.ensures.entry) seen
+    λ later seen. seen_still k.ids c.args.seen.now.bits c.args.seen.now.mixed later (option_map (placed_at c.args.place) (k.in_slot (sector_at sectors c.args.place) c.args.slot)) (sym c.in-None.is ∙ c.entry_in.ensures.entry) seen

@@ -1,10 +1,9 @@
-use Rattle.std.proofs.Common.{◌≡◌, ◌≢◌, ℕ, zero, suc, ◌+◌, ◌-◌, ◌*◌, ◌/◌, ◌%◌, ◌<◌, ◌≤◌, ◌^◌, ◌⊎◌, min, Bool, true, false, not, ◌&&◌, ◌||◌, cond, eqb, List, [], ◌∷◌, ◌++◌, length, map, Option, Some, None, refl, sym, ap, subst, ◌∙◌, inl, inr, append_assoc, arith}
+use Rattle.std.proofs.Common.{ℕ, List, sym, ◌∙◌}
 use Rattle.ring_store.proofs.SeenSteps.{seen_counted, seen_passed}
 use Rattle.flash_sim.specs.Device.{Device}
 use Rattle.flash_map.specs.declared.area.Area.{Area}
-use Rattle.flash_map.specs.Area.{unit_of, sectors_of, sector_at}
-use Rattle.ring_store.specs.Kind.{Kind, IsKind, placed_at, slots}
-use Rattle.ring_store.proofs.Areas.{unit_is, open_inside}
+use Rattle.flash_map.specs.Area.{unit_of, sectors_of}
+use Rattle.ring_store.specs.Kind.{Kind}
 use Rattle.ring_store.proofs.noting.note_counting.Goals as goal
 
 pub returns-then-counts : goal.returns-then-counts

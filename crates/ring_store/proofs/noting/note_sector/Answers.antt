@@ -1,12 +1,11 @@
-use Rattle.std.proofs.Common.{◌≡◌, ◌≢◌, ℕ, zero, suc, ◌+◌, ◌-◌, ◌*◌, ◌/◌, ◌%◌, ◌<◌, ◌≤◌, ◌^◌, ◌⊎◌, min, Bool, true, false, not, ◌&&◌, ◌||◌, cond, eqb, List, [], ◌∷◌, ◌++◌, length, map, Option, Some, None, refl, sym, ap, subst, ◌∙◌, inl, inr, append_assoc, arith}
+use Rattle.std.proofs.Common.{◌≡◌, ℕ, ◌+◌, ◌-◌, List, ◌++◌, sym, subst, arith}
 use Rattle.std.proofs.lemmas.List.{append-nil}
 use Rattle.ring_store.proofs.OlderSteps.{placed_to}
 use Rattle.ring_store.proofs.SeenSteps.{seen_slot}
 use Rattle.flash_sim.specs.Device.{Device}
 use Rattle.flash_map.specs.declared.area.Area.{Area}
 use Rattle.flash_map.specs.Area.{unit_of, sectors_of, sector_at}
-use Rattle.ring_store.specs.Kind.{Kind, IsKind, placed_at, slots}
-use Rattle.ring_store.proofs.Areas.{unit_is, open_inside}
+use Rattle.ring_store.specs.Kind.{Kind}
 use Rattle.ring_store.proofs.noting.note_sector.Goals as goal
 
 pub overflow_add-slot-end : goal.overflow_add-slot-end
@@ -33,10 +32,6 @@ note_slot-requires-clause-listed g c =
     let count : c.slots-slots.result ≡ k.count (sector_at sectors c.args.place) = c.slots-slots.ensures.value in
     let first : c.first_slot-first.result ≡ k.first = c.first_slot-first.ensures.value (unit_of d area) in
     (omega arith, omega arith)
-
-pub note_slot-requires-clause-low : goal.note_slot-requires-clause-low
-note_slot-requires-clause-low g c =
-    omega (arith, c.slots-slots.ensures.few, c.first_slot-first.ensures.small)
 
 pub loop-slot-preserved : goal.loop-slot-preserved
 loop-slot-preserved g c =

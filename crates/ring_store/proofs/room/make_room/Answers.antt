@@ -1,4 +1,4 @@
-use Rattle.std.proofs.Common.{◌≡◌, ℕ, ◌+◌, ◌-◌, ◌<◌, true, false, sym, ap, subst, ◌∙◌, arith}
+use Rattle.std.proofs.Common.{◌≡◌, ℕ, ◌+◌, ◌-◌, true, false, sym, ap, subst, ◌∙◌, arith}
 use Rattle.flash_sim.specs.Device.{Device}
 use Rattle.flash_map.specs.declared.area.Area.{Area}
 use Rattle.std.proofs.lemmas.Bool.{false≢true}
@@ -7,7 +7,7 @@ use Rattle.flash_map.proofs.PieceLemmas.{on_err}
 use Rattle.ring_store.specs.Kind.{IsKind}
 use Rattle.ring_store.specs.Room.{has_room}
 use Rattle.ring_store.proofs.Areas.{unit_is}
-use Rattle.ring_store.proofs.RoomFacts.{IsSearching, inside, searching_start, room_now, used_now, touches_more, stops_now, searching_more, delete_room, makes_now, full_or_delete}
+use Rattle.ring_store.proofs.RoomFacts.{IsSearching, inside, searching_start, room_now, used_now, stops_now, searching_more, delete_room, makes_now, full_or_delete}
 use Rattle.ring_store.specs.Written.{IsWritten}
 use Rattle.ring_store.proofs.CallFacts.{to_unit}
 use Rattle.ring_store.proofs.room.make_room.Goals as goal
@@ -48,7 +48,7 @@ returns-in_err-place-clause-stops g c =
     let area : Area = c.args.area.now in
     let law : IsKind (g.T.SlotSectors.kind (unit_of a area)) = g.met.T.SlotSectors.lawful (unit_of a area) (unit_is a area (g.met.F.Flash.is_lawful c.args.flash.now) c.requires.stands.area.lawful) in
     let did = c.in_err-place.ensures in
-    on_err c.from_residual.result (stops_now g.T.SlotSectors.role g.T.SlotSectors.kind g.T.SlotSectors.kept a d area c.args.current.now c.args.opened.now c.loop-round.current c.loop-round.opened c.args.len (c.loop-round._round - 1) law (g.met.F.Flash.is_lawful c.args.flash.now) c.requires.stands c.loop-round.invariant.searching (g.met.F.Flash.is_lawful c.loop-round.flash) (sym c.fits.ensures ∙ c.if-fits.false) (g.F.Flash.device c.round.new.flash) (omega arith) did.items did.spends_lost)
+    on_err c.from_residual.result (stops_now g.T.SlotSectors.role g.T.SlotSectors.kind g.T.SlotSectors.kept a d area c.args.current.now c.args.opened.now c.loop-round.current c.loop-round.opened c.args.len (c.loop-round._round - 1) law (g.met.F.Flash.is_lawful c.args.flash.now) c.requires.stands c.loop-round.invariant.searching (g.met.F.Flash.is_lawful c.loop-round.flash) (sym c.fits.ensures ∙ c.if-fits.false) (g.F.Flash.device c.round.new.flash) (omega arith) did.items did.list_lost did.spends_lost)
 
 pub loop-round-preserved : goal.loop-round-preserved
 loop-round-preserved g c =

@@ -1,13 +1,12 @@
-use Rattle.std.proofs.Common.{◌≡◌, ◌≢◌, ℕ, zero, suc, ◌+◌, ◌-◌, ◌*◌, ◌/◌, ◌%◌, ◌<◌, ◌≤◌, ◌^◌, ◌⊎◌, min, Bool, true, false, not, ◌&&◌, ◌||◌, cond, eqb, List, [], ◌∷◌, ◌++◌, length, map, Option, Some, None, refl, sym, ap, subst, ◌∙◌, inl, inr, append_assoc, arith}
+use Rattle.std.proofs.Common.{ℕ, ◌+◌, ◌-◌, List, [], sym, subst, arith}
 use Rattle.ring_laws.proofs.AreaReads.{length-sectors}
 use Rattle.ring_laws.proofs.LastLemmas.{among}
 use Rattle.ring_store.specs.Seen.{HasSeen}
 use Rattle.ring_store.proofs.SeenSteps.{behind_near, behind_far}
 use Rattle.flash_sim.specs.Device.{Device}
 use Rattle.flash_map.specs.declared.area.Area.{Area}
-use Rattle.flash_map.specs.Area.{unit_of, sectors_of, sector_at}
-use Rattle.ring_store.specs.Kind.{Kind, IsKind, placed_at, slots}
-use Rattle.ring_store.proofs.Areas.{unit_is, open_inside}
+use Rattle.flash_map.specs.Area.{unit_of, sectors_of}
+use Rattle.ring_store.specs.Kind.{Kind, slots}
 use Rattle.ring_store.proofs.seen.note_behind.Goals as goal
 
 pub overflow_add-after : goal.overflow_add-after
@@ -20,7 +19,7 @@ returns-then-place-current g c =
     let area : Area = c.args.area.now in
     let k : Kind = g.T.SlotSectors.kind (unit_of d area) in
     let sectors : List (List ℕ) = sectors_of d area in
-    λ seen. subst (HasSeen k.ids c.note_among.new.notes.bits) (behind_near k sectors c.args.current c.args.place c.if-place-current.true) (c.note_among.ensures [] seen)
+    λ seen. subst (HasSeen k.ids c.note_among.new.notes.bits c.note_among.new.notes.mixed) (behind_near k sectors c.args.current c.args.place c.if-place-current.true) (c.note_among.ensures [] seen)
 
 pub returns : goal.returns
 returns g c =
@@ -28,5 +27,5 @@ returns g c =
     let area : Area = c.args.area.now in
     let k : Kind = g.T.SlotSectors.kind (unit_of d area) in
     let sectors : List (List ℕ) = sectors_of d area in
-    λ seen. subst (HasSeen k.ids c.note_among-3.new.notes.bits) (behind_far k sectors c.args.current c.args.place area.sectors (omega arith) (sym (length-sectors d area)))
+    λ seen. subst (HasSeen k.ids c.note_among-3.new.notes.bits c.note_among-3.new.notes.mixed) (behind_far k sectors c.args.current c.args.place area.sectors (omega arith) (sym (length-sectors d area)))
     (c.note_among-3.ensures (among (slots k) sectors c.args.current (c.args.place + 1) (area.sectors - (c.args.place + 1))) (c.note_among-2.ensures [] seen))

@@ -1,4 +1,4 @@
-use Rattle.std.proofs.Common.{◌≡◌, ℕ, zero, suc, ◌+◌, ◌-◌, ◌*◌, ◌<◌, ◌≤◌, ◌^◌, ◌⊎◌, min, Bool, true, false, not, ◌&&◌, ◌||◌, cond, eqb, List, [], ◌∷◌, ◌++◌, length, map, Option, Some, None, refl, sym, ap, subst, ◌∙◌, inl, inr, append_assoc, arith}
+use Rattle.std.proofs.Common.{◌≡◌, ℕ, ◌-◌, List, Option, None, sym, ap, ◌∙◌, arith}
 use Rattle.std.specs.Prelude.{is_some}
 use Rattle.std.specs.List.{last_or}
 use Rattle.ring_laws.proofs.LastLemmas.{none_by, among}
@@ -6,9 +6,9 @@ use Rattle.ring_store.specs.declared.entry.Placed.{Placed}
 use Rattle.ring_store.proofs.OlderSteps.{newest-step, newest-suffix}
 use Rattle.flash_sim.specs.Device.{Device}
 use Rattle.flash_map.specs.declared.area.Area.{Area}
-use Rattle.flash_map.specs.Area.{unit_of, sectors_of, sector_at}
-use Rattle.ring_store.specs.Kind.{Kind, IsKind, placed_at, slots}
-use Rattle.ring_store.proofs.Areas.{unit_is, open_inside}
+use Rattle.flash_map.specs.Area.{unit_of, sectors_of}
+use Rattle.ring_store.specs.Kind.{Kind, IsKind, slots}
+use Rattle.ring_store.proofs.Areas.{unit_is}
 use Rattle.ring_store.proofs.walking.newest_among.Goals as goal
 
 pub loop-place-init : goal.loop-place-init

@@ -1,14 +1,13 @@
-use Rattle.std.proofs.Common.{◌≡◌, ℕ, zero, suc, ◌+◌, ◌-◌, ◌*◌, ◌<◌, ◌≤◌, ◌^◌, ◌⊎◌, min, Bool, true, false, not, ◌&&◌, ◌||◌, cond, eqb, List, [], ◌∷◌, ◌++◌, length, map, Option, Some, None, refl, sym, ap, subst, ◌∙◌, inl, inr, append_assoc, arith}
+use Rattle.std.proofs.Common.{◌≡◌, ℕ, ◌+◌, ◌-◌, min, List, None, sym, ap, ◌∙◌, arith}
 use Rattle.std.specs.List.{last_or}
 use Rattle.ring_laws.proofs.AreaReads.{length-sectors}
-use Rattle.ring_store.specs.declared.entry.Placed.{Placed}
 use Rattle.ring_store.proofs.OlderSteps.{placed_to, newest_here, newest_none}
 use Rattle.ring_store.proofs.Placings.{read_listed}
 use Rattle.flash_sim.specs.Device.{Device}
 use Rattle.flash_map.specs.declared.area.Area.{Area}
 use Rattle.flash_map.specs.Area.{unit_of, sectors_of, sector_at}
-use Rattle.ring_store.specs.Kind.{Kind, IsKind, placed_at, slots}
-use Rattle.ring_store.proofs.Areas.{unit_is, open_inside}
+use Rattle.ring_store.specs.Kind.{Kind, IsKind}
+use Rattle.ring_store.proofs.Areas.{unit_is}
 use Rattle.ring_store.proofs.walking.newest_in.Goals as goal
 
 pub loop-count-init : goal.loop-count-init

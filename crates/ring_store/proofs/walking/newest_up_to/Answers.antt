@@ -1,4 +1,4 @@
-use Rattle.std.proofs.Common.{◌≡◌, ℕ, zero, suc, ◌+◌, ◌-◌, ◌*◌, ◌<◌, ◌≤◌, ◌^◌, ◌⊎◌, min, Bool, true, false, not, ◌&&◌, ◌||◌, cond, eqb, List, [], ◌∷◌, ◌++◌, length, map, Option, Some, None, refl, sym, ap, subst, ◌∙◌, inl, inr, append_assoc, arith}
+use Rattle.std.proofs.Common.{ℕ, List, length, sym, ◌∙◌}
 use Rattle.std.specs.List.{flat_map}
 use Rattle.ring_laws.specs.Live.{counted_in}
 use Rattle.ring_laws.specs.RoundParts.{places_before}
@@ -7,9 +7,8 @@ use Rattle.ring_store.specs.declared.entry.Placed.{Placed}
 use Rattle.ring_store.proofs.OlderSteps.{newest-behind, newest-before}
 use Rattle.flash_sim.specs.Device.{Device}
 use Rattle.flash_map.specs.declared.area.Area.{Area}
-use Rattle.flash_map.specs.Area.{unit_of, sectors_of, sector_at}
-use Rattle.ring_store.specs.Kind.{Kind, IsKind, placed_at, slots}
-use Rattle.ring_store.proofs.Areas.{unit_is, open_inside}
+use Rattle.flash_map.specs.Area.{unit_of, sectors_of}
+use Rattle.ring_store.specs.Kind.{Kind, slots}
 use Rattle.ring_store.proofs.walking.newest_up_to.Goals as goal
 
 pub returns-then-is_some-clause-last : goal.returns-then-is_some-clause-last

@@ -1,12 +1,16 @@
-use Rattle.std.proofs.Common.{◌≡◌, ℕ, zero, suc, ◌+◌, ◌-◌, ◌*◌, ◌<◌, ◌≤◌, ◌^◌, ◌⊎◌, min, Bool, true, false, not, ◌&&◌, ◌||◌, cond, eqb, List, [], ◌∷◌, ◌++◌, length, map, Option, Some, None, refl, sym, ap, subst, ◌∙◌, inl, inr, append_assoc, arith}
+use Rattle.std.proofs.Common.{◌≡◌, ℕ, ◌-◌, ◌<◌, List, Option, None, sym, ap, subst, ◌∙◌, arith}
 use Rattle.ring_laws.specs.Live.{all_placed}
 use Rattle.ring_laws.proofs.AreaReads.{length-sectors}
-use Rattle.ring_store.specs.Older.{IsNextOlder}
+use Rattle.std.specs.Prelude.{IfSome}
+use Rattle.std.specs.List.{last_or}
+use Rattle.ring_laws.specs.Area.{open_sector}
+use Rattle.ring_laws.specs.Walk.{placed_up_to}
+use Rattle.ring_store.specs.Older.{IsNextOlder, newest_before}
 use Rattle.ring_store.proofs.OlderSteps.{walked-newest, walked-older}
 use Rattle.flash_sim.specs.Device.{Device}
 use Rattle.flash_map.specs.declared.area.Area.{Area}
-use Rattle.flash_map.specs.Area.{unit_of, sectors_of, sector_at}
-use Rattle.ring_store.specs.Kind.{Kind, IsKind, placed_at, slots}
+use Rattle.flash_map.specs.Area.{unit_of, sectors_of}
+use Rattle.ring_store.specs.Kind.{Kind, IsKind, slots}
 use Rattle.ring_store.proofs.Areas.{unit_is, open_inside}
 use Rattle.ring_store.proofs.walking.walk.Goals as goal
 
@@ -80,3 +84,24 @@ returns-in-None-clause-older g c =
     let count = length-sectors d area in
     subst (λ (after : Option (ℕ × ℕ)). IsNextOlder (all_placed (slots k) sectors) after c.newest_up_to-in-None.result) (sym c.in-None.is)
     (walked-newest k law sectors c.args.current c.slots-all.result c.newest_up_to-in-None.result (sym c.requires.current) (omega arith) (omega (arith, c.slots-all.ensures.value)) c.newest_up_to-in-None.ensures.last)
+
+pub returns-in-Some-clause-before : goal.returns-in-Some-clause-before
+returns-in-Some-clause-before g c =
+    let d : Device = g.F.Flash.device c.args.flash.now in
+    let area : Area = c.args.area.now in
+    let k : Kind = g.T.SlotSectors.kind (unit_of d area) in
+    let sectors : List (List ℕ) = sectors_of d area in
+    let first = c.first_slot.ensures.value (unit_of d area) in
+    let limit : c.saturating_sub-limit.result ≡ c.in-Some.slot - k.first = c.saturating_sub-limit.ensures ∙ ap (λ (n : ℕ). c.in-Some.slot - n) first in
+    subst (λ (after : Option (ℕ × ℕ)). IfSome after (λ place. c.newest_up_to.result ≡ newest_before k sectors place)) (sym c.in-Some.is)
+    (c.newest_up_to.ensures.last
+    ∙ ap (λ (p : ℕ). last_or None (placed_up_to (slots k) sectors p c.in-Some.sector c.saturating_sub-limit.result)) c.requires.current
+    ∙ ap (λ (n : ℕ). last_or None (placed_up_to (slots k) sectors (open_sector k.reading sectors) c.in-Some.sector n)) limit)
+
+pub returns-in-None-clause-before : goal.returns-in-None-clause-before
+returns-in-None-clause-before g c =
+    let d : Device = g.F.Flash.device c.args.flash.now in
+    let area : Area = c.args.area.now in
+    let k : Kind = g.T.SlotSectors.kind (unit_of d area) in
+    let sectors : List (List ℕ) = sectors_of d area in
+    subst (λ (after : Option (ℕ × ℕ)). IfSome after (λ place. c.newest_up_to-in-None.result ≡ newest_before k sectors place)) (sym c.in-None.is) tt

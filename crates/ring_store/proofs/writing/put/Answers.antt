@@ -7,7 +7,7 @@ use Rattle.flash_map.proofs.Touches.{then}
 use Rattle.ring_store.specs.Kind.{IsKind}
 use Rattle.ring_store.proofs.Areas.{unit_is}
 use Rattle.ring_store.proofs.RoomFacts.{inside}
-use Rattle.ring_store.proofs.PutFacts.{open_sound, open_not_closed, begin_stops, put_area, put_kept, put_ready, put_opened, put_rested, put_ordinary, put_fits, put_ends_stands, put_ends_puts, put_ends_stops}
+use Rattle.ring_store.proofs.PutFacts.{open_sound, open_not_closed, begin_stops, put_area, put_kept, put_ready, put_opened, put_rested, put_ordinary, put_fits, put_ends_stands, put_ends_puts, put_ends_entry, put_ends_stops}
 use Rattle.ring_store.proofs.WrittenSteps.{keeps-written}
 use Rattle.ring_store.proofs.WrittenFacts.{put-written}
 use Rattle.ring_store.proofs.writing.put.Goals as goal
@@ -38,7 +38,7 @@ returns-in_err-begin-clause-stops g c =
     let area : Area = c.args.area.now in
     let law : IsKind (g.T.SlotSectors.kind (unit_of a area)) = g.met.T.SlotSectors.lawful (unit_of a area) (unit_is a area (g.met.F.Flash.is_lawful c.args.flash.now) c.requires.stands.area.lawful) in
     let did = c.in_err-begin.ensures in
-    on_err c.from_residual.result (begin_stops g.T.SlotSectors.role g.T.SlotSectors.kind g.T.SlotSectors.kept a area c.args.current c.args.opened.now law (g.met.F.Flash.is_lawful c.args.flash.now) c.requires.stands (g.F.Flash.device c.begin.new.flash) c.args.id c.args.bytes.now did.only did.lost did.spends_lost)
+    on_err c.from_residual.result (begin_stops g.T.SlotSectors.role g.T.SlotSectors.kind g.T.SlotSectors.kept a area c.args.current c.args.opened.now law (g.met.F.Flash.is_lawful c.args.flash.now) c.requires.stands (g.F.Flash.device c.begin.new.flash) c.args.id c.args.bytes.now did.only did.lost did.room_lost did.spends_lost)
 
 pub put-requires-clause-area : goal.put-requires-clause-area
 put-requires-clause-area g c =
@@ -146,7 +146,7 @@ returns-clause-stops g c =
     let did = c.in_ok-begin.ensures in
     let e : Device = g.F.Flash.device c.put.new.flash in
     let then_did = c.put.ensures in
-    put_ends_stops g.T.SlotSectors.role g.T.SlotSectors.kind g.T.SlotSectors.kept a area c.args.current c.args.opened.now law (g.met.F.Flash.is_lawful c.args.flash.now) c.requires.stands b did.touches.banks did.only did.begins e then_did.only c.args.id c.args.bytes.now then_did.sound did.spends c.put.result then_did.lost then_did.spends_lost
+    put_ends_stops g.T.SlotSectors.role g.T.SlotSectors.kind g.T.SlotSectors.kept a area c.args.current c.args.opened.now law (g.met.F.Flash.is_lawful c.args.flash.now) c.requires.stands b did.touches.banks did.only did.begins e then_did.only c.args.id c.args.bytes.now then_did.sound did.spends c.put.result then_did.lost then_did.room_lost then_did.spends_lost
 
 pub returns-in_err-begin-clause-written : goal.returns-in_err-begin-clause-written
 returns-in_err-begin-clause-written g c =
@@ -166,3 +166,14 @@ returns-clause-written g c =
     let e : Device = g.F.Flash.device c.put.new.flash in
     let then_did = c.put.ensures in
     λ written. put-written g.T.SlotSectors.kind a area c.args.current law b did.touches.banks did.only did.begins written e then_did.only c.args.id c.args.bytes.now c.put.result then_did.adds then_did.lost
+
+pub returns-clause-entry : goal.returns-clause-entry
+returns-clause-entry g c =
+    let a : Device = g.F.Flash.device c.args.flash.now in
+    let area : Area = c.args.area.now in
+    let law : IsKind (g.T.SlotSectors.kind (unit_of a area)) = g.met.T.SlotSectors.lawful (unit_of a area) (unit_is a area (g.met.F.Flash.is_lawful c.args.flash.now) c.requires.stands.area.lawful) in
+    let b : Device = g.F.Flash.device c.begin.new.flash in
+    let did = c.in_ok-begin.ensures in
+    let e : Device = g.F.Flash.device c.put.new.flash in
+    let then_did = c.put.ensures in
+    put_ends_entry g.T.SlotSectors.role g.T.SlotSectors.kind g.T.SlotSectors.kept a area c.args.current c.args.opened.now law (g.met.F.Flash.is_lawful c.args.flash.now) c.requires.stands b did.touches.banks did.only did.begins e then_did.only c.args.id c.args.bytes.now then_did.sound did.spends c.put.result then_did.adds

@@ -1,6 +1,6 @@
 use Rattle.std.proofs.Common.{◌≡◌, ◌+◌, ◌-◌, ◌*◌, ℕ, List, length, sym, ap, ◌∙◌, arith}
 use Rattle.std.specs.Prelude.{slice_range}
-use Rattle.zms_store.proofs.EntryReads.{short_there}
+use Rattle.zms_kind.proofs.EntryReads.{short_there}
 use Rattle.zms_sectors.proofs.sectors.value_in.Goals as goal
 
 pub returns : goal.returns

@@ -12,6 +12,7 @@ use Rattle.nvs_store.proofs.Views.{unit_is}
 use Rattle.nvs_kind.proofs.StepLemmas.{adds, stops, fits_cost, scan_added}
 use Rattle.nvs_sectors.specs.declared.sectors.NvsOpen.{NvsOpen}
 use Rattle.nvs_sectors.proofs.OpenLemmas.{kept_is}
+use Rattle.nvs_sectors.proofs.RoomLemmas.{stops_room}
 use Rattle.nvs_sectors.proofs.sectors.NvsOpenSlotSectors.put.Goals as goal
 
 -- ---- the pair was put
@@ -59,6 +60,15 @@ returns-in_err-append-clause-lost g c =
     let room = fits_cost u (sector_at (sectors_of a area) c.args.place) (length c.args.bytes.now) is-unit c.requires.fits in
     on_err c.from_residual.result
     (stops u (sector_at (sectors_of a area) c.args.place) (sector_at (sectors_of e area) c.args.place) c.args.id c.args.bytes.now (omega arith) c.in_err-append.ensures.sound c.in_err-append.ensures.lost.stops)
+
+pub returns-in_err-append-clause-room_lost : goal.returns-in_err-append-clause-room_lost
+returns-in_err-append-clause-room_lost g c =
+    let a : Device = g.F.Flash.device c.args.flash.now in
+    let e : Device = g.F.Flash.device c.append.new.flash in
+    let area : Area = c.args.area.now in
+    let u : ℕ = unit_of a area in
+    on_err c.from_residual.result
+    (stops_room u (sector_at (sectors_of a area) c.args.place) (sector_at (sectors_of e area) c.args.place) c.args.id c.args.bytes.now c.in_err-append.ensures.lost.stops)
 
 pub returns-in_err-append-clause-spends_lost : goal.returns-in_err-append-clause-spends_lost
 returns-in_err-append-clause-spends_lost g c =

@@ -28,8 +28,8 @@ bytes_in-requires-clause-inside g c =
     subst (λ (x : Geometry). (c.args.placed.now.slot + 1) * slot_size x.unit ≤ length c.sector_view.result.now) (sym c.geometry-unit.ensures)
     (subst (λ (n : ℕ). (c.args.placed.now.slot + 1) * slot_size unit ≤ n) (sym long) inside)
 
-pub returns : goal.returns
-returns g c =
+pub returns-clause-bytes : goal.returns-clause-bytes
+returns-clause-bytes g c =
     let d : Device = g.F.Flash.device c.args.flash.now in
     let unit : ℕ = unit_of d c.args.area.now in
     c.bytes_in.ensures ∙ ap (λ (x : Geometry). (kind x.unit).bytes c.sector_view.result.now c.args.placed.now.slot) c.geometry-unit.ensures

@@ -1,4 +1,4 @@
-use Rattle.std.proofs.Common.{◌≡◌, ◌≢◌, ℕ, zero, suc, ◌+◌, ◌-◌, ◌*◌, ◌/◌, ◌%◌, ◌<◌, ◌≤◌, ◌^◌, ◌⊎◌, min, Bool, true, false, not, ◌&&◌, ◌||◌, cond, eqb, List, [], ◌∷◌, ◌++◌, length, map, Option, Some, None, refl, sym, ap, subst, ◌∙◌, inl, inr, append_assoc, arith}
+use Rattle.std.proofs.Common.{Bool, ◌||◌, sym, ap, ◌∙◌}
 use Rattle.ring_store.specs.Seen.{has_bit}
 use Rattle.ring_store.proofs.SeenSteps.{or-true, or-false}
 use Rattle.ring_store.proofs.liveness.LiveSlots.put.Goals as goal

@@ -1,12 +1,12 @@
-use Rattle.std.proofs.Common.{◌≡◌, ◌≢◌, ℕ, zero, suc, ◌+◌, ◌-◌, ◌*◌, ◌/◌, ◌%◌, ◌<◌, ◌≤◌, ◌^◌, ◌⊎◌, min, Bool, true, false, not, ◌&&◌, ◌||◌, cond, eqb, List, [], ◌∷◌, ◌++◌, length, map, Option, Some, None, refl, sym, ap, subst, ◌∙◌, inl, inr, append_assoc, arith}
-use Rattle.ring_store.specs.Seen.{class_of, has_bit}
+use Rattle.std.proofs.Common.{◌≡◌, ◌≢◌, sym, ap, ◌∙◌}
+use Rattle.ring_store.specs.Seen.{key_of, has_bit}
 use Rattle.ring_store.proofs.SeenSteps.{bit_more}
 use Rattle.ring_store.proofs.seen.Seen.add.Goals as goal
 
-pub returns : goal.returns
-returns c =
-    λ class below.
-    let own = c.class_of.ensures.class in
-    bit_more c.args.self.now.bits c.set_bit.new.bytes (class_of c.args.id) class
+pub returns-clause-bits : goal.returns-clause-bits
+returns-clause-bits c =
+    λ key below.
+    let own = c.key_of-key.ensures.key in
+    bit_more c.args.self.now.bits c.set_bit.new.bytes (key_of c.args.id) key
     (ap (has_bit c.set_bit.new.bytes) (sym own) ∙ c.set_bit.ensures.set)
-    (λ i (apart : i ≢ class_of c.args.id). c.set_bit.ensures.others i (λ (e : i ≡ c.class_of.result). apart (e ∙ own)))
+    (λ i (apart : i ≢ key_of c.args.id). c.set_bit.ensures.others i (λ (e : i ≡ c.key_of-key.result). apart (e ∙ own)))

@@ -1,6 +1,7 @@
-use Rattle.std.proofs.Common.{inl, refl}
+use Rattle.std.proofs.Common.{inl, refl, sym, ◌∙◌}
 use Rattle.flash_sim.specs.Device.{Device}
 use Rattle.flash_map.specs.Area.{unit_of, sectors_of}
+use Rattle.flash_map.proofs.PieceLemmas.{on_err}
 use Rattle.ring_store.proofs.Areas.{keeps_none, open_inside}
 use Rattle.ring_store.proofs.store.Store.close_and_collect.Goals as goal
 
@@ -21,3 +22,7 @@ returns-then-is_blank-clause-written g c =
 pub returns-then-is_blank-clause-changed : goal.returns-then-is_blank-clause-changed
 returns-then-is_blank-clause-changed g c =
     inl refl
+
+pub returns-clause-used : goal.returns-clause-used
+returns-clause-used g c =
+    on_err c.turn.result (sym c.is_blank.ensures ∙ c.if-is_blank.false)

@@ -1,10 +1,10 @@
-use Rattle.std.proofs.Common.{◌≡◌, ◌≢◌, ℕ, zero, suc, ◌+◌, ◌-◌, ◌*◌, ◌/◌, ◌%◌, ◌<◌, ◌≤◌, ◌^◌, ◌⊎◌, min, Bool, true, false, not, ◌&&◌, ◌||◌, cond, eqb, List, [], ◌∷◌, ◌++◌, length, map, Option, Some, None, refl, sym, ap, subst, ◌∙◌, inl, inr, append_assoc, arith}
+use Rattle.std.proofs.Common.{ℕ, List}
 use Rattle.ring_store.proofs.ReadFacts.{counts_on, within_on}
 use Rattle.flash_sim.specs.Device.{Device}
 use Rattle.flash_map.specs.declared.area.Area.{Area}
-use Rattle.flash_map.specs.Area.{unit_of, sectors_of, sector_at}
-use Rattle.ring_store.specs.Kind.{Kind, IsKind, placed_at, slots}
-use Rattle.ring_store.proofs.Areas.{unit_is, open_inside}
+use Rattle.flash_map.specs.Area.{unit_of, sectors_of}
+use Rattle.ring_store.specs.Kind.{Kind, IsKind}
+use Rattle.ring_store.proofs.Areas.{unit_is}
 use Rattle.ring_store.proofs.store.Store.cost_in.Goals as goal
 
 pub live_by-live-requires-clause-counts : goal.live_by-live-requires-clause-counts

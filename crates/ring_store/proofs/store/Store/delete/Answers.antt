@@ -7,7 +7,7 @@ use Rattle.ring_store.specs.Kind.{Kind, IsKind}
 use Rattle.ring_store.specs.Standing.{items}
 use Rattle.ring_store.proofs.Areas.{unit_is}
 use Rattle.ring_store.proofs.Reserved.{present_ordinary}
-use Rattle.ring_store.proofs.RoomFacts.{rest_open, at_of}
+use Rattle.ring_store.proofs.RoomFacts.{rest_open, at_of, stands_with}
 use Rattle.ring_store.proofs.WriteSteps.{delete_absent, delete_stops, deleted, gets_none, gets_some}
 use Rattle.ring_store.proofs.store.Store.delete.Goals as goal
 
@@ -19,7 +19,7 @@ returns-then-is_none-clause-ends g c =
     let law : IsKind (g.T.SlotSectors.kind (unit_of a area)) = g.met.T.SlotSectors.lawful (unit_of a area) (unit_is a area (g.met.F.Flash.is_lawful c.args.flash.now) c.requires.stands.area.lawful) in
     let on = at_of g.T.SlotSectors.role g.T.SlotSectors.kind g.T.SlotSectors.kept a c.args.self.now c.requires.stands in
     let form = rest_open g.T.SlotSectors.role g.T.SlotSectors.kind g.T.SlotSectors.kept a area c.args.self.now.current c.args.self.now.opened law (g.met.F.Flash.is_lawful c.args.flash.now) on in
-    delete_absent (g.T.SlotSectors.kind (unit_of a area)) law a area form c.args.id (gets_none (λ bytes. bytes.now) c.get.result (map.get (items k (sectors_of a area)) c.args.id) c.get.ensures (c.is_none.ensures ∙ ap not c.if-is_none.true))
+    delete_absent (g.T.SlotSectors.kind (unit_of a area)) law a area form c.args.id (gets_none (λ bytes. bytes.now) c.get.result (map.get (items k (sectors_of a area)) c.args.id) c.get.ensures.value (c.is_none.ensures ∙ ap not c.if-is_none.true))
 
 pub append-requires-clause-stands : goal.append-requires-clause-stands
 append-requires-clause-stands g c =
@@ -32,7 +32,7 @@ append-requires-clause-ordinary g c =
     let area : Area = c.args.self.now.area in
     let k : Kind = g.T.SlotSectors.kind (unit_of a area) in
     let law : IsKind (g.T.SlotSectors.kind (unit_of a area)) = g.met.T.SlotSectors.lawful (unit_of a area) (unit_is a area (g.met.F.Flash.is_lawful c.args.flash.now) c.requires.stands.area.lawful) in
-    let present = gets_some (λ bytes. bytes.now) c.get.result (map.get (items k (sectors_of a area)) c.args.id) c.get.ensures (c.is_none.ensures ∙ ap not c.if-is_none.false) in
+    let present = gets_some (λ bytes. bytes.now) c.get.result (map.get (items k (sectors_of a area)) c.args.id) c.get.ensures.value (c.is_none.ensures ∙ ap not c.if-is_none.false) in
     present_ordinary (g.T.SlotSectors.kind (unit_of a area)) law (sectors_of a area) c.args.id c.requires.small present
 
 pub returns-in-Err-clause-ends : goal.returns-in-Err-clause-ends
@@ -43,7 +43,7 @@ returns-in-Err-clause-ends g c =
     let law : IsKind (g.T.SlotSectors.kind (unit_of a area)) = g.met.T.SlotSectors.lawful (unit_of a area) (unit_is a area (g.met.F.Flash.is_lawful c.args.flash.now) c.requires.stands.area.lawful) in
     let on = at_of g.T.SlotSectors.role g.T.SlotSectors.kind g.T.SlotSectors.kept a c.args.self.now c.requires.stands in
     let form = rest_open g.T.SlotSectors.role g.T.SlotSectors.kind g.T.SlotSectors.kept a area c.args.self.now.current c.args.self.now.opened law (g.met.F.Flash.is_lawful c.args.flash.now) on in
-    let present = gets_some (λ bytes. bytes.now) c.get.result (map.get (items k (sectors_of a area)) c.args.id) c.get.ensures (c.is_none.ensures ∙ ap not c.if-is_none.false) in
+    let present = gets_some (λ bytes. bytes.now) c.get.result (map.get (items k (sectors_of a area)) c.args.id) c.get.ensures.value (c.is_none.ensures ∙ ap not c.if-is_none.false) in
     delete_stops (g.T.SlotSectors.kind (unit_of a area)) law a area form (g.F.Flash.device c.append.new.flash) c.args.id present c.in-Err.ensures.ends
 
 pub returns-in-Ok-clause-ends : goal.returns-in-Ok-clause-ends
@@ -54,7 +54,7 @@ returns-in-Ok-clause-ends g c =
     let law : IsKind (g.T.SlotSectors.kind (unit_of a area)) = g.met.T.SlotSectors.lawful (unit_of a area) (unit_is a area (g.met.F.Flash.is_lawful c.args.flash.now) c.requires.stands.area.lawful) in
     let on = at_of g.T.SlotSectors.role g.T.SlotSectors.kind g.T.SlotSectors.kept a c.args.self.now c.requires.stands in
     let form = rest_open g.T.SlotSectors.role g.T.SlotSectors.kind g.T.SlotSectors.kept a area c.args.self.now.current c.args.self.now.opened law (g.met.F.Flash.is_lawful c.args.flash.now) on in
-    let present = gets_some (λ bytes. bytes.now) c.get.result (map.get (items k (sectors_of a area)) c.args.id) c.get.ensures (c.is_none.ensures ∙ ap not c.if-is_none.false) in
+    let present = gets_some (λ bytes. bytes.now) c.get.result (map.get (items k (sectors_of a area)) c.args.id) c.get.ensures.value (c.is_none.ensures ∙ ap not c.if-is_none.false) in
     deleted (g.T.SlotSectors.kind (unit_of a area)) law a area form (g.F.Flash.device c.append.new.flash) c.args.id c.in-Ok.field-0 present c.in-Ok.ensures.ends
 
 pub returns-then-is_none-clause-written : goal.returns-then-is_none-clause-written
@@ -68,3 +68,8 @@ returns-in-Err-clause-written g c =
 pub returns-in-Ok-clause-written : goal.returns-in-Ok-clause-written
 returns-in-Ok-clause-written g c =
     c.in-Ok.ensures.written
+
+pub returns-in-Ok-clause-stands : goal.returns-in-Ok-clause-stands
+returns-in-Ok-clause-stands g c = λ _.
+    let did = c.in-Ok.ensures in
+    stands_with g.T.SlotSectors.role g.T.SlotSectors.kind g.T.SlotSectors.kept (g.F.Flash.device c.append.new.flash) c.args.self.now.area c.append.new.current c.append.new.opened c.append.new.cache did.stands did.cached

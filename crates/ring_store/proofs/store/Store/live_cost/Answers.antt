@@ -1,4 +1,4 @@
-use Rattle.std.proofs.Common.{◌≡◌, ◌≢◌, ℕ, zero, suc, ◌+◌, ◌-◌, ◌*◌, ◌/◌, ◌%◌, ◌<◌, ◌≤◌, ◌^◌, ◌⊎◌, min, Bool, true, false, not, ◌&&◌, ◌||◌, cond, eqb, List, [], ◌∷◌, ◌++◌, length, map, Option, Some, None, refl, sym, ap, subst, ◌∙◌, inl, inr, append_assoc, arith}
+use Rattle.std.proofs.Common.{◌≡◌, ℕ, ◌+◌, ◌-◌, ◌<◌, Bool, cond, List, length, sym, ap, subst, ◌∙◌, arith}
 use Rattle.std.specs.Prelude.{sum_by}
 use Rattle.std.specs.List.{range_with_len}
 use Rattle.std.proofs.lemmas.Bool.{le-ltb}
@@ -9,9 +9,9 @@ use Rattle.ring_store.proofs.CostSteps.{sector_costs, cost_behind, start_seen, s
 use Rattle.ring_store.proofs.ReadFacts.{current_on, costs_on}
 use Rattle.flash_sim.specs.Device.{Device}
 use Rattle.flash_map.specs.declared.area.Area.{Area}
-use Rattle.flash_map.specs.Area.{unit_of, sectors_of, sector_at}
-use Rattle.ring_store.specs.Kind.{Kind, IsKind, placed_at, slots}
-use Rattle.ring_store.proofs.Areas.{unit_is, open_inside}
+use Rattle.flash_map.specs.Area.{unit_of, sectors_of}
+use Rattle.ring_store.specs.Kind.{Kind, IsKind}
+use Rattle.ring_store.proofs.Areas.{unit_is}
 use Rattle.ring_store.proofs.store.Store.live_cost.Goals as goal
 
 pub next-oldest-requires : goal.next-oldest-requires
@@ -35,7 +35,7 @@ loop-place-init g c =
     let old : c.next-oldest.result ≡ after (length sectors) c.args.self.now.current = c.next-oldest.ensures.value ∙ next_there d area c.args.self.now.current in
     record {
       within = omega arith;
-      seen = subst (HasSeen k.ids c.new-seen.result.bits) (sym (start_seen k sectors c.args.self.now.current low)) (c.new-seen.ensures k.ids);
+      seen = subst (HasSeen k.ids c.new-seen.result.bits c.new-seen.result.mixed) (sym (start_seen k sectors c.args.self.now.current low)) (c.new-seen.ensures k.ids);
       cost = start_cost k sectors c.args.self.now.current low;
       small = (let start : left area.sectors c.args.self.now.current c.args.self.now.current ≡ c.args.self.now.current + (area.sectors - (c.args.self.now.current + 1)) = ap (λ (t : Bool). cond t (c.args.self.now.current - (c.args.self.now.current + 1)) (c.args.self.now.current + (area.sectors - (c.args.self.now.current + 1)))) (le-ltb c.args.self.now.current c.args.self.now.current (omega arith)) in omega arith);
     }
@@ -80,7 +80,7 @@ loop-place-preserved g c =
     let back : c.previous-place.result ≡ before (length sectors) c.loop-place.place = c.previous-place.ensures.value ∙ previous_there d area c.loop-place.place in
     record {
       within = c.previous-place.ensures.within;
-      seen = subst (HasSeen k.ids c.cost_in-cost.new.seen.bits) (more_seen k sectors c.args.self.now.current low c.loop-place.place inside apart ∙ ap (behind k sectors c.args.self.now.current) (sym back)) c.cost_in-cost.ensures.seen;
+      seen = subst (HasSeen k.ids c.cost_in-cost.new.seen.bits c.cost_in-cost.new.seen.mixed) (more_seen k sectors c.args.self.now.current low c.loop-place.place inside apart ∙ ap (behind k sectors c.args.self.now.current) (sym back)) c.cost_in-cost.ensures.seen;
       cost = (let own = c.cost_in-cost.ensures.cost in let before_it = now.cost in let more = more_cost k sectors c.args.self.now.current low c.loop-place.place inside apart in
           let sum : c.loop-place.cost + c.cost_in-cost.result ≡ cost_behind k sectors c.args.self.now.current low (before (length sectors) c.loop-place.place) = omega arith in sum ∙ ap (cost_behind k sectors c.args.self.now.current low) (sym back));
       small = (let less : left area.sectors c.args.self.now.current c.previous-place.result < left area.sectors c.args.self.now.current c.loop-place.place = subst (λ (p : ℕ). left area.sectors c.args.self.now.current p < left area.sectors c.args.self.now.current c.loop-place.place) (sym (c.previous-place.ensures.value))
@@ -145,4 +145,4 @@ cost_in-requires-clause-seen g c =
     let low : c.args.self.now.current < length sectors = (let within = current_on g.T.SlotSectors.role g.T.SlotSectors.kind g.T.SlotSectors.kept d c.args.self.now law (g.met.F.Flash.is_lawful c.args.flash.now) c.requires in omega arith) in
     let old : c.next-oldest.result ≡ after (length sectors) c.args.self.now.current = c.next-oldest.ensures.value ∙ next_there d area c.args.self.now.current in
     let at : c.loop-place.place ≡ c.next-oldest.result = c.loop-place-test.false in
-    subst (λ (p : ℕ). HasSeen k.ids c.loop-place.seen.bits (behind k sectors c.args.self.now.current p)) at c.loop-place.invariant.seen
+    subst (λ (p : ℕ). HasSeen k.ids c.loop-place.seen.bits c.loop-place.seen.mixed (behind k sectors c.args.self.now.current p)) at c.loop-place.invariant.seen

@@ -1,88 +1,14 @@
-use Rattle.std.proofs.Common.{ℕ, inl, refl, sym, subst}
+use Rattle.std.proofs.Common.{ℕ, length, Option, None, ap, ◌∙◌, inl, refl}
 use Rattle.flash_sim.specs.Device.{Device}
-use Rattle.flash_map.specs.declared.area.Area.{Area}
-use Rattle.flash_map.specs.Area.{unit_of, sector_size, sectors_of}
-use Rattle.ring_laws.specs.Forms.{AtRest}
-use Rattle.ring_store.specs.Kind.{Kind, IsKind}
-use Rattle.ring_store.specs.Collecting.{redo_of, redo_units}
-use Rattle.ring_store.specs.Standing.{SpendsIn, SpendsUpTo}
-use Rattle.ring_store.proofs.Areas.{unit_is}
-use Rattle.ring_store.proofs.MountSteps.{mount-most, mount-most_lost, mount-nothing}
-use Rattle.ring_store.proofs.Standings.{stands}
-use Rattle.ring_store.proofs.WrittenFacts.{stays-written}
+use Rattle.flash_map.specs.Area.{unit_of, sector_size}
+use Rattle.std.proofs.lemmas.List.{length-replicate}
+use Rattle.ring_store.proofs.MountSteps.{mount-nothing}
 use Rattle.ring_store.proofs.store.Store.mount.Goals as goal
-
-pub returns-in-Ok-redo-clause-ends : goal.returns-in-Ok-redo-clause-ends
-returns-in-Ok-redo-clause-ends g c =
-    let a : Device = g.F.Flash.device c.args.flash.now in
-    let d : Device = g.F.Flash.device c.redo.new.flash in
-    let area : Area = c.args.area in
-    let k : Kind = g.T.SlotSectors.kind (unit_of a area) in
-    let law : IsKind (g.T.SlotSectors.kind (unit_of a area)) = g.met.T.SlotSectors.lawful (unit_of a area) (unit_is a area (g.met.F.Flash.is_lawful c.args.flash.now) c.requires.lawful) in
-    let found = c.in-Ok.ensures in
-    let did = c.in-Ok-redo.ensures in (
-      found.undamaged,
-      stands g.T.SlotSectors.role g.T.SlotSectors.kind g.T.SlotSectors.kept a d area c.in-Ok.current c.redo.new.opened law did.touches.banks c.requires did.rested did.kept,
-      refl,
-      did.items,
-      subst (λ (p : ℕ). SpendsIn a d (redo_units k (sectors_of a area) p (redo_of k (sectors_of a area) p))) found.opened did.spends,
-      λ rest. did.same (subst (λ (p : ℕ). AtRest (g.T.SlotSectors.kind (unit_of a area)).reading (sectors_of a area) p) (sym found.opened) rest),
-    )
-
-pub returns-in-Err-redo-clause-ends : goal.returns-in-Err-redo-clause-ends
-returns-in-Err-redo-clause-ends g c =
-    let a : Device = g.F.Flash.device c.args.flash.now in
-    let d : Device = g.F.Flash.device c.redo.new.flash in
-    let area : Area = c.args.area in
-    let k : Kind = g.T.SlotSectors.kind (unit_of a area) in
-    let found = c.in-Ok.ensures in
-    let did = c.in-Err-redo.ensures in (
-      found.undamaged,
-      did.items,
-      subst (λ (p : ℕ). SpendsUpTo a d (redo_units k (sectors_of a area) p (redo_of k (sectors_of a area) p))) found.opened did.spends_lost,
-      λ rest. did.busy (subst (λ (p : ℕ). AtRest (g.T.SlotSectors.kind (unit_of a area)).reading (sectors_of a area) p) (sym found.opened) rest),
-    )
-
-pub returns-in-Ok-redo-clause-at_most : goal.returns-in-Ok-redo-clause-at_most
-returns-in-Ok-redo-clause-at_most g c =
-    let a : Device = g.F.Flash.device c.args.flash.now in
-    let law = g.met.T.SlotSectors.lawful (unit_of a c.args.area) (unit_is a c.args.area (g.met.F.Flash.is_lawful c.args.flash.now) c.requires.lawful) in
-    let found = c.in-Ok.ensures in
-    mount-most (g.T.SlotSectors.kind (unit_of a c.args.area)) law g.T.SlotSectors.role a c.args.area (g.met.F.Flash.is_lawful c.args.flash.now) c.requires found.undamaged c.in-Ok.current found.opened (g.F.Flash.device c.redo.new.flash) c.in-Ok-redo.ensures.spends
-
-pub returns-in-Err-redo-clause-at_most : goal.returns-in-Err-redo-clause-at_most
-returns-in-Err-redo-clause-at_most g c =
-    let a : Device = g.F.Flash.device c.args.flash.now in
-    let law = g.met.T.SlotSectors.lawful (unit_of a c.args.area) (unit_is a c.args.area (g.met.F.Flash.is_lawful c.args.flash.now) c.requires.lawful) in
-    let found = c.in-Ok.ensures in
-    mount-most_lost (g.T.SlotSectors.kind (unit_of a c.args.area)) law g.T.SlotSectors.role a c.args.area (g.met.F.Flash.is_lawful c.args.flash.now) c.requires found.undamaged c.in-Ok.current found.opened (g.F.Flash.device c.redo.new.flash) c.in-Err-redo.ensures.spends_lost
 
 pub returns-in-Err-clause-at_most : goal.returns-in-Err-clause-at_most
 returns-in-Err-clause-at_most g c =
     let a : Device = g.F.Flash.device c.args.flash.now in
     mount-nothing a ((g.T.SlotSectors.kind (unit_of a c.args.area)).units.mount (sector_size a c.args.area))
-
-pub returns-in-Ok-redo-clause-written : goal.returns-in-Ok-redo-clause-written
-returns-in-Ok-redo-clause-written g c =
-    let a : Device = g.F.Flash.device c.args.flash.now in
-    let area : Area = c.args.area in
-    let d : Device = g.F.Flash.device c.redo.new.flash in
-    stays-written (g.T.SlotSectors.kind (unit_of a area)) a d area c.in-Ok-redo.ensures.written
-
-pub returns-in-Err-redo-clause-written : goal.returns-in-Err-redo-clause-written
-returns-in-Err-redo-clause-written g c =
-    let a : Device = g.F.Flash.device c.args.flash.now in
-    let area : Area = c.args.area in
-    let d : Device = g.F.Flash.device c.redo.new.flash in
-    stays-written (g.T.SlotSectors.kind (unit_of a area)) a d area c.in-Err-redo.ensures.written
-
-pub returns-in-Ok-redo-clause-changed : goal.returns-in-Ok-redo-clause-changed
-returns-in-Ok-redo-clause-changed g c =
-    c.in-Ok-redo.ensures.written
-
-pub returns-in-Err-redo-clause-changed : goal.returns-in-Err-redo-clause-changed
-returns-in-Err-redo-clause-changed g c =
-    c.in-Err-redo.ensures.written
 
 pub returns-in-Err-clause-written : goal.returns-in-Err-clause-written
 returns-in-Err-clause-written g c =
@@ -91,3 +17,27 @@ returns-in-Err-clause-written g c =
 pub returns-in-Err-clause-changed : goal.returns-in-Err-clause-changed
 returns-in-Err-clause-changed g c =
     inl refl
+
+pub mount_with-requires-clause-slots : goal.mount_with-requires-clause-slots
+mount_with-requires-clause-slots g c =
+    ap length c.in-Ok.ensures ∙ length-replicate {A = Option (ℕ × ℕ)} 64 None
+
+pub returns-in-Ok-clause-touches : goal.returns-in-Ok-clause-touches
+returns-in-Ok-clause-touches g c =
+    c.mount_with.ensures.touches
+
+pub returns-in-Ok-clause-ends : goal.returns-in-Ok-clause-ends
+returns-in-Ok-clause-ends g c =
+    c.mount_with.ensures.ends
+
+pub returns-in-Ok-clause-at_most : goal.returns-in-Ok-clause-at_most
+returns-in-Ok-clause-at_most g c =
+    c.mount_with.ensures.at_most
+
+pub returns-in-Ok-clause-written : goal.returns-in-Ok-clause-written
+returns-in-Ok-clause-written g c =
+    c.mount_with.ensures.written
+
+pub returns-in-Ok-clause-changed : goal.returns-in-Ok-clause-changed
+returns-in-Ok-clause-changed g c =
+    c.mount_with.ensures.changed

@@ -1,6 +1,6 @@
 use Rattle.std.proofs.Common.{◌-◌, ◌<◌}
 use Rattle.std.specs.Prelude.{IfSome}
-use Rattle.flash_map.specs.Area.{unit_of, sectors_of, sector_at}
+use Rattle.flash_map.specs.Area.{sectors_of, sector_at}
 use Rattle.ring_laws.specs.NextIds.{Follows, IsAtMost, IsLeastOf}
 use Rattle.ring_store.specs.Listed.{kind_on, items_on}
 use Rattle.ring_store.proofs.NextSteps.{pairs_to}

@@ -5,6 +5,8 @@ use Rattle.flash_map.specs.Area.{unit_of, sectors_of, sector_at}
 use Rattle.ring_laws.specs.Forms.{AtRest}
 use Rattle.ring_store.specs.Kind.{IsKind}
 use Rattle.ring_store.proofs.Areas.{unit_is}
+use Rattle.ring_store.specs.Stands.{StandsAt}
+use Rattle.ring_store.proofs.RoomFacts.{stands_with}
 use Rattle.ring_store.proofs.Standings.{stands}
 use Rattle.ring_store.proofs.store.Store.turn.Goals as goal
 
@@ -16,6 +18,54 @@ returns-clause-stands g c =
     let on = c.requires.stands in
     let law : IsKind (g.T.SlotSectors.kind (unit_of a area)) = g.met.T.SlotSectors.lawful (unit_of a area) (unit_is a area (g.met.F.Flash.is_lawful c.args.flash.now) on.area.lawful) in
     let did = c.in_ok-self.ensures in
+    let at : StandsAt g.T.SlotSectors.role g.T.SlotSectors.kind g.T.SlotSectors.kept d area c.in_ok-self.field-0 c.round.new.opened =
     stands g.T.SlotSectors.role g.T.SlotSectors.kind g.T.SlotSectors.kept a d area c.in_ok-self.field-0 c.round.new.opened law did.touches.banks on.area
     (subst (λ (p : ℕ). AtRest (g.T.SlotSectors.kind (unit_of a area)).reading (sectors_of d area) p) (sym did.opened) did.rested)
-    (subst (λ (p : ℕ). c.round.new.opened ≡ g.T.SlotSectors.kept (unit_of a area) (sector_at (sectors_of d area) p)) (sym did.opened) did.kept)
+    (subst (λ (p : ℕ). c.round.new.opened ≡ g.T.SlotSectors.kept (unit_of a area) (sector_at (sectors_of d area) p)) (sym did.opened) did.kept) in
+    stands_with g.T.SlotSectors.role g.T.SlotSectors.kind g.T.SlotSectors.kept d area c.in_ok-self.field-0 c.round.new.opened c.fill.new.cache at c.fill.ensures
+
+pub fill-requires-clause-area : goal.fill-requires-clause-area
+fill-requires-clause-area g c =
+    let a : Device = g.F.Flash.device c.args.flash.now in
+    let d : Device = g.F.Flash.device c.round.new.flash in
+    let area : Area = c.args.self.now.area in
+    let on = c.requires.stands in
+    let law : IsKind (g.T.SlotSectors.kind (unit_of a area)) = g.met.T.SlotSectors.lawful (unit_of a area) (unit_is a area (g.met.F.Flash.is_lawful c.args.flash.now) on.area.lawful) in
+    let did = c.in_ok-self.ensures in
+    let at : StandsAt g.T.SlotSectors.role g.T.SlotSectors.kind g.T.SlotSectors.kept d area c.in_ok-self.field-0 c.round.new.opened =
+    stands g.T.SlotSectors.role g.T.SlotSectors.kind g.T.SlotSectors.kept a d area c.in_ok-self.field-0 c.round.new.opened law did.touches.banks on.area
+    (subst (λ (p : ℕ). AtRest (g.T.SlotSectors.kind (unit_of a area)).reading (sectors_of d area) p) (sym did.opened) did.rested)
+    (subst (λ (p : ℕ). c.round.new.opened ≡ g.T.SlotSectors.kept (unit_of a area) (sector_at (sectors_of d area) p)) (sym did.opened) did.kept) in
+    at.area
+
+pub fill-requires-clause-kept : goal.fill-requires-clause-kept
+fill-requires-clause-kept g c =
+    let a : Device = g.F.Flash.device c.args.flash.now in
+    let d : Device = g.F.Flash.device c.round.new.flash in
+    let area : Area = c.args.self.now.area in
+    let on = c.requires.stands in
+    let law : IsKind (g.T.SlotSectors.kind (unit_of a area)) = g.met.T.SlotSectors.lawful (unit_of a area) (unit_is a area (g.met.F.Flash.is_lawful c.args.flash.now) on.area.lawful) in
+    let did = c.in_ok-self.ensures in
+    let at : StandsAt g.T.SlotSectors.role g.T.SlotSectors.kind g.T.SlotSectors.kept d area c.in_ok-self.field-0 c.round.new.opened =
+    stands g.T.SlotSectors.role g.T.SlotSectors.kind g.T.SlotSectors.kept a d area c.in_ok-self.field-0 c.round.new.opened law did.touches.banks on.area
+    (subst (λ (p : ℕ). AtRest (g.T.SlotSectors.kind (unit_of a area)).reading (sectors_of d area) p) (sym did.opened) did.rested)
+    (subst (λ (p : ℕ). c.round.new.opened ≡ g.T.SlotSectors.kept (unit_of a area) (sector_at (sectors_of d area) p)) (sym did.opened) did.kept) in
+    at.opened
+
+pub fill-requires-clause-current : goal.fill-requires-clause-current
+fill-requires-clause-current g c =
+    let a : Device = g.F.Flash.device c.args.flash.now in
+    let d : Device = g.F.Flash.device c.round.new.flash in
+    let area : Area = c.args.self.now.area in
+    let on = c.requires.stands in
+    let law : IsKind (g.T.SlotSectors.kind (unit_of a area)) = g.met.T.SlotSectors.lawful (unit_of a area) (unit_is a area (g.met.F.Flash.is_lawful c.args.flash.now) on.area.lawful) in
+    let did = c.in_ok-self.ensures in
+    let at : StandsAt g.T.SlotSectors.role g.T.SlotSectors.kind g.T.SlotSectors.kept d area c.in_ok-self.field-0 c.round.new.opened =
+    stands g.T.SlotSectors.role g.T.SlotSectors.kind g.T.SlotSectors.kept a d area c.in_ok-self.field-0 c.round.new.opened law did.touches.banks on.area
+    (subst (λ (p : ℕ). AtRest (g.T.SlotSectors.kind (unit_of a area)).reading (sectors_of d area) p) (sym did.opened) did.rested)
+    (subst (λ (p : ℕ). c.round.new.opened ≡ g.T.SlotSectors.kept (unit_of a area) (sector_at (sectors_of d area) p)) (sym did.opened) did.kept) in
+    at.current
+
+pub fill-requires-clause-slots : goal.fill-requires-clause-slots
+fill-requires-clause-slots g c =
+    c.requires.stands.cached.slots

@@ -1,4 +1,4 @@
-use Rattle.std.proofs.Common.{◌≡◌, length, true, false, refl, sym, ap, ◌∙◌, arith}
+use Rattle.std.proofs.Common.{◌≡◌, length, refl, ap, arith}
 use Rattle.flash_sim.specs.Device.{Device}
 use Rattle.flash_map.specs.declared.area.Area.{Area}
 use Rattle.flash_map.specs.declared.area.Geometry.{Geometry}
@@ -8,7 +8,7 @@ use Rattle.ring_store.specs.Kind.{IsKind}
 use Rattle.ring_store.specs.Standing.{list_of}
 use Rattle.ring_store.proofs.Areas.{unit_is}
 use Rattle.ring_store.proofs.CallFacts.{to_unit}
-use Rattle.ring_store.proofs.RoomFacts.{rest_open, at_of}
+use Rattle.ring_store.proofs.RoomFacts.{rest_open, at_of, stands_with}
 use Rattle.ring_store.proofs.WriteSteps.{write_held, write_done, write_full, write_stops, ends_true, ends_false, short-by, long-by, narrow-by, unit-by, need-by}
 use Rattle.ring_store.proofs.store.Store.write.Goals as goal
 
@@ -139,3 +139,18 @@ returns-in-Ok-true-clause-written g c =
 pub returns-in-Ok-false-clause-written : goal.returns-in-Ok-false-clause-written
 returns-in-Ok-false-clause-written g c =
     c.in-Ok-false.ensures.written
+
+pub returns-in-Ok-true-clause-stands : goal.returns-in-Ok-true-clause-stands
+returns-in-Ok-true-clause-stands g c = λ _.
+    let did = c.in-Ok-true.ensures in
+    stands_with g.T.SlotSectors.role g.T.SlotSectors.kind g.T.SlotSectors.kept (g.F.Flash.device c.append.new.flash) c.args.self.now.area c.append.new.current c.append.new.opened c.append.new.cache did.stands did.cached
+
+pub returns-in-Ok-false-clause-stands : goal.returns-in-Ok-false-clause-stands
+returns-in-Ok-false-clause-stands g c = λ _.
+    let did = c.in-Ok-false.ensures in
+    stands_with g.T.SlotSectors.role g.T.SlotSectors.kind g.T.SlotSectors.kept (g.F.Flash.device c.append.new.flash) c.args.self.now.area c.append.new.current c.append.new.opened c.append.new.cache did.stands did.cached
+
+pub live_cost-live-requires : goal.live_cost-live-requires
+live_cost-live-requires g c =
+    let did = c.in-Ok-false.ensures in
+    stands_with g.T.SlotSectors.role g.T.SlotSectors.kind g.T.SlotSectors.kept (g.F.Flash.device c.append.new.flash) c.args.self.now.area c.append.new.current c.append.new.opened c.append.new.cache did.stands did.cached

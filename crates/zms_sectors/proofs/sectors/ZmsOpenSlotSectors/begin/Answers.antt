@@ -5,16 +5,16 @@ use Rattle.flash_map.specs.declared.area.Area.{Area}
 use Rattle.flash_map.specs.Area.{unit_of, sectors_of, sector_at}
 use Rattle.flash_map.proofs.SpendingBounds.{between_none, between_then, between_within}
 use Rattle.ring_store.proofs.Areas.{size_there, large_there}
-use Rattle.zms_store.specs.declared.sector.Marks.{Marks}
-use Rattle.zms_store.proofs.Areas.{roomy_of, ring_sound_of}
-use Rattle.zms_store.proofs.Sectors.{unused-is, few_slots, read_room}
-use Rattle.zms_kind.proofs.StepLemmas.{ready_cycle, ready_sound, open_cycle, clears, closes, keeps, adds, marks, fits_cost, begins_as}
+use Rattle.zms_kind.specs.declared.sector.Marks.{Marks}
+use Rattle.zms_kind.proofs.Roomy.{roomy_of, ring_sound_of}
+use Rattle.zms_kind.proofs.Sectors.{unused-is, few_slots, read_room}
+use Rattle.zms_kind.proofs.StepLemmas.{ready_cycle, ready_sound, open_cycle, clears, closes, keeps, adds, marks, fits_cost, begins_as, begins_empty, begin_cut}
 use Rattle.flash_map.specs.declared.area.Role.TheVariants.{Zms as zms_role}
 use Rattle.std.specs.Prelude.{IsSome, is_some}
 use Rattle.zms_cycle.specs.Sector.{cycle_of}
-use Rattle.zms_store.specs.Area.{marks_of}
+use Rattle.zms_kind.specs.Area.{marks_of}
 use Rattle.flash_map.proofs.PieceLemmas.{on_err}
-use Rattle.zms_kind.proofs.StepLemmas.{begins_empty, begin_cut}
+use Rattle.zms_sectors.proofs.RoomLemmas.{slots_room}
 use Rattle.zms_sectors.proofs.sectors.ZmsOpenSlotSectors.begin.Goals as goal
 
 by_flag : {X : Type 0} (o : Option X) → not (not (is_some o)) ≡ true → IsSome o
@@ -47,6 +47,15 @@ returns-in_err-empty_sector-clause-lost g c =
     let u : ℕ = unit_of a area in
     let e : Device = g.F.Flash.device c.empty_sector.new.flash in
     on_err c.from_residual.result (begin_cut u (sector_at (sectors_of a area) c.args.place) (sector_at (sectors_of e area) c.args.place) (blank_none (sector_at (sectors_of a area) c.args.place) c.marks_at.result c.marks_at.ensures c.if-not-marks_at.false) c.in_err-empty_sector.ensures.lost)
+
+pub returns-in_err-empty_sector-clause-room_lost : goal.returns-in_err-empty_sector-clause-room_lost
+returns-in_err-empty_sector-clause-room_lost g c =
+    let a : Device = g.F.Flash.device c.args.flash.now in
+    let area : Area = c.args.area.now in
+    let u : ℕ = unit_of a area in
+    let e : Device = g.F.Flash.device c.empty_sector.new.flash in
+    on_err c.from_residual.result
+    (slots_room u (sector_at (sectors_of a area) c.args.place) (sector_at (sectors_of e area) c.args.place) 0 c.in_err-empty_sector.ensures.lost.kept)
 
 pub returns-clause-begins : goal.returns-clause-begins
 returns-clause-begins g c =

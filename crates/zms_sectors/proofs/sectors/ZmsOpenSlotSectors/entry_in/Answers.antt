@@ -5,9 +5,9 @@ use Rattle.flash_map.specs.declared.area.Area.{Area}
 use Rattle.flash_map.specs.Area.{unit_of, sectors_of, sector_at}
 use Rattle.flash_map.proofs.SpendingBounds.{between_none, between_then, between_within}
 use Rattle.ring_store.proofs.Areas.{size_there, large_there}
-use Rattle.zms_store.specs.declared.sector.Marks.{Marks}
-use Rattle.zms_store.proofs.Areas.{roomy_of, ring_sound_of}
-use Rattle.zms_store.proofs.Sectors.{unused-is, few_slots, read_room}
+use Rattle.zms_kind.specs.declared.sector.Marks.{Marks}
+use Rattle.zms_kind.proofs.Roomy.{roomy_of, ring_sound_of}
+use Rattle.zms_kind.proofs.Sectors.{unused-is, few_slots, read_room}
 use Rattle.zms_kind.proofs.StepLemmas.{ready_cycle, ready_sound, open_cycle, clears, closes, keeps, adds, marks, fits_cost, begins_as}
 use Rattle.flash_map.specs.declared.area.Role.TheVariants.{Zms as zms_role}
 use Rattle.zms_cycle.specs.Sector.{slot_of}

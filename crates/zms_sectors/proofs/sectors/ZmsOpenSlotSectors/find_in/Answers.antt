@@ -5,16 +5,15 @@ use Rattle.flash_map.specs.declared.area.Area.{Area}
 use Rattle.flash_map.specs.Area.{unit_of, sectors_of, sector_at}
 use Rattle.flash_map.proofs.SpendingBounds.{between_none, between_then, between_within}
 use Rattle.ring_store.proofs.Areas.{size_there, large_there}
-use Rattle.zms_store.specs.declared.sector.Marks.{Marks}
-use Rattle.zms_store.proofs.Areas.{roomy_of, ring_sound_of}
-use Rattle.zms_store.proofs.Sectors.{unused-is, few_slots, read_room}
-use Rattle.zms_kind.proofs.StepLemmas.{ready_cycle, ready_sound, open_cycle, clears, closes, keeps, adds, marks, fits_cost, begins_as}
+use Rattle.zms_kind.specs.declared.sector.Marks.{Marks}
+use Rattle.zms_kind.proofs.Roomy.{roomy_of, ring_sound_of}
+use Rattle.zms_kind.proofs.Sectors.{unused-is, few_slots, read_room}
+use Rattle.zms_kind.proofs.StepLemmas.{ready_cycle, ready_sound, open_cycle, clears, closes, keeps, adds, marks, fits_cost, begins_as, last_same}
 use Rattle.flash_map.specs.declared.area.Role.TheVariants.{Zms as zms_role}
 use Rattle.std.specs.Option.{option_map}
 use Rattle.zms_cycle.specs.Sector.{entries}
-use Rattle.zms_store.specs.declared.sector.Placed.{Placed as ZmsPlaced}
-use Rattle.zms_store.specs.Area.{placed_at as zms_placed_at, last_in}
-use Rattle.zms_kind.proofs.StepLemmas.{record_of, last_same}
+use Rattle.zms_kind.specs.Kinds.{record_of}
+use Rattle.zms_kind.specs.Area.{placed_at as zms_placed_at, last_in}
 use Rattle.zms_sectors.proofs.sectors.ZmsOpenSlotSectors.find_in.Goals as goal
 
 pub returns-in-Some : goal.returns-in-Some

@@ -5,8 +5,8 @@ use Rattle.flash_map.specs.declared.area.Role.TheVariants.{Zms as zms_role}
 use Rattle.flash_map.specs.Area.{sectors_of, sector_at, sector_size}
 use Rattle.ring_store.proofs.Areas.{size_there}
 use Rattle.zms_cycle.specs.Sector.{valid_slots, data_end}
-use Rattle.zms_store.specs.declared.sector.Marks.{Marks}
-use Rattle.zms_store.proofs.Sectors.{few_slots}
+use Rattle.zms_kind.specs.declared.sector.Marks.{Marks}
+use Rattle.zms_kind.proofs.Sectors.{few_slots}
 use Rattle.zms_sectors.proofs.sectors.ZmsOpenSlotSectors.free.Goals as goal
 
 pub overflow_add-used : goal.overflow_add-used

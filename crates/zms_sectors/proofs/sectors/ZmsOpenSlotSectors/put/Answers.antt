@@ -5,13 +5,14 @@ use Rattle.flash_map.specs.declared.area.Area.{Area}
 use Rattle.flash_map.specs.Area.{unit_of, sectors_of, sector_at}
 use Rattle.flash_map.proofs.SpendingBounds.{between_none, between_then, between_within}
 use Rattle.ring_store.proofs.Areas.{size_there, large_there}
-use Rattle.zms_store.specs.declared.sector.Marks.{Marks}
-use Rattle.zms_store.proofs.Areas.{roomy_of, ring_sound_of}
-use Rattle.zms_store.proofs.Sectors.{unused-is, few_slots, read_room}
-use Rattle.zms_kind.proofs.StepLemmas.{ready_cycle, ready_sound, open_cycle, clears, closes, keeps, adds, marks, fits_cost, begins_as}
+use Rattle.zms_kind.specs.declared.sector.Marks.{Marks}
+use Rattle.zms_kind.proofs.Roomy.{roomy_of, ring_sound_of}
+use Rattle.zms_kind.proofs.Sectors.{unused-is, few_slots, read_room}
+use Rattle.zms_kind.proofs.StepLemmas.{ready_cycle, ready_sound, open_cycle, clears, closes, keeps, adds, marks, fits_cost, begins_as, put_sound}
 use Rattle.flash_map.specs.declared.area.Role.TheVariants.{Zms as zms_role}
-use Rattle.zms_kind.proofs.StepLemmas.{put_sound}
-use Rattle.zms_store.proofs.CopyLoop.{either}
+use Rattle.ring_store.proofs.CopyLoop.{either}
+use Rattle.zms_cycle.specs.Sector.{cost}
+use Rattle.zms_sectors.proofs.RoomLemmas.{slots_room}
 use Rattle.zms_sectors.proofs.sectors.ZmsOpenSlotSectors.put.Goals as goal
 
 pub returns-clause-adds : goal.returns-clause-adds
@@ -33,6 +34,16 @@ returns-clause-lost g c =
     let wide = large_there zms_role a area (g.met.F.Flash.is_lawful c.args.flash.now) c.requires.area c.args.place c.requires.inside in
     let e : Device = g.F.Flash.device c.put_entry.new.flash in
     on_err_weaker c.put_entry.result (λ h. inl (keeps u (sector_at (sectors_of a area) c.args.place) (sector_at (sectors_of e area) c.args.place) wide h)) c.put_entry.ensures.lost
+
+pub returns-clause-room_lost : goal.returns-clause-room_lost
+returns-clause-room_lost g c =
+    let a : Device = g.F.Flash.device c.args.flash.now in
+    let area : Area = c.args.area.now in
+    let u : ℕ = unit_of a area in
+    let e : Device = g.F.Flash.device c.put_entry.new.flash in
+    on_err_weaker c.put_entry.result
+    (λ h. slots_room u (sector_at (sectors_of a area) c.args.place) (sector_at (sectors_of e area) c.args.place) (cost (length c.args.bytes.now)) h.kept)
+    c.put_entry.ensures.lost
 
 pub returns-clause-sound : goal.returns-clause-sound
 returns-clause-sound g c =

@@ -6,8 +6,8 @@ use Rattle.ring_laws.proofs.AreaReads.{length-sectors}
 use Rattle.zms_cycle.specs.declared.reading.Found.{Found}
 use Rattle.zms_cycle.specs.Entries.{offset_of}
 use Rattle.zms_cycle.specs.Sector.{slot_of, entry_in}
-use Rattle.zms_store.proofs.EntryReads.{long_inside}
-use Rattle.zms_store.proofs.Sectors.{read_room}
+use Rattle.zms_kind.proofs.EntryReads.{long_inside}
+use Rattle.zms_kind.proofs.Sectors.{read_room}
 use Rattle.zms_sectors.proofs.sectors.ZmsOpenSlotSectors.value.Goals as goal
 
 pub sector_view-bytes-requires-clause-has_sector : goal.sector_view-bytes-requires-clause-has_sector

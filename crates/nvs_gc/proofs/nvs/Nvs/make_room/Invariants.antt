@@ -1,6 +1,0 @@
-use Rattle.std.proofs.Common.{◌-◌}
-use Rattle.nvs_gc.proofs.WriteSteps.{IsSearching}
-use Rattle.nvs_gc.proofs.nvs.Nvs.make_room.Given as goal
-
-abbrev pub invariant-loop-round : goal.invariant-loop-round
-invariant-loop-round g l = IsSearching (g.F.Flash.device l.initial.flash) (g.F.Flash.device l.flash) l.initial.self l.self l.len (l._round - 1)

@@ -1,0 +1,40 @@
+use Rattle.std.proofs.Common.{◌≡◌, ◌<◌, ◌≤◌, List, Ok, Err, refl, sym, subst, arith}
+use Rattle.std.specs.Prelude.{length}
+use Rattle.ring_store.specs.declared.entry.Placed.{Placed}
+use Rattle.ring_store.specs.declared.latest.LastSlots.{LastSlots}
+use Rattle.ring_store.specs.Latest.{Rises, Splits}
+use Rattle.ring_store.proofs.LastTables.{still-full}
+use Rattle.ring_store.proofs.TablePlaces.{put-there, put-nothing}
+use Rattle.ring_store.proofs.latest.LastSlots.put.Goals as goal
+
+pub returns-in-Ok : goal.returns-in-Ok
+returns-in-Ok c =
+    λ limit before small told tells.
+    let old : LastSlots = c.args.self.now in
+    let new : LastSlots = c.replace.new.self in
+    let value = c.as_slice.ensures.value in
+    let split : Splits old.entries.items c.args.placed.now.id (Ok c.in-Ok.at) =
+    subst (λ (l : List Placed). Splits l c.args.placed.now.id (Ok c.in-Ok.at)) value (c.in-Ok.ensures.splits (subst (λ (l : List Placed). Rises l) (sym value) tells.below.rises)) in
+    still-full limit old new before c.args.placed.now tells c.replace.ensures.bound
+    (put-there limit old new before c.args.placed.now c.in-Ok.at small told tells.below (subst (λ (l : List Placed). c.in-Ok.at < length l) value c.in-Ok.ensures.inside) split c.replace.ensures.entries c.replace.ensures.bound)
+
+pub returns-then-placed-gt0 : goal.returns-then-placed-gt0
+returns-then-placed-gt0 c =
+    λ limit before small told tells.
+    let old : LastSlots = c.args.self.now in
+    let value = c.as_slice.ensures.value in
+    let some : c.args.placed.now.len ≡ 0 → ⊥ = λ (none : c.args.placed.now.len ≡ 0). absurd (omega (arith, c.if-placed-gt0.true)) in
+    let split : Splits old.entries.items c.args.placed.now.id (Err c.in-Err.at) =
+    subst (λ (l : List Placed). Splits l c.args.placed.now.id (Err c.in-Err.at)) value (c.in-Err.ensures.splits (subst (λ (l : List Placed). Rises l) (sym value) tells.below.rises)) in
+    c.put_new.ensures limit before small some split.0 split.1 told tells
+
+pub returns-else-placed-gt0 : goal.returns-else-placed-gt0
+returns-else-placed-gt0 c =
+    λ limit before small told tells.
+    let old : LastSlots = c.args.self.now in
+    let value = c.as_slice.ensures.value in
+    let none : c.args.placed.now.len ≡ 0 = omega (arith, c.if-placed-gt0.false) in
+    let split : Splits old.entries.items c.args.placed.now.id (Err c.in-Err.at) =
+    subst (λ (l : List Placed). Splits l c.args.placed.now.id (Err c.in-Err.at)) value (c.in-Err.ensures.splits (subst (λ (l : List Placed). Rises l) (sym value) tells.below.rises)) in
+    still-full limit old old before c.args.placed.now tells refl
+    (put-nothing limit old old before c.args.placed.now c.in-Err.at small told tells.below split.0 split.1 (subst (λ (l : List Placed). c.in-Err.at ≤ length l) value c.in-Err.ensures.inside) none refl refl)

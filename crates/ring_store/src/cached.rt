@@ -1,0 +1,59 @@
+// The cache of a store: the place of the latest entry of each cache slot's ids.
+ghost use Rattle.std.specs.Prelude.{◌≡◌, length};
+ghost use Rattle.flash_map.specs.Area.{unit_of, sectors_of, sector_at};
+ghost use Rattle.ring_laws.specs.Area.{open_sector};
+ghost use Rattle.ring_store.specs.Cached.{IsCacheOf, IsCacheOn};
+ghost use Rattle.ring_store.specs.Listed.{kind_on};
+ghost use Rattle.ring_store.specs.Standing.{IsStoreArea};
+
+use crate::entry::Placed;
+use crate::noting::{Notes, note_among};
+use crate::sectors::SlotSectors;
+use flash_map::Area;
+use flash_sim::{Flash, Steps};
+use lookup_cache::Cache;
+use std::sync::ledger::Ledger;
+
+/// So many slots a cache has.
+pub const CACHE_SLOTS: usize = 64;
+
+impl Notes for Cache {
+    ghost noted = { λ limit cache placed. IsCacheOf cache placed };
+
+    fn note(&mut self, placed: &Placed) {
+        Cache::note(self, placed.id, placed.sector, placed.slot);
+    }
+}
+
+/// Makes it the cache of the list, whatever it had. Each sector that counts is looked at once.
+pub fn fill<T: SlotSectors, F: Flash, L: Ledger>(
+    flash: &F,
+    area: &Area,
+    opened: &T,
+    current: u32,
+    cache: &mut Cache,
+    steps: &mut Steps<L>,
+)
+    requires area { IsStoreArea T.role (F.device flash.now).banks area.now }
+    requires kept { let d = F.device flash.now in
+        opened.now ≡ T.kept (unit_of d area.now) (sector_at (sectors_of d area.now) current) }
+    requires current { let d = F.device flash.now in
+        current ≡ open_sector (kind_on T.kind d area.now).reading (sectors_of d area.now) }
+    requires slots { length cache.old ≡ 64 }
+
+    ensures { IsCacheOn T.kind (F.device flash.now) area.now cache.new }
+{
+    cache.clear();
+    let older = current + 1;
+    note_among(
+        flash,
+        area,
+        opened,
+        current,
+        older,
+        area.sectors,
+        cache,
+        steps,
+    );
+    note_among(flash, area, opened, current, 0, older, cache, steps);
+}

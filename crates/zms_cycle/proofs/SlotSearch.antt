@@ -1,0 +1,106 @@
+-- What a slot says before its CRC is looked at: of which cycle and id its entry is, if it has one.
+use Rattle.std.proofs.Common.{◌≡◌, ℕ, ◌+◌, ◌-◌, ◌*◌, ◌/◌, ◌<◌, ◌≤◌, Bool, true, false, ◌⊎◌, cond, eqb, List, length, drop, Option, Some, None, refl, sym, ap, subst, ◌∙◌, inl, inr, arith}
+use Rattle.std.specs.Prelude.{slice_index}
+use Rattle.std.proofs.lemmas.Bool.{cases_lt, false≢true, ne_eqb}
+use Rattle.std.proofs.lemmas.List.FromFn.{get_or-map-range_with_len}
+use Rattle.std.proofs.lemmas.List.Sums.{prefix_len_passes}
+use Rattle.ring_laws.specs.Slots.{Slot, slot_at, slots, used_slots}
+use Rattle.ring_laws.proofs.SlotCounts.{used_count_is, used_count_fits}
+use Rattle.ring_laws.proofs.SlotLemmas.{length-used_slots, HasFence-from_low}
+use Rattle.crc8_entry.specs.Crc.{crc}
+use Rattle.zms_cycle.specs.declared.entry.ZEntry.{ZEntry}
+use Rattle.zms_cycle.specs.declared.reading.Found.{Found}
+use Rattle.zms_cycle.specs.Entries.{entry_of, decoded, is_special}
+use Rattle.zms_cycle.specs.Sector.{slot_of, is_valid, cycle_of, valid_slots, entry_in}
+use Rattle.zms_cycle.specs.Searches.{names}
+use Rattle.zms_cycle.proofs.Slots16.{valid-is, entry_in-is}
+
+-- ---- what decodes has the fields that its bytes name
+
+some_cases : {A : Type 0} (b : Bool) (x : A) → (cond b (Some x) None ≡ None) ⊎ (cond b (Some x) None ≡ Some x)
+some_cases true x = inr refl
+some_cases false x = inl refl
+
+pub decoded_cases : (bytes : List ℕ) → (decoded bytes ≡ None) ⊎ (decoded bytes ≡ Some (entry_of bytes))
+unfolding decoded
+decoded_cases bytes = some_cases (eqb (crc 255 (drop 1 bytes)) (slice_index bytes 0)) (entry_of bytes)
+
+-- a slot that names another cycle is not valid
+pub other_cycle : (cycle : ℕ) (slot : Slot) → ((entry_of slot.bytes).cycle ≡ cycle → ⊥) → is_valid (Some cycle) slot ≡ false
+other_cycle cycle slot other =
+    elim (decoded_cases slot.bytes) [
+      | inl none ↦ valid-is cycle slot None none
+      | inr some ↦ valid-is cycle slot (Some (entry_of slot.bytes)) some ∙ ne_eqb (entry_of slot.bytes).cycle cycle other
+    ]
+
+abbrev found_in : Bool → ℕ → ZEntry → Option Found
+found_in special k e = cond special None (Some (record { slot = k; entry = e }))
+
+found_cases : (special : Bool) (k : ℕ) (e : ZEntry) → (found_in special k e ≡ None) ⊎ ((f : Found) × (found_in special k e ≡ Some f) × (f.entry ≡ e))
+found_cases true k e = inl refl
+found_cases false k e = inr (record { slot = k; entry = e }, refl, refl)
+
+-- an entry that is read has the fields that its slot names
+pub entry_in-cases : (slot : Slot) → (entry_in slot ≡ None) ⊎ ((f : Found) × (entry_in slot ≡ Some f) × (f.entry ≡ entry_of slot.bytes))
+entry_in-cases slot =
+    elim (decoded_cases slot.bytes) [
+      | inl none ↦ inl (entry_in-is slot None none)
+      | inr some ↦
+          let read = entry_in-is slot (Some (entry_of slot.bytes)) some in
+          elim (found_cases (is_special (entry_of slot.bytes)) slot.index (entry_of slot.bytes)) [
+            | inl none ↦ inl (read ∙ none)
+            | inr (f, is, same) ↦ inr (f, read ∙ is, same)
+          ]
+    ]
+
+-- ---- how many slots are used
+
+-- the used slots pass the test
+pub used_passes : (is_used : Slot → Bool) (first size : ℕ) (b : List ℕ) (k : ℕ) → first ≤ k → k < length (used_slots is_used first size b) + first → is_used (slot_at size b k) ≡ true
+used_passes is_used first size b k from below =
+    let fits = used_count_fits is_used first size b in
+    let d : Slot = slot_at size b 0 in
+    let count = length-used_slots is_used first size b in
+    ap is_used (sym (get_or-map-range_with_len (slot_at size b) first (length b / size - first) (k - first) k d (omega arith) (omega arith)))
+    ∙ prefix_len_passes is_used (slots first size b) (k - first) d (omega arith)
+
+-- where a slot is not valid, those that are end before it
+pub valid_before : (cycle : ℕ) (b : List ℕ) (k : ℕ) → 2 ≤ k → is_valid (Some cycle) (slot_of b k) ≡ false → length (used_slots (is_valid (Some cycle)) 2 16 b) + 2 ≤ k
+valid_before cycle b k from invalid =
+    elim (cases_lt k (length (used_slots (is_valid (Some cycle)) 2 16 b) + 2)) [
+      | inl lt ↦ absurd (false≢true (sym invalid ∙ used_passes (is_valid (Some cycle)) 2 16 b k from lt))
+      | inr ge ↦ ge
+    ]
+
+-- where so many slots are valid, no fewer are used
+pub valid_after : (cycle : ℕ) (b : List ℕ) (n : ℕ) → (n + 2) * 16 ≤ length b → ((k : ℕ) → 2 ≤ k → k < n + 2 → is_valid (Some cycle) (slot_of b k) ≡ true) → n ≤ length (used_slots (is_valid (Some cycle)) 2 16 b)
+valid_after cycle b n room passed =
+    elim (cases_lt (length (used_slots (is_valid (Some cycle)) 2 16 b)) n) [
+      | inl lt ↦
+          let stop = (HasFence-from_low (is_valid (Some cycle)) 2 16 b (omega arith) (omega arith)).fence in
+          absurd (false≢true (sym stop ∙ passed (length (used_slots (is_valid (Some cycle)) 2 16 b) + 2) (omega arith) (omega arith)))
+      | inr ge ↦ ge
+    ]
+
+-- a blank sector has no valid slots
+pub none_listed : (b : List ℕ) → cycle_of b ≡ None → 0 ≡ length (valid_slots b)
+none_listed b blank =
+    used_count_is (is_valid (cycle_of b)) 2 16 b 0 (omega arith) (λ k from lt. absurd (omega arith))
+    (λ lt. ap (λ (o : Option ℕ). is_valid o (slot_of b 2)) blank)
+
+-- ---- a search that goes over the slots once
+
+-- with one slot more, the slots behind the last that names the id name others
+pub reach_step : (id : ℕ) (b : List ℕ) (slot reach new : ℕ) (named : Bool) → 2 ≤ slot → named ≡ names id (slot_of b slot) → new ≡ cond named (slot - 1) reach → reach + 2 ≤ slot → ((k : ℕ) → reach + 2 ≤ k → k < slot → names id (slot_of b k) ≡ false)
+    → (new + 2 ≤ slot + 1) × ((k : ℕ) → new + 2 ≤ k → k < slot + 1 → names id (slot_of b k) ≡ false)
+reach_step id b slot reach new true from is at low before =
+    let here : new ≡ slot - 1 = at in
+    (omega arith, λ k over lt. absurd (omega arith))
+reach_step id b slot reach new false from is at low before =
+    let same : new ≡ reach = at in (
+      omega arith,
+      λ k over lt. elim (cases_lt k slot) [
+        | inl below ↦ before k (omega arith) below
+        | inr ge ↦ let e : slot ≡ k = omega arith in subst (λ (j : ℕ). names id (slot_of b j) ≡ false) e (sym is)
+      ],
+    )

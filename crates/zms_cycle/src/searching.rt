@@ -1,0 +1,79 @@
+// What a look-up reads of a sector: how long its list is, whether it is closed, and how far it has to be read for an id.
+ghost use Rattle.std.specs.Prelude.{◌≡◌, ℕ, ◌+◌, ◌*◌, ◌^◌, ◌<◌, ◌≤◌, ◌==◌, false, length, Some, if◌then◌else◌};
+ghost use Rattle.ring_laws.specs.Slots.{used_slots};
+ghost use Rattle.zms_cycle.specs.Entries.{entry_of};
+ghost use Rattle.zms_cycle.specs.Searches.{names};
+ghost use Rattle.zms_cycle.specs.Sector.{slot_of, is_valid, valid_slots, is_closed};
+
+use crate::reading::{FIRST, SLOT, cycle_of, is_closed, slot_of, valid_count, valid_within};
+
+/// Whether a sector is closed.
+pub fn has_close(sector: &[u8]) -> bool
+    requires { 32 ≤ length sector.now }
+    ensures { result ≡ is_closed sector.now }
+{
+    match cycle_of(sector) {
+        Some(cycle) => is_closed(sector, cycle),
+        None => false,
+    }
+}
+
+/// How many slots the list of a sector has.
+pub fn listed_slots(sector: &[u8]) -> u32
+    requires long { 48 ≤ length sector.now }
+    requires short { length sector.now ≤ 2 ^ 15 }
+    ensures { result ≡ length (valid_slots sector.now) }
+{
+    match cycle_of(sector) {
+        Some(cycle) => valid_count(sector, cycle),
+        None => 0,
+    }
+}
+
+// Whether a slot's bytes have this id where an entry has its own. Their CRC is not looked at.
+fn names(slot: &[u8], id: u32) -> bool
+    requires { length slot.now ≡ 16 }
+    ensures { result ≡ ((entry_of slot.now).id == id) }
+{
+    u32::from_le_bytes([slot[4], slot[5], slot[6], slot[7]]) == id
+}
+
+// The newer of two numbers, if it is one.
+fn newer(is_one: bool, newer: u32, older: u32) -> u32
+    ensures { result ≡ (if is_one then newer else older) }
+{
+    if is_one { newer } else { older }
+}
+
+// How many slots from slot 2 on have to be read for an id: up to the last one that names it, above the first that names
+// another cycle. No CRC is looked at.
+fn reach_of(sector: &[u8], cycle: u8, id: u32) -> u32
+    requires long { 48 ≤ length sector.now }
+    requires short { length sector.now ≤ 2 ^ 15 }
+    ensures fits { (result + 2) * 16 ≤ length sector.now }
+    ensures others { (k : ℕ) → result + 2 ≤ k → k < length (used_slots (is_valid (Some cycle)) 2 16 sector.now) + 2 → names id (slot_of sector.now k) ≡ false }
+{
+    let count = sector.len() as u32 / SLOT;
+    let mut reach = 0;
+    for slot in FIRST..count {
+        let bytes = slot_of(sector, slot);
+        if bytes[1] != cycle {
+            return reach;
+        }
+        reach = newer(names(bytes, id), slot - 1, reach);
+    }
+    reach
+}
+
+/// How many slots of a sector's list have to be read for an id: those behind them name other ids.
+pub fn reach_in(sector: &[u8], id: u32) -> u32
+    requires long { 48 ≤ length sector.now }
+    requires short { length sector.now ≤ 2 ^ 15 }
+    ensures within { result ≤ length (valid_slots sector.now) }
+    ensures others { (k : ℕ) → result + 2 ≤ k → k < length (valid_slots sector.now) + 2 → names id (slot_of sector.now k) ≡ false }
+{
+    match cycle_of(sector) {
+        Some(cycle) => valid_within(sector, cycle, reach_of(sector, cycle, id)),
+        None => 0,
+    }
+}

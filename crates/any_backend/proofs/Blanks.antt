@@ -1,5 +1,5 @@
 -- A blank area, by the store that is for its role.
-use Rattle.std.proofs.Common.{◌≡◌, ◌∙◌, ℕ, zero, suc, ◌+◌, ◌-◌, ◌*◌, ◌<◌, ◌≤◌, Bool, true, false, not, ◌&&◌, cond, ltb, List, [], ◌∷◌, length, take, replicate, Option, None, refl, sym, ap, subst, inl, arith}
+use Rattle.std.proofs.Common.{◌≡◌, ◌∙◌, ℕ, zero, suc, ◌+◌, ◌*◌, ◌<◌, ◌≤◌, Bool, true, false, not, ◌&&◌, cond, ltb, List, [], ◌∷◌, length, replicate, None, refl, sym, ap, subst, inl, arith}
 use Rattle.std.specs.Prelude.{count_by}
 use Rattle.std.specs.List.{list_all}
 use Rattle.std.specs.FinMap as maps
@@ -7,7 +7,7 @@ use Rattle.std.specs.Ordering.{nat_cmp}
 use Rattle.std.specs.Option.{option_map}
 use Rattle.std.proofs.lemmas.Bool.{le-ltb}
 use Rattle.std.proofs.lemmas.Bool.Decides.{nat_tests}
-use Rattle.std.proofs.lemmas.List.{length-replicate, get_or-replicate, take-replicate, drop-replicate}
+use Rattle.std.proofs.lemmas.List.{length-replicate, get_or-replicate}
 use Rattle.std.proofs.lemmas.List.Elements.{All-nil}
 use Rattle.std.proofs.lemmas.List.Folds.{sum_by-replicate}
 use Rattle.flash_sim.specs.Device.{Device}
@@ -21,18 +21,12 @@ use Rattle.flash_map.proofs.ErasedBytes.{erased_from}
 use Rattle.pair_laws.specs.Items.{Items}
 use Rattle.ring_laws.specs.Area.{next, is_closed_at, open_sector}
 use Rattle.ring_laws.specs.Reading.{Reading}
-use Rattle.ring_laws.specs.Slots.{slot_at}
 use Rattle.ring_laws.proofs.Stays.{open_within}
 use Rattle.nvs_store.specs.Scans as nvs
-use Rattle.nvs_store.specs.Sector.{has_gc_done as nvs_done}
-use Rattle.nvs_store.specs.declared.scan.Redo.TheVariants as nvs_redo
 use Rattle.nvs_store.proofs.Blank.{reads-blank}
-use Rattle.zms_cycle.specs.Entries.{decoded}
-use Rattle.zms_cycle.specs.Sector.{slot_of, is_valid, cycle_of, is_closed, holds_close, has_gc_done as zms_done}
-use Rattle.zms_cycle.proofs.Bytes.{decoded-erased}
-use Rattle.zms_cycle.proofs.Slots16.{cycle_of-is}
-use Rattle.zms_store.specs.Area as zms
-use Rattle.zms_store.specs.declared.sector.Redo.TheVariants as zms_redo
+use Rattle.zms_kind.specs.Area as zms
+use Rattle.zms_kind.proofs.Erased.{erased-unused}
+use Rattle.zms_kind.proofs.Sectors.{laws}
 use Rattle.fcb_ring.specs.declared.sector.SectorState.{SectorState}
 use Rattle.fcb_ring.specs.Entries.{states, entries, bodies, HasEntries}
 use Rattle.fcb_ring.specs.Rings.{is_full}
@@ -92,36 +86,16 @@ module _ (n size : ℕ) (several : 2 ≤ n) where
   nvs-free : (unit k : ℕ) → k < length blanks → is_closed_at (nvs.reading unit) blanks k ≡ false
   nvs-free unit k lt = (reads-blank unit).closed (sector_at blanks k) (ap is_erased (each k lt) ∙ erased_from size)
 
-  pub nvs-done : (unit : ℕ) → nvs.redo_of unit (replicate n (replicate size 0xFF)) (open_sector (nvs.reading unit) (replicate n (replicate size 0xFF))) ≡ nvs_redo.Nothing
-  nvs-done unit =
-      ap (λ (b : Bool). cond b (cond (nvs_done unit (sector_at blanks (open_sector (nvs.reading unit) blanks))) nvs_redo.EraseNext nvs_redo.CollectAgain) nvs_redo.Nothing)
-      (next-free (nvs.reading unit) blanks several-too (nvs-free unit))
+  pub nvs-done : (unit : ℕ) → is_closed_at (nvs.reading unit) (replicate n (replicate size 0xFF)) (next (replicate n (replicate size 0xFF)) (open_sector (nvs.reading unit) (replicate n (replicate size 0xFF)))) ≡ false
+  nvs-done unit = next-free (nvs.reading unit) blanks several-too (nvs-free unit)
 
   -- ---- as ZMS
 
-  module _ (long : 16 ≤ size) where
-    last-slot : (slot_of (replicate size 255) 0).bytes ≡ replicate 16 255
-    unfolding slot_at
-    last-slot =
-        let c = length-replicate {A = ℕ} size 255 in
-        let start : ℕ = length (replicate size 255) - (0 + 1) * 16 in
-        let whole : start + 16 - start ≡ 16 = omega arith in
-        ap (take (start + 16 - start)) (drop-replicate start size 255)
-        ∙ take-replicate (start + 16 - start) (size - start) 255 (omega arith)
-        ∙ ap (λ (k : ℕ). replicate k 255) whole
+  zms-free : (k : ℕ) → k < length blanks → is_closed_at zms.reading blanks k ≡ false
+  zms-free k lt = laws.closed (sector_at blanks k) (erased-unused (sector_at blanks k) (ap is_erased (each k lt) ∙ erased_from size))
 
-    no_cycle : cycle_of (replicate size 255) ≡ None
-    no_cycle = cycle_of-is (replicate size 255) None (ap decoded last-slot ∙ decoded-erased)
-
-    zms-free : (k : ℕ) → k < length blanks → is_closed_at zms.reading blanks k ≡ false
-    zms-free k lt =
-        ap is_closed (each k lt)
-        ∙ ap (λ (o : Option ℕ). is_valid o (slot_of (replicate size 255) 1) && holds_close (slot_of (replicate size 255) 1)) no_cycle
-
-    pub zms-done : zms.redo_of (replicate n (replicate size 0xFF)) (open_sector zms.reading (replicate n (replicate size 0xFF))) ≡ zms_redo.Nothing
-    zms-done =
-        ap (λ (b : Bool). cond b (cond (zms_done (sector_at blanks (open_sector zms.reading blanks))) zms_redo.EmptyNext zms_redo.CollectAgain) zms_redo.Nothing)
-        (next-free zms.reading blanks several-too zms-free)
+  pub zms-done : is_closed_at zms.reading (replicate n (replicate size 0xFF)) (next (replicate n (replicate size 0xFF)) (open_sector zms.reading (replicate n (replicate size 0xFF)))) ≡ false
+  zms-done = next-free zms.reading blanks several-too zms-free
 
 -- ---- as a ring of records
 
@@ -187,7 +161,7 @@ module _ (d : Device) (area : Area) (lawful : IsLawfulFor d.banks area) where
 
   undamaged-as : (role : Role) → serves_as role (geometry_of d area).kind → damage_as role area (geometry_of d area) (blank_sectors (geometry_of d area)) ≡ None
   undamaged-as Nvs serves = nvs-undamaged area.sectors (sector_size d area) lawful.several (unit_of d area)
-  undamaged-as Zms serves = zms-undamaged area.sectors (sector_size d area) lawful.several long
+  undamaged-as Zms serves = zms-undamaged area.sectors (sector_size d area) lawful.several
   undamaged-as Fcb serves = fcb-undamaged (value_limit area) (unit_of d area) area.sectors (sector_size d area) lawful.several lawful.few
   undamaged-as Sel serves = absurd serves
 
@@ -195,7 +169,7 @@ module _ (d : Device) (area : Area) (lawful : IsLawfulFor d.banks area) where
   nvs-none = nvs-empty area.sectors (sector_size d area) lawful.several (unit_of d area)
 
   zms-none : zms_items area (geometry_of d area) (blank_sectors (geometry_of d area)) ≡ maps.empty
-  zms-none = zms-empty area.sectors (sector_size d area) lawful.several long
+  zms-none = zms-empty area.sectors (sector_size d area) lawful.several
 
   empty-as : (role : Role) → serves_as role (geometry_of d area).kind → contents_as role area (geometry_of d area) (blank_sectors (geometry_of d area)) ≡ maps.empty
   empty-as Nvs serves = no-settings (nvs_numbers area) (nvs_items area (geometry_of d area) (blank_sectors (geometry_of d area))) nvs-none
@@ -209,7 +183,7 @@ module _ (d : Device) (area : Area) (lawful : IsLawfulFor d.banks area) where
     clean = no-strays (nvs_numbers area) (nvs_items area (geometry_of d area) (blank_sectors (geometry_of d area))) nvs-none;
   }
   rests-as Zms serves = record {
-    store = zms-done area.sectors (sector_size d area) lawful.several long;
+    store = zms-done area.sectors (sector_size d area) lawful.several;
     clean = no-strays (zms_numbers area) (zms_items area (geometry_of d area) (blank_sectors (geometry_of d area))) zms-none;
   }
   rests-as Fcb serves = blank_idle

@@ -1,6 +1,6 @@
 -- When a backend stands on its area, by its store. Each says that the role of the area is the one that the store is for.
 use Rattle.std.specs.Prelude.{◌≡◌, ℕ, Bool, true, List, None}
-use Rattle.std.proofs.Common.{sym, ap, subst}
+use Rattle.std.proofs.Common.{refl, sym, ap, subst}
 use Rattle.flash_sim.specs.Device.{Device}
 use Rattle.flash_map.specs.Lawful.{IsLawfulFor}
 use Rattle.flash_map.specs.On.{StandsOn}
@@ -18,8 +18,8 @@ use Rattle.any_backend.specs.ByRole.{serves_as, damage_as, rests_as, any_serves,
 
 -- the area that it was mounted on
 abbrev pub area_of : AnyBackend → Area
-area_of (Nvs backend) = backend.store.area
-area_of (Zms backend) = backend.store.area
+area_of (Nvs backend) = backend.store.store.area
+area_of (Zms backend) = backend.store.store.area
 area_of (Fcb backend) = backend.ring.area
 
 -- it is up, and knows these sectors of its area as they are
@@ -30,8 +30,8 @@ Stands (Fcb backend) geometry sectors = FcbStands backend geometry.unit sectors
 
 -- no call answered that power was lost
 abbrev pub is_up : AnyBackend → Bool
-is_up (Nvs backend) = backend.store.up
-is_up (Zms backend) = backend.store.up
+is_up (Nvs backend) = backend.store.store.up
+is_up (Zms backend) = backend.store.store.up
 is_up (Fcb backend) = is_up_stage backend.ring.stage
 
 -- it stands on a lawful area
@@ -48,15 +48,15 @@ stands-up (Fcb backend) geometry sectors stands = ap is_up_stage stands.ready
 
 pub stands-serves : (state : AnyBackend) (geometry : Geometry) (sectors : List (List ℕ)) → Stands state geometry sectors → any_serves (area_of state) geometry
 stands-serves (Nvs backend) geometry sectors stands = subst (λ (r : Role). serves_as r geometry.kind) (sym stands.store.role) tt
-stands-serves (Zms backend) geometry sectors stands = subst (λ (r : Role). serves_as r geometry.kind) (sym stands.store.role) stands.store.rewritable
+stands-serves (Zms backend) geometry sectors stands = subst (λ (r : Role). serves_as r geometry.kind) (sym stands.store.role) (stands.store.rewritable refl)
 stands-serves (Fcb backend) geometry sectors stands = subst (λ (r : Role). serves_as r geometry.kind) (sym stands.role) tt
 
 pub stands-reads : (state : AnyBackend) (geometry : Geometry) (sectors : List (List ℕ)) → Stands state geometry sectors → any_damage (area_of state) geometry sectors ≡ None
-stands-reads (Nvs backend) geometry sectors stands = subst (λ (r : Role). damage_as r backend.store.area geometry sectors ≡ None) (sym stands.store.role) stands.store.undamaged
-stands-reads (Zms backend) geometry sectors stands = subst (λ (r : Role). damage_as r backend.store.area geometry sectors ≡ None) (sym stands.store.role) stands.store.undamaged
+stands-reads (Nvs backend) geometry sectors stands = subst (λ (r : Role). damage_as r backend.store.store.area geometry sectors ≡ None) (sym stands.store.role) stands.store.undamaged
+stands-reads (Zms backend) geometry sectors stands = subst (λ (r : Role). damage_as r backend.store.store.area geometry sectors ≡ None) (sym stands.store.role) stands.store.undamaged
 stands-reads (Fcb backend) geometry sectors stands = subst (λ (r : Role). damage_as r backend.ring.area geometry sectors ≡ None) (sym stands.role) stands.undamaged
 
 pub stands-rests : (state : AnyBackend) (geometry : Geometry) (sectors : List (List ℕ)) → Stands state geometry sectors → any_rests (area_of state) geometry sectors
-stands-rests (Nvs backend) geometry sectors stands = subst (λ (r : Role). rests_as r backend.store.area geometry sectors) (sym stands.store.role) (nvs-rest backend geometry sectors stands)
-stands-rests (Zms backend) geometry sectors stands = subst (λ (r : Role). rests_as r backend.store.area geometry sectors) (sym stands.store.role) (zms-rest backend geometry sectors stands)
+stands-rests (Nvs backend) geometry sectors stands = subst (λ (r : Role). rests_as r backend.store.store.area geometry sectors) (sym stands.store.role) (nvs-rest backend geometry sectors stands)
+stands-rests (Zms backend) geometry sectors stands = subst (λ (r : Role). rests_as r backend.store.store.area geometry sectors) (sym stands.store.role) (zms-rest backend geometry sectors stands)
 stands-rests (Fcb backend) geometry sectors stands = subst (λ (r : Role). rests_as r backend.ring.area geometry sectors) (sym stands.role) (ready-rests geometry.unit sectors backend.ring stands.ring stands.ready)

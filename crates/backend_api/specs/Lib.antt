@@ -4,3 +4,4 @@ pub mod Laws
 pub mod Least
 pub mod Map
 pub mod Room
+pub mod Written

@@ -6,6 +6,7 @@ ghost use Rattle.flash_sim.specs.Device.{Device};
 ghost use Rattle.flash_sim.specs.declared.flash.Loss.{Loss as loss_type};
 ghost use Rattle.flash_map.specs.declared.area.Area.{Area as area_type};
 ghost use Rattle.flash_map.specs.declared.area.Geometry.{Geometry};
+ghost use Rattle.flash_map.specs.declared.area.Role.TheVariants.{Fcb as FcbRole};
 ghost use Rattle.flash_map.specs.declared.faults.Damaged.{Damaged as damaged_type};
 ghost use Rattle.flash_map.specs.Area.{sector_size, sectors_of, geometry_of, value_limit};
 ghost use Rattle.flash_map.specs.Faults.{mount_lost};
@@ -20,6 +21,7 @@ ghost use Rattle.backend_api.specs.Ends.{MountEnds, set_lost, SetEndsOn, DeleteE
 ghost use Rattle.backend_api.specs.Map.{Map, IsSettings, next_name};
 ghost use Rattle.flash_map.specs.On.{on, HoldsOn, StandsOn};
 ghost use Rattle.backend_api.specs.Room.{Room, most_units, mount_units};
+ghost use Rattle.backend_api.specs.Written.{StaysWritten};
 
 use flash_map::{Area, MountFault};
 use flash_sim::{Flash, Loss, PowerLost, Steps};
@@ -72,7 +74,8 @@ pub trait Backend: Drop {
     ghost runs: { Self → Bool };
 
     /// Mounts a backend on an area. The map stays, also where power is lost. Whatever the result, it spends at most so many units
-    /// and erases as the area's geometry says (`mount_units`), and none where a mount has nothing to do.
+    /// and erases as the area's geometry says (`mount_units`), and none where a mount has nothing to do. An area of items is all
+    /// FF afterwards only where it was so before; in one of records the mount may erase all that stands there.
     ///
     /// # Errors
     /// `Damaged` exactly where the area reads as no map, and then nothing was programmed; `PowerLost`; `NoMemory`, and then
@@ -93,6 +96,8 @@ pub trait Backend: Drop {
         ensures keeps { let d = F.device flash.old in let e = F.device flash.new in
             on damage d area ≡ None → on contents e area ≡ on contents d area }
         ensures rests { HoldsOn rests (F.device flash.old) area → F.device flash.new ≡ F.device flash.old }
+        ensures written { let d = F.device flash.old in
+            (area.role ≡ FcbRole → ⊥) → StaysWritten d (F.device flash.new) area }
         ensures at_most { let d = F.device flash.old in SpendsAtMost d (F.device flash.new) (mount_units (geometry_of d area)) }
         ensures on { IfOk result (λ state. mounted_on state ≡ area) }
         ensures stands { IfOk result (λ state. StandsOn mounted_on stands (F.device flash.new) state) };

@@ -17,6 +17,7 @@ ghost use Rattle.backend_api.specs.Commands.Command.{Put, Del};
 ghost use Rattle.backend_api.specs.Ends.{set_lost, MountEnds, SetEndsOn, DeleteEndsOn};
 ghost use Rattle.backend_api.specs.Map.{IsStored};
 ghost use Rattle.backend_api.specs.Room.{most_units, mount_units};
+ghost use Rattle.backend_api.specs.Written.{StaysWritten};
 ghost use Rattle.backend_fcb.specs.Exact.{SpendsCostOf, SpendsUpToCostOf, SpendsRounds};
 ghost use Rattle.backend_fcb.specs.Members.{damage_by, settings_by, room_by, TearsBy, area_of, StandsBy, is_running};
 ghost use Rattle.backend_fcb.specs.Standing.{settings_on};
@@ -110,6 +111,8 @@ impl Backend for FcbBackend {
         ensures keeps { let d = F.device flash.old in let e = F.device flash.new in
             on damage_by d area ≡ None → on settings_by e area ≡ on settings_by d area }
         ensures rests { erases_on (F.device flash.old) area ≡ 0 → F.device flash.new ≡ F.device flash.old }
+        ensures written { let d = F.device flash.old in
+            (area.role ≡ FcbRole → ⊥) → StaysWritten d (F.device flash.new) area }
         ensures at_most { let d = F.device flash.old in SpendsAtMost d (F.device flash.new) (mount_units (geometry_of d area)) }
         ensures on { IfOk result (λ state. area_of state ≡ area) }
         ensures stands { IfOk result (λ state. StandsOn area_of StandsBy (F.device flash.new) state) }

@@ -44,7 +44,7 @@ lawful-area area role place first count version =
     }
 
 -- a call that leaves the banks and the backend's area leaves it standing
-pub stands-after : (d e : Device) (area : Area) (backend : NvsBackend) → e.banks ≡ d.banks → IsLawfulFor d.banks area → backend.store.area ≡ area → Stands backend (geometry_of e backend.store.area) (sectors_of e backend.store.area) → StandsOn e backend
+pub stands-after : (d e : Device) (area : Area) (backend : NvsBackend) → e.banks ≡ d.banks → IsLawfulFor d.banks area → backend.store.store.area ≡ area → Stands backend (geometry_of e backend.store.store.area) (sectors_of e backend.store.store.area) → StandsOn e backend
 stands-after d e area backend banks lawful on stands = record {
   lawful = subst (λ (x : Area). IsLawfulFor e.banks x) (sym on) (subst (λ (all : List Bank). IsLawfulFor all area) (sym banks) lawful);
   stands = stands;

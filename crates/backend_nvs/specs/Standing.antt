@@ -19,14 +19,14 @@ use Rattle.backend_nvs.specs.Numbers.{numbers_in, nvs-numbers, settings_of}
 -- the store stands, and each item belongs to a setting or is the count
 pub record Stands (backend : NvsBackend) (geometry : Geometry) (sectors : List (List ℕ)) : Type 0 where
   pub store : NvsStands backend.store geometry sectors
-  pub clean : HasNoStrays (numbers_in backend.store.area) (nvs_items backend.store.area geometry sectors)
+  pub clean : HasNoStrays (numbers_in backend.store.store.area) (nvs_items backend.store.store.area geometry sectors)
 
 -- a mount would have nothing to do
 pub record Rests (area : Area) (geometry : Geometry) (sectors : List (List ℕ)) : Type 0 where
   pub store : nvs_rests area geometry sectors
   pub clean : HasNoStrays (numbers_in area) (nvs_items area geometry sectors)
 
-pub stands-rest : (backend : NvsBackend) (geometry : Geometry) (sectors : List (List ℕ)) → Stands backend geometry sectors → Rests backend.store.area geometry sectors
+pub stands-rest : (backend : NvsBackend) (geometry : Geometry) (sectors : List (List ℕ)) → Stands backend geometry sectors → Rests backend.store.store.area geometry sectors
 stands-rest backend geometry sectors stands = record { store = nvs-rested backend.store geometry sectors stands.store; clean = stands.clean }
 
 -- lawful names and values throughout, and fewer than 2^32
@@ -36,5 +36,5 @@ reads_settings d area lawful for role undamaged = settings-lawful (numbers_in ar
 
 -- the backend stands on this device
 pub record StandsOn (d : Device) (backend : NvsBackend) : Type 0 where
-  pub lawful : IsLawfulFor d.banks backend.store.area
-  pub stands : Stands backend (geometry_of d backend.store.area) (sectors_of d backend.store.area)
+  pub lawful : IsLawfulFor d.banks backend.store.store.area
+  pub stands : Stands backend (geometry_of d backend.store.store.area) (sectors_of d backend.store.store.area)

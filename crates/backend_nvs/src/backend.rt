@@ -39,11 +39,11 @@ impl Backend for NvsBackend {
 
     ghost tears = { λ area geometry command done before after. ⊥ };
 
-    ghost mounted_on = { λ backend. backend.store.area };
+    ghost mounted_on = { λ backend. backend.store.store.area };
 
     ghost stands = { λ backend geometry sectors. Stands backend geometry sectors };
 
-    ghost runs = { λ backend. backend.store.up };
+    ghost runs = { λ backend. backend.store.store.up };
 
     ghost stands_up = { λ backend geometry sectors stands. stands.store.up };
 

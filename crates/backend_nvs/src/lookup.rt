@@ -1,5 +1,5 @@
 // Looking names up.
-ghost use Rattle.std.specs.Prelude.{◌≡◌, ◌+◌, ◌<◌, ◌≤◌};
+ghost use Rattle.std.specs.Prelude.{◌≡◌, ◌+◌, ◌<◌, ◌≤◌, false};
 ghost use Rattle.std.specs.Bool.{MatchBool};
 ghost use Rattle.flash_map.specs.Lawful.{IsLawfulFor};
 ghost use Rattle.flash_map.specs.On.{on, HoldsOn, StandsOn};
@@ -52,6 +52,23 @@ pub(crate) fn read_count<S: ItemStore, F: Flash, L: Ledger>(
     match store.get_by(flash, index, COUNT, steps) {
         Some(bytes) => number_of(bytes),
         None => 0,
+    }
+}
+
+// Whether the count allows any name. It makes no index.
+pub(crate) fn has_count<S: ItemStore, F: Flash, L: Ledger>(
+    store: &S,
+    flash: &F,
+    steps: &mut Steps<L>,
+) -> bool
+    requires ids { HasIds TOP S.is_id }
+    requires lawful { IsLawfulFor (F.device flash.now).banks (S.mounted_on store.now) }
+    requires stands { StandsOn S.mounted_on S.stands (F.device flash.now) store.now }
+    ensures { let area = S.mounted_on store.now in result ≡ false → count_in (numbers_in area) (on S.contents (F.device flash.now) area) ≡ 0 }
+{
+    match store.get(flash, COUNT, steps) {
+        Some(bytes) => number_of(bytes) > 0,
+        None => false,
     }
 }
 

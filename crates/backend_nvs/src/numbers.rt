@@ -50,6 +50,15 @@ impl Numbers for NvsNumbers {
         lookup::place_of(store, flash, index, name, steps)
     }
 
+    fn may_have<S: ItemStore, F: Flash, L: Ledger>(
+        store: &S,
+        flash: &F,
+        _name: &Name,
+        steps: &mut Steps<L>,
+    ) -> bool {
+        lookup::has_count(store, flash, steps)
+    }
+
     fn is_kept<S: ItemStore, F: Flash, L: Ledger>(
         store: &S,
         flash: &F,

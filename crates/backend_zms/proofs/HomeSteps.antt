@@ -7,9 +7,10 @@ use Rattle.pair_laws.specs.Items.{Items}
 use Rattle.item_pairs.specs.Cost.{items_cost, item_cost, settings_cost}
 use Rattle.item_pairs.specs.Homes.{IsBare, IsFreeHome, HomesAre}
 use Rattle.item_pairs.specs.Numbering.{Numbering}
-use Rattle.item_pairs.specs.Pairs.{pair_at, settings_in, HasName, IsAt, IsKept, HasNoStrays}
+use Rattle.item_pairs.specs.Pairs.{pair_at, settings_in, HasName, IsAt, IsKept, IsPlaceOf, HasNoStrays}
 use Rattle.item_pairs.proofs.CostLemmas.{clean-cost}
-use Rattle.item_pairs.proofs.HomeLemmas.{least-home, free-here}
+use Rattle.item_pairs.proofs.HomeLemmas.{least-home, free-here, nowhere-home}
+use Rattle.item_pairs.proofs.PairLemmas.{pair-made}
 use Rattle.pair_store.specs.Ends.{IsFree}
 use Rattle.pair_store.specs.Looking.{StandsHere}
 use Rattle.pair_store.proofs.LookupSteps.{at-lawful, here-has}
@@ -17,6 +18,9 @@ use Rattle.pair_store.proofs.StraySteps.{named-at}
 use Rattle.backend_zms.specs.Hash.{first_of}
 use Rattle.backend_zms.specs.Numbers.{places, zms_numbering, zms-numbers}
 use Rattle.backend_zms.proofs.GroupLemmas.{all-places, group-homes}
+
+some_none : (x : List ℕ) → Some x ≡ None → ⊥
+some_none x e = cc
 
 module _ (limit : ℕ) (items : Items) where
   abbrev n : Numbering
@@ -30,6 +34,13 @@ module _ (limit : ℕ) (items : Items) where
     pub found-at : (place : ℕ) → from ≤ place → place < from + 16 → IsName name → StandsHere limit items place (place + 0x40000000) name → ((k : ℕ) → from ≤ k → k < place → ¬ HasName (pair_at n items k) name) → IsAt n items name place
     found-at place low high named here none =
         least-home n items name from 16 homes place low high (here-has n place name (get items place) (get items (place + 0x40000000)) here named (homes.home place low high)) none
+
+    -- no id of the group has an item
+    pub empty-group : ((k : ℕ) → from ≤ k → k < from + 16 → get items k ≡ None) → IsPlaceOf n items name None
+    empty-group none =
+        nowhere-home n items name from 16 homes (λ place low high has.
+        let made = pair-made n place name (get items place) (get items (place + 0x40000000)) has in
+        some_none name (sym made.is_name ∙ none place low high))
 
     -- the least that is free
     pub free-at : (place : ℕ) → from ≤ place → place < from + 16 → IsFree items place (place + 0x40000000) → ((k : ℕ) → from ≤ k → k < place → ¬ IsBare n items k) → IsFreeHome n items name (Some place)

@@ -35,9 +35,9 @@ pub record Rests (area : Area) (geometry : Geometry) (sectors : List (List ℕ))
 
 pub record Stands (backend : ZmsBackend) (geometry : Geometry) (sectors : List (List ℕ)) : Type 0 where
   pub store : ZmsStands backend.store geometry sectors
-  pub clean : IsClean backend.store.area geometry sectors
+  pub clean : IsClean backend.store.store.area geometry sectors
 
-pub stands-rest : (backend : ZmsBackend) (geometry : Geometry) (sectors : List (List ℕ)) → Stands backend geometry sectors → Rests backend.store.area geometry sectors
+pub stands-rest : (backend : ZmsBackend) (geometry : Geometry) (sectors : List (List ℕ)) → Stands backend geometry sectors → Rests backend.store.store.area geometry sectors
 stands-rest backend geometry sectors stands = record { store = zms-rested backend.store geometry sectors stands.store; clean = stands.clean }
 
 -- lawful names and values throughout, and fewer than 2^32
@@ -47,5 +47,5 @@ reads_settings d area lawful for serves undamaged = settings-lawful (numbers_in 
 
 -- the backend stands on a lawful area
 pub record IsReady (d : Device) (backend : ZmsBackend) : Type 0 where
-  pub lawful : IsLawfulFor d.banks backend.store.area
-  pub stands : Stands backend (geometry_of d backend.store.area) (sectors_of d backend.store.area)
+  pub lawful : IsLawfulFor d.banks backend.store.store.area
+  pub stands : Stands backend (geometry_of d backend.store.store.area) (sectors_of d backend.store.store.area)

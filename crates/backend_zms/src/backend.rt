@@ -1,5 +1,5 @@
 // The backend over ZMS.
-ghost use Rattle.std.specs.Prelude.{◌≡◌, false};
+ghost use Rattle.std.specs.Prelude.{◌≡◌, false, refl};
 ghost use Rattle.item_store.specs.ZmsStore.{zms_damage, zms_price, zms_cap};
 ghost use Rattle.backend_zms.specs.Numbers.{zms_room};
 ghost use Rattle.backend_zms.specs.Standing.{IsServed, settings_of, Rests, Stands, stands-rest, reads_settings};
@@ -37,15 +37,15 @@ impl Backend for ZmsBackend {
 
     ghost tears = { λ area geometry command done before after. ⊥ };
 
-    ghost mounted_on = { λ backend. backend.store.area };
+    ghost mounted_on = { λ backend. backend.store.store.area };
 
     ghost stands = { λ backend geometry sectors. Stands backend geometry sectors };
 
-    ghost runs = { λ backend. backend.store.up };
+    ghost runs = { λ backend. backend.store.store.up };
 
     ghost stands_up = { λ backend geometry sectors stands. stands.store.up };
 
-    ghost stands_serves = { λ backend geometry sectors stands. (stands.store.role, stands.store.rewritable) };
+    ghost stands_serves = { λ backend geometry sectors stands. (stands.store.role, stands.store.rewritable refl) };
 
     ghost stands_reads = { λ backend geometry sectors stands. stands.store.undamaged };
 

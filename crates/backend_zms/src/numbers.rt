@@ -1,6 +1,8 @@
 // The numbering of settings by the hash of the name.
-ghost use Rattle.std.specs.Prelude.{◌≡◌, ◌+◌, ◌<◌, ◌≤◌, ℕ, List, true, false, IfSome};
+ghost use Rattle.std.specs.Prelude.{◌≡◌, ◌+◌, ◌<◌, ◌≤◌, ℕ, List, None, true, false, IfSome};
 ghost use Rattle.std.proofs.Common.{refl, lit<};
+ghost use Rattle.flash_sim.specs.Bank.{IsLawful};
+ghost use Rattle.flash_sim.specs.Device.{Device};
 ghost use Rattle.flash_map.specs.Area.{value_limit};
 ghost use Rattle.flash_map.specs.Lawful.{IsLawfulFor};
 ghost use Rattle.flash_map.specs.On.{on, HoldsOn, StandsOn};
@@ -55,6 +57,15 @@ impl Numbers for ZmsNumbers {
         place_of(store, flash, index, name, steps)
     }
 
+    fn may_have<S: ItemStore, F: Flash, L: Ledger>(
+        store: &S,
+        _flash: &F,
+        name: &Name,
+        _steps: &mut Steps<L>,
+    ) -> bool {
+        may_stand(store, name)
+    }
+
     fn is_kept<S: ItemStore, F: Flash, L: Ledger>(
         store: &S,
         flash: &F,
@@ -98,6 +109,22 @@ pub(crate) fn place_of<S: ItemStore, F: Flash, L: Ledger>(
         }
     }
     None
+}
+
+// Whether an item may stand at one of the ids of the name's group. It looks at no item.
+fn may_stand<S: ItemStore>(store: &S, name: &Name) -> bool
+    requires { HasIds top S.is_id }
+    ensures { let area = S.mounted_on store.now in
+        (d : Device) → IsLawful d.banks d.bytes → IsLawfulFor d.banks area → StandsOn S.mounted_on S.stands d store.now
+        → result ≡ false → IsPlaceOf (numbers_in area) (on S.contents d area) name.now None }
+{
+    let from = first_of(name.bytes());
+    for place in from..from + GROUP_SIZE {
+        if store.may_hold(place) {
+            return true;
+        }
+    }
+    false
 }
 
 // Whether the name in this item is that of a setting that counts.

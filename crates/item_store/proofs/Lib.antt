@@ -1,4 +1,5 @@
 pub mod ItemsCost
 pub mod MostUnits
 pub mod NvsSteps
+pub mod RingSteps
 pub mod ZmsSteps

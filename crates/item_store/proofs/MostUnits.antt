@@ -3,7 +3,7 @@ use Rattle.std.proofs.Common.{◌≡◌, ℕ, ◌+◌, ◌*◌, ◌/◌, ◌<◌
 use Rattle.std.proofs.Math.Nat.{mul-le-mul_left, mul-le-mul_right, div-mul-le_self}
 use Rattle.std.proofs.lemmas.Nat.{le-div}
 use Rattle.flash_sim.specs.Device.{Device, counted}
-use Rattle.flash_map.specs.Spending.{SpendsAtMost}
+use Rattle.flash_map.specs.Spending.{SpendsAtMost, SpendsBetween}
 
 -- rounds of at most so many units, and then some more
 pub rounds-within : (sectors units round rounds last : ℕ) → rounds + 1 ≤ sectors → round ≤ 3 * (units + 3) → last ≤ 3 * (units + 3) → rounds * round + last ≤ 3 * sectors * (units + 3)
@@ -29,6 +29,9 @@ spends-none d e most same = (0, omega arith, ap (λ (x : Device). x.spent) same 
 
 pub spends-fewer : (d e : Device) (some most : ℕ) → some ≤ most → SpendsAtMost d e some → SpendsAtMost d e most
 spends-fewer d e some most less spent = let within : spent.0 ≤ some = spent.1 in (spent.0, omega arith, spent.2)
+
+pub between-most : (d e : Device) (least some most : ℕ) → some ≤ most → SpendsBetween d e least some → SpendsAtMost d e most
+between-most d e least some most less spent = let within : spent.units ≤ some = spent.at_most in (spent.units, omega arith, spent.spent)
 
 -- what is no longer than a sector has no more units
 pub units-within : (cost size unit : ℕ) → 0 < unit → cost ≤ size → cost / unit ≤ size / unit

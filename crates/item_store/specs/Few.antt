@@ -30,7 +30,7 @@ use Rattle.nvs_store.specs.Sector as nvs_sector
 use Rattle.nvs_store.proofs.SlotReads.{slot_size_bounds}
 use Rattle.nvs_store.proofs.Views.{unit_is}
 use Rattle.zms_cycle.specs.Sector as zms_sector
-use Rattle.zms_store.specs.Area as zms
+use Rattle.zms_kind.specs.Area as zms
 use Rattle.item_store.specs.Ends.{most_items}
 
 -- ---- a list of pairs stands for no more items than it has pairs

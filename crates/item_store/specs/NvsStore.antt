@@ -1,6 +1,6 @@
 -- How an NVS area holds items, by its geometry and its sectors alone.
-use Rattle.std.specs.Prelude.{◌≡◌, ℕ, ◌+◌, ◌-◌, ◌*◌, ◌≤◌, true, List, Option, None}
-use Rattle.std.proofs.Common.{sym, ap, subst, ◌∙◌, inl, inr, arith}
+use Rattle.std.specs.Prelude.{◌≡◌, ℕ, ◌+◌, ◌-◌, ◌*◌, ◌≤◌, List, Option}
+use Rattle.std.proofs.Common.{sym, subst, inl, inr, arith}
 use Rattle.flash_sim.specs.Device.{Device}
 use Rattle.flash_map.specs.Area.{geometry_of, value_limit}
 use Rattle.flash_map.specs.Lawful.{IsLawfulFor, HasUnit}
@@ -11,15 +11,14 @@ use Rattle.flash_map.specs.declared.area.Geometry.{Geometry}
 use Rattle.flash_map.specs.declared.area.Role.TheVariants.{Nvs as NvsRole}
 use Rattle.flash_map.specs.declared.faults.Damaged.{Damaged}
 use Rattle.pair_laws.specs.Items.{Items, items_of}
-use Rattle.ring_laws.specs.Area.{open_sector}
-use Rattle.nvs_store.specs.declared.scan.Redo.TheVariants.{Nothing}
-use Rattle.nvs_store.specs.declared.scan.Scan.{Scan}
 use Rattle.nvs_store.specs.Geometry.{cost, capacity, slot_size}
-use Rattle.nvs_store.specs.Scans.{reading, redo_of, scan_of, damage_of, list_of, all_found}
-use Rattle.nvs_gc.specs.Latest.{Tells}
-use Rattle.nvs_gc.specs.declared.latest.LastSlots.{LastSlots}
+use Rattle.nvs_store.specs.Scans.{damage_of, list_of}
+use Rattle.nvs_kind.specs.Kinds.{kind}
+use Rattle.ring_store.specs.declared.latest.LastSlots.{LastSlots}
 use Rattle.nvs_gc.specs.declared.nvs.Nvs.{Nvs}
+use Rattle.nvs_gc.specs.Standing.{kept}
 use Rattle.item_store.specs.Limits.{value-leaves_room}
+use Rattle.item_store.specs.RingStore.{ring_rests, RingStands, ring_tells, ring-rested}
 
 abbrev pub nvs_damage : Area → Geometry → List (List ℕ) → Option Damaged
 nvs_damage area geometry sectors = damage_of geometry.unit sectors
@@ -29,7 +28,7 @@ nvs_items area geometry sectors = items_of (list_of geometry.unit sectors)
 
 -- no loss of power left anything undone
 abbrev pub nvs_rests : Area → Geometry → List (List ℕ) → Type 0
-nvs_rests area geometry sectors = redo_of geometry.unit sectors (open_sector (reading geometry.unit) sectors) ≡ Nothing
+nvs_rests area geometry sectors = ring_rests kind area geometry sectors
 
 abbrev pub nvs_price : Geometry → ℕ → ℕ
 nvs_price geometry = cost geometry.unit
@@ -37,21 +36,18 @@ nvs_price geometry = cost geometry.unit
 abbrev pub nvs_cap : Geometry → ℕ
 nvs_cap geometry = capacity geometry.unit geometry.sector
 
--- The store is up: the area is not damaged and at rest, and the store's scan is that of the area.
-pub record NvsStands (store : Nvs) (geometry : Geometry) (sectors : List (List ℕ)) : Type 0 where
-  pub role : store.area.role ≡ NvsRole
-  pub up : store.up ≡ true
-  pub scan : store.scan ≡ scan_of geometry.unit sectors
-  pub rested : store.scan.redo ≡ Nothing
-  pub undamaged : damage_of geometry.unit sectors ≡ None
+-- The store is up: the area is not damaged and at rest, and the store knows its open sector.
+abbrev pub NvsStands : Nvs → Geometry → List (List ℕ) → Type 0
+NvsStands nvs geometry sectors = RingStands NvsRole kind kept nvs.store geometry sectors
 
--- the index has the place of each id's last entry
+-- the index is a table of the last entries of ids
 abbrev pub nvs_tells : LastSlots → Geometry → List (List ℕ) → Type 0
-nvs_tells last geometry sectors = Tells last.sectors last.slots (all_found geometry.unit sectors)
+nvs_tells last geometry sectors = ring_tells kind last geometry sectors
 
 -- a mount of such an area would have nothing to do
-pub nvs-rested : (store : Nvs) (geometry : Geometry) (sectors : List (List ℕ)) → NvsStands store geometry sectors → nvs_rests store.area geometry sectors
-nvs-rested store geometry sectors stands = sym (ap (λ (s : Scan). s.redo) stands.scan) ∙ stands.rested
+pub nvs-rested : (nvs : Nvs) (geometry : Geometry) (sectors : List (List ℕ))
+    → NvsStands nvs geometry sectors → nvs_rests nvs.store.area geometry sectors
+nvs-rested nvs geometry sectors stands = ring-rested NvsRole kind kept nvs.store geometry sectors stands
 
 fits-4 : (sector length : ℕ) → length + 256 ≤ sector → slot_size 4 + padded 4 length ≤ sector - 4 * slot_size 4
 unfolding padded slot_size

@@ -8,8 +8,9 @@ ghost use Rattle.item_store.specs.NvsStore.{nvs_damage, nvs_items, nvs_rests, nv
 use crate::store::ItemStore;
 use flash_map::{Area, MountFault, WriteFault, geometry};
 use flash_sim::{Flash, PowerLost, Steps};
-use nvs_gc::{LastSlots, Nvs};
+use nvs_gc::Nvs;
 use nvs_store::cost;
+use ring_store::LastSlots;
 use std::alloc::Global;
 use std::sync::ledger::Ledger;
 
@@ -40,11 +41,11 @@ impl ItemStore for Nvs {
 
     ghost is_id = { λ id. id < 0xFFFF };
 
-    ghost mounted_on = { λ store. store.area };
+    ghost mounted_on = { λ store. store.store.area };
 
     ghost stands = { λ store geometry sectors. NvsStands store geometry sectors };
 
-    ghost runs = { λ store. store.up };
+    ghost runs = { λ store. store.store.up };
 
     ghost tells = { λ last area geometry sectors. nvs_tells last geometry sectors };
 
@@ -80,6 +81,10 @@ impl ItemStore for Nvs {
         steps: &mut Steps<L>,
     ) -> Option<&'a [u8]> {
         Nvs::get(self, flash, id as u16, steps)
+    }
+
+    fn may_hold(&self, id: u32) -> bool {
+        Nvs::may_hold(self, id as u16)
     }
 
     fn index<F: Flash, L: Ledger>(&self, flash: &F, steps: &mut Steps<L>) -> LastSlots {

@@ -14,6 +14,7 @@ ghost use Rattle.flash_map.specs.Touches.{Touches};
 ghost use Rattle.pair_laws.specs.Items.{Items};
 ghost use Rattle.backend_api.specs.Ends.{MountEnds};
 ghost use Rattle.backend_api.specs.Room.{removal_units};
+ghost use Rattle.backend_api.specs.Written.{StaysWritten};
 ghost use Rattle.flash_map.specs.On.{on, HoldsOn, StandsOn};
 ghost use Rattle.item_pairs.specs.Cost.{items_cost};
 ghost use Rattle.item_store.specs.Ends.{most_items, most_units, IsNextId, WriteEnds, DeleteEnds};
@@ -62,6 +63,7 @@ pub trait ItemStore: Drop {
     ghost tells: { Self.Index → area_type → Geometry → List (List ℕ) → Type 0 };
 
     /// Mounts a store on an area. The items stay, also where power is lost. It spends no more units and erases than a write may.
+    /// The area is all FF afterwards only where it was so before.
     ///
     /// # Errors
     /// `Damaged` exactly where the area shows damage, and then nothing was programmed; `PowerLost`; `NoMemory`, and then
@@ -80,6 +82,7 @@ pub trait ItemStore: Drop {
         ensures sound { on damage (F.device flash.old) area ≡ None → on damage (F.device flash.new) area ≡ None }
         ensures keeps { on damage (F.device flash.old) area ≡ None → on contents (F.device flash.new) area ≡ on contents (F.device flash.old) area }
         ensures rests { HoldsOn rests (F.device flash.old) area → F.device flash.new ≡ F.device flash.old }
+        ensures written { StaysWritten (F.device flash.old) (F.device flash.new) area }
         ensures at_most { let d = F.device flash.old in SpendsAtMost d (F.device flash.new) (most_units (geometry_of d area)) }
         ensures on { IfOk result (λ store. mounted_on store ≡ area) }
         ensures stands { IfOk result (λ store. StandsOn mounted_on stands (F.device flash.new) store) };
@@ -95,6 +98,12 @@ pub trait ItemStore: Drop {
         requires stands { StandsOn mounted_on stands (F.device flash.now) self.now }
         requires known { is_id id }
         ensures { option_map (λ bytes. bytes.now) result ≡ finite.get (on contents (F.device flash.now) (mounted_on self.now)) id };
+
+    /// Whether an item may be there: where it answers `false`, the id has none. It takes no view of the flash.
+    fn may_hold(&self, id: u32) -> bool
+        requires known { is_id id }
+        ensures { (d : Device) → IsLawful d.banks d.bytes → IsLawfulFor d.banks (mounted_on self.now) → StandsOn mounted_on stands d self.now
+            → result ≡ false → finite.get (on contents d (mounted_on self.now)) id ≡ None };
 
     /// Where the items stand, by one walk over the store's entries at most. It tells so as long as the area stays as it is.
     fn index<F: Flash, L: Ledger>(&self, flash: &F, steps: &mut Steps<L>) -> Self::Index
@@ -144,7 +153,7 @@ pub trait ItemStore: Drop {
         ensures down { write_lost result ≡ true → runs self.new ≡ false };
 
     /// Deletes an item. Where the id has none, nothing is programmed. It always finds room, and spends at most the units and erases
-    /// that one collection and one entry may (`removal_units`).
+    /// that one collection and one entry may (`removal_units`). The area is all FF afterwards only where it was so before.
     ///
     /// # Errors
     /// `PowerLost`: the items are as before, or without this one, and the store is down.
@@ -163,6 +172,7 @@ pub trait ItemStore: Drop {
         ensures ends { let area = mounted_on self.old in let d = F.device flash.old in let e = F.device flash.new in
             DeleteEnds d e (on contents d area) (on contents e area) id result }
         ensures at_most { let d = F.device flash.old in SpendsAtMost d (F.device flash.new) (most_units (geometry_of d (mounted_on self.old))) }
+        ensures written { StaysWritten (F.device flash.old) (F.device flash.new) (mounted_on self.old) }
         ensures removal { let d = F.device flash.old in SpendsAtMost d (F.device flash.new) (removal_units (geometry_of d (mounted_on self.old))) }
         ensures sound { on damage (F.device flash.new) (mounted_on self.old) ≡ None }
         ensures stands { is_err result ≡ false → StandsOn mounted_on stands (F.device flash.new) self.new }

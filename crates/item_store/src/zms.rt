@@ -1,5 +1,5 @@
 // The store over ZMS.
-ghost use Rattle.std.specs.Prelude.{◌≡◌, ◌<◌};
+ghost use Rattle.std.specs.Prelude.{◌≡◌, ◌<◌, refl};
 ghost use Rattle.flash_sim.specs.declared.flash.Kind.TheVariants.{Rewritable};
 ghost use Rattle.flash_map.specs.declared.area.Role.TheVariants.{Zms as ZmsRole};
 ghost use Rattle.item_store.specs.Blank.{zms-undamaged, zms-empty};
@@ -9,10 +9,11 @@ ghost use Rattle.item_store.specs.ZmsStore.{zms_damage, zms_items, zms_rests, zm
 use crate::store::ItemStore;
 use flash_map::{Area, MountFault, WriteFault};
 use flash_sim::{Flash, PowerLost, Steps};
+use ring_store::LastSlots;
 use std::alloc::Global;
 use std::sync::ledger::Ledger;
 use zms_cycle::cost;
-use zms_store::{LastSlots, Zms};
+use zms_store::Zms;
 
 impl ItemStore for Zms {
     type Index = LastSlots;
@@ -31,17 +32,17 @@ impl ItemStore for Zms {
 
     ghost is_id = { λ id. id < 0xFFFFFFFF };
 
-    ghost mounted_on = { λ store. store.area };
+    ghost mounted_on = { λ store. store.store.area };
 
     ghost stands = { λ store geometry sectors. ZmsStands store geometry sectors };
 
-    ghost runs = { λ store. store.up };
+    ghost runs = { λ store. store.store.up };
 
-    ghost tells = { λ last area geometry sectors. zms_tells last sectors };
+    ghost tells = { λ last area geometry sectors. zms_tells last geometry sectors };
 
     ghost stands_up = { λ store geometry sectors stands. stands.up };
 
-    ghost stands_serves = { λ store geometry sectors stands. (stands.role, stands.rewritable) };
+    ghost stands_serves = { λ store geometry sectors stands. (stands.role, stands.rewritable refl) };
 
     ghost stands_reads = { λ store geometry sectors stands. stands.undamaged };
 
@@ -51,9 +52,9 @@ impl ItemStore for Zms {
 
     ghost few = { λ d area bank lawful serves. zms-few d area bank lawful };
 
-    ghost blank_reads = { λ area geometry sectors size several long. zms-undamaged sectors size several long };
+    ghost blank_reads = { λ area geometry sectors size several long. zms-undamaged sectors size several };
 
-    ghost blank_empty = { λ area geometry sectors size several long. zms-empty sectors size several long };
+    ghost blank_empty = { λ area geometry sectors size several long. zms-empty sectors size several };
 
     fn mount<F: Flash, L: Ledger>(
         alloc: Global,
@@ -71,6 +72,10 @@ impl ItemStore for Zms {
         steps: &mut Steps<L>,
     ) -> Option<&'a [u8]> {
         Zms::get(self, flash, id, steps)
+    }
+
+    fn may_hold(&self, id: u32) -> bool {
+        Zms::may_hold(self, id)
     }
 
     fn index<F: Flash, L: Ledger>(&self, flash: &F, steps: &mut Steps<L>) -> LastSlots {
@@ -112,10 +117,7 @@ impl ItemStore for Zms {
         after: Option<u32>,
         steps: &mut Steps<L>,
     ) -> Option<u32> {
-        match Zms::next_id(self, flash, after, steps) {
-            Some(next) => Some(next),
-            None => None,
-        }
+        Zms::next_id(self, flash, after, steps)
     }
 
     fn next_by<F: Flash, L: Ledger>(
@@ -125,10 +127,7 @@ impl ItemStore for Zms {
         after: Option<u32>,
         steps: &mut Steps<L>,
     ) -> Option<u32> {
-        match Zms::next_by(self, flash, index, after, steps) {
-            Some(next) => Some(next),
-            None => None,
-        }
+        Zms::next_by(self, flash, index, after, steps)
     }
 
     fn live_cost<F: Flash, L: Ledger>(&self, flash: &F, steps: &mut Steps<L>) -> u64 {

@@ -87,7 +87,7 @@ pub fn is_free<S: ItemStore, F: Flash, L: Ledger>(
     store.get_by(flash, index, second, steps).is_none()
 }
 
-/// The value of a name; none where it has no value.
+/// The value of a name; none where it has no value. Where that can be told without an index, none is made.
 pub fn value_of<'a, N: Numbers, S: ItemStore, F: Flash, L: Ledger>(
     store: &S,
     flash: &'a F,
@@ -99,6 +99,9 @@ pub fn value_of<'a, N: Numbers, S: ItemStore, F: Flash, L: Ledger>(
     requires stands { StandsOn S.mounted_on S.stands (F.device flash.now) store.now }
     ensures { let area = S.mounted_on store.now in option_map (λ bytes. bytes.now) result ≡ finite.get (settings_in (N.numbers area) (on S.contents (F.device flash.now) area)) name.now }
 {
+    if !N::may_have(store, flash, name, steps) {
+        return None;
+    }
     let index = store.index(flash, steps);
     let place = N::place_of(store, flash, &index, name, steps)?;
     store.get_by(flash, &index, place + N::step(), steps)

@@ -7,6 +7,7 @@ ghost use Rattle.flash_map.specs.Spending.{SpendsAtMost};
 ghost use Rattle.flash_map.specs.Touches.{Touches};
 ghost use Rattle.backend_api.specs.Ends.{MountEnds};
 ghost use Rattle.backend_api.specs.Room.{mount_units};
+ghost use Rattle.backend_api.specs.Written.{StaysWritten};
 ghost use Rattle.flash_map.specs.On.{on, HoldsOn, StandsOn};
 ghost use Rattle.item_pairs.specs.Pairs.{settings_in, HasNoStrays};
 ghost use Rattle.pair_store.specs.Looking.{HasIds};
@@ -22,7 +23,7 @@ use std::sync::ledger::Ledger;
 
 /// Mounts a store, and deletes the items that belong to no setting. The settings stay, and each item that is kept, also where
 /// power is lost; no item is new or has other bytes. Whatever the result, it spends at most so many units and erases as the
-/// area's geometry says (`mount_units`).
+/// area's geometry says (`mount_units`). The area is all FF afterwards only where it was so before.
 ///
 /// # Errors
 /// `Damaged` exactly where the area shows damage, and then nothing was programmed; `PowerLost`; `NoMemory`, and then nothing was
@@ -46,6 +47,7 @@ pub fn mount_store<N: Numbers, S: ItemStore, F: Flash, L: Ledger>(
     ensures gone { on S.damage (F.device flash.old) area ≡ None →
         OnlyRemoves (on S.contents (F.device flash.old) area) (on S.contents (F.device flash.new) area) }
     ensures rests { HoldsOn S.rests (F.device flash.old) area → HasNoStrays (N.numbers area) (on S.contents (F.device flash.old) area) → F.device flash.new ≡ F.device flash.old }
+    ensures written { StaysWritten (F.device flash.old) (F.device flash.new) area }
     ensures at_most { let d = F.device flash.old in SpendsAtMost d (F.device flash.new) (mount_units (geometry_of d area)) }
     ensures on { IfOk result (λ store. S.mounted_on store ≡ area) }
     ensures stands { IfOk result (λ store. StandsOn S.mounted_on S.stands (F.device flash.new) store) }

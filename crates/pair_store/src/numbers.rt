@@ -1,5 +1,5 @@
 // The trait of a numbering.
-ghost use Rattle.std.specs.Prelude.{◌≡◌, ◌+◌, ◌^◌, ◌<◌, ◌≤◌, ℕ, Bool, List, Option, true, false};
+ghost use Rattle.std.specs.Prelude.{◌≡◌, ◌+◌, ◌^◌, ◌<◌, ◌≤◌, ℕ, Bool, List, Option, None, true, false};
 ghost use Rattle.std.specs.FinMap as finite;
 ghost use Rattle.flash_map.specs.declared.area.Area.{Area as area_type};
 ghost use Rattle.flash_map.specs.Area.{geometry_of, value_limit};
@@ -48,6 +48,18 @@ pub trait Numbers {
         requires stands { StandsOn S.mounted_on S.stands (F.device flash.now) store.now }
         requires tells { HoldsOn (S.tells index.now) (F.device flash.now) (S.mounted_on store.now) }
         ensures { let area = S.mounted_on store.now in IsPlaceOf (numbers area) (on S.contents (F.device flash.now) area) name.now result };
+
+    /// Whether a name may have a value: where it answers `false`, the name has none. It makes no index.
+    fn may_have<S: ItemStore, F: Flash, L: Ledger>(
+        store: &S,
+        flash: &F,
+        name: &Name,
+        steps: &mut Steps<L>,
+    ) -> bool
+        requires ids { HasIds top S.is_id }
+        requires lawful { IsLawfulFor (F.device flash.now).banks (S.mounted_on store.now) }
+        requires stands { StandsOn S.mounted_on S.stands (F.device flash.now) store.now }
+        ensures { let area = S.mounted_on store.now in result ≡ false → IsPlaceOf (numbers area) (on S.contents (F.device flash.now) area) name.now None };
 
     /// Whether an item is a count, or a part of a setting that counts.
     fn is_kept<S: ItemStore, F: Flash, L: Ledger>(

@@ -7,6 +7,7 @@ ghost use Rattle.flash_map.specs.Spending.{SpendsAtMost};
 ghost use Rattle.flash_map.specs.Touches.{Touches};
 ghost use Rattle.flash_map.specs.On.{on, HoldsOn, StandsOn};
 ghost use Rattle.backend_api.specs.Room.{removal_units};
+ghost use Rattle.backend_api.specs.Written.{StaysWritten};
 ghost use Rattle.item_pairs.specs.Pairs.{settings_in, AltersOnly, HasNoStrays, IsKept};
 ghost use Rattle.pair_store.specs.Looking.{HasIds};
 ghost use Rattle.pair_store.specs.Strays.{KeepsEach, OnlyRemoves, Removes, SpendsPerItem, StaysKept, StopsAt};
@@ -18,7 +19,7 @@ use std::sync::ledger::Ledger;
 
 /// Deletes an item, unless it is a count or a part of a setting that counts: then nothing is programmed. The index then tells of
 /// the items that are left. No other item changes, whatever the result. It spends at most the units and erases of one removal,
-/// and none where the item stays.
+/// and none where the item stays. The area is all FF afterwards only where it was so before.
 ///
 /// # Errors
 /// `PowerLost`, only where the id has an item: it is as before, or gone. The settings are as before, and each item that is kept.
@@ -52,6 +53,7 @@ pub fn remove_if_stray<N: Numbers, S: ItemStore, F: Flash, L: Ledger>(
         is_err result ≡ false → SpendsPerItem (removal_units (geometry_of d area)) d e (on S.contents d area) (on S.contents e area) }
     ensures at_most { let d = F.device flash.old in SpendsAtMost d (F.device flash.new) (removal_units (geometry_of d (S.mounted_on store.old))) }
     ensures present { is_err result ≡ true → ¬ (finite.get (on S.contents (F.device flash.old) (S.mounted_on store.old)) id ≡ None) }
+    ensures written { StaysWritten (F.device flash.old) (F.device flash.new) (S.mounted_on store.old) }
     ensures rests { let area = S.mounted_on store.old in HasNoStrays (N.numbers area) (on S.contents (F.device flash.old) area) → F.device flash.new ≡ F.device flash.old }
     ensures stands { is_err result ≡ false → StandsOn S.mounted_on S.stands (F.device flash.new) store.new }
     ensures tells { is_err result ≡ false → HoldsOn (S.tells index.new) (F.device flash.new) (S.mounted_on store.new) }
@@ -66,7 +68,8 @@ pub fn remove_if_stray<N: Numbers, S: ItemStore, F: Flash, L: Ledger>(
 }
 
 /// Deletes every item that is no count and belongs to no setting that counts, in rising order of ids. All others stay, and
-/// none is new. It spends at most the units and erases of one removal for each item that there is.
+/// none is new. It spends at most the units and erases of one removal for each item that there is. The area is all FF afterwards
+/// only where it was so before.
 ///
 /// # Errors
 /// `PowerLost`: the settings are as before, and each item that is kept. There is an id below which no stray is left, and above
@@ -93,6 +96,7 @@ pub fn remove_strays<N: Numbers, S: ItemStore, F: Flash, L: Ledger>(
         is_err result ≡ true → (id : ℕ) × StopsAt (N.numbers area) (on S.contents d area) (on S.contents e area) id }
     ensures at_most { let d = F.device flash.old in let area = S.mounted_on store.old in
         SpendsAtMost d (F.device flash.new) (finite.len (on S.contents d area) * removal_units (geometry_of d area)) }
+    ensures written { StaysWritten (F.device flash.old) (F.device flash.new) (S.mounted_on store.old) }
     ensures rests { let area = S.mounted_on store.old in HasNoStrays (N.numbers area) (on S.contents (F.device flash.old) area) → F.device flash.new ≡ F.device flash.old }
     ensures stands { is_err result ≡ false → StandsOn S.mounted_on S.stands (F.device flash.new) store.new }
     ensures clean { let area = S.mounted_on store.old in is_err result ≡ false → HasNoStrays (N.numbers area) (on S.contents (F.device flash.new) area) }

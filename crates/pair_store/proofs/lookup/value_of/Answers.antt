@@ -7,6 +7,12 @@ use Rattle.item_pairs.specs.Numbering.{Numbering}
 use Rattle.item_pairs.proofs.NameLemmas.{get-at, get-nowhere, at-value}
 use Rattle.pair_store.proofs.lookup.value_of.Goals as goal
 
+pub returns-then-not-may_have : goal.returns-then-not-may_have
+returns-then-not-may_have g c =
+    let area : Area = g.S.ItemStore.mounted_on c.args.store.now in
+    let items : Items = on g.S.ItemStore.contents (g.F.Flash.device c.args.flash.now) area in
+    sym (get-nowhere (g.N.Numbers.numbers area) items c.args.name.now (c.may_have.ensures c.if-not-may_have.true))
+
 pub returns-in_err-place : goal.returns-in_err-place
 returns-in_err-place g c =
     let area : Area = g.S.ItemStore.mounted_on c.args.store.now in

@@ -10,6 +10,7 @@ use Rattle.flash_map.proofs.Touches.{then}
 use Rattle.flash_map.specs.On.{on}
 use Rattle.pair_laws.specs.Items.{Items}
 use Rattle.backend_api.specs.Room.{removal_units}
+use Rattle.backend_api.specs.Written.{StaysWritten}
 use Rattle.pair_store.specs.Strays.{KeepsEach, OnlyRemoves}
 use Rattle.pair_store.proofs.RemovalUnits.{store-mounted, all-removed}
 use Rattle.pair_store.proofs.SpendSteps.{geometry-stays}
@@ -134,3 +135,17 @@ returns-in-Err-remove_strays-clause-gone g c = λ none.
 
 pub returns-in-Err-clause-gone : goal.returns-in-Err-clause-gone
 returns-in-Err-clause-gone g c = λ none id. inr (ap (λ (m : Items). get m id) (c.in-Err.ensures.keeps none))
+
+pub returns-in-Ok-remove_strays-clause-written : goal.returns-in-Ok-remove_strays-clause-written
+returns-in-Ok-remove_strays-clause-written g c = λ blank.
+    let e : Device = g.F.Flash.device c.mount.new.flash in
+    let f : Device = g.F.Flash.device c.remove_strays.new.flash in
+    let on_it : g.S.ItemStore.mounted_on c.in-Ok.store ≡ c.args.area = c.in-Ok.ensures.on in
+    c.in-Ok.ensures.written (subst (λ (x : Area). StaysWritten e f x) on_it c.remove_strays.ensures.written blank)
+
+pub returns-in-Err-remove_strays-clause-written : goal.returns-in-Err-remove_strays-clause-written
+returns-in-Err-remove_strays-clause-written g c = λ blank.
+    let e : Device = g.F.Flash.device c.mount.new.flash in
+    let f : Device = g.F.Flash.device c.remove_strays.new.flash in
+    let on_it : g.S.ItemStore.mounted_on c.in-Ok.store ≡ c.args.area = c.in-Ok.ensures.on in
+    c.in-Ok.ensures.written (subst (λ (x : Area). StaysWritten e f x) on_it c.remove_strays.ensures.written blank)

@@ -14,6 +14,7 @@ use Rattle.flash_map.specs.On.{on}
 use Rattle.item_pairs.specs.Pairs.{settings_in, AltersOnly, HasNoStrays, IsKept}
 use Rattle.item_store.specs.Ends.{IsNextId}
 use Rattle.backend_api.specs.Room.{removal_units}
+use Rattle.backend_api.specs.Written.{StaysWritten}
 use Rattle.pair_store.specs.Strays.{KeepsEach, OnlyRemoves, Removes, SpendsPerItem, StaysKept, StopsAt}
 use Rattle.pair_store.proofs.RemovalUnits.{per-none, per-most, per-then, per-cut}
 use Rattle.pair_store.proofs.RemovedSteps.{StaysAhead, gone-then, ahead-start, ahead-step, stops-at}
@@ -37,6 +38,7 @@ loop-at-init g c =
       gone = λ id. inr refl;
       ahead = ahead-start (on g.S.ItemStore.contents a own) c.next_by-at.result;
       same = λ clean. refl;
+      written = λ blank. blank;
       so_far = strays-start (g.N.Numbers.numbers own) (on g.S.ItemStore.contents a own) c.next_by-at.result c.next_by-at.ensures.next;
       per_item = per-none (removal_units (geometry_of a own)) a (on g.S.ItemStore.contents a own);
       known = IfSome_then c.next_by-at.result c.next_by-at.ensures.known (λ id is. c.requires.ids.only id is);
@@ -75,6 +77,7 @@ loop-at-preserved g c =
       same = λ clean.
           let same = kept.same clean in
           step.rests (subst (λ (x : Area). HasNoStrays (g.N.Numbers.numbers x) (on g.S.ItemStore.contents b x)) (sym kept.area) (subst (λ (d : Device). HasNoStrays (g.N.Numbers.numbers own) (on g.S.ItemStore.contents d own)) (sym same) clean)) ∙ same;
+      written = λ blank. kept.written (subst (λ (x : Area). StaysWritten b e x) kept.area step.written blank);
       so_far = strays-step (g.N.Numbers.numbers own) (on g.S.ItemStore.contents b own) (on g.S.ItemStore.contents e own) c.in-Some.id c.next_by-at-in-Some.result
           (subst (λ (x : Area). Removes (g.N.Numbers.numbers x) (on g.S.ItemStore.contents b x) (on g.S.ItemStore.contents e x) c.in-Some.id) kept.area (step.removes refl))
           (subst (λ (x : Area). IsNextId (on g.S.ItemStore.contents e x) (Some c.in-Some.id) c.next_by-at-in-Some.result) area c.next_by-at-in-Some.ensures.next)
@@ -172,3 +175,9 @@ returns-in_err-remove_if_stray-clause-order g c = λ lost.
     (subst (λ (x : Area). StaysKept (g.N.Numbers.numbers x) (on g.S.ItemStore.contents b x) (on g.S.ItemStore.contents e x)) kept.area c.in_err-remove_if_stray.ensures.still)
     (subst (λ (o : Option ℕ). HasNoneBefore n (on g.S.ItemStore.contents b own) o) c.in-Some.is kept.so_far) in
     (c.in-Some.id, stops)
+
+pub returns-in_err-remove_if_stray-clause-written : goal.returns-in_err-remove_if_stray-clause-written
+returns-in_err-remove_if_stray-clause-written g c = λ blank.
+    let b : Device = g.F.Flash.device c.loop-at.flash in
+    let e : Device = g.F.Flash.device c.remove_if_stray.new.flash in
+    c.loop-at.invariant.written (subst (λ (x : Area). StaysWritten b e x) c.loop-at.invariant.area c.in_err-remove_if_stray.ensures.written blank)

@@ -5,6 +5,7 @@ use Rattle.flash_map.specs.Touches.{Touches}
 use Rattle.flash_map.specs.On.{on, HoldsOn, StandsOn}
 use Rattle.item_pairs.specs.Pairs.{settings_in, HasNoStrays}
 use Rattle.backend_api.specs.Room.{removal_units}
+use Rattle.backend_api.specs.Written.{StaysWritten}
 use Rattle.pair_store.specs.Strays.{OnlyRemoves, SpendsPerItem}
 use Rattle.pair_store.proofs.RemovedSteps.{StaysAhead}
 use Rattle.pair_store.proofs.SoFar.{HasNoneBefore, ids_left}
@@ -27,6 +28,7 @@ invariant-loop-at g l =
       gone : OnlyRemoves (on g.S.ItemStore.contents a own) (on g.S.ItemStore.contents b own);
       ahead : StaysAhead (on g.S.ItemStore.contents a own) (on g.S.ItemStore.contents b own) l.at;
       same : HasNoStrays (g.N.Numbers.numbers own) (on g.S.ItemStore.contents a own) → b ≡ a;
+      written : StaysWritten a b own;
       so_far : HasNoneBefore (g.N.Numbers.numbers own) (on g.S.ItemStore.contents b own) l.at;
       per_item : SpendsPerItem (removal_units (geometry_of a own)) a b (on g.S.ItemStore.contents a own) (on g.S.ItemStore.contents b own);
       known : IfSome l.at (λ id. id < g.N.Numbers.top);

@@ -8,7 +8,7 @@ use Rattle.backend_nvs.specs.Numbers.{numbers_in}
 use Rattle.backend_nvs.proofs.backend.NvsBackendBackend.set.Goals as goal
 
 pub set_value-requires-clause-fits : goal.set_value-requires-clause-fits
-set_value-requires-clause-fits g c = λ length short. nvs-fits (g.F.Flash.device c.args.flash.now) c.args.self.now.store.area length c.requires.lawful c.requires.stands.store.role short
+set_value-requires-clause-fits g c = λ length short. nvs-fits (g.F.Flash.device c.args.flash.now) c.args.self.now.store.store.area length c.requires.lawful c.requires.stands.store.role short
 
 pub returns-clause-stands : goal.returns-clause-stands
 returns-clause-stands g c = λ kept.

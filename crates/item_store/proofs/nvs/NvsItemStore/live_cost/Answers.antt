@@ -7,4 +7,4 @@ use Rattle.item_store.proofs.nvs.NvsItemStore.live_cost.Goals as goal
 
 pub returns : goal.returns
 returns g c =
-    c.live_cost.ensures ∙ items_cost-is (cost (unit_of (g.F.Flash.device c.args.flash.now) c.args.self.now.area)) (list_on (g.F.Flash.device c.args.flash.now) c.args.self.now.area)
+    c.live_cost.ensures ∙ items_cost-is (cost (unit_of (g.F.Flash.device c.args.flash.now) c.args.self.now.store.area)) (list_on (g.F.Flash.device c.args.flash.now) c.args.self.now.store.area)

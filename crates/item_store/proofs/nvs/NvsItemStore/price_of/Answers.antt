@@ -5,7 +5,7 @@ use Rattle.item_store.proofs.nvs.NvsItemStore.price_of.Goals as goal
 
 pub returns-clause-small : goal.returns-clause-small
 returns-clause-small g c =
-    let most : value_limit c.args.self.now.area ≤ 2048 = limit-small c.args.self.now.area in
+    let most : value_limit c.args.self.now.store.area ≤ 2048 = limit-small c.args.self.now.store.area in
     let cost : c.cost.result ≤ c.args.length + 31 = c.cost.ensures.at_most in
-    let short : c.args.length ≤ value_limit c.args.self.now.area = c.requires.short in
+    let short : c.args.length ≤ value_limit c.args.self.now.store.area = c.requires.short in
     omega arith

@@ -1,9 +1,15 @@
-use Rattle.item_store.proofs.NvsSteps.{nvs-writes, nvs-write-most}
+use Rattle.flash_map.specs.Area.{unit_of}
+use Rattle.nvs_kind.specs.Kinds.{kind}
+use Rattle.item_store.proofs.NvsSteps.{nvs-frugal}
+use Rattle.item_store.proofs.RingSteps.{ring-writes_on, ring-write-most}
 use Rattle.item_store.proofs.nvs.NvsItemStore.write.Goals as goal
 
 pub returns-clause-ends : goal.returns-clause-ends
-returns-clause-ends g c = nvs-writes (g.F.Flash.device c.args.flash.now) (g.F.Flash.device c.write.new.flash) c.args.self.now c.args.id c.args.bytes.now c.write.result c.write.ensures.ends
+returns-clause-ends g c =
+    ring-writes_on kind (g.F.Flash.device c.args.flash.now) (g.F.Flash.device c.write.new.flash) c.args.self.now.store.area c.write.ensures.touches.banks c.args.id c.args.bytes.now c.write.result c.write.ensures.ends
 
 pub returns-clause-at_most : goal.returns-clause-at_most
 returns-clause-at_most g c =
-    nvs-write-most (g.F.Flash.device c.args.flash.now) (g.F.Flash.device c.write.new.flash) c.args.self.now (g.met.F.Flash.is_lawful c.args.flash.now) c.requires.lawful c.args.id c.args.bytes.now c.write.result c.write.ensures.ends
+    let unit = unit_of (g.F.Flash.device c.args.flash.now) c.args.self.now.store.area in
+    ring-write-most (kind unit) (g.F.Flash.device c.args.flash.now) (g.F.Flash.device c.write.new.flash) c.args.self.now.store.area c.requires.lawful.several
+    (nvs-frugal (g.F.Flash.device c.args.flash.now) c.args.self.now.store.area (g.met.F.Flash.is_lawful c.args.flash.now) c.requires.lawful) c.args.id c.args.bytes.now c.write.result c.write.ensures.ends

@@ -5,4 +5,5 @@ use Rattle.item_store.proofs.ItemsCost.{items_cost-is}
 use Rattle.item_store.proofs.zms.ZmsItemStore.live_cost.Goals as goal
 
 pub returns : goal.returns
-returns g c = c.live_cost.ensures ∙ items_cost-is cost (list_on (g.F.Flash.device c.args.flash.now) c.args.self.now.area)
+returns g c =
+    c.live_cost.ensures ∙ items_cost-is cost (list_on (g.F.Flash.device c.args.flash.now) c.args.self.now.store.area)

@@ -1,6 +1,7 @@
 -- How a play on a mirror ends, from how its lines ended on a bench that was just loaded.
 use Rattle.std.proofs.Common.{◌≡◌, ◌⊎◌, ◌+◌, ℕ, Bool, false, List, ◌∷◌, map, Option, Some, None, Err, inl, inr, refl, sym, ap, subst, ◌∙◌}
 use Rattle.std.specs.Global.{Vec}
+use Rattle.std.proofs.lemmas.Bool.{false≢true}
 use Rattle.flash_sim.specs.Device.{Device, counted}
 use Rattle.flash_sim.specs.declared.flash.Bank.{Bank}
 use Rattle.flash_map.specs.declared.area.Area.{Area}
@@ -9,13 +10,16 @@ use Rattle.flash_map.specs.declared.faults.Damaged.{Damaged}
 use Rattle.std.specs.Option.{option_and_then, option_map, option_or}
 use Rattle.fcb_ring.specs.Standing.{ring_damage}
 use Rattle.migrator.specs.Areas.{selector_of}
-use Rattle.any_backend.specs.ByRole.{any_damage}
-use Rattle.mirror.specs.Trusted.{damage_shown, selector_place, trusted_damage, trusted_on}
+use Rattle.any_backend.specs.ByRole.{any_contents, any_damage, any_rests, any_serves}
+use Rattle.mirror.specs.Trusted.{BothRead, IsMirrorMap, MirrorReads, damage_shown, selector_place, trusted_damage, trusted_on}
+use Rattle.backend_api.specs.Map.{Map}
+use Rattle.mirror.specs.Mounting.{IsAtRest}
 use Rattle.zs_host.specs.Outside.{Outside}
 use Rattle.image_file.specs.Format.{Plain, plain_area, version_of}
 use Rattle.image_maps.specs.Held.{held}
 use Rattle.image_maps.specs.Laws.{unserved}
 use Rattle.session.specs.OnMap.{limit_of}
+use Rattle.session_table.specs.Bench.{area_at}
 use Rattle.image_plays.specs.declared.stops.Refusal.{Refusal}
 use Rattle.image_plays.specs.declared.stops.Stop.{Stop}
 use Rattle.image_plays.specs.declared.stops.Stop.TheVariants.{Refused, HostFailed, NoMemory}
@@ -28,7 +32,10 @@ use Rattle.mirror_lines.specs.declared.answer.Answer.{Answer}
 use Rattle.mirror_session.specs.declared.fault.SessionFault.{SessionFault}
 use Rattle.mirror_session.specs.declared.fault.SessionFault.TheVariants.{Damaged as IsDamaged, Unfit as IsUnfit, NoMemory as WantsMemory}
 use Rattle.mirror_session.specs.Bench.{moment, rules_of, state_of}
+use Rattle.mirror_session.specs.Standing.{RestsNow}
 use Rattle.mirror_session.specs.Running.{Ran, RunStops, replaced_in}
+use Rattle.mirror_session.proofs.MountLemmas.{never_on, trusted_there}
+use Rattle.mirror_session.proofs.SoundLemmas.{selector_none, trusted_none}
 use Rattle.mirror_session.proofs.PowerLemmas.{stays_mirrored}
 use Rattle.mirror_session.proofs.PrefixLemmas.{holds_acknowledged}
 use Rattle.image_mirrors.specs.Inputs.{AreMirrored, HasLines, LacksLines}
@@ -57,6 +64,32 @@ module _ (version : ℕ) (plain_areas areas : List Area) (d : Device) where
   damage_same =
       ap (λ (damage : Option Damaged). option_or (option_map (λ shown. (selector_place areas, shown)) damage) (option_map (λ shown. (trusted_on areas d, shown)) (trusted_damage any_damage areas d)))
       (ring_damage_same (selector_of areas))
+
+  both_same : (s : Map) → BothRead any_damage any_contents areas d s → BothRead any_damage any_contents areas (flash_of (of_bench version plain_areas d)) s
+  both_same s is = record { sound = ring_damage_same (selector_of areas) ∙ is.sound; undamaged = is.undamaged; reads = is.reads }
+
+  rests_same : IsAtRest any_damage any_contents any_rests areas d → IsAtRest any_damage any_contents any_rests areas (flash_of (of_bench version plain_areas d))
+  rests_same is = record {
+    selector = is.selector;
+    named = is.named;
+    trusted = is.trusted;
+    other = is.other;
+    placed = record { trusted_there = is.placed.trusted_there; other_there = is.placed.other_there };
+    trusted_rests = is.trusted_rests;
+    other_rests = is.other_rests;
+    same = record { sound = is.same.sound; reads = is.same.reads };
+  }
+
+  -- such an image that shows no damage reads as the map of its trusted area
+  mirror_reads_same : (whole : Bool) → IsMirrorMap any_serves areas d → damage_shown any_damage areas d ≡ None
+      → MirrorReads any_damage any_contents areas (flash_of (of_bench version plain_areas d)) (state_of any_meanings areas (moment d whole)).settings
+  mirror_reads_same whole map none = record {
+    sound = ring_damage_same (selector_of areas) ∙ selector_none any_damage areas d none;
+    area = area_at areas (trusted_on areas d);
+    there = trusted_there any_serves areas d map;
+    undamaged = trusted_none any_damage areas d (area_at areas (trusted_on areas d)) (trusted_there any_serves areas d map) none;
+    reads = refl;
+  }
 
 -- ---- an image with a mirror, and no lines
 
@@ -88,12 +121,13 @@ module _ (name script out : List ℕ) (outside : Outside) (banks : List Bank) (b
     sets : SetsMirror name script outside image areas lines
     sets = record { opens = record { has = has; are = record { version = refl; are = refl }; mirrored = mirrored; served = served }; plays = plays }
 
-    done : (answers : List Answer) (whole : Bool) (text : List ℕ) (file : Option File)
+    done : (answers : List Answer) (whole : Bool) (text : List ℕ) (file : Option File) (map_left : IsMirrorMap any_serves areas bench')
         → Ran any_meanings areas (Mount ∷ lines) answers (opening image bench) (closing bench' whole)
+        → RestsNow any_rests any_meanings areas (closing bench' whole)
         → text ≡ texts answers
         → WritesLeft (Some out) (held areas bench') file
         → PlaysMirror name script out outside bench bench' text file
-    done answers whole text file ran prints writes =
+    done answers whole text file map_left ran still_rests prints writes =
         let same : held areas bench' ≡ left image bench' =
         ap (λ (banks : List Bank). record { version = version_of areas; banks = banks; areas = map plain_area areas; bytes = bench'.bytes }) ran.keeps.banks in
         record {
@@ -114,17 +148,24 @@ module _ (name script out : List ℕ) (outside : Outside) (banks : List Bank) (b
               (settings_same (version_of areas) (map plain_area areas) areas bench' whole);
           leaves_other = subst (λ (i : Plain). other_settings_in areas i ≡ (state_of any_meanings areas (closing bench' whole)).other) same
               (other_same (version_of areas) (map plain_area areas) areas bench' whole);
-          undamaged = λ none. elim (stays_sound areas (Mount ∷ lines) answers (opening image bench) (closing bench' whole) ran.in_turn
-              (sym (damage_same (version_of areas) (map plain_area areas) areas (begun image bench)) ∙ none)) [
-                | inl still ↦ inl (subst (λ (i : Plain). damage_in areas i ≡ None) same (damage_same (version_of areas) (map plain_area areas) areas bench' ∙ still))
-                | inr nothing ↦ inr nothing
-              ];
+          undamaged = λ none. subst (λ (i : Plain). damage_in areas i ≡ None) same (damage_same (version_of areas) (map plain_area areas) areas bench' ∙ still none);
+          mirror_reads = λ none. subst (λ (i : Plain). MirrorReads any_damage any_contents areas (flash_of i) (state_of any_meanings areas (closing bench' whole)).settings) same
+              (mirror_reads_same (version_of areas) (map plain_area areas) areas bench' whole map_left (still none));
+          both_read = λ on_then. subst (λ (i : Plain). BothRead any_damage any_contents areas (flash_of i) (state_of any_meanings areas (closing bench' whole)).settings) same
+              (both_same (version_of areas) (map plain_area areas) areas bench' (state_of any_meanings areas (closing bench' whole)).settings (ran.both (λ on_first. absurd (never_on (begun image bench).is_on on_first)) on_then));
+          rests = λ on_then named. subst (λ (i : Plain). IsAtRest any_damage any_contents any_rests areas (flash_of i)) same
+              (rests_same (version_of areas) (map plain_area areas) areas bench' (still_rests on_then named));
           banks = ran.keeps.banks;
           loads = loads;
           prints = prints;
           writes = subst (λ (i : Plain). WritesLeft (Some out) i file) same writes;
         }
       where
+        still : damage_in areas image ≡ None → damage_shown any_damage areas bench' ≡ None
+        still none =
+            stays_sound areas (Mount ∷ lines) answers (opening image bench) (closing bench' whole) ran.in_turn
+            (sym (damage_same (version_of areas) (map plain_area areas) areas (begun image bench)) ∙ none)
+
         loads : bench'.loads ≡ counted bench.loads (1 + replaced_in (Mount ∷ lines) answers)
         loads = ran.keeps.loaded ∙ counted_counted bench.loads 1 (replaced_in (Mount ∷ lines) answers)
 
@@ -146,6 +187,7 @@ module _ (name script out : List ℕ) (outside : Outside) (banks : List Bank) (b
         stops = stops;
         shows = λ none tells. stops_sound areas (Mount ∷ lines) (opening image bench) bench' fault stops
             (sym (damage_same (version_of areas) (map plain_area areas) areas (begun image bench)) ∙ none) tells;
+        fits = λ fit tells. stops.fitting tells (record { settings = fit; other = λ now. absurd (false≢true now) });
       })))),
       refl,
     )
@@ -173,11 +215,12 @@ module _ (name script out : List ℕ) (outside : Outside) (banks : List Bank) (b
       wanted answers whole ran =
           (inr (began (inr (answers, whole, subst (λ (d : Device). Ran any_meanings areas (Mount ∷ lines) answers (moment d false) (moment bench' whole)) loaded ran))), refl)
 
-      pub played : (answers : List Answer) (whole : Bool) (text : List ℕ) (file : Option File)
+      pub played : (answers : List Answer) (whole : Bool) (text : List ℕ) (file : Option File) → IsMirrorMap any_serves areas bench'
           → Ran any_meanings areas (Mount ∷ lines) answers (moment first false) (moment bench' whole)
+          → RestsNow any_rests any_meanings areas (moment bench' whole)
           → text ≡ texts answers
           → WritesLeft (Some out) (held areas bench') file
           → PlaysMirror name script out outside bench bench' text file
-      played answers whole text file ran prints writes =
-          done answers whole text file
-          (subst (λ (d : Device). Ran any_meanings areas (Mount ∷ lines) answers (moment d false) (moment bench' whole)) loaded ran) prints writes
+      played answers whole text file map_left ran still_rests prints writes =
+          done answers whole text file map_left
+          (subst (λ (d : Device). Ran any_meanings areas (Mount ∷ lines) answers (moment d false) (moment bench' whole)) loaded ran) still_rests prints writes

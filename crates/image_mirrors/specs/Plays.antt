@@ -1,5 +1,5 @@
 -- What a play on a mirror makes of files, print and flash.
-use Rattle.std.specs.Prelude.{◌≡◌, ◌⊎◌, ⊤, ◌++◌, ℕ, ◌+◌, Bool, false, Option, Some, None, Result, Ok, Err, List, ◌∷◌}
+use Rattle.std.specs.Prelude.{◌≡◌, ◌⊎◌, ⊤, ℕ, ◌+◌, Bool, false, Option, Some, None, Result, Ok, Err, List, ◌∷◌}
 use Rattle.std.specs.List.{flat_map}
 use Rattle.arrayvec.specs.ArrayString.{ArrayString}
 use Rattle.zs_host.specs.Outside.{Outside, failed}
@@ -8,13 +8,13 @@ use Rattle.flash_map.specs.declared.area.Area.{Area}
 use Rattle.flash_map.specs.declared.faults.Damaged.{Damaged}
 use Rattle.flash_map.specs.On.{on}
 use Rattle.backend_api.specs.Map.{Map}
-use Rattle.any_backend.specs.ByRole.{any_damage, any_contents, any_room}
+use Rattle.any_backend.specs.ByRole.{any_damage, any_contents, any_rests, any_room}
 use Rattle.image_file.specs.Format.{Plain}
 use Rattle.image_maps.specs.Laws.{unserved}
 use Rattle.session_table.specs.Bench.{area_at}
-use Rattle.session_table.specs.Follows.{Follows}
 use Rattle.session.specs.OnMap.{limit_of}
-use Rattle.mirror.specs.Trusted.{damage_shown, trusted_on}
+use Rattle.mirror.specs.Trusted.{BothRead, MirrorReads, damage_shown, trusted_on}
+use Rattle.mirror.specs.Mounting.{IsAtRest}
 use Rattle.mirror_stores.specs.Prices.{mirror_prices}
 use Rattle.mirror_lines.specs.declared.line.Line.{Line}
 use Rattle.mirror_lines.specs.declared.line.Line.TheVariants.{Mount}
@@ -23,10 +23,11 @@ use Rattle.mirror_lines.specs.Answer.{text_of}
 use Rattle.mirror_session.specs.declared.fault.SessionFault.{SessionFault}
 use Rattle.mirror_session.specs.declared.fault.SessionFault.TheVariants.{Damaged as IsDamaged, Unfit as IsUnfit, NoMemory as WantsMemory}
 use Rattle.mirror_session.specs.Bench.{Meanings, Moment, beside_in, meanings, moment, rules_of, state_of}
-use Rattle.mirror_session.specs.History.{GoesAstray, IsAfterPrefix, IsMirrored}
-use Rattle.mirror_session.specs.LineDone.{LineDone}
-use Rattle.mirror_session.specs.Running.{Ran, RunStops, replaced_in}
-use Rattle.mirror_session.specs.Step.{LosesArea}
+use Rattle.mirror_session.specs.History.{IsAfterPrefix, IsMirrored}
+use Rattle.mirror_session.specs.LineDone.{FitsBoth}
+use Rattle.mirror_session.specs.Running.{Ran, RunStops, TellsUnfit, replaced_in}
+use Rattle.mirror_session.specs.Standing.{NamesRead}
+use Rattle.mirror_session.specs.State.{IsOn}
 use Rattle.image_plays.specs.declared.outcome.Outcome.{Outcome}
 use Rattle.image_plays.specs.declared.stops.Refusal.{Refusal}
 use Rattle.image_plays.specs.declared.stops.Refusal.TheVariants.{BadArea, Unfit}
@@ -85,24 +86,14 @@ opening image old = moment (begun image old) false
 abbrev pub closing : Device → Bool → Moment
 closing new whole = moment new whole
 
--- A mount among the lines was cut, and left nothing of the area that was read, which had no settings.
-pub record LeavesNothing (areas : List Area) (lines : List Line) (old : Moment) : Type 0 where
-  pub front : List Line
-  pub rest : List Line
-  pub are : lines ≡ front ++ Mount ∷ rest
-  pub told : List Answer
-  pub mid : Moment
-  pub runs : Follows (LineDone any_meanings areas) front told old mid
-  pub next : Moment
-  pub loses : LosesArea (rules_of any_meanings areas mid.device.banks next.device.spent) (state_of any_meanings areas mid) (state_of any_meanings areas next)
-
 -- ---- done
 
 -- The text tells the answers that a plain map gives to the opening mount and to the lines, wherever power was lost and an area was
 -- replaced: the map that the image reads as. Each loss leaves the map after commands of the lines in their order, all of the
--- acknowledged ones among them, but where a mount that was cut left nothing of an area without settings. With power on in the end both areas read as the last map. OUT is the file of the image with the
--- bytes that are left, and it reads as the last map, also where power is off. The units in the answers are those that the flash has
--- spent, and its losses are the answers that tell of one. The flash was loaded once, and once more for each area that was replaced.
+-- acknowledged ones among them. With power on in the end both areas read as the last map. OUT is the file of the image with the bytes
+-- that are left, and it reads as the last map, also where power is off; an image that shows no damage is left so. The units in the answers
+-- are those that the flash has spent, and its losses are the answers that tell of one. The flash was loaded once, and once more for each
+-- area that was replaced.
 pub record PlaysMirror (name script out : List ℕ) (host : Outside) (old new : Device) (text : List ℕ) (file : Option File) : Type 0 where
   pub image : Plain
   pub areas : List Area
@@ -114,15 +105,26 @@ pub record PlaysMirror (name script out : List ℕ) (host : Outside) (old new : 
   pub after :
       let rules = rules_of any_meanings areas image.banks new.spent in
       let first = state_of any_meanings areas (opening image old) in let last = state_of any_meanings areas (closing new whole) in
-      IsAfterPrefix rules (Mount ∷ lines) answers first last ⊎ GoesAstray rules (Mount ∷ lines) answers first last
+      IsAfterPrefix rules (Mount ∷ lines) answers first last
   pub mirrored : IsMirrored (state_of any_meanings areas (closing new whole))
   pub reads : settings_in areas image ≡ (state_of any_meanings areas (opening image old)).settings
   pub reads_other : other_settings_in areas image ≡ (state_of any_meanings areas (opening image old)).other
   pub leaves : settings_in areas (left image new) ≡ (state_of any_meanings areas (closing new whole)).settings
   pub leaves_other : other_settings_in areas (left image new) ≡ (state_of any_meanings areas (closing new whole)).other
-  -- an image that shows no damage is left so
-  pub undamaged : damage_in areas image ≡ None
-      → (damage_in areas (left image new) ≡ None) ⊎ LeavesNothing areas (Mount ∷ lines) (opening image old)
+  -- where the image shows no damage, in its selector and in the area that is read, OUT shows none, and mirror-reads as the last map
+  pub undamaged : damage_in areas image ≡ None → damage_in areas (left image new) ≡ None
+  pub mirror_reads :
+      damage_in areas image ≡ None
+      → MirrorReads any_damage any_contents areas (flash_of (left image new)) (state_of any_meanings areas (closing new whole)).settings
+  -- With power on in the end neither area of OUT is damaged, and both read as the last map. A mount of OUT has nothing to do where that map
+  -- has settings, or the selector names the area that is read.
+  pub both_read :
+      IsOn (state_of any_meanings areas (closing new whole))
+      → BothRead any_damage any_contents areas (flash_of (left image new)) (state_of any_meanings areas (closing new whole)).settings
+  pub rests :
+      IsOn (state_of any_meanings areas (closing new whole))
+      → NamesRead (state_of any_meanings areas (closing new whole))
+      → IsAtRest any_damage any_contents any_rests areas (flash_of (left image new))
   pub banks : new.banks ≡ image.banks
   pub loads : new.loads ≡ counted old.loads (1 + replaced_in (Mount ∷ lines) answers)
   pub prints : text ≡ texts answers
@@ -153,7 +155,12 @@ TellsDamage (IsDamaged place damage) = ⊤
 TellsDamage (IsUnfit place) = ⊥
 TellsDamage WantsMemory = ⊥
 
--- A mount found damage, or settings that do not fit one of the two areas. An image that shows no damage is not refused for it.
+-- what the image reads as fits both of its areas
+abbrev pub FitsImage : List Area → Plain → Type 0
+FitsImage areas image = FitsBoth any_meanings areas image.banks (settings_in areas image)
+
+-- A mount found damage, or settings that do not fit one of the two areas. An image that shows no damage is not refused for it, and one
+-- whose settings fit both areas is not refused since they do not.
 pub record StopsAtMount (name script : List ℕ) (host : Outside) (old new : Device) (refusal : Refusal) : Type 0 where
   pub image : Plain
   pub areas : List Area
@@ -162,7 +169,8 @@ pub record StopsAtMount (name script : List ℕ) (host : Outside) (old new : Dev
   pub fault : SessionFault
   pub is : IsStop areas fault (Refused refusal)
   pub stops : RunStops any_meanings areas (Mount ∷ lines) (opening image old) new fault
-  pub shows : damage_in areas image ≡ None → TellsDamage fault → LeavesNothing areas (Mount ∷ lines) (opening image old)
+  pub shows : damage_in areas image ≡ None → ¬ TellsDamage fault
+  pub fits : FitsImage areas image → ¬ TellsUnfit fault
 
 -- In the order in which they are looked at: the image; its mirror; its stores; the lines; and then what a mount finds, once the flash is
 -- loaded. But for what a mount finds the flash is as before.

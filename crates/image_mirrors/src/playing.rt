@@ -1,7 +1,7 @@
 // Playing lines on the mirror of an image.
 ghost use Rattle.std.specs.Prelude.{◌≡◌, ℕ, ◌<◌, ◌∷◌, false, All, List, None};
 ghost use Rattle.zs_host.specs.Outside.{Outside};
-ghost use Rattle.any_backend.specs.ByRole.{any_serves};
+ghost use Rattle.any_backend.specs.ByRole.{any_rests, any_serves};
 ghost use Rattle.image_file.specs.Format.{plain};
 ghost use Rattle.image_file.specs.Lawful.{IsImage};
 ghost use Rattle.image_maps.specs.Laws.{unserved};
@@ -59,7 +59,8 @@ fn run<B: Bench, L: Ledger>(
     requires name { blank.name ≡ L.name }
     requires parts { blank.parts ≡ L.parts }
     requires some { 0 < L.parts }
-    ensures { RunEnds any_meanings areas.now (Mount ∷ lines.now) (moment (B.device bench.old) false) (B.device bench.new) result }
+    ensures { let old = moment (B.device bench.old) false in
+        RunEnds any_rests any_meanings areas.now (Mount ∷ lines.now) old (B.device bench.new) result }
 {
     let mut steps = Steps::<L>::new(blank);
     run_lines::<MirrorStore, B, L>(alloc, lines, bench, areas, &mut steps)

@@ -5,6 +5,7 @@ pub mod Choices
 pub mod Collecting
 pub mod Putting
 pub mod Names
+pub mod Spent
 pub mod Copies
 pub mod Moving
 pub mod Migration

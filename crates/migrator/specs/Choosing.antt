@@ -121,3 +121,7 @@ abbrev pub Chooses : List Area → Device → Device → Ring → ℕ → Type 0
 Chooses areas old new ring index =
     AddsChoice old new ring index
     ⊎ ((stays_for old ring (choice_of index) 0 ≡ false) × (is_scratch_left ring ≡ true) × CollectsAndAdds areas old new ring index)
+
+-- the most units and erases of the choice of an area, whole or cut: two headers, a copy, a record, and an erase
+abbrev pub choice_units : Device → Area → ℕ
+choice_units d area = 2 * header_units d area + 2 * record_units d area 2 + 1

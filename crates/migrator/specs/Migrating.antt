@@ -1,5 +1,5 @@
 -- What a migration makes of the areas, and how it ends.
-use Rattle.std.specs.Prelude.{◌≡◌, ◌⊎◌, ℕ, Bool, true, false, List, [], ◌∷◌, Option, Some, None, Result, Ok, Err}
+use Rattle.std.specs.Prelude.{◌≡◌, ◌⊎◌, ℕ, ◌+◌, ◌*◌, Bool, true, false, List, [], ◌∷◌, Option, Some, None, Result, Ok, Err}
 use Rattle.std.specs.FinMap as finite
 use Rattle.std.specs.List.{slice_get}
 use Rattle.std.specs.Option.{option_map_or, option_and_then}
@@ -11,7 +11,7 @@ use Rattle.flash_map.specs.Area.{geometry_of}
 use Rattle.fcb_ring.specs.declared.ring.Ring.{Ring}
 use Rattle.backend_api.specs.Map.{Map}
 use Rattle.flash_map.specs.On.{on, StandsOn}
-use Rattle.backend_api.specs.Room.{Room}
+use Rattle.backend_api.specs.Room.{Room, most_units, mount_units}
 use Rattle.backend_api.specs.declared.backend.SetFault.{SetFault}
 use Rattle.backend_api.specs.declared.backend.SetFault.TheVariants.{NoSpace as NoPlace, TooManyNames as OneTooMany, PowerLost as CopyLost}
 use Rattle.flash_sim.specs.declared.flash.PowerLost.{PowerLost as Lost}
@@ -110,6 +110,10 @@ pub record IsMoved (damage : Area → Geometry → List (List ℕ) → Option Da
   pub undamaged : on damage new area ≡ None
   pub reads : on contents new area ≡ settings
   pub free : NoneTooMany room settings None
+
+-- The most units and erases of filling an area, whole or cut: it is erased and mounted, and so many settings are put into it.
+abbrev pub fill_units : Geometry → ℕ → ℕ
+fill_units geometry names = geometry.sectors + mount_units geometry + names * most_units geometry
 
 -- the active area is the one that was
 abbrev pub StaysActive : List Area → Area → Device → Device → Type 0

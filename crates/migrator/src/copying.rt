@@ -1,12 +1,14 @@
 // Copying all settings from one store into another.
-ghost use Rattle.std.specs.Prelude.{◌≡◌, ℕ, ◌<◌, ◌≤◌, ◌∷◌, [], List, true, false, length, Some};
+ghost use Rattle.std.specs.Prelude.{◌≡◌, ℕ, ◌*◌, ◌<◌, ◌≤◌, ◌∷◌, [], List, true, false, length, Some};
 ghost use Rattle.std.specs.FinMap as finite;
-ghost use Rattle.flash_map.specs.Area.{sectors_of, value_limit, AreApart};
+ghost use Rattle.flash_map.specs.Area.{geometry_of, sectors_of, value_limit, AreApart};
 ghost use Rattle.flash_map.specs.declared.area.TheConstants.{LONG_VALUE_LIMIT};
 ghost use Rattle.flash_map.specs.Lawful.{IsLawfulFor};
+ghost use Rattle.flash_map.specs.Spending.{SpendsAtMost};
 ghost use Rattle.flash_map.specs.Touches.{Touches};
 ghost use Rattle.backend_api.specs.Ends.{set_lost, SetEndsOn};
 ghost use Rattle.backend_api.specs.Map.{IsStored, Map as settings_type};
+ghost use Rattle.backend_api.specs.Room.{most_units};
 ghost use Rattle.flash_map.specs.On.{on, StandsOn};
 ghost use Rattle.migrator.specs.Copying.{CopyEnds, PutsInOrder};
 ghost use Rattle.migrator.specs.Migrating.{room_on};
@@ -82,6 +84,8 @@ fn copy_one<F: Flash, K: Backend, L: Ledger>(
     ensures ends { let d = F.device flash.old in let e = F.device flash.new in
         (value : List ℕ) → IsStored (on K.contents d (K.mounted_on from.now)) name.now value
         → SetEndsOn K.room K.contents d e (K.mounted_on to.old) name.now value result }
+    ensures at_most { let d = F.device flash.old in
+        SpendsAtMost d (F.device flash.new) (most_units (geometry_of d (K.mounted_on to.old))) }
     ensures stands { set_lost result ≡ false → StandsOn K.mounted_on K.stands (F.device flash.new) to.new }
 {
     let value = value_of(from, flash, name, steps);
@@ -111,6 +115,9 @@ pub(crate) fn copy_all<F: Flash, K: Backend, L: Ledger>(
     ensures ends { let area = K.mounted_on to.old in let d = F.device flash.old in let e = F.device flash.new in
         let settings = on K.contents d (K.mounted_on from.now) in
         CopyEnds (room_on K.room d area) area.sectors settings (on K.contents e area) result }
+    ensures at_most { let area = K.mounted_on to.old in let d = F.device flash.old in
+        let settings = on K.contents d (K.mounted_on from.now) in
+        SpendsAtMost d (F.device flash.new) (finite.len settings * most_units (geometry_of d area)) }
     ensures stands { set_lost result ≡ false → StandsOn K.mounted_on K.stands (F.device flash.new) to.new }
 {
     let mut at = from.next_name(flash, None, steps);

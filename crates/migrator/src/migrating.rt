@@ -1,14 +1,17 @@
 // Moving all settings to another area.
-ghost use Rattle.std.specs.Prelude.{◌≡◌, ◌≢◌, ◌⊎◌, ℕ, ◌<◌, ◌≤◌, ◌∷◌, [], List, true, false, length, Some, None, IfOk, OnOk, is_err};
+ghost use Rattle.std.specs.Prelude.{◌≡◌, ◌≢◌, ◌⊎◌, ℕ, ◌+◌, ◌<◌, ◌≤◌, ◌∷◌, [], List, true, false, length, Some, None, IfOk, OnErr, OnOk, count_by, is_err};
 ghost use Rattle.std.specs.FinMap as finite;
 ghost use Rattle.flash_map.specs.Area.{sectors_of, geometry_of, AreApart};
 ghost use Rattle.flash_map.specs.Lawful.{IsLawfulFor};
+ghost use Rattle.flash_map.specs.Spending.{Spends, SpendsAtMost};
 ghost use Rattle.flash_map.specs.Touches.{Touches};
+ghost use Rattle.flash_map.specs.Units.{is_written};
+ghost use Rattle.backend_api.specs.Room.{mount_units};
 ghost use Rattle.flash_map.specs.On.{on, StandsOn};
 ghost use Rattle.fcb_ring.specs.Standing.{is_up, ring_damage};
 ghost use Rattle.migrator.specs.Areas.{is_store_at};
 ghost use Rattle.migrator.specs.Choosing.{IsOpen};
-ghost use Rattle.migrator.specs.Migrating.{migrate_lost, is_refused, IsServed, filled_as, moved_as, worked_on, room_on, OpenEnds, FillEnds, ReadsAs, MoveEnds, MigrateEnds};
+ghost use Rattle.migrator.specs.Migrating.{migrate_lost, is_refused, IsServed, fill_units, filled_as, moved_as, worked_on, room_on, OpenEnds, FillEnds, ReadsAs, MoveEnds, MigrateEnds};
 
 use crate::Selector;
 use crate::areas::{area_at, target};
@@ -46,6 +49,10 @@ fn erase<F: Flash, K: Backend, L: Ledger>(
     ensures touches { Touches (area.now ∷ []) (F.device flash.old) (F.device flash.new) (is_err result) }
     ensures sound { OnOk result (on K.damage (F.device flash.new) area.now ≡ None) }
     ensures empty { OnOk result (on K.contents (F.device flash.new) area.now ≡ finite.empty) }
+    ensures units { let d = F.device flash.old in
+        OnOk result (Spends d (F.device flash.new) (count_by is_written (sectors_of d area.now))) }
+    ensures units_lost { let d = F.device flash.old in
+        OnErr result (SpendsAtMost d (F.device flash.new) (count_by is_written (sectors_of d area.now))) }
 {
     K::format(flash, area, steps)
 }
@@ -64,6 +71,8 @@ fn open_blank<F: Flash, K: Backend, L: Ledger>(
     ensures ends { OpenEnds (on K.contents (F.device flash.new) area) result }
     ensures on { IfOk result (λ state. K.mounted_on state ≡ area) }
     ensures stands { IfOk result (λ state. StandsOn K.mounted_on K.stands (F.device flash.new) state) }
+    ensures at_most { let d = F.device flash.old in
+        SpendsAtMost d (F.device flash.new) (area.sectors + mount_units (geometry_of d area)) }
 {
     let erased: Result<(), PowerLost> = erase::<F, K, L>(flash, &area, steps);
     match erased {
@@ -105,7 +114,8 @@ fn moved_as<K: Backend>(
 }
 
 /// Erases an area, mounts a store on it, and puts all settings of another store into it, in the byte order of their names. The
-/// source stays as it is.
+/// source stays as it is. Whatever the result, it spends at most so many units and erases as the area's geometry and the count of the
+/// settings say (`fill_units`).
 ///
 /// # Errors
 /// `TooManyNames` and `NoSpace` where the area has no place for a setting beside those of lesser names, `NoMemory`, `PowerLost`:
@@ -131,6 +141,8 @@ pub fn fill<F: Flash, K: Backend, L: Ledger>(
         FillEnds (room_on K.room d area) area.sectors settings (on K.contents (F.device flash.new) area) result }
     ensures on { IfOk result (λ state. K.mounted_on state ≡ area) }
     ensures stands { IfOk result (λ state. StandsOn K.mounted_on K.stands (F.device flash.new) state) }
+    ensures at_most { let d = F.device flash.old in let settings = on K.contents d (K.mounted_on from.now) in
+        SpendsAtMost d (F.device flash.new) (fill_units (geometry_of d area) (finite.len settings)) }
 {
     let opened: Result<K, MigrateFault> = open_blank(alloc, flash, area, steps);
     let mut to = match opened {

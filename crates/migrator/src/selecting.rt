@@ -1,16 +1,16 @@
 // The selector: a ring of records, the last of which that names a store area tells which one is active.
-ghost use Rattle.std.specs.Prelude.{◌≡◌, ℕ, ◌≤◌, ◌<◌, ◌∷◌, [], List, true, false, is_err, length, None, Some, OnOk, OnErr};
+ghost use Rattle.std.specs.Prelude.{◌≡◌, ℕ, ◌+◌, ◌≤◌, ◌<◌, ◌∷◌, [], List, true, false, is_err, length, None, Some, OnOk, OnErr};
 ghost use Rattle.std.specs.Option.{option_map, option_or, ForSome};
 ghost use Rattle.flash_map.specs.declared.area.Area.{Area as area_type};
 ghost use Rattle.flash_map.specs.Area.{sectors_of, OthersStay};
 ghost use Rattle.flash_map.specs.Faults.{mount_lost};
 ghost use Rattle.flash_map.specs.Spending.{Spends, SpendsAtMost};
 ghost use Rattle.flash_map.specs.Touches.{Touches};
-ghost use Rattle.fcb_ring.specs.Changing.{append_lost, header_on, is_scratch_left, newest_place, sector_list, StopsErasing};
+ghost use Rattle.fcb_ring.specs.Changing.{append_lost, header_on, header_units, is_scratch_left, newest_place, record_units, sector_list, StopsErasing};
 ghost use Rattle.fcb_ring.specs.Standing.{IsRingArea, StandsOn as RingStandsOn, KeepsEntries, IsListed, entries_on, is_up, erases_on, mounted_on, ring_damage};
 ghost use Rattle.migrator.specs.Areas.{is_store_at};
 ghost use Rattle.migrator.specs.Active.{named, last_choice, last_record, active_in};
-ghost use Rattle.migrator.specs.Choosing.{choice_of, IsOpen, SelectorMounts, PutEnds, ChooseEnds, Copied, Collected, CollectsAndAdds, Chooses, copy_units};
+ghost use Rattle.migrator.specs.Choosing.{choice_of, IsOpen, SelectorMounts, PutEnds, ChooseEnds, Copied, Collected, CollectsAndAdds, Chooses, choice_units, copy_units};
 
 use crate::areas::{first_store, is_store_at};
 use fcb_ring::{AppendFault, RecordAt, Ring, Stage};
@@ -109,6 +109,7 @@ fn copy_last<F: Flash, L: Ledger>(
         OnOk result (Spends d e (copy_units d ring.old.area (sector_list e ring.old.area (newest_place ring.old)))) }
 
     ensures down { OnErr result (is_up ring.new.stage ≡ false) }
+    ensures at_most { let d = F.device flash.old in SpendsAtMost d (F.device flash.new) (record_units d ring.old.area 2) }
 {
     let oldest = ring.oldest();
     match last {
@@ -136,6 +137,8 @@ fn collect<F: Flash, L: Ledger>(
         OnErr result (active_in map.now (F.device flash.new) ring.old.area ≡ active_in map.now d ring.old.area) }
     ensures undamaged { OnErr result (ring_damage (F.device flash.new) ring.old.area ≡ None) }
     ensures down { OnErr result (is_up ring.new.stage ≡ false) }
+    ensures at_most { let d = F.device flash.old in
+        SpendsAtMost d (F.device flash.new) (header_units d ring.old.area + record_units d ring.old.area 2 + 1) }
 {
     let last = last_record(ring, flash, map, steps);
     ring.begin_collect(flash)?;
@@ -159,6 +162,8 @@ fn put_choice<F: Flash>(ring: &mut Ring, flash: &mut F, index: u8) -> Result<(),
     ensures area { ring.new.area ≡ ring.old.area }
     ensures ends { (areas : List area_type) → is_store_at areas index ≡ true
         → PutEnds areas (F.device flash.old) (F.device flash.new) ring.old ring.new index result }
+    ensures at_most { let d = F.device flash.old in
+        SpendsAtMost d (F.device flash.new) (header_units d ring.old.area + record_units d ring.old.area 2) }
 {
     let body = choice_of(index);
     ring.append(flash, &body, false)
@@ -181,6 +186,7 @@ fn collect_and_put<F: Flash, L: Ledger>(
     ensures area { ring.new.area ≡ ring.old.area }
     ensures ends { ChooseEnds map.now (F.device flash.old) (F.device flash.new) ring.old ring.new index result }
     ensures chosen { OnOk result (CollectsAndAdds map.now (F.device flash.old) (F.device flash.new) ring.old index) }
+    ensures at_most { let d = F.device flash.old in SpendsAtMost d (F.device flash.new) (choice_units d ring.old.area) }
 {
     collect(ring, flash, map, steps)?;
     match put_choice(ring, flash, index) {
@@ -251,7 +257,8 @@ impl Selector {
     /// a store area is kept.
     ///
     /// # Errors
-    /// `PowerLost`. The active area is then as before, or the one that was chosen, and the selector is down.
+    /// `PowerLost`. The active area is then as before, or the one that was chosen, and the selector is down. It spends at most so
+    /// many units and erases as the area's geometry says (`choice_units`), whatever the result.
     pub fn choose<F: Flash, L: Ledger>(
         &mut self,
         flash: &mut F,
@@ -266,6 +273,8 @@ impl Selector {
         ensures area { self.new.ring.area ≡ self.old.ring.area }
         ensures ends { ChooseEnds map.now (F.device flash.old) (F.device flash.new) self.old.ring self.new.ring index result }
         ensures chosen { OnOk result (Chooses map.now (F.device flash.old) (F.device flash.new) self.old.ring index) }
+        ensures at_most { let d = F.device flash.old in
+            SpendsAtMost d (F.device flash.new) (choice_units d self.old.ring.area) }
     {
         match put_choice(&mut self.ring, flash, index) {
             Ok(()) => Ok(()),

@@ -19,6 +19,7 @@ use Rattle.backend_api.proofs.MapLemmas.{insert-stored, ties_itself, ties_same}
 use Rattle.migrator.specs.Migrating.{room_on}
 use Rattle.migrator.proofs.Copies.{geometry-same}
 use Rattle.migrator.proofs.Moving.{still}
+use Rattle.migrator.proofs.Spent.{most_then}
 use Rattle.mirror.specs.declared.sides.Side.{Side}
 use Rattle.mirror.specs.Mirrored.{BothHave, IsCut, IsCutBoth, IsDone, IsMirror, SameSide, SideStands}
 use Rattle.mirror.specs.Room.{Fits, FitsOn, IsRoomBy, IsTight, IsTightOn, Prices, prices_on, too_many_on}
@@ -117,13 +118,10 @@ module _ (damage : Area → Geometry → List (List ℕ) → Option Damaged) (co
 pub some-both : (d m e : Device) → SpendsSome d m → SpendsSome m e → SpendsSome d e
 some-both d m e one two = (one.0 + two.0, (let a = one.1 in let b = two.1 in omega arith), spends_then d m e one.0 two.0 one.2 two.2)
 
-pub most-both : (d m e : Device) (first second : ℕ) → SpendsAtMost d m first → SpendsAtMost m e second → SpendsAtMost d e (first + second)
-most-both d m e first second one two = (one.0 + two.0, (let a = one.1 in let b = two.1 in omega arith), spends_then d m e one.0 two.0 one.2 two.2)
-
 pub most-first : (d m : Device) (first second : ℕ) → SpendsAtMost d m first → SpendsAtMost d m (first + second)
 most-first d m first second one = (one.0, (let a = one.1 in omega arith), one.2)
 
 -- each in its own area
 pub most-both-on : (d m e : Device) (t o : Area) → m.banks ≡ d.banks → SpendsAtMost d m (most_units (geometry_of d t)) → SpendsAtMost m e (most_units (geometry_of m o)) → SpendsAtMost d e (most_units (geometry_of d t) + most_units (geometry_of d o))
 most-both-on d m e t o banks one two =
-    most-both d m e (most_units (geometry_of d t)) (most_units (geometry_of d o)) one (subst (λ (g : Geometry). SpendsAtMost m e (most_units g)) (geometry-same d m o banks) two)
+    most_then d m e (most_units (geometry_of d t)) (most_units (geometry_of d o)) one (subst (λ (g : Geometry). SpendsAtMost m e (most_units g)) (geometry-same d m o banks) two)

@@ -2,12 +2,14 @@ pub mod BothSteps
 pub mod CommandSteps
 pub mod Comparisons
 pub mod FitLemmas
+pub mod KeepSteps
 pub mod MapSteps
 pub mod MirrorEnds
 pub mod MountSteps
 pub mod ReadLemmas
 pub mod RepairSteps
 pub mod SideLemmas
+pub mod SideSteps
 pub mod Totals
 pub mod TrustSteps
 pub mod Walks

@@ -23,9 +23,9 @@ use Rattle.migrator.specs.Migrating.{room_on}
 use Rattle.migrator.proofs.Copies.{geometry-same}
 use Rattle.migrator.proofs.Moving.{still}
 use Rattle.mirror.specs.declared.sides.Side.{Side}
-use Rattle.mirror.specs.Mirrored.{BothHave, DeletesBoth, HasRoom, IsCut, IsCutBoth, IsDone, IsMirror, LooksForBoth, MirrorDeletes, SameSide, SetsBoth, SideCommand, SideStands}
+use Rattle.mirror.specs.Mirrored.{BothHave, DeletesBoth, FitEither, HasRoom, IsCut, IsCutBoth, IsDone, IsMirror, LooksForBoth, MirrorDeletes, SameSide, SetsBoth, SideCommand, SideStands}
 use Rattle.mirror.specs.Room.{FitsOn, IsRoomBy, Prices, prices_on, too_many_on}
-use Rattle.mirror.proofs.BothSteps.{cut-first, cut-second, done-both, mirrors-then, put-or-same, some-both}
+use Rattle.mirror.proofs.BothSteps.{cut-first, cut-second, done-both, fits-still, mirrors-then, put-or-same, some-both}
 use Rattle.mirror.proofs.CommandSteps.{side-still}
 use Rattle.mirror.proofs.FitLemmas.{removed-fits}
 
@@ -58,6 +58,32 @@ module _ {S : Type 0} (mounted : S → Area) (stands : S → Geometry → List (
 
     pub first-cut : (m : Device) (nothing : Type 0) (after : Map) (lost : Bool) → IsLawful m.banks m.bytes → Touches (t.area ∷ []) d m lost → on damage m t.area ≡ None → IsCut contents d m t.area nothing after → IsCutBoth damage contents m t.area o.area before after
     first-cut m nothing after lost mid touches sound cut = cut-first damage contents d m t.area o.area nothing after touches.banks (beside m lost mid touches) is.same other-sound sound cut
+
+  -- the settings of before fit both areas, and so do the new ones
+  pub fit-either : (e : Device) (after : Map) → e.banks ≡ d.banks → FitsOn room prices d t.area after → FitsOn room prices d o.area after → FitEither room prices e t.area o.area before after
+  fit-either e after banks here there = (
+    record {
+      trusted_fits = fits-still mounted stands contents room prices d e t.area before before banks refl is.trusted_fits;
+      other_fits = fits-still mounted stands contents room prices d e o.area before before banks refl is.other_fits;
+    },
+    record {
+      trusted_fits = fits-still mounted stands contents room prices d e t.area after after banks refl here;
+      other_fits = fits-still mounted stands contents room prices d e o.area after after banks refl there;
+    },
+  )
+
+  module _ (tr : IsRoomBy (room_on room d t.area) (prices_on prices d t.area)) (or : IsRoomBy (room_on room d o.area) (prices_on prices d o.area)) where
+    pub put-fits : (e : Device) (name value : List ℕ) → e.banks ≡ d.banks → HasRoom room d t.area o.area before name value → FitEither room prices e t.area o.area before (insert before name value)
+    put-fits e name value banks has =
+        fit-either e (insert before name value) banks
+        (put-or-same (room_on room d t.area) (prices_on prices d t.area) t.area.sectors (value_limit t.area) before name value tr is.trusted_fits has.few.trusted_few has.trusted_room)
+        (put-or-same (room_on room d o.area) (prices_on prices d o.area) o.area.sectors (value_limit o.area) before name value or is.other_fits has.few.other_few has.other_room)
+
+    pub removed-fit : (e : Device) (name : List ℕ) → e.banks ≡ d.banks → FitEither room prices e t.area o.area before (remove before name)
+    removed-fit e name banks =
+        fit-either e (remove before name) banks
+        (removed-fits (room_on room d t.area) (prices_on prices d t.area) tr t.area.sectors (value_limit t.area) before is.trusted_fits name)
+        (removed-fits (room_on room d o.area) (prices_on prices d o.area) or o.area.sectors (value_limit o.area) before is.other_fits name)
 
   -- the other side behind the command on the trusted one
   pub other-stands : (m : Device) (lost : Bool) → IsLawful m.banks m.bytes → Touches (t.area ∷ []) d m lost → SideStands mounted stands m o
@@ -109,15 +135,17 @@ module _ {S : Type 0} (mounted : S → Area) (stands : S → Geometry → List (
 
   pub delete-ends : (m e : Device) (lost : Bool) (name : List ℕ) (r : Result (Unit {0}) Lost) → IsLawful m.banks m.bytes → IsLawful e.banks e.bytes → Touches (t.area ∷ []) d m false → Touches (o.area ∷ []) m e lost
       → IsDone contents d m t.area (IsAbsent (on contents d t.area) name) (remove (on contents d t.area) name) → on damage m t.area ≡ None → on damage e o.area ≡ None
-      → SideCommand contents m e o.area (IsAbsent (on contents m o.area) name) (remove (on contents m o.area) name) r → MirrorDeletes damage contents d e t o name r
-  delete-ends m e lost name (Ok x) mid end first second one sound other two = record {
+      → IsRoomBy (room_on room d t.area) (prices_on prices d t.area) → IsRoomBy (room_on room d o.area) (prices_on prices d o.area)
+      → SideCommand contents m e o.area (IsAbsent (on contents m o.area) name) (remove (on contents m o.area) name) r → MirrorDeletes damage contents room prices d e t o name r
+  delete-ends m e lost name (Ok x) mid end first second one sound other tr or two = record {
     settings = both-have m e lost mid end first second (λ (x : Map). IsAbsent x name) (λ (x : Map). remove x name) one two;
     absent = both-idle m e lost mid end first second (λ (x : Map). IsAbsent x name) (λ (x : Map). remove x name) one two;
     spends = both-spend m e lost mid end first second (λ (x : Map). IsAbsent x name) (λ (x : Map). remove x name) one two;
   }
-  delete-ends m e lost name (Err x) mid end first second one sound other cut = (
+  delete-ends m e lost name (Err x) mid end first second one sound other tr or cut = (
     λ none. cut.some (subst (λ (x : Map). IsAbsent x name) (sym (other-has m false mid first)) none),
     both-cut m e lost mid end first second (λ (x : Map). IsAbsent x name) (λ (x : Map). remove x name) one sound other cut,
+    removed-fit tr or e name (second.banks ∙ first.banks),
   )
 
   pub delete-mirror : (m e : Device) (lost : Bool) (name : List ℕ) (r : Result (Unit {0}) Lost) (t' o' : Side S) → IsLawful m.banks m.bytes → IsLawful e.banks e.bytes → Touches (t.area ∷ []) d m false → Touches (o.area ∷ []) m e lost

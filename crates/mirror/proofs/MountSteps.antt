@@ -1,5 +1,5 @@
 -- A mount of a mirror: the selector, and then both areas.
-use Rattle.std.proofs.Common.{◌≡◌, ◌≢◌, ◌⊎◌, ℕ, Bool, true, false, min, max, List, [], ◌∷◌, ◌++◌, Option, Some, None, Result, Ok, Err, refl, sym, ap, subst, ◌∙◌, inl, inr}
+use Rattle.std.proofs.Common.{◌≡◌, ◌≢◌, ◌⊎◌, ℕ, ◌+◌, ◌≤◌, Bool, true, false, min, max, List, [], ◌∷◌, ◌++◌, Option, Some, None, Result, Ok, Err, refl, sym, ap, subst, ◌∙◌, inl, inr, arith}
 use Rattle.std.specs.Prelude.{unwrap_or, option_map}
 use Rattle.std.specs.FinMap as maps
 use Rattle.std.specs.List.{slice_get}
@@ -13,23 +13,27 @@ use Rattle.flash_map.specs.declared.faults.Damaged.{Damaged}
 use Rattle.flash_map.specs.Area.{geometry_of, sectors_of}
 use Rattle.flash_map.specs.On.{on, StandsOn}
 use Rattle.flash_map.specs.Faults.{mount_lost as store_lost}
+use Rattle.flash_map.specs.Spending.{SpendsAtMost}
 use Rattle.flash_map.specs.Touches.{Touches}
+use Rattle.flash_map.proofs.SpendingLemmas.{most_weaker}
 use Rattle.flash_map.specs.declared.faults.MountFault.{MountFault}
 use Rattle.flash_map.specs.declared.faults.MountFault.TheVariants.{Damaged as MountDamaged, PowerLost as MountLost, NoMemory as MountNoMemory}
-use Rattle.flash_map.proofs.Touches.{then, wider}
+use Rattle.flash_map.proofs.Touches.{first_of_two, second_of_two, then, wider}
 use Rattle.fcb_ring.specs.Entries.{states}
 use Rattle.fcb_ring.specs.Rings.{first_damage}
-use Rattle.fcb_ring.specs.Standing.{ring_damage}
+use Rattle.fcb_ring.specs.Standing.{erases_due, erases_on, ring_damage}
 use Rattle.backend_api.specs.Map.{Map}
-use Rattle.backend_api.specs.Room.{Room}
+use Rattle.backend_api.specs.Room.{Room, mount_units}
 use Rattle.migrator.specs.Active.{active_in, active_on, selector_damage_on}
 use Rattle.migrator.specs.Areas.{selector_of}
 use Rattle.migrator.proofs.Migration.{active-on}
+use Rattle.migrator.proofs.Copies.{geometry-same}
 use Rattle.migrator.proofs.Moving.{active-still, still}
+use Rattle.migrator.proofs.Spent.{most_then}
 use Rattle.mirror.specs.declared.mounting.MirrorMount.{MirrorMount}
 use Rattle.mirror.specs.declared.mounting.MirrorMount.TheVariants.{Damaged as IsDamaged, Unfit, PowerLost, NoMemory}
 use Rattle.mirror.specs.declared.mirror.Mirror.{Mirror}
-use Rattle.mirror.specs.Mounting.{BothEnds, FindsUnfit, FitsAt, IsCutTrust, KeepsArea, KeepsTrusted, MirrorMounts, MountsBoth, NamesTrusted, TrustEnds, UnfitAt, fault_at, mount_lost, other_place, worked_on}
+use Rattle.mirror.specs.Mounting.{BothEnds, FindsUnfit, FitsAt, IsCutTrust, KeepsArea, KeepsTrusted, MirrorMounts, MountsBoth, NamesTrusted, SelectorRests, TrustEnds, UnfitAt, both_units, fault_at, mount_lost, other_place, other_units, trust_units, worked_on}
 use Rattle.mirror.specs.Room.{FitsOn, Prices}
 use Rattle.mirror.specs.Trusted.{damage_shown, selector_place, trusted_damage, trusted_on}
 use Rattle.mirror.proofs.BothSteps.{fits-still}
@@ -53,6 +57,9 @@ pub both-touch : (s t o : Area) (d m e : Device) (lost : Bool) → Touches (s �
 both-touch s t o d m e lost first second =
     then (wider (worked_on s t o) (λ area has. Contains-append_left (s ∷ []) (t ∷ o ∷ []) area has) first)
     (wider (worked_on s t o) (λ area has. Contains-append_right (s ∷ []) (t ∷ o ∷ []) area has) second)
+
+two-touch : (s t : Area) (d m e : Device) → Touches (s ∷ []) d m false → Touches (t ∷ []) m e true → Touches (s ∷ t ∷ []) d e true
+two-touch s t d m e first second = then (first_of_two first) (second_of_two second)
 
 pub first-touches : (s t o : Area) (d m : Device) (lost : Bool) → Touches (s ∷ []) d m lost → Touches (worked_on s t o) d m lost
 first-touches s t o d m lost first = wider (worked_on s t o) (λ area has. Contains-append_left (s ∷ []) (t ∷ o ∷ []) area has) first
@@ -81,13 +88,32 @@ module _ {S : Type 0} (mounted : S → Area) (stands : S → Geometry → List (
     (room : Area → Geometry → Room) (prices : Area → Geometry → Prices) (areas : List Area) (s : Area) (selected : selector_of areas ≡ Some s) where
   -- the selector was not mounted
   pub mounts-fault : (d e : Device) (fault : MirrorMount) → TrustEnds areas d e (Err fault) → Touches (s ∷ []) d e (mount_lost {T = ℕ} (Err fault)) → MirrorMounts mounted stands damage contents room prices areas s d e (Err fault)
-  mounts-fault d e (IsDamaged place shown) did touches = (shows-selector damage areas d place shown did.0 did.1, touches)
+  mounts-fault d e (IsDamaged place shown) did touches =
+      let is = shows-selector damage areas d place shown did.0 did.1 in
+      record {
+        is_shown = is;
+        still_shown = ap (damage_shown damage areas) did.2 ∙ is;
+        trusted = ap (trusted_on areas) did.2;
+        active = inl (ap (active_on areas) did.2);
+        touches = touches;
+      }
   mounts-fault d e (Unfit place) did touches = absurd did
   mounts-fault d e PowerLost did touches = record { trust = did; later = inl touches }
   mounts-fault d e NoMemory did touches = absurd did
 
   module _ (d m e : Device) (t o : Area) (there : slice_get areas (trusted_on areas d) ≡ Some t) (other : slice_get areas (other_place areas (trusted_on areas d)) ≡ Some o) (named : NamesTrusted areas d m)
-      (banks : m.banks ≡ d.banks) (later : e.banks ≡ m.banks) (t-same : sectors_of m t ≡ sectors_of d t) (o-same : sectors_of m o ≡ sectors_of d o) (s-same : sectors_of e s ≡ sectors_of m s) (touches : Touches (s ∷ []) d m false) where
+      (banks : m.banks ≡ d.banks) (later : e.banks ≡ m.banks) (t-same : sectors_of m t ≡ sectors_of d t) (o-same : sectors_of m o ≡ sectors_of d o) (s-same : sectors_of e s ≡ sectors_of m s) (touches : Touches (s ∷ []) d m false)
+      (again : trusted_on areas m ≡ trusted_on areas d) where
+    -- the selector rests
+    selector-rests : SelectorRests areas e
+    selector-rests x is =
+        let same : s ≡ x = some-area s x (sym selected ∙ is) in
+        subst (λ (y : Area). erases_on e y ≡ 0) same
+        (still (λ area geometry sectors. erases_due (states geometry.unit sectors)) m e s later s-same ∙ named.rests s selected)
+      where
+        some-area : (x y : Area) → Some x ≡ Some y → x ≡ y
+        some-area x y e = cc
+
     keeps : KeepsArea damage contents m e t → KeepsTrusted damage contents areas d e t
     keeps kept = record {
       sound = selector-damage-still areas s selected m e later s-same ∙ named.sound_still;
@@ -123,12 +149,18 @@ module _ {S : Type 0} (mounted : S → Area) (stands : S → Geometry → List (
       trusted_at = did.trusted_at;
       other_at = did.other_at;
       kept = subst (λ (x : Area). KeepsTrusted damage contents areas d e x) (sym did.trusted_is) (keeps did.kept);
+      rests = selector-rests;
       mirrors = did.mirrors;
     }
-    mounts-then place (Err (IsDamaged at shown)) is did = (
-      shows-trusted damage areas d t at shown there named.sound did.0 (sym was ∙ did.1),
-      subst (λ (x : Device). Touches (s ∷ []) d x false) (sym did.2) touches,
-    )
+    mounts-then place (Err (IsDamaged at shown)) is did = record {
+      is_shown = shows-trusted damage areas d t at shown there named.sound did.0 (sym was ∙ did.1);
+      still_shown =
+          ap (damage_shown damage areas) did.2
+          ∙ shows-trusted damage areas m t at shown (ap (slice_get areas) again ∙ there) named.sound_still (did.0 ∙ sym again) did.1;
+      trusted = ap (trusted_on areas) did.2 ∙ again;
+      active = inr (ap (active_on areas) did.2 ∙ named.active);
+      touches = subst (λ (x : Device). Touches (s ∷ []) d x false) (sym did.2) touches;
+    }
     mounts-then place (Err (Unfit unfit)) is did = record {
       undamaged = shows-none damage areas d t there named.sound (sym was ∙ did.sound);
       trusted = t;
@@ -144,7 +176,23 @@ module _ {S : Type 0} (mounted : S → Area) (stands : S → Geometry → List (
         sound_still = selector-damage-still areas s selected m e later s-same ∙ named.sound_still;
         active = inr (selector-active-still areas s selected m e later s-same ∙ named.active);
       };
-      later = inr (t, there, sym was ∙ did.0, keeps did.1);
+      later = inr (elim did.2 [
+        | inl first ↦ inl (record {
+          trusted = t;
+          there = there;
+          undamaged = sym was ∙ did.0;
+          kept = keeps did.1;
+          touches = two-touch s t d m e touches first;
+        })
+        | inr fits ↦ inr (record {
+          trusted = t;
+          there = there;
+          undamaged = sym was ∙ did.0;
+          kept = keeps did.1;
+          fits = fits-before (trusted_on areas d) fits.0;
+          other_fits = fits-before (other_place areas (trusted_on areas d)) fits.1;
+        })
+      ]);
     }
     mounts-then place (Err NoMemory) is did = record {
       sound = named.sound;
@@ -172,3 +220,20 @@ lost-same T U (IsDamaged place shown) = refl
 lost-same T U (Unfit place) = refl
 lost-same T U PowerLost = refl
 lost-same T U NoMemory = refl
+
+-- ---- what a mount spends
+
+within : (a b : ℕ) → a ≤ a + b
+within a b = omega arith
+
+-- the selector alone was worked on
+pub mounts-first : (d m : Device) (s : Area) (more : ℕ) → SpendsAtMost d m (trust_units d s) → SpendsAtMost d m (trust_units d s + more)
+mounts-first d m s more spent = most_weaker d m (trust_units d s) (trust_units d s + more) (within (trust_units d s) more) spent
+
+-- and then both areas
+pub mounts-spend : (d m e : Device) (s t o : Area) (before now : Map) → m.banks ≡ d.banks → now ≡ before → SpendsAtMost d m (trust_units d s) → SpendsAtMost m e (both_units m t o (maps.len now)) → SpendsAtMost d e (trust_units d s + both_units d t o (maps.len before))
+mounts-spend d m e s t o before now banks same first second =
+    most_then d m e (trust_units d s) (both_units d t o (maps.len before)) first
+    (subst (λ (x : Map). SpendsAtMost m e (both_units d t o (maps.len x))) same
+    (subst (λ (g : Geometry). SpendsAtMost m e (mount_units (geometry_of d t) + other_units g (maps.len now))) (geometry-same d m o banks)
+    (subst (λ (g : Geometry). SpendsAtMost m e (mount_units g + other_units (geometry_of m o) (maps.len now))) (geometry-same d m t banks) second)))

@@ -10,6 +10,7 @@ use Rattle.std.proofs.lemmas.List.Elements.{All-head, All-tail}
 use Rattle.flash_sim.specs.Device.{Device}
 use Rattle.flash_map.specs.declared.area.Area.{Area}
 use Rattle.flash_map.specs.declared.area.Geometry.{Geometry}
+use Rattle.flash_map.specs.declared.faults.Damaged.{Damaged}
 use Rattle.flash_map.specs.Area.{geometry_of, value_limit}
 use Rattle.flash_map.specs.On.{on, StandsOn}
 use Rattle.flash_map.specs.Touches.{Touches}
@@ -98,9 +99,12 @@ module _ (room : Area → Geometry → Room) (prices : Area → Geometry → Pri
 
 -- ---- the other area
 
-pub hold-ends : {S : Type 0} (mounted : S → Area) (stands : S → Geometry → List (List ℕ) → Type 0) (contents : Area → Geometry → List (List ℕ) → Map) (d m : Device) (area source : Area) (store : S) (o : Option S) → mounted store ≡ area → StandsOn mounted stands m store
-    → on contents m source ≡ on contents d source → IsKeptIf o store (on contents m (mounted store) ≡ on contents m source) → HoldEnds mounted stands m area (on contents m area ≡ on contents d source) (Ok o)
-hold-ends mounted stands contents d m area source store (Some kept) here up same is =
+pub hold-ends : {S : Type 0} (mounted : S → Area) (stands : S → Geometry → List (List ℕ) → Type 0) (damage : Area → Geometry → List (List ℕ) → Option Damaged) (contents : Area → Geometry → List (List ℕ) → Map) (d m : Device) (area source : Area) (store : S) (o : Option S)
+    → mounted store ≡ area → StandsOn mounted stands m store
+    → on contents m source ≡ on contents d source → (on damage d area ≡ None → on contents m area ≡ on contents d area) → IsKeptIf o store (on contents m (mounted store) ≡ on contents m source)
+    → HoldEnds mounted stands damage contents d m area (on contents d source) (Ok o)
+hold-ends mounted stands damage contents d m area source store (Some kept) here up same keeps is =
     let on_it : mounted kept ≡ area = ap mounted is.0 ∙ here in
     (on_it, subst (λ x. StandsOn mounted stands m x) (sym is.0) up, ap (on contents m) (sym here) ∙ is.1 ∙ same)
-hold-ends mounted stands contents d m area source store None here up same is = tt
+hold-ends mounted stands damage contents d m area source store None here up same keeps differs =
+    λ holds. differs (ap (on contents m) here ∙ keeps holds.sound ∙ holds.reads ∙ sym same)

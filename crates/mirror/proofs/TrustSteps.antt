@@ -1,6 +1,6 @@
 -- Mounting the selector, and naming the trusted area.
-use Rattle.std.proofs.Common.{◌≡◌, ◌≢◌, ◌⊎◌, ℕ, zero, suc, ◌+◌, ◌<◌, Bool, true, false, not, ◌&&◌, cond, List, [], ◌∷◌, length, Option, Some, None, Result, Ok, Err, is_err, refl, sym, ap, subst, ◌∙◌, inl, inr, arith}
-use Rattle.std.specs.Prelude.{find, unwrap_or}
+use Rattle.std.proofs.Common.{◌≡◌, ◌≢◌, ◌⊎◌, ℕ, zero, suc, ◌+◌, ◌*◌, ◌<◌, ◌≤◌, Bool, true, false, not, ◌&&◌, cond, List, [], ◌∷◌, length, Option, Some, None, Result, Ok, Err, is_err, refl, sym, ap, subst, ◌∙◌, inl, inr, arith}
+use Rattle.std.specs.Prelude.{OnOk, find, unwrap_or}
 use Rattle.std.specs.List.{list_all, range_with_len, slice_get}
 use Rattle.std.specs.Option.{option_and_then, option_map_or}
 use Rattle.std.proofs.lemmas.Bool.{cases_Bool, false≢true}
@@ -14,22 +14,29 @@ use Rattle.flash_map.specs.declared.area.Role.TheVariants.{Nvs, Zms, Fcb, Sel}
 use Rattle.flash_map.specs.declared.faults.Damaged.{Damaged}
 use Rattle.flash_map.specs.declared.faults.MountFault.{MountFault}
 use Rattle.flash_map.specs.declared.faults.MountFault.TheVariants.{Damaged as MountDamaged, PowerLost as MountLost, NoMemory as MountNoMemory}
-use Rattle.flash_map.specs.Area.{AreApart, sectors_of}
+use Rattle.flash_map.specs.Area.{AreApart, sectors_of, unit_of}
+use Rattle.flash_map.specs.Faults.{mount_lost as store_lost}
+use Rattle.flash_map.specs.Spending.{Spends, SpendsAtMost}
 use Rattle.flash_map.specs.Touches.{Touches}
 use Rattle.flash_map.specs.Units.{is_erased}
 use Rattle.flash_map.proofs.Apart.{same_apart}
+use Rattle.flash_map.proofs.SpendingLemmas.{most_weaker, spends_most}
+use Rattle.fcb_ring.specs.Changing.{header_units, record_units}
 use Rattle.fcb_ring.specs.declared.ring.Ring.{Ring}
-use Rattle.fcb_ring.specs.Standing.{IsRingArea, ring_damage}
+use Rattle.fcb_ring.specs.Standing.{IsRingArea, erases_on, ring_damage}
+use Rattle.backend_api.specs.Written.{is_blank_on}
 use Rattle.migrator.specs.declared.selecting.Selector.{Selector}
 use Rattle.migrator.specs.Active.{active_in, active_on, selector_damage_on}
 use Rattle.migrator.specs.Areas.{IsLawfulMap, is_store, is_store_at, selector_of, stores, target}
-use Rattle.migrator.specs.Choosing.{IsOpen, OldOrChosen, SelectorMounts}
+use Rattle.migrator.specs.Choosing.{ChooseEnds, IsOpen, OldOrChosen, SelectorMounts, choice_units}
+use Rattle.fcb_ring.proofs.RestLemmas.{ready-rests}
 use Rattle.migrator.proofs.AreaLemmas.{store-within, target-store}
 use Rattle.migrator.proofs.Migration.{active-on, active-store, selector-apart, selector-at, store-of}
+use Rattle.migrator.proofs.Spent.{header-same, most_none, most_then, record-same}
 use Rattle.mirror.specs.declared.mounting.MirrorMount.{MirrorMount}
 use Rattle.mirror.specs.declared.mounting.MirrorMount.TheVariants.{Damaged as IsDamaged, Unfit, PowerLost, NoMemory}
-use Rattle.mirror.specs.Mounting.{IsCutTrust, NameEnds, NamesTrusted, TrustEnds, fault_at}
-use Rattle.mirror.specs.Trusted.{IsMirrorMap, is_blank_at, is_blank_on, selector_found, selector_place, trusted_on, trusted_with}
+use Rattle.mirror.specs.Mounting.{IsCutTrust, NameEnds, NamesTrusted, TrustEnds, fault_at, trust_units}
+use Rattle.mirror.specs.Trusted.{IsMirrorMap, is_blank_at, selector_found, selector_place, trusted_on, trusted_with}
 
 some-same : {X : Type 0} (x y : X) → Some x ≡ Some y → x ≡ y
 some-same x y e = cc
@@ -134,13 +141,14 @@ module _ (areas : List Area) (d : Device) (s : Area) (selected : selector_of are
       by MountNoMemory none = absurd none
 
   -- the selector was mounted, and named the trusted area
-  pub trust-named : (m e : Device) (trusted : ℕ) → ring_damage d s ≡ None → trusted ≡ trusted_on areas d → (active_in areas e s ≡ trusted) × (ring_damage e s ≡ None) → TrustEnds areas d e (Ok trusted)
-  trust-named m e trusted none is did = (
+  pub trust-named : (m e : Device) (trusted : ℕ) → ring_damage d s ≡ None → trusted ≡ trusted_on areas d → (active_in areas e s ≡ trusted) × (ring_damage e s ≡ None) → erases_on e s ≡ 0 → TrustEnds areas d e (Ok trusted)
+  trust-named m e trusted none is did rests = (
     is,
     record {
       sound = damage-with areas d s selected ∙ none;
       sound_still = damage-with areas e s selected ∙ did.1;
       active = active-on areas e s selected ∙ did.0 ∙ is;
+      rests = λ x at. subst (λ (y : Area). erases_on e y ≡ 0) (some-same s x (sym selected ∙ at)) rests;
     },
   )
 
@@ -168,3 +176,74 @@ pub trusted-stores : (serves : Area → Geometry → Type 0) (areas : List Area)
 trusted-stores serves areas d map =
     let store = ap (is_store_at areas) (active-on areas d map.selector map.selected) ∙ active-stores serves areas d map d map.selector in
     with-stores areas d (active_on areas d) (target areas (active_on areas d)) store refl
+
+-- ---- the trusted area, found again
+
+second-false : (a b : Bool) → (a && not b) ≡ true → b ≡ false
+second-false true true e = absurd (false≢true e)
+second-false true false e = refl
+second-false false b e = absurd (false≢true e)
+
+-- an area that is not all FF is trusted where the selector names it
+written-trusted : (areas : List Area) (d : Device) (place : ℕ) (o : Option ℕ) → is_blank_at areas d place ≡ false → trusted_with areas d place o ≡ place
+written-trusted areas d place None written = refl
+written-trusted areas d place (Some other) written = ap (λ (t : Bool). cond (t && not (is_blank_at areas d other)) other place) written
+
+-- where the selector names the trusted area, that one is trusted
+fixed-by : (areas : List Area) (d : Device) (active : ℕ) (o : Option ℕ) → target areas active ≡ o
+    → trusted_with areas d (trusted_with areas d active (target areas active)) (target areas (trusted_with areas d active (target areas active))) ≡ trusted_with areas d active (target areas active)
+fixed-by areas d active None none =
+    let is : trusted_with areas d active (target areas active) ≡ active = ap (trusted_with areas d active) none in
+    subst (λ (n : ℕ). trusted_with areas d n (target areas n) ≡ n) (sym is) is
+fixed-by areas d active (Some other) some = elim (cases_Bool (is_blank_at areas d active && not (is_blank_at areas d other))) [
+  | inl over ↦
+      let is : trusted_with areas d active (target areas active) ≡ other = ap (trusted_with areas d active) some ∙ ap (λ (t : Bool). cond t other active) over in
+      subst (λ (n : ℕ). trusted_with areas d n (target areas n) ≡ n) (sym is) (written-trusted areas d other (target areas other) (second-false (is_blank_at areas d active) (is_blank_at areas d other) over))
+  | inr stays ↦
+      let is : trusted_with areas d active (target areas active) ≡ active = ap (trusted_with areas d active) some ∙ ap (λ (t : Bool). cond t other active) stays in
+      subst (λ (n : ℕ). trusted_with areas d n (target areas n) ≡ n) (sym is) is
+]
+
+pub trusted-fixed : (areas : List Area) (d : Device) → trusted_with areas d (trusted_on areas d) (target areas (trusted_on areas d)) ≡ trusted_on areas d
+trusted-fixed areas d = fixed-by areas d (active_on areas d) (target areas (active_on areas d)) refl
+
+-- and so it is where only the selector changed, and names that one, or the one of before
+pub trusted-again : (serves : Area → Geometry → Type 0) (areas : List Area) (d m : Device) (s : Area) (lost : Bool) (map : IsMirrorMap serves areas d) (selected : selector_of areas ≡ Some s)
+    (lawful : IsLawful d.banks d.bytes) (lawful_mid : IsLawful m.banks m.bytes) (touches : Touches (s ∷ []) d m lost)
+    → (active_on areas m ≡ active_on areas d) ⊎ (active_on areas m ≡ trusted_on areas d) → trusted_on areas m ≡ trusted_on areas d
+trusted-again serves areas d m s lost map selected lawful lawful_mid touches (inl old) =
+    trusted-beside serves areas d m s lost map selected lawful lawful_mid touches (active_on areas m) old (ap (is_store_at areas) (active-on areas m s selected) ∙ active-stores serves areas d map m s)
+trusted-again serves areas d m s lost map selected lawful lawful_mid touches (inr new) =
+    ap (λ (n : ℕ). trusted_with areas m n (target areas n)) new
+    ∙ with-beside serves areas d m s lost map selected lawful lawful_mid touches (trusted_on areas d) (target areas (trusted_on areas d)) (trusted-stores serves areas d map) refl
+    ∙ trusted-fixed areas d
+
+-- ---- what it spends, and where there is nothing to do
+
+pub selector-most : (d m : Device) (s : Area) (r : Result Selector MountFault) → SelectorMounts d m s r → OnOk r (Spends d m (erases_on d s)) → (store_lost r ≡ true → SpendsAtMost d m (erases_on d s)) → SpendsAtMost d m (erases_on d s)
+selector-most d m s (Ok x) ends units bound = spends_most d m (erases_on d s) units
+selector-most d m s (Err (MountDamaged shown)) ends units bound = most_none d m (erases_on d s) ends.1
+selector-most d m s (Err MountLost) ends units bound = bound refl
+selector-most d m s (Err MountNoMemory) ends units bound = absurd ends
+
+within : (a b : ℕ) → a ≤ a + b
+within a b = omega arith
+
+-- the selector was not mounted
+pub trust-first : (d m : Device) (a s : Area) → a ≡ s → SpendsAtMost d m (erases_on d a) → SpendsAtMost d m (trust_units d s)
+trust-first d m a s same spent =
+    most_weaker d m (erases_on d s) (trust_units d s) (within (erases_on d s) (choice_units d s)) (subst (λ (x : Area). SpendsAtMost d m (erases_on d x)) same spent)
+
+-- it was, and then an area was chosen
+pub trust-then : (d m e : Device) (a b s : Area) → m.banks ≡ d.banks → a ≡ s → b ≡ s → SpendsAtMost d m (erases_on d a) → SpendsAtMost m e (choice_units m b) → SpendsAtMost d e (trust_units d s)
+trust-then d m e a b s banks same other first second =
+    let units : choice_units m b ≡ choice_units d s = ap (λ (h : ℕ). 2 * h + 2 * record_units m b 2 + 1) (header-same d m s b banks other) ∙ ap (λ (r : ℕ). 2 * header_units d s + 2 * r + 1) (record-same d m s b banks other) in
+    most_then d m e (erases_on d s) (choice_units d s) (subst (λ (x : Area). SpendsAtMost d m (erases_on d x)) same first) (subst (λ (n : ℕ). SpendsAtMost m e n) units second)
+
+-- a ring that takes records has nothing to erase
+pub open-rests : (e : Device) (ring : Ring) (s : Area) → ring.area ≡ s → IsOpen e ring → erases_on e s ≡ 0
+open-rests e ring s same opened = subst (λ (x : Area). erases_on e x ≡ 0) same (ready-rests (unit_of e ring.area) (sectors_of e ring.area) ring opened.stands.sectors opened.ready)
+
+pub chosen-opens : {E : Type 0} (areas : List Area) (d e : Device) (before after : Ring) (index : ℕ) (r : Result (Unit {0}) E) → ChooseEnds areas d e before after index r → OnOk r (IsOpen e after)
+chosen-opens areas d e before after index (Ok x) ends = ends.0
+chosen-opens areas d e before after index (Err x) ends = tt

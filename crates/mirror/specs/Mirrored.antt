@@ -87,6 +87,15 @@ pub record IsCutBoth (damage : Area → Geometry → List (List ℕ) → Option 
       ⊎ ((on contents new trusted ≡ after) × (on contents new other ≡ before))
       ⊎ ((on contents new trusted ≡ after) × (on contents new other ≡ after))
 
+-- settings fit both areas
+pub record FitBoth (room : Area → Geometry → Room) (prices : Area → Geometry → Prices) (d : Device) (trusted other : Area) (settings : Map) : Type 0 where
+  pub trusted_fits : FitsOn room prices d trusted settings
+  pub other_fits : FitsOn room prices d other settings
+
+-- the settings of before a command fit both areas, and so do the new ones
+abbrev pub FitEither : (Area → Geometry → Room) → (Area → Geometry → Prices) → Device → Area → Area → Map → Map → Type 0
+FitEither room prices d trusted other before after = FitBoth room prices d trusted other before × FitBoth room prices d trusted other after
+
 -- both have these settings
 pub record BothHave (contents : Area → Geometry → List (List ℕ) → Map) (new : Device) (trusted other : Area) (after : Map) : Type 0 where
   pub trusted_has : on contents new trusted ≡ after
@@ -141,18 +150,19 @@ LooksForBoth room d trusted other settings name value (Err (NoSpace need live)) 
 LooksForBoth room d trusted other settings name value (Err PowerLost) = ⊥
 
 -- how a set ends; a refusal comes before anything is programmed
-abbrev pub MirrorSets : {S T : Type 0} → (Area → Geometry → List (List ℕ) → Option Damaged) → (Area → Geometry → List (List ℕ) → Map) → (Area → Geometry → Room)
+abbrev pub MirrorSets : {S T : Type 0} → (Area → Geometry → List (List ℕ) → Option Damaged) → (Area → Geometry → List (List ℕ) → Map) → (Area → Geometry → Room) → (Area → Geometry → Prices)
     → Device → Device → Side S → Side S → List ℕ → List ℕ → Result T SetFault → Type 0
-MirrorSets damage contents room old new trusted other name value (Ok x) =
+MirrorSets damage contents room prices old new trusted other name value (Ok x) =
     HasRoom room old trusted.area other.area (on contents old trusted.area) name value × SetsBoth contents old new trusted.area other.area name value
-MirrorSets damage contents room old new trusted other name value (Err TooManyNames) =
+MirrorSets damage contents room prices old new trusted other name value (Err TooManyNames) =
     ((too_many_on room old trusted.area (on contents old trusted.area) name ≡ true) ⊎ (too_many_on room old other.area (on contents old trusted.area) name ≡ true)) × (new ≡ old)
-MirrorSets damage contents room old new trusted other name value (Err (NoSpace need live)) =
+MirrorSets damage contents room prices old new trusted other name value (Err (NoSpace need live)) =
     IsFew room old trusted.area other.area (on contents old trusted.area) name
     × FindsNoRoom room old (lower trusted other) (higher trusted other) (on contents old trusted.area) name value need live × (new ≡ old)
-MirrorSets damage contents room old new trusted other name value (Err PowerLost) =
+MirrorSets damage contents room prices old new trusted other name value (Err PowerLost) =
     HasRoom room old trusted.area other.area (on contents old trusted.area) name value × (¬ IsStored (on contents old trusted.area) name value)
     × IsCutBoth damage contents new trusted.area other.area (on contents old trusted.area) (insert (on contents old trusted.area) name value)
+    × FitEither room prices new trusted.area other.area (on contents old trusted.area) (insert (on contents old trusted.area) name value)
 
 -- ---- deleting
 
@@ -163,8 +173,10 @@ pub record DeletesBoth (contents : Area → Geometry → List (List ℕ) → Map
   pub spends : ¬ IsAbsent (on contents old trusted) name → SpendsSome old new
 
 -- how a delete ends
-abbrev pub MirrorDeletes : {S T : Type 0} → (Area → Geometry → List (List ℕ) → Option Damaged) → (Area → Geometry → List (List ℕ) → Map) → Device → Device → Side S → Side S → List ℕ → Result T Lost → Type 0
-MirrorDeletes damage contents old new trusted other name (Ok x) = DeletesBoth contents old new trusted.area other.area name
-MirrorDeletes damage contents old new trusted other name (Err lost) =
+abbrev pub MirrorDeletes : {S T : Type 0} → (Area → Geometry → List (List ℕ) → Option Damaged) → (Area → Geometry → List (List ℕ) → Map) → (Area → Geometry → Room) → (Area → Geometry → Prices)
+    → Device → Device → Side S → Side S → List ℕ → Result T Lost → Type 0
+MirrorDeletes damage contents room prices old new trusted other name (Ok x) = DeletesBoth contents old new trusted.area other.area name
+MirrorDeletes damage contents room prices old new trusted other name (Err lost) =
     (¬ IsAbsent (on contents old trusted.area) name)
     × IsCutBoth damage contents new trusted.area other.area (on contents old trusted.area) (remove (on contents old trusted.area) name)
+    × FitEither room prices new trusted.area other.area (on contents old trusted.area) (remove (on contents old trusted.area) name)

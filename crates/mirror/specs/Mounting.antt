@@ -1,6 +1,5 @@
 -- What a mount of a mirror makes of its areas, and how it ends.
-use Rattle.std.specs.Prelude.{◌≡◌, ◌≢◌, ◌⊎◌, ⊤, ℕ, Bool, true, false, min, max, List, [], ◌∷◌, Option, Some, None, Result, Ok, Err, unwrap_or}
-use Rattle.std.specs.FinMap.{empty}
+use Rattle.std.specs.Prelude.{◌≡◌, ◌≢◌, ◌⊎◌, ⊤, ℕ, ◌+◌, Bool, true, false, min, max, List, [], ◌∷◌, Option, Some, None, Result, Ok, Err, unwrap_or}
 use Rattle.std.specs.List.{slice_get}
 use Rattle.flash_sim.specs.Device.{Device}
 use Rattle.flash_map.specs.declared.area.Area.{Area}
@@ -8,15 +7,17 @@ use Rattle.flash_map.specs.declared.area.Geometry.{Geometry}
 use Rattle.flash_map.specs.declared.faults.Damaged.{Damaged}
 use Rattle.flash_map.specs.declared.faults.MountFault.{MountFault}
 use Rattle.flash_map.specs.declared.faults.MountFault.TheVariants.{Damaged as MountDamaged, PowerLost as MountLost, NoMemory as MountNoMemory}
-use Rattle.flash_map.specs.Area.{sectors_of}
-use Rattle.flash_map.specs.On.{on, StandsOn}
+use Rattle.flash_map.specs.Area.{geometry_of, sectors_of}
+use Rattle.flash_map.specs.On.{on, HoldsOn, StandsOn}
 use Rattle.flash_map.specs.Touches.{Touches}
-use Rattle.fcb_ring.specs.Standing.{ring_damage}
+use Rattle.fcb_ring.specs.Standing.{erases_on, ring_damage}
 use Rattle.backend_api.specs.Map.{Map}
-use Rattle.backend_api.specs.Room.{Room}
+use Rattle.backend_api.specs.Room.{Room, mount_units}
+use Rattle.backend_api.specs.Written.{StaysWritten}
 use Rattle.migrator.specs.Active.{active_in, active_on, selector_damage_on}
-use Rattle.migrator.specs.Areas.{target}
-use Rattle.migrator.specs.Choosing.{OldOrChosen}
+use Rattle.migrator.specs.Areas.{selector_of, target}
+use Rattle.migrator.specs.Choosing.{OldOrChosen, choice_units}
+use Rattle.migrator.specs.Migrating.{fill_units}
 use Rattle.migrator.specs.declared.migrating.MigrateFault.{MigrateFault}
 use Rattle.migrator.specs.declared.migrating.MigrateFault.TheVariants.{NoTarget, NoSpace, TooManyNames, PowerLost as MoveLost, NoMemory as MoveNoMemory}
 use Rattle.mirror.specs.declared.mounting.MirrorMount.{MirrorMount}
@@ -25,7 +26,7 @@ use Rattle.mirror.specs.declared.mirror.Mirror.{Mirror}
 use Rattle.mirror.specs.declared.sides.Side.{Side}
 use Rattle.mirror.specs.Mirrored.{IsMirror, SideStands}
 use Rattle.mirror.specs.Room.{Prices, FitsOn}
-use Rattle.mirror.specs.Trusted.{damage_shown, is_blank_on, selector_place, trusted_damage, trusted_on}
+use Rattle.mirror.specs.Trusted.{damage_shown, selector_place, trusted_on}
 
 -- the answer says that power was lost
 abbrev pub mount_lost : {T : Type 0} → Result T MirrorMount → Bool
@@ -62,11 +63,16 @@ pub record IsCutTrust (areas : List Area) (old new : Device) : Type 0 where
   pub sound_still : selector_damage_on areas new ≡ None
   pub active : (active_on areas new ≡ active_on areas old) ⊎ (active_on areas new ≡ trusted_on areas old)
 
--- The selector is not damaged and names the area that the map trusts.
+-- a mount of the selector has nothing to erase
+abbrev pub SelectorRests : List Area → Device → Type 0
+SelectorRests areas d = (selector : Area) → selector_of areas ≡ Some selector → erases_on d selector ≡ 0
+
+-- The selector is not damaged, names the area that the map trusts, and has nothing left to do.
 pub record NamesTrusted (areas : List Area) (old new : Device) : Type 0 where
   pub sound : selector_damage_on areas old ≡ None
   pub sound_still : selector_damage_on areas new ≡ None
   pub active : active_on areas new ≡ trusted_on areas old
+  pub rests : SelectorRests areas new
 
 -- how mounting the selector ends, with the trusted area
 abbrev pub TrustEnds : List Area → Device → Device → Result ℕ MirrorMount → Type 0
@@ -119,14 +125,23 @@ abbrev pub IsKeptIf : {S : Type 0} → Option S → S → Type 0 → Type 0
 IsKeptIf (Some kept) store holds = (kept ≡ store) × holds
 IsKeptIf None store holds = ¬ holds
 
--- how the mount of the other area ends: it holds the map of the trusted one, or there is no store
-abbrev pub HoldEnds : {S : Type 0} → (S → Area) → (S → Geometry → List (List ℕ) → Type 0) → Device → Area → Type 0 → Result (Option S) MirrorMount → Type 0
-HoldEnds mounted_on stands new area same (Ok (Some store)) = (mounted_on store ≡ area) × StandsOn mounted_on stands new store × same
-HoldEnds mounted_on stands new area same (Ok None) = ⊤
-HoldEnds mounted_on stands new area same (Err (IsDamaged place shown)) = ⊥
-HoldEnds mounted_on stands new area same (Err (Unfit place)) = ⊥
-HoldEnds mounted_on stands new area same (Err PowerLost) = ⊤
-HoldEnds mounted_on stands new area same (Err NoMemory) = ⊤
+-- The area is not damaged, and has these settings.
+pub record HoldsMap (damage : Area → Geometry → List (List ℕ) → Option Damaged) (contents : Area → Geometry → List (List ℕ) → Map)
+    (d : Device) (area : Area) (settings : Map) : Type 0 where
+  pub sound : on damage d area ≡ None
+  pub reads : on contents d area ≡ settings
+
+-- How the mount of the other area ends: it holds the map of the trusted one; or there is no store, and then it was damaged, or held
+-- another map.
+abbrev pub HoldEnds : {S : Type 0} → (S → Area) → (S → Geometry → List (List ℕ) → Type 0) → (Area → Geometry → List (List ℕ) → Option Damaged) → (Area → Geometry → List (List ℕ) → Map)
+    → Device → Device → Area → Map → Result (Option S) MirrorMount → Type 0
+HoldEnds mounted_on stands damage contents old new area settings (Ok (Some store)) =
+    (mounted_on store ≡ area) × StandsOn mounted_on stands new store × (on contents new area ≡ settings)
+HoldEnds mounted_on stands damage contents old new area settings (Ok None) = ¬ HoldsMap damage contents old area settings
+HoldEnds mounted_on stands damage contents old new area settings (Err (IsDamaged place shown)) = ⊥
+HoldEnds mounted_on stands damage contents old new area settings (Err (Unfit place)) = ⊥
+HoldEnds mounted_on stands damage contents old new area settings (Err PowerLost) = ⊤
+HoldEnds mounted_on stands damage contents old new area settings (Err NoMemory) = ⊤
 
 -- no put of a repair was refused
 abbrev pub IsNotRefused : {S : Type 0} → Result S MigrateFault → Type 0
@@ -178,6 +193,22 @@ module _ (damage : Area → Geometry → List (List ℕ) → Option Damaged) (co
     pub untouched : sectors_of new other ≡ sectors_of old other
     pub unfits : UnfitAt room prices areas old place (other_place areas place) (on contents old trusted) unfit
 
+  -- Power was lost in the trusted area, while it was mounted: the other one is untouched. Or it was lost later, in the other one,
+  -- and then the map fits both.
+  abbrev pub StopsIn : (Area → Geometry → Room) → (Area → Geometry → Prices) → List Area → Device → Device → Area → Area → ℕ → Type 0
+  StopsIn room prices areas old new trusted other place =
+      Touches (trusted ∷ []) old new true
+      ⊎ (FitsAt room prices areas old place (on contents old trusted) × FitsAt room prices areas old (other_place areas place) (on contents old trusted))
+
+  -- What a mount of both areas leaves of what they hold, however it ends. The trusted one keeps its settings, and is all FF afterwards only
+  -- where it was so before; and where the other one holds the same map, it goes on holding it.
+  pub record SparesBoth (old new : Device) (trusted other : Area) : Type 0 where
+    pub written : StaysWritten old new trusted
+    pub kept : on damage old trusted ≡ None → KeepsArea old new trusted
+    pub held :
+        on damage old trusted ≡ None → HoldsMap damage contents old other (on contents old trusted)
+        → HoldsMap damage contents new other (on contents old trusted)
+
 -- how mounting both areas ends, where the one at this place is trusted
 abbrev pub BothEnds : {S : Type 0} → (S → Area) → (S → Geometry → List (List ℕ) → Type 0) → (Area → Geometry → List (List ℕ) → Option Damaged) → (Area → Geometry → List (List ℕ) → Map)
     → (Area → Geometry → Room) → (Area → Geometry → Prices) → List Area → Device → Device → Area → Area → ℕ → Result (Mirror S) MirrorMount → Type 0
@@ -189,6 +220,7 @@ BothEnds mounted_on stands damage contents room prices areas old new trusted oth
     FindsUnfit damage contents room prices areas old new trusted other place unfit
 BothEnds mounted_on stands damage contents room prices areas old new trusted other place (Err PowerLost) =
     (on damage old trusted ≡ None) × KeepsArea damage contents old new trusted
+    × StopsIn damage contents room prices areas old new trusted other place
 BothEnds mounted_on stands damage contents room prices areas old new trusted other place (Err NoMemory) =
     on damage old trusted ≡ None → KeepsArea damage contents old new trusted
 
@@ -214,6 +246,7 @@ module _ (damage : Area → Geometry → List (List ℕ) → Option Damaged) (co
       pub trusted_at : mirror.trusted.place ≡ trusted_on areas old
       pub other_at : mirror.other.place ≡ other_place areas (trusted_on areas old)
       pub kept : KeepsTrusted areas old new mirror.trusted.area
+      pub rests : SelectorRests areas new
       pub mirrors : IsMirror mounted_on stands contents room prices new mirror.trusted mirror.other
 
   -- The map of the trusted area does not fit both areas: not the one at the lower place, or not the one at the higher place
@@ -227,13 +260,40 @@ module _ (damage : Area → Geometry → List (List ℕ) → Option Damaged) (co
     pub untouched : sectors_of new other ≡ sectors_of old other
     pub unfits : UnfitAt room prices areas old (trusted_on areas old) (other_place areas (trusted_on areas old)) (on contents old trusted) unfit
 
-  -- Power was lost: while the selector was mounted or named the trusted area, or later, and then the trusted area was not damaged
-  -- and keeps its settings.
-  pub record IsCutMount (areas : List Area) (selector : Area) (old new : Device) : Type 0 where
+  -- The selector or the trusted area is damaged. No byte of an area for settings changed, and the map trusts the same area and shows the
+  -- same damage; the selector names the area that it named, or the trusted one.
+  pub record FindsDamage (areas : List Area) (selector : Area) (old new : Device) (place : ℕ) (shown : Damaged) : Type 0 where
+    pub is_shown : damage_shown damage areas old ≡ Some (place, shown)
+    pub still_shown : damage_shown damage areas new ≡ Some (place, shown)
+    pub trusted : trusted_on areas new ≡ trusted_on areas old
+    pub active : (active_on areas new ≡ active_on areas old) ⊎ (active_on areas new ≡ trusted_on areas old)
+    pub touches : Touches (selector ∷ []) old new false
+
+  -- Power was lost behind the selector, in the trusted area, which was not damaged and keeps its settings. The other one is untouched.
+  pub record StopsInTrusted (areas : List Area) (selector : Area) (old new : Device) : Type 0 where
+    pub trusted : Area
+    pub there : slice_get areas (trusted_on areas old) ≡ Some trusted
+    pub undamaged : on damage old trusted ≡ None
+    pub kept : KeepsTrusted areas old new trusted
+    pub touches : Touches (selector ∷ trusted ∷ []) old new true
+
+  -- Or behind both of these, in the other area, which was mounted or repaired: the map fits both.
+  pub record StopsInOther (room : Area → Geometry → Room) (prices : Area → Geometry → Prices) (areas : List Area) (old new : Device) : Type 0 where
+    pub trusted : Area
+    pub there : slice_get areas (trusted_on areas old) ≡ Some trusted
+    pub undamaged : on damage old trusted ≡ None
+    pub kept : KeepsTrusted areas old new trusted
+    pub fits : FitsAt room prices areas old (trusted_on areas old) (on contents old trusted)
+    pub other_fits : FitsAt room prices areas old (other_place areas (trusted_on areas old)) (on contents old trusted)
+
+  -- Power was lost: while the selector was mounted or named the trusted area; or later, in the trusted area; or later still, in the
+  -- other one.
+  pub record IsCutMount (room : Area → Geometry → Room) (prices : Area → Geometry → Prices) (areas : List Area) (selector : Area) (old new : Device) : Type 0 where
     pub trust : IsCutTrust areas old new
     pub later :
         Touches (selector ∷ []) old new true
-        ⊎ ((trusted : Area) × (slice_get areas (trusted_on areas old) ≡ Some trusted) × (on damage old trusted ≡ None) × KeepsTrusted areas old new trusted)
+        ⊎ StopsInTrusted areas selector old new
+        ⊎ StopsInOther room prices areas old new
 
   -- There was not enough memory. Where the trusted area was not damaged, it keeps its settings.
   pub record LacksMemory (areas : List Area) (old new : Device) : Type 0 where
@@ -245,12 +305,33 @@ abbrev pub MirrorMounts : {S : Type 0} → (S → Area) → (S → Geometry → 
     → (Area → Geometry → Room) → (Area → Geometry → Prices) → List Area → Area → Device → Device → Result (Mirror S) MirrorMount → Type 0
 MirrorMounts mounted_on stands damage contents room prices areas selector old new (Ok mirror) = IsMounted damage contents mounted_on stands room prices areas old new mirror
 MirrorMounts mounted_on stands damage contents room prices areas selector old new (Err (IsDamaged place shown)) =
-    (damage_shown damage areas old ≡ Some (place, shown)) × Touches (selector ∷ []) old new false
+    FindsDamage damage contents areas selector old new place shown
 MirrorMounts mounted_on stands damage contents room prices areas selector old new (Err (Unfit place)) = IsUnfit damage contents room prices areas old new place
-MirrorMounts mounted_on stands damage contents room prices areas selector old new (Err PowerLost) = IsCutMount damage contents areas selector old new
+MirrorMounts mounted_on stands damage contents room prices areas selector old new (Err PowerLost) = IsCutMount damage contents room prices areas selector old new
 MirrorMounts mounted_on stands damage contents room prices areas selector old new (Err NoMemory) = LacksMemory damage contents areas old new
 
--- A mount does not make the trusted area all FF where it was not and has no settings. (Where it has some, it is not all FF.)
-abbrev pub StaysWritten : (Area → Geometry → List (List ℕ) → Map) → List Area → Device → Device → Type 0
-StaysWritten contents areas old new =
-    (area : Area) → slice_get areas (trusted_on areas old) ≡ Some area → on contents old area ≡ empty → is_blank_on new area ≡ true → is_blank_on old area ≡ true
+-- A mount has nothing to do: neither in the selector, which names the trusted area, nor in the two areas, which hold one map.
+pub record IsAtRest (damage : Area → Geometry → List (List ℕ) → Option Damaged) (contents : Area → Geometry → List (List ℕ) → Map) (rests : Area → Geometry → List (List ℕ) → Type 0)
+    (areas : List Area) (d : Device) : Type 0 where
+  pub selector : SelectorRests areas d
+  pub named : active_on areas d ≡ trusted_on areas d
+  pub trusted : Area
+  pub other : Area
+  pub placed : ArePlaced areas d trusted other
+  pub trusted_rests : HoldsOn rests d trusted
+  pub other_rests : HoldsOn rests d other
+  pub same : HoldsMap damage contents d other (on contents d trusted)
+
+-- ---- what it spends
+
+-- the most units and erases of mounting the other area and repairing it, with so many names
+abbrev pub other_units : Geometry → ℕ → ℕ
+other_units geometry names = mount_units geometry + fill_units geometry names
+
+-- and of mounting both areas, where the map has so many names
+abbrev pub both_units : Device → Area → Area → ℕ → ℕ
+both_units d trusted other names = mount_units (geometry_of d trusted) + other_units (geometry_of d other) names
+
+-- the most units and erases of a mount of the selector that then names the trusted area
+abbrev pub trust_units : Device → Area → ℕ
+trust_units d selector = erases_on d selector + choice_units d selector

@@ -1,22 +1,18 @@
 -- Which of two store areas is trusted, and the map that an image reads as by it.
 use Rattle.std.specs.Prelude.{◌≡◌, ◌≢◌, ◌⊎◌, ℕ, ◌&&◌, Bool, true, false, not, List, length, find, Option, Some, None, unwrap_or, if◌then◌else◌}
-use Rattle.std.specs.List.{list_all, slice_get, range_with_len}
+use Rattle.std.specs.List.{slice_get, range_with_len}
 use Rattle.std.specs.Option.{option_and_then, option_map, option_map_or, option_or}
 use Rattle.flash_sim.specs.Device.{Device}
 use Rattle.flash_map.specs.declared.area.Area.{Area}
 use Rattle.flash_map.specs.declared.area.Geometry.{Geometry}
 use Rattle.flash_map.specs.declared.faults.Damaged.{Damaged}
-use Rattle.flash_map.specs.Area.{geometry_of, sectors_of}
+use Rattle.flash_map.specs.Area.{geometry_of}
 use Rattle.flash_map.specs.On.{on}
-use Rattle.flash_map.specs.Units.{is_erased}
 use Rattle.backend_api.specs.Map.{Map}
+pub use Rattle.backend_api.specs.Written.{is_blank_on}
 use Rattle.migrator.specs.Active.{active_on, selector_damage_on}
 use Rattle.migrator.specs.Areas.{IsLawfulMap, is_store, is_store_at, selector_of, target}
 use Rattle.mirror.specs.Room.{IsMirrored}
-
--- each byte of the area is FF
-abbrev pub is_blank_on : Device → Area → Bool
-is_blank_on d area = list_all is_erased (sectors_of d area)
 
 abbrev pub is_blank_at : List Area → Device → ℕ → Bool
 is_blank_at areas d place = option_map_or (is_blank_on d) (slice_get areas place) false

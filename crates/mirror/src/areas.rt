@@ -1,7 +1,8 @@
 // The areas of a map, and whether one is all FF.
 ghost use Rattle.std.specs.Prelude.{◌≡◌};
 ghost use Rattle.flash_map.specs.Area.{IsLawfulArea};
-ghost use Rattle.mirror.specs.Trusted.{is_blank_on, selector_found, selector_place};
+ghost use Rattle.backend_api.specs.Written.{is_blank_on};
+ghost use Rattle.mirror.specs.Trusted.{selector_found, selector_place};
 
 use flash_map::{Area, FlashMap, is_erased, sector_view};
 use flash_sim::{Flash, Steps};

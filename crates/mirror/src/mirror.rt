@@ -119,7 +119,7 @@ impl<K: Priced> Mirror<K> {
         ensures trusted { SameSide self.old.trusted self.new.trusted }
         ensures other { SameSide self.old.other self.new.other }
         ensures ends { let d = F.device flash.old in let e = F.device flash.new in
-            MirrorSets K.damage K.contents K.room d e self.old.trusted self.old.other name.now value.now result }
+            MirrorSets K.damage K.contents K.room K.prices d e self.old.trusted self.old.other name.now value.now result }
         ensures at_most { let d = F.device flash.old in SpendsAtMost d (F.device flash.new)
             (most_units (geometry_of d self.old.trusted.area) + most_units (geometry_of d self.old.other.area)) }
         ensures mirrors { let e = F.device flash.new in set_lost result ≡ false
@@ -188,7 +188,7 @@ impl<K: Priced> Mirror<K> {
     /// map does not hold just that value under the name, and the map and the put would cost more than an area may have
     /// (`mirror_room`): with the numbers of the area that comes first in the map, if it is that one. Both are looked at before
     /// anything is programmed. `PowerLost`: the mirror is down; the trusted area is as before or has the value, and so is the
-    /// other one, which has the value only where the trusted one has it.
+    /// other one, which has the value only where the trusted one has it. The map fits both areas, with the value too.
     pub fn set<F: Flash, L: Ledger>(
         &mut self,
         flash: &mut F,
@@ -206,7 +206,7 @@ impl<K: Priced> Mirror<K> {
         ensures trusted { SameSide self.old.trusted self.new.trusted }
         ensures other { SameSide self.old.other self.new.other }
         ensures ends { let d = F.device flash.old in let e = F.device flash.new in
-            MirrorSets K.damage K.contents K.room d e self.old.trusted self.old.other name.now value.now result }
+            MirrorSets K.damage K.contents K.room K.prices d e self.old.trusted self.old.other name.now value.now result }
         ensures at_most { let d = F.device flash.old in SpendsAtMost d (F.device flash.new)
             (most_units (geometry_of d self.old.trusted.area) + most_units (geometry_of d self.old.other.area)) }
         ensures mirrors { let e = F.device flash.new in set_lost result ≡ false
@@ -224,7 +224,7 @@ impl<K: Priced> Mirror<K> {
     ///
     /// # Errors
     /// `PowerLost`: the mirror is down; the trusted area is as before or without the name, and so is the other one, which is
-    /// without it only where the trusted one is.
+    /// without it only where the trusted one is. The map fits both areas, without the name too.
     pub fn delete<F: Flash, L: Ledger>(
         &mut self,
         flash: &mut F,
@@ -239,7 +239,7 @@ impl<K: Priced> Mirror<K> {
         ensures trusted { SameSide self.old.trusted self.new.trusted }
         ensures other { SameSide self.old.other self.new.other }
         ensures ends { let d = F.device flash.old in let e = F.device flash.new in
-            MirrorDeletes K.damage K.contents d e self.old.trusted self.old.other name.now result }
+            MirrorDeletes K.damage K.contents K.room K.prices d e self.old.trusted self.old.other name.now result }
         ensures at_most { let d = F.device flash.old in SpendsAtMost d (F.device flash.new)
             (most_units (geometry_of d self.old.trusted.area) + most_units (geometry_of d self.old.other.area)) }
         ensures mirrors { let e = F.device flash.new in is_err result ≡ false

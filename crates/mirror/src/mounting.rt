@@ -1,16 +1,22 @@
 // Mounting a mirror, and repairing the area that is not trusted.
-ghost use Rattle.std.specs.Prelude.{◌≡◌, ◌≢◌, ◌<◌, ◌∷◌, [], true, false, is_err, length, None, Some, IfOk, option_map};
+ghost use Rattle.std.specs.Prelude.{◌≡◌, ◌≢◌, ◌+◌, ◌<◌, ◌∷◌, [], true, false, is_err, length, None, Some, IfOk, OnOk, option_map};
+ghost use Rattle.std.specs.FinMap as finite;
 ghost use Rattle.std.specs.List.{slice_get};
 ghost use Rattle.flash_map.specs.declared.area.Area.{Area as area_type};
 ghost use Rattle.flash_map.specs.Area.{AreApart, geometry_of, sectors_of, value_limit};
 ghost use Rattle.flash_map.specs.Lawful.{IsLawfulFor};
-ghost use Rattle.flash_map.specs.On.{on, StandsOn};
+ghost use Rattle.flash_map.specs.On.{on, HoldsOn, StandsOn};
+ghost use Rattle.flash_map.specs.Spending.{SpendsAtMost};
 ghost use Rattle.flash_map.specs.Touches.{Touches};
+ghost use Rattle.backend_api.specs.Map.{Map as map_type};
+ghost use Rattle.backend_api.specs.Room.{mount_units};
+ghost use Rattle.backend_api.specs.Written.{StaysWritten};
 ghost use Rattle.migrator.specs.Areas.{is_store_at, selector_of};
+ghost use Rattle.migrator.specs.Migrating.{fill_units};
 ghost use Rattle.mirror.specs.Mirrored.{SideStands};
-ghost use Rattle.mirror.specs.Mounting.{BothEnds, BothFitEnds, FitEnds, HoldEnds, IsKeptIf, IsNotRefused, MirrorMounts, OtherEnds, RepairsAs, SideEnds, fault_at, mount_lost, other_place, worked_on};
+ghost use Rattle.mirror.specs.Mounting.{BothEnds, BothFitEnds, FitEnds, HoldEnds, HoldsMap, IsAtRest, IsKeptIf, IsNotRefused, MirrorMounts, OtherEnds, RepairsAs, SideEnds, SparesBoth, both_units, fault_at, mount_lost, other_place, other_units, trust_units, worked_on};
 ghost use Rattle.mirror.specs.Room.{FitsOn, IsMirrored};
-ghost use Rattle.mirror.specs.Trusted.{IsMirrorMap, trusted_on};
+ghost use Rattle.mirror.specs.Trusted.{IsMirrorMap, MirrorReads, trusted_on};
 
 use crate::comparing::hold_one_map;
 use crate::fitting::fits;
@@ -71,6 +77,9 @@ fn mount_side<K: Priced, F: Flash, L: Ledger>(
         on K.damage d area ≡ None → on K.contents e area ≡ on K.contents d area }
     ensures sound { let d = F.device flash.old in let e = F.device flash.new in
         on K.damage d area ≡ None → on K.damage e area ≡ None }
+    ensures rests { HoldsOn K.rests (F.device flash.old) area → F.device flash.new ≡ F.device flash.old }
+    ensures written { StaysWritten (F.device flash.old) (F.device flash.new) area }
+    ensures at_most { let d = F.device flash.old in SpendsAtMost d (F.device flash.new) (mount_units (geometry_of d area)) }
 {
     let own = area.copy();
     match K::mount(alloc, flash, area, steps) {
@@ -148,7 +157,7 @@ fn if_same<K: Priced, F: Flash, L: Ledger>(
     }
 }
 
-// Mounts the other area. None where it is damaged, or holds another map than the trusted one.
+// Mounts the other area. None exactly where it is damaged, or holds another map than the trusted one.
 fn mount_other<K: Priced, F: Flash, L: Ledger>(
     alloc: Global,
     trusted: &K,
@@ -166,7 +175,11 @@ fn mount_other<K: Priced, F: Flash, L: Ledger>(
     ensures trusted { let area = K.mounted_on trusted.now in
         sectors_of (F.device flash.new) area ≡ sectors_of (F.device flash.old) area }
     ensures ends { let d = F.device flash.old in let e = F.device flash.new in
-        HoldEnds K.mounted_on K.stands e area (on K.contents e area ≡ on K.contents d (K.mounted_on trusted.now)) result }
+        HoldEnds K.mounted_on K.stands K.damage K.contents d e area (on K.contents d (K.mounted_on trusted.now)) result }
+    ensures held { let d = F.device flash.old in let e = F.device flash.new in
+        (settings : map_type) → HoldsMap K.damage K.contents d area settings → HoldsMap K.damage K.contents e area settings }
+    ensures rests { HoldsOn K.rests (F.device flash.old) area → F.device flash.new ≡ F.device flash.old }
+    ensures at_most { let d = F.device flash.old in SpendsAtMost d (F.device flash.new) (mount_units (geometry_of d area)) }
 {
     match K::mount(alloc, flash, area, steps) {
         Ok(store) => Ok(if_same(trusted, store, flash, steps)),
@@ -213,12 +226,14 @@ fn repair<K: Priced, F: Flash, L: Ledger>(
         sectors_of (F.device flash.new) area ≡ sectors_of (F.device flash.old) area }
     ensures ends { let d = F.device flash.old in let e = F.device flash.new in
         OtherEnds K.mounted_on K.stands e area (on K.contents e area ≡ on K.contents d (K.mounted_on trusted.now)) result }
+    ensures at_most { let d = F.device flash.old in let settings = on K.contents d (K.mounted_on trusted.now) in
+        SpendsAtMost d (F.device flash.new) (fill_units (geometry_of d area) (finite.len settings)) }
 {
     let filled: Result<K, MigrateFault> = fill(alloc, trusted, flash, area, steps);
     repaired_as(filled)
 }
 
-// Mounts the other area, and repairs it where it is damaged or holds another map.
+// Mounts the other area, and repairs it where it is damaged or holds another map, and only there.
 fn open_other<K: Priced, F: Flash, L: Ledger>(
     alloc: Global,
     trusted: &K,
@@ -240,6 +255,12 @@ fn open_other<K: Priced, F: Flash, L: Ledger>(
         sectors_of (F.device flash.new) area ≡ sectors_of (F.device flash.old) area }
     ensures ends { let d = F.device flash.old in let e = F.device flash.new in
         OtherEnds K.mounted_on K.stands e area (on K.contents e area ≡ on K.contents d (K.mounted_on trusted.now)) result }
+    ensures held { let d = F.device flash.old in let settings = on K.contents d (K.mounted_on trusted.now) in
+        HoldsMap K.damage K.contents d area settings → HoldsMap K.damage K.contents (F.device flash.new) area settings }
+    ensures idle { let d = F.device flash.old in let settings = on K.contents d (K.mounted_on trusted.now) in
+        HoldsMap K.damage K.contents d area settings → HoldsOn K.rests d area → F.device flash.new ≡ d }
+    ensures at_most { let d = F.device flash.old in let settings = on K.contents d (K.mounted_on trusted.now) in
+        SpendsAtMost d (F.device flash.new) (other_units (geometry_of d area) (finite.len settings)) }
 {
     let own = area.copy();
     let mounted: Result<Option<K>, MirrorMount> = mount_other(alloc, trusted, flash, own, steps);
@@ -277,6 +298,16 @@ fn mount_both<K: Priced, F: Flash, L: Ledger>(
         → BothEnds K.mounted_on K.stands K.damage K.contents K.room K.prices map.now d e trusted other place result }
     ensures selector { (selector : area_type) → selector_of map.now ≡ Some selector
         → sectors_of (F.device flash.new) selector ≡ sectors_of (F.device flash.old) selector }
+    ensures spares { let d = F.device flash.old in let e = F.device flash.new in
+        (trusted other : area_type) → slice_get map.now place ≡ Some trusted → slice_get map.now (other_place map.now place) ≡ Some other
+        → SparesBoth K.damage K.contents d e trusted other }
+    ensures idle { let d = F.device flash.old in
+        (trusted other : area_type) → slice_get map.now place ≡ Some trusted → slice_get map.now (other_place map.now place) ≡ Some other
+        → HoldsOn K.rests d trusted → HoldsOn K.rests d other
+        → HoldsMap K.damage K.contents d other (on K.contents d trusted) → F.device flash.new ≡ d }
+    ensures at_most { let d = F.device flash.old in
+        (trusted other : area_type) → slice_get map.now place ≡ Some trusted → slice_get map.now (other_place map.now place) ≡ Some other
+        → SpendsAtMost d (F.device flash.new) (both_units d trusted other (finite.len (on K.contents d trusted))) }
 {
     let side: Result<Side<K>, MirrorMount> = mount_side(
         alloc,
@@ -317,11 +348,15 @@ fn mount_both<K: Priced, F: Flash, L: Ledger>(
 impl<K: Priced> Mirror<K> {
     /// Mounts the selector, trusts the area that it names, or the other one where that is all FF and the other is not, which the
     /// selector then names; mounts the trusted area, and then the other one. Where the other one is damaged or holds another map,
-    /// it is erased, and all settings are put into it. The map stays, also where power is lost.
+    /// and only there, it is erased, and all settings are put into it.
+    ///
+    /// Whatever the result, the same area is trusted afterwards, and the mirror reads as the same map. A mount spends at most so many units and erases as a mount of
+    /// each of the three areas, a choice of the selector, and a repair of the map's names do; and none where nothing is to do.
     ///
     /// # Errors
-    /// `Damaged` exactly where the selector or the trusted area is damaged. `Unfit` exactly where the map does not fit one of the
-    /// areas: with the lower place, if it is that one; the other area is then untouched. `PowerLost`. `NoMemory`.
+    /// `Damaged` exactly where the selector or the trusted area is damaged; no byte of an area for settings changed then. `Unfit`
+    /// exactly where the map does not fit one of the areas: with the lower place, if it is that one; the other area is then untouched.
+    /// `PowerLost`: in the other area only where the map fits both. `NoMemory`.
     pub fn mount<F: Flash, L: Ledger>(
         alloc: Global,
         flash: &mut F,
@@ -338,6 +373,19 @@ impl<K: Priced> Mirror<K> {
         ensures ends { let d = F.device flash.old in let e = F.device flash.new in
             (selector : area_type) → selector_of map.now ≡ Some selector
             → MirrorMounts K.mounted_on K.stands K.damage K.contents K.room K.prices map.now selector d e result }
+        ensures keeps { let d = F.device flash.old in let e = F.device flash.new in
+            (settings : map_type) → MirrorReads K.damage K.contents map.now d settings
+            → MirrorReads K.damage K.contents map.now e settings }
+        ensures trusted { trusted_on map.now (F.device flash.new) ≡ trusted_on map.now (F.device flash.old) }
+        ensures rests { OnOk result (IsAtRest K.damage K.contents K.rests map.now (F.device flash.new)) }
+        ensures idle { let d = F.device flash.old in
+            IsAtRest K.damage K.contents K.rests map.now d → F.device flash.new ≡ d }
+        ensures at_most { let d = F.device flash.old in
+            (selector trusted other : area_type) → selector_of map.now ≡ Some selector
+            → slice_get map.now (trusted_on map.now d) ≡ Some trusted
+            → slice_get map.now (other_place map.now (trusted_on map.now d)) ≡ Some other
+            → SpendsAtMost d (F.device flash.new)
+            (trust_units d selector + both_units d trusted other (finite.len (on K.contents d trusted))) }
     {
         let place = match trust::<K, F, L>(flash, map, steps) {
             Ok(place) => place,

@@ -7,11 +7,11 @@ ghost use Rattle.flash_map.specs.declared.area.Area.{Area as area_type};
 ghost use Rattle.flash_map.specs.declared.area.Geometry.{Geometry};
 ghost use Rattle.flash_map.specs.Area.{geometry_of};
 ghost use Rattle.flash_map.specs.Lawful.{IsLawfulFor};
-ghost use Rattle.flash_map.specs.On.{on};
+ghost use Rattle.flash_map.specs.On.{on, HoldsOn};
 ghost use Rattle.flash_map.specs.declared.area.TheConstants.{LONG_VALUE_LIMIT};
 ghost use Rattle.flash_sim.specs.declared.flash.Loss.{Loss as loss_type};
+ghost use Rattle.backend_api.specs.Written.{is_blank_on};
 ghost use Rattle.mirror.specs.Room.{Prices, IsMirrored, IsRoomBy};
-ghost use Rattle.mirror.specs.Trusted.{is_blank_on};
 
 use backend_api::Backend;
 use flash_map::Area;
@@ -68,4 +68,8 @@ pub trait Priced: Backend {
     ghost blank_reads: { (d : Device) (area : area_type) → IsLawful d.banks d.bytes → IsLawfulFor d.banks area → Self.serves area (geometry_of d area) → is_blank_on d area ≡ true → on Self.damage d area ≡ None };
 
     ghost blank_empty: { (d : Device) (area : area_type) → IsLawful d.banks d.bytes → IsLawfulFor d.banks area → Self.serves area (geometry_of d area) → is_blank_on d area ≡ true → on Self.contents d area ≡ finite.empty };
+
+    // And a mount has nothing to do there.
+    ghost blank_rests: { (d : Device) (area : area_type) → IsLawful d.banks d.bytes → IsLawfulFor d.banks area
+        → Self.serves area (geometry_of d area) → is_blank_on d area ≡ true → HoldsOn Self.rests d area };
 }

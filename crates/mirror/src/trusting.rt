@@ -1,12 +1,13 @@
 // Mounting the selector, and finding the trusted area.
-ghost use Rattle.std.specs.Prelude.{◌≡◌, ◌<◌, ◌∷◌, [], true, is_err, length, Some};
+ghost use Rattle.std.specs.Prelude.{◌≡◌, ◌<◌, ◌∷◌, [], true, is_err, length, OnOk, Some};
 ghost use Rattle.flash_map.specs.declared.area.Area.{Area as area_type};
+ghost use Rattle.flash_map.specs.Spending.{SpendsAtMost};
 ghost use Rattle.flash_map.specs.Touches.{Touches};
-ghost use Rattle.migrator.specs.Active.{active_in};
+ghost use Rattle.migrator.specs.Active.{active_in, active_on};
 ghost use Rattle.migrator.specs.Areas.{IsLawfulMap, is_store_at, selector_of, target};
-ghost use Rattle.migrator.specs.Choosing.{IsOpen};
-ghost use Rattle.mirror.specs.Mounting.{NameEnds, TrustEnds, fault_at, mount_lost};
-ghost use Rattle.mirror.specs.Trusted.{IsMirrorMap, is_blank_at, trusted_with};
+ghost use Rattle.migrator.specs.Choosing.{IsOpen, choice_units};
+ghost use Rattle.mirror.specs.Mounting.{NameEnds, SelectorRests, TrustEnds, fault_at, mount_lost, trust_units};
+ghost use Rattle.mirror.specs.Trusted.{IsMirrorMap, is_blank_at, trusted_on, trusted_with};
 
 use crate::areas::{is_blank, selector_place};
 use crate::mounting::{MirrorMount, fault_at};
@@ -69,7 +70,11 @@ fn name_trusted<F: Flash, L: Ledger>(
 
     ensures touches { let area = selector.old.ring.area in Touches (area ∷ []) (F.device flash.old) (F.device flash.new) (is_err result) }
     ensures ends { NameEnds map.now (F.device flash.old) (F.device flash.new) selector.old.ring.area trusted result }
+    ensures opened { OnOk result (IsOpen (F.device flash.new) selector.new.ring) }
+    ensures area { selector.new.ring.area ≡ selector.old.ring.area }
     ensures idle { active ≡ trusted → F.device flash.new ≡ F.device flash.old }
+    ensures at_most { let d = F.device flash.old in
+        SpendsAtMost d (F.device flash.new) (choice_units d selector.old.ring.area) }
 {
     if active == trusted {
         return Ok(());
@@ -88,6 +93,11 @@ pub(crate) fn trust<K: Priced, F: Flash, L: Ledger>(
     ensures touches { (selector : area_type) → selector_of map.now ≡ Some selector
         → Touches (selector ∷ []) (F.device flash.old) (F.device flash.new) (mount_lost result) }
     ensures ends { TrustEnds map.now (F.device flash.old) (F.device flash.new) result }
+    ensures idle { let d = F.device flash.old in
+        SelectorRests map.now d → active_on map.now d ≡ trusted_on map.now d → F.device flash.new ≡ d }
+    ensures at_most { let d = F.device flash.old in
+        (selector : area_type) → selector_of map.now ≡ Some selector
+        → SpendsAtMost d (F.device flash.new) (trust_units d selector) }
 {
     let place = selector_place(map);
     let mut selector = match Selector::mount(flash, area_at(map, place), steps) {

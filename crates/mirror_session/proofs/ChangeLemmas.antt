@@ -146,12 +146,12 @@ most_spent old new most spends = let few = spends.1 in let spent = spends.2 in o
 
 -- ---- states
 
-abbrev pub made : Map → Map → ℕ → Bool → Bool → Bool → State
-made settings other named gone blank power = record { settings = settings; other = other; named = named; gone = gone; blank = blank; is_on = power; is_whole = true }
+abbrev pub made : Map → Map → ℕ → Bool → Bool → State
+made settings other named gone power = record { settings = settings; other = other; named = named; gone = gone; is_on = power; is_whole = true }
 
-pub alike : (s s' o o' : Map) (n n' : ℕ) (gone blank p p' : Bool) → s ≡ s' → o ≡ o' → n ≡ n' → p ≡ p' → made s o n gone blank p ≡ made s' o' n' gone blank p'
-alike s s' o o' n n' gone blank p p' es eo en ep =
-    ap (λ (x : Map). made x o n gone blank p) es ∙ ap (λ (x : Map). made s' x n gone blank p) eo ∙ ap (λ (x : ℕ). made s' o' x gone blank p) en ∙ ap (λ (x : Bool). made s' o' n' gone blank x) ep
+pub alike : (s s' o o' : Map) (n n' : ℕ) (gone p p' : Bool) → s ≡ s' → o ≡ o' → n ≡ n' → p ≡ p' → made s o n gone p ≡ made s' o' n' gone p'
+alike s s' o o' n n' gone p p' es eo en ep =
+    ap (λ (x : Map). made x o n gone p) es ∙ ap (λ (x : Map). made s' x n gone p) eo ∙ ap (λ (x : ℕ). made s' o' x gone p) en ∙ ap (λ (x : Bool). made s' o' n' gone x) ep
 
 -- ---- the numbers of two areas as the table has them
 

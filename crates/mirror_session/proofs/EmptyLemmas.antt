@@ -35,5 +35,7 @@ module _ (m : Meanings) (areas : List Area) (name value : List ℕ) (is_delete :
     cuts = as_set_cuts answer old.device new.device is.cuts;
     finds = tt;
     fits = tt;
+    fit = is.fit;
+    both = is.both;
     sound = is.sound;
   }

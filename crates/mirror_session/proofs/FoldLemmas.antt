@@ -17,8 +17,8 @@ use Rattle.mirror_session.specs.declared.fault.SessionFault.TheVariants.{NoMemor
 use Rattle.mirror_session.specs.Bench.{Meanings, moment}
 use Rattle.mirror_session.specs.LineDone.{LineDone}
 use Rattle.mirror_session.specs.Running.{LineStops, Ran, RunStops}
-use Rattle.mirror_session.specs.Standing.{IsReady}
-use Rattle.mirror_session.proofs.RunLemmas.{runs_of}
+use Rattle.mirror_session.specs.Standing.{IsReady, RestsNow}
+use Rattle.mirror_session.proofs.RunLemmas.{runs_of, stopped}
 
 pub lines_on : (lines : List Line) (i : ℕ) (line : Line) → i < length lines → line ≡ get_or lines i line → take (i + 1) lines ≡ take i lines ++ line ∷ []
 lines_on lines i line below is = take_more lines i line below ∙ ap (λ (x : Line). take i lines ++ x ∷ []) (sym is)
@@ -37,62 +37,37 @@ module _ (m : Meanings) (areas : List Area) where
       subst (λ (front : List Line). Follows (LineDone m areas) (Mount ∷ front) (answers ++ answer ∷ []) (moment first false) (moment new whole)) (sym (lines_on lines i line below is))
       (last (LineDone m areas) (Mount ∷ take i lines) line answers answer (moment first false) (moment mid was) (moment new whole) so_far done)
 
-  pub ran : (lines : List Line) (i : ℕ) (answers : List Answer) (first now : Device) (whole : Bool) → length lines ≤ i → RanTo lines i answers first now whole
-      → (w : Bool) × Ran m areas (Mount ∷ lines) answers (moment first false) (moment now w)
-  ran lines i answers first now whole all so_far = (
+  pub ran : (rests : Area → Geometry → List (List ℕ) → Type 0) (lines : List Line) (i : ℕ) (answers : List Answer) (first now : Device) (whole : Bool) → length lines ≤ i → RanTo lines i answers first now whole → RestsNow rests m areas (moment now whole)
+      → (w : Bool) × Ran m areas (Mount ∷ lines) answers (moment first false) (moment now w) × RestsNow rests m areas (moment now w)
+  ran rests lines i answers first now whole all so_far still = (
     whole,
     runs_of m areas (Mount ∷ lines) answers (moment first false) (moment now whole)
         (subst (λ (front : List Line). Follows (LineDone m areas) (Mount ∷ front) answers (moment first false) (moment now whole)) (take_all i lines all) so_far),
+    still,
   )
 
   -- the opening mount stopped
   pub stops_first : (lines : List Line) (first now : Device) (fault : SessionFault) → LineStops m areas Mount first now fault → RunStops m areas (Mount ∷ lines) (moment first false) now fault
-  stops_first lines first now fault stops = record {
-    front = [];
-    rest = Mount ∷ lines;
-    are = refl;
-    answers = [];
-    mid = moment first false;
-    runs = runs_of m areas [] [] (moment first false) (moment first false) refl;
-    stops = inr stops;
-  }
+  stops_first lines first now fault stops = stopped m areas (Mount ∷ lines) [] (Mount ∷ lines) [] (moment first false) (moment first false) now fault refl refl (inr stops)
 
   -- a line behind the first ones stopped
   pub stops_at : (lines : List Line) (i : ℕ) (line : Line) (answers : List Answer) (first mid now : Device) (whole : Bool) (fault : SessionFault) → i < length lines → line ≡ get_or lines i line
       → RanTo lines i answers first mid whole → LineStops m areas line mid now fault → RunStops m areas (Mount ∷ lines) (moment first false) now fault
-  stops_at lines i line answers first mid now whole fault below is so_far stops = record {
-    front = Mount ∷ take i lines;
-    rest = line ∷ drop (i + 1) lines;
-    are = ap (λ (l : List Line). Mount ∷ l) (sym (take-append-drop i lines) ∙ ap (λ (l : List Line). take i lines ++ l) (drop_more lines i line below ∙ ap (λ (x : Line). x ∷ drop (i + 1) lines) (sym is)));
-    answers = answers;
-    mid = moment mid whole;
-    runs = runs_of m areas (Mount ∷ take i lines) answers (moment first false) (moment mid whole) so_far;
-    stops = inr stops;
-  }
+  stops_at lines i line answers first mid now whole fault below is so_far stops =
+      stopped m areas (Mount ∷ lines) (Mount ∷ take i lines) (line ∷ drop (i + 1) lines) answers (moment first false) (moment mid whole) now fault
+      (ap (λ (l : List Line). Mount ∷ l) (sym (take-append-drop i lines) ∙ ap (λ (l : List Line). take i lines ++ l) (drop_more lines i line below ∙ ap (λ (x : Line). x ∷ drop (i + 1) lines) (sym is))))
+      so_far (inr stops)
 
   -- memory was wanting for the answer to the last of the first ones
   pub lacks : (lines : List Line) (i : ℕ) (answers : List Answer) (first now : Device) (whole : Bool) → RanTo lines i answers first now whole → RunStops m areas (Mount ∷ lines) (moment first false) now NoMemory
   lacks lines i answers first now whole so_far = by (drop i lines) refl
     where
+      parts : (rest : List Line) → drop i lines ≡ rest → Mount ∷ lines ≡ (Mount ∷ take i lines) ++ rest
+      parts rest is = ap (λ (l : List Line). Mount ∷ l) (sym (take-append-drop i lines) ∙ ap (λ (l : List Line). take i lines ++ l) is)
+
       by : (rest : List Line) → drop i lines ≡ rest → RunStops m areas (Mount ∷ lines) (moment first false) now NoMemory
-      by [] is = record {
-        front = Mount ∷ take i lines;
-        rest = [];
-        are = ap (λ (l : List Line). Mount ∷ l) (sym (take-append-drop i lines) ∙ ap (λ (l : List Line). take i lines ++ l) is);
-        answers = answers;
-        mid = moment now whole;
-        runs = runs_of m areas (Mount ∷ take i lines) answers (moment first false) (moment now whole) so_far;
-        stops = (omega arith, refl, refl);
-      }
-      by (line ∷ rest) is = record {
-        front = Mount ∷ take i lines;
-        rest = line ∷ rest;
-        are = ap (λ (l : List Line). Mount ∷ l) (sym (take-append-drop i lines) ∙ ap (λ (l : List Line). take i lines ++ l) is);
-        answers = answers;
-        mid = moment now whole;
-        runs = runs_of m areas (Mount ∷ take i lines) answers (moment first false) (moment now whole) so_far;
-        stops = inl (omega arith, refl, refl);
-      }
+      by [] is = stopped m areas (Mount ∷ lines) (Mount ∷ take i lines) [] answers (moment first false) (moment now whole) now NoMemory (parts [] is) so_far (omega arith, refl, refl)
+      by (line ∷ rest) is = stopped m areas (Mount ∷ lines) (Mount ∷ take i lines) (line ∷ rest) answers (moment first false) (moment now whole) now NoMemory (parts (line ∷ rest) is) so_far (inl (omega arith, refl, refl))
 
 -- ---- a session in the loop
 

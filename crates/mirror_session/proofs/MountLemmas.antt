@@ -1,13 +1,15 @@
 -- Mounts, as lines.
-use Rattle.std.proofs.Common.{◌≡◌, ◌≢◌, ◌⊎◌, inl, inr, ℕ, zero, suc, ◌-◌, ◌<◌, ◌≤◌, ◌&&◌, Bool, true, false, cond, List, [], ◌∷◌, get_or, Option, Some, None, Ok, Err, refl, sym, ap, subst, ◌∙◌, arith}
-use Rattle.std.specs.Prelude.{Contains, Result, unwrap_or}
+use Rattle.std.proofs.Common.{◌≡◌, ◌≢◌, ◌⊎◌, inl, inr, ℕ, zero, suc, ◌+◌, ◌-◌, ◌<◌, ◌≤◌, ◌&&◌, Bool, true, false, cond, List, [], ◌∷◌, get_or, Option, Some, None, Ok, Err, refl, sym, ap, subst, ◌∙◌, arith}
+use Rattle.std.specs.Prelude.{Contains, Result, max, min, unwrap_or}
 use Rattle.std.specs.List.{slice_get}
-use Rattle.std.proofs.lemmas.Bool.{cases_eq, false≢true}
+use Rattle.std.proofs.lemmas.Bool.{false≢true}
 use Rattle.flash_sim.specs.Device.{Device}
 use Rattle.flash_map.specs.declared.area.Area.{Area}
 use Rattle.flash_map.specs.declared.area.Geometry.{Geometry}
 use Rattle.flash_map.specs.declared.faults.Damaged.{Damaged}
 use Rattle.flash_map.specs.On.{on}
+use Rattle.std.specs.FinMap as finite
+use Rattle.flash_map.specs.Spending.{SpendsAtMost}
 use Rattle.flash_map.specs.Touches.{Touches}
 use Rattle.flash_map.proofs.Touches.{wider}
 use Rattle.backend_api.specs.Map.{Map}
@@ -17,28 +19,34 @@ use Rattle.migrator.proofs.Migration.{active-on, active-store, selector-at}
 use Rattle.mirror.specs.declared.mirror.Mirror.{Mirror}
 use Rattle.mirror.specs.declared.mounting.MirrorMount.{MirrorMount}
 use Rattle.mirror.specs.declared.mounting.MirrorMount.TheVariants.{Damaged as HasDamage, Unfit as IsNotFit, PowerLost, NoMemory as WantsMemory}
-use Rattle.mirror.specs.Mounting.{IsCutMount, MirrorMounts, mount_lost, other_place, worked_on}
+use Rattle.mirror.specs.Mounting.{FitsAt, IsCutMount, MirrorMounts, UnfitAt, both_units, mount_lost, other_place, trust_units, worked_on}
+use Rattle.mirror.specs.Mirrored.{FitBoth}
 use Rattle.mirror.specs.Room.{FitsOn}
-use Rattle.mirror.specs.Trusted.{IsMirrorMap, is_blank_at, trusted_on}
+use Rattle.mirror.specs.Trusted.{BothRead, IsMirrorMap, MirrorReads, trusted_on}
 use Rattle.session_table.specs.Bench.{area_at}
-use Rattle.session.proofs.ActiveAreas.{area_there, store_there}
+use Rattle.session.proofs.ActiveAreas.{area_there, selector_powered, store_there}
 use Rattle.mirror_lines.specs.declared.line.Line.TheVariants.{Mount}
 use Rattle.mirror_lines.specs.Answer.{done, lost}
 use Rattle.mirror_session.specs.declared.fault.SessionFault.TheVariants.{Damaged as SessionDamaged, Unfit as SessionUnfit, NoMemory as SessionMemory}
 use Rattle.mirror_session.specs.Bench.{Meanings, beside_in, is_gone, moment, rules_of, state_of}
-use Rattle.mirror_session.specs.LineDone.{FitsBoth, LineDone, StaysSound}
+use Rattle.mirror_session.specs.LineDone.{FitNow, FitsBoth, LineDone, MountsWithin, StaysSound}
 use Rattle.session.specs.OnMap.{turned_on}
-use Rattle.mirror_session.specs.Running.{LineStops}
+use Rattle.mirror_session.specs.Running.{FindsNoFit, LineStops}
 use Rattle.mirror_session.specs.Standing.{IsHeld}
 use Rattle.mirror_session.specs.State.{State, trusted_of}
 use Rattle.mirror_session.specs.Step.{Remounts, StopsMounting}
 use Rattle.mirror_session.proofs.AccountLemmas.{kept, kept_beside}
 use Rattle.mirror_session.proofs.AccountLemmas as counts
-use Rattle.mirror_session.proofs.HeldLemmas.{others_are, reads_on, settings_are}
+use Rattle.mirror_session.proofs.ChangeLemmas.{most_spent, order_cases}
+use Rattle.mirror_session.proofs.HeldLemmas.{fit_both, others_are, reads_both, reads_on, settings_are}
 use Rattle.mirror_session.proofs.SoundLemmas.{none_shown}
-use Rattle.mirror_session.proofs.PlaceLemmas.{beside_some, map_kept, other_is, store_at, store_is, trusted_of_is}
+use Rattle.mirror_session.proofs.PlaceLemmas.{beside_some, map_kept, store_is, trusted_of_is}
 use Rattle.mirror_session.proofs.SelectorLemmas.{listed}
 use Rattle.mirror_session.proofs.SideLemmas.{side_sound}
+
+pub never_on : (b : Bool) → (b && false) ≡ true → ⊥
+never_on true is = false≢true is
+never_on false is = false≢true is
 
 three_of : (P : Area → Type 0) (one two three x : Area) (k : ℕ) → k < 3 → get_or (one ∷ two ∷ three ∷ []) k x ≡ x → P one → P two → P three → P x
 three_of P one two three x zero below is a b c = subst P is a
@@ -120,6 +128,19 @@ module _ {S : Type 0} (mounted_on : S → Area) (stands : S → Geometry → Lis
   pub spent_risen : mid.spent ≤ new.spent
   spent_risen = let t = touched result refl in let spent = t.spent in let same : mid.spent ≡ old.spent = ap (λ (d : Device). d.spent) on_first in omega (arith, spent, same)
 
+  -- what it spends at most
+  abbrev SpendsFrom : Device → Type 0
+  SpendsFrom d = (selector trusted other : Area) → selector_of areas ≡ Some selector → slice_get areas (trusted_on areas d) ≡ Some trusted → slice_get areas (other_place areas (trusted_on areas d)) ≡ Some other
+      → SpendsAtMost d new (trust_units d selector + both_units d trusted other (finite.len (on m.contents d trusted)))
+
+  abbrev SpendsOnMount : Type 0
+  SpendsOnMount = SpendsFrom mid
+
+  within_most : (units : ℕ) → units ≡ new.spent - mid.spent → SpendsOnMount → MountsWithin m areas units old
+  within_most units are most selector trusted other selected there beside =
+      subst (λ (n : ℕ). n ≤ trust_units before selector + both_units before trusted other (finite.len (on m.contents before trusted))) (sym (are ∙ ap (λ (d : Device). new.spent - d.spent) on_first))
+      (most_spent before new (trust_units before selector + both_units before trusted other (finite.len (on m.contents before trusted))) (subst SpendsFrom on_first most selector trusted other selected there beside))
+
   -- ---- it was whole
 
   module _ (mirror : Mirror S) (whole : result ≡ Ok mirror) (reads : (state : S) (geometry : Geometry) (sectors : List (List ℕ)) → stands state geometry sectors → m.damage (mounted_on state) geometry sectors ≡ None) where
@@ -138,6 +159,7 @@ module _ {S : Type 0} (mounted_on : S → Area) (stands : S → Geometry → Lis
       apart = λ same. other_apart serves areas before map_before (sym e.other_at ∙ same ∙ e.trusted_at);
       named = e.trusted_at ∙ sym e.kept.active;
       sound = e.kept.sound;
+      rests = e.rests;
       up = λ power. e.mirrors;
     }
 
@@ -155,7 +177,7 @@ module _ {S : Type 0} (mounted_on : S → Area) (stands : S → Geometry → Lis
         e.kept.kept.reads ∙ ap (λ (a : Area). on m.contents before a) (sym (area_there areas (trusted_on areas before) mirror.trusted.area e.placed.trusted_there))
 
     abbrev made : Map → Map → ℕ → Bool → State
-    made settings other named power = record { settings = settings; other = other; named = named; gone = is_gone areas new; blank = is_blank_at areas new (trusted_on areas new); is_on = power; is_whole = true }
+    made settings other named power = record { settings = settings; other = other; named = named; gone = is_gone areas new; is_on = power; is_whole = true }
 
     remounts : (last : ℕ) (was : Bool) → Remounts (rules_of m areas old.banks last) (state_of m areas (moment old was)) (state_of m areas (moment new true))
     remounts last was = let e = ended (Ok mirror) whole in
@@ -164,28 +186,20 @@ module _ {S : Type 0} (mounted_on : S → Area) (stands : S → Geometry → Lis
         ∙ ap (λ (n : ℕ). made settings_before settings_before n (new.is_on && true)) (e.kept.active ∙ trusted_of_is areas old)
         ∙ ap (λ (b : Bool). made settings_before settings_before (trusted_of (rules_of m areas old.banks last) (state_of m areas (moment old was))) (b && true)) on_now
 
-    some_same : (x y : Area) → Some x ≡ Some y → x ≡ y
-    some_same x y e = cc
+    -- what both read as fits both
+    fit_now : FitNow m areas (moment new true)
+    fit_now = let e = ended (Ok mirror) whole in
+        let both : FitBoth m.room m.prices new mirror.trusted.area mirror.other.area (on m.contents new mirror.trusted.area) = record { trusted_fits = e.mirrors.trusted_fits; other_fits = e.mirrors.other_fits } in
+        fit_both mounted_on stands m serves areas new mirror map_now held_now new refl true both
+        (subst (λ (s : Map). FitBoth m.room m.prices new mirror.trusted.area mirror.other.area s) (sym e.mirrors.same) both)
 
-    fits_both : FitsBoth m areas new (state_of m areas (moment new true)).settings
-    fits_both place area there store = let e = ended (Ok mirror) whole in
-        subst (λ (s : Map). FitsOn m.room m.prices new area s) (sym (settings_are mounted_on stands m serves areas new mirror map_now held_now on_now)) (by (cases_place place))
-      where
-        cases_place : (p : ℕ) → (p ≡ mirror.trusted.place) ⊎ (p ≢ mirror.trusted.place)
-        cases_place p = cases_eq p mirror.trusted.place
+    both_then : BothRead m.damage m.contents areas new (state_of m areas (moment new true)).settings
+    both_then = let e = ended (Ok mirror) whole in
+        let are = settings_are mounted_on stands m serves areas new mirror map_now held_now on_now in
+        reads_both mounted_on stands m serves areas new mirror map_now held_now new (state_of m areas (moment new true)).settings held_now.sound held_now.trusted.sound held_now.other.sound (sym are) (e.mirrors.same ∙ sym are)
 
-        by : (place ≡ mirror.trusted.place) ⊎ (place ≢ mirror.trusted.place) → FitsOn m.room m.prices new area (on m.contents new mirror.trusted.area)
-        by (inl same) =
-            let is : mirror.trusted.area ≡ area = some_same mirror.trusted.area area (sym held_now.trusted.there ∙ ap (slice_get areas) (sym same) ∙ there) in
-            subst (λ (a : Area). FitsOn m.room m.prices new a (on m.contents new mirror.trusted.area)) is (ended (Ok mirror) whole).mirrors.trusted_fits
-        by (inr differ) =
-            let at : place ≡ mirror.other.place = other_is serves areas new map_now mirror.trusted.place mirror.other.place place
-            (store_at areas mirror.trusted.place mirror.trusted.area held_now.trusted.there held_now.trusted.stores) (store_at areas mirror.other.place mirror.other.area held_now.other.there held_now.other.stores) (store_at areas place area there store) (λ same. held_now.apart (sym same)) differ in
-            let is : mirror.other.area ≡ area = some_same mirror.other.area area (sym held_now.other.there ∙ ap (slice_get areas) (sym at) ∙ there) in
-            subst (λ (a : Area). FitsOn m.room m.prices new a (on m.contents new mirror.trusted.area)) is (ended (Ok mirror) whole).mirrors.other_fits
-
-    pub whole_line : (units : ℕ) (was : Bool) → units ≡ new.spent - mid.spent → LineDone m areas Mount (done units) (moment old was) (moment new true)
-    whole_line units was are =
+    pub whole_line : (units : ℕ) (was : Bool) → units ≡ new.spent - mid.spent → SpendsOnMount → LineDone m areas Mount (done units) (moment old was) (moment new true)
+    whole_line units was are most =
         let touch = touched (Ok mirror) whole in
         let accounts = kept areas Mount (done units) before new touch refl refl (are ∙ ap (λ (d : Device). new.spent - d.spent) on_first) in
         let beside_it = kept_beside areas before new false touch in
@@ -197,8 +211,10 @@ module _ {S : Type 0} (mounted_on : S → Area) (stands : S → Geometry → Lis
           blanks = tt;
           quiet = λ is. absurd (false≢true is);
           cuts = tt;
-          finds = (ended (Ok mirror) whole).undamaged;
-          fits = fits_both;
+          finds = ((ended (Ok mirror) whole).undamaged, within_most units are most);
+          fits = fit_now;
+          fit = λ is. fit_now;
+          both = λ was_both power. both_then;
           sound = λ shown.
               none_shown m.damage areas new (area_at areas (trusted_on areas new)) (trusted_there serves areas new map_now) held_now.sound
               (reads_on mounted_on stands m serves areas new mirror map_now held_now new refl (λ a. on m.damage new a) (λ x y. x ≡ None) held_now.trusted.sound held_now.other.sound);
@@ -207,7 +223,7 @@ module _ {S : Type 0} (mounted_on : S → Area) (stands : S → Geometry → Lis
   -- ---- power was lost in it
 
   module _ (cut : result ≡ Err PowerLost) where
-    pub cut_so : IsCutMount m.damage m.contents areas map.selector (turned_on old) new
+    pub cut_so : IsCutMount m.damage m.contents m.room m.prices areas map.selector (turned_on old) new
     cut_so = ended (Err PowerLost) cut
 
     pub off_now : new.is_on ≡ false
@@ -222,9 +238,18 @@ module _ {S : Type 0} (mounted_on : S → Area) (stands : S → Geometry → Lis
     undamaged : (trusted : Area) → slice_get areas (trusted_on areas before) ≡ Some trusted → on m.damage before trusted ≡ None → on m.damage old (area_at areas (trusted_on areas old)) ≡ None
     undamaged trusted there none = ap (λ (a : Area). on m.damage before a) (area_there areas (trusted_on areas before) trusted there) ∙ none
 
-    pub lost_line : (units : ℕ) (was : Bool) → units ≡ new.spent - mid.spent → ((last : ℕ) → StopsMounting (rules_of m areas old.banks last) (state_of m areas (moment old was)) (state_of m areas (moment new false)))
-        → StaysSound m areas Mount (lost units) (moment old was) (moment new false) → LineDone m areas Mount (lost units) (moment old was) (moment new false)
-    lost_line units was are stops sound =
+    found : (on m.damage old (area_at areas (trusted_on areas old)) ≡ None) ⊎ ((selector : Area) → selector_of areas ≡ Some selector → Touches (selector ∷ []) before new true)
+    found = elim cut_so.later [
+      | inl touch ↦ inr (in_selector touch)
+      | inr later ↦ elim later [
+        | inl in_trusted ↦ inl (undamaged in_trusted.trusted in_trusted.there in_trusted.undamaged)
+        | inr in_other ↦ inl (undamaged in_other.trusted in_other.there in_other.undamaged)
+      ]
+    ]
+
+    pub lost_line : (units : ℕ) (was : Bool) → units ≡ new.spent - mid.spent → SpendsOnMount → ((last : ℕ) → StopsMounting (rules_of m areas old.banks last) (state_of m areas (moment old was)) (state_of m areas (moment new false)))
+        → StaysSound m areas (moment old was) (moment new false) → (FitNow m areas (moment old was) → FitNow m areas (moment new false)) → LineDone m areas Mount (lost units) (moment old was) (moment new false)
+    lost_line units was are most stops sound fit =
         let touch = touched (Err PowerLost) cut in
         let accounts = counts.lost areas Mount (lost units) before new refl touch refl refl (are ∙ ap (λ (d : Device). new.spent - d.spent) on_first) in
         let beside_it = kept_beside areas before new true touch in
@@ -236,8 +261,10 @@ module _ {S : Type 0} (mounted_on : S → Area) (stands : S → Geometry → Lis
           blanks = tt;
           quiet = λ is. absurd (false≢true is);
           cuts = tt;
-          finds = (cut_so.trust.sound, elim cut_so.later [ inl touches ↦ inr (in_selector touches) | inr rest ↦ inl (undamaged rest.0 rest.1 rest.2) ]);
+          finds = (cut_so.trust.sound, found, within_most units are most);
           fits = tt;
+          fit = fit;
+          both = λ was_both power. absurd (never_on new.is_on power);
           sound = sound;
         }
 
@@ -245,13 +272,36 @@ module _ {S : Type 0} (mounted_on : S → Area) (stands : S → Geometry → Lis
 
   pub damaged_stops : (place : ℕ) (shown : Damaged) → result ≡ Err (HasDamage place shown) → LineStops m areas Mount old new (SessionDamaged place shown)
   damaged_stops place shown is = let e = ended (Err (HasDamage place shown)) is in
-      (refl, e.0, λ selector selected. subst (λ (s : Area). Touches (s ∷ []) before new false) (some_area map.selector selector (sym map.selected ∙ selected)) e.1)
+      (refl, e.is_shown, λ selector selected. subst (λ (s : Area). Touches (s ∷ []) before new false) (some_area map.selector selector (sym map.selected ∙ selected)) e.touches)
     where
       some_area : (x y : Area) → Some x ≡ Some y → x ≡ y
       some_area x y e = cc
 
-  pub unfit_stops : (place : ℕ) → result ≡ Err (IsNotFit place) → LineStops m areas Mount old new (SessionUnfit place)
-  unfit_stops place is = (refl, ended (Err (IsNotFit place)) is)
+  module _ (place : ℕ) (trusted : Area) (there : slice_get areas (trusted_on areas before) ≡ Some trusted) where
+    reads_as : on m.contents old (area_at areas (trusted_on areas old)) ≡ on m.contents before trusted
+    reads_as = ap (λ (a : Area). on m.contents before a) (area_there areas (trusted_on areas before) trusted there)
 
-  pub memory_stops : result ≡ Err WantsMemory → LineStops m areas Mount old new SessionMemory
-  memory_stops is = (refl, touched (Err WantsMemory) is)
+    fits_at : FitsBoth m areas old.banks (on m.contents old (area_at areas (trusted_on areas old))) → (p : ℕ) → is_store_at areas p ≡ true → FitsAt m.room m.prices areas before p (on m.contents before trusted)
+    fits_at fits p store area at = subst (λ (s : Map). FitsOn m.room m.prices before area s) reads_as (fits p area at (store_is areas p area at store))
+
+    stores : (is_store_at areas (min (trusted_on areas before) (other_place areas (trusted_on areas before))) ≡ true) × (is_store_at areas (max (trusted_on areas before) (other_place areas (trusted_on areas before))) ≡ true)
+    stores =
+        let one = trusted_stores serves areas before map_before in
+        let two = other_stores serves areas before map_before in
+        order_cases (λ x y. (is_store_at areas x ≡ true) × (is_store_at areas y ≡ true)) (trusted_on areas before) (other_place areas (trusted_on areas before)) (λ below. (one, two)) (λ past. (two, one))
+
+    no_fit : UnfitAt m.room m.prices areas before (trusted_on areas before) (other_place areas (trusted_on areas before)) (on m.contents before trusted) place → FindsNoFit m areas old
+    no_fit (inl low) fits = low.1 (fits_at fits place (ap (is_store_at areas) low.0 ∙ stores.0))
+    no_fit (inr high) fits = high.2 (fits_at fits place (ap (is_store_at areas) high.0 ∙ stores.1))
+
+  pub unfit_stops : (place : ℕ) → result ≡ Err (IsNotFit place) → LineStops m areas Mount old new (SessionUnfit place)
+  unfit_stops place is = let e = ended (Err (IsNotFit place)) is in
+      (refl, e, no_fit place e.trusted e.placed.trusted_there e.unfits)
+
+  pub memory_stops : result ≡ Err WantsMemory → trusted_on areas new ≡ trusted_on areas mid → ((settings : Map) → MirrorReads m.damage m.contents areas mid settings → MirrorReads m.damage m.contents areas new settings)
+      → LineStops m areas Mount old new SessionMemory
+  memory_stops is same keeps = (refl, (touched (Err WantsMemory) is, same ∙ ap (λ (d : Device). trusted_on areas d) on_first, kept_reads))
+    where
+      kept_reads : (settings : Map) → MirrorReads m.damage m.contents areas old settings → MirrorReads m.damage m.contents areas new settings
+      kept_reads settings reads = keeps settings (subst (λ (d : Device). MirrorReads m.damage m.contents areas d settings) (sym on_first)
+          (record { sound = selector_powered areas old ∙ reads.sound; area = reads.area; there = reads.there; undamaged = reads.undamaged; reads = reads.reads }))

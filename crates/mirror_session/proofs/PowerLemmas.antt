@@ -1,5 +1,5 @@
 -- When power is off, and when both areas read as the settings.
-use Rattle.std.proofs.Common.{◌≡◌, ℕ, true, false, cond, List, sym, ap, subst, ◌∙◌}
+use Rattle.std.proofs.Common.{◌≡◌, ◌⊎◌, inl, inr, ℕ, Bool, true, false, cond, List, refl, sym, ap, subst, ◌∙◌}
 use Rattle.std.proofs.lemmas.Bool.{false≢true}
 use Rattle.script_lines.specs.declared.answer.Answer.{Answer as settings_answer}
 use Rattle.script_lines.specs.declared.answer.Answer.TheVariants as settings
@@ -13,7 +13,7 @@ use Rattle.mirror_lines.specs.declared.answer.Answer.{Answer}
 use Rattle.mirror_lines.specs.declared.answer.Answer.TheVariants.{Told, On, NoArea, NotYet}
 use Rattle.mirror_lines.specs.Plan.{is_lost}
 use Rattle.mirror_session.specs.History.{IsMirrored, PowerStep}
-use Rattle.mirror_session.specs.Laws.{LosesPower, RunsInRow, StaysMirrored}
+use Rattle.mirror_session.specs.Laws.{KeepsNamed, LosesPower, RunsInRow, StaysMirrored}
 use Rattle.mirror_session.specs.State.{State, Rules}
 use Rattle.mirror_session.specs.Step.{Arms, Blanks, Changes, Gets, Mounts, Step, Tells, TellsAll}
 
@@ -129,6 +129,74 @@ module _ (r : Rules) where
   step_mirrored line (Told answer) old new is was = line_mirrored line answer old new was is.1
   step_mirrored (Blank label) answer old new is was = blank_mirrored label answer old new was is
   step_mirrored line answer old new none was = absurd none
+
+-- ---- the named area
+
+-- the same one, or behind a mount the other one
+abbrev IsNamed : Rules → Line → State → State → Type 0
+IsNamed r line old new = (new.named ≡ old.named) ⊎ ((line ≡ Mount) × (old.gone ≡ true) × (new.named ≡ r.beside old.named))
+
+module _ (r : Rules) where
+  same_named : (line : Line) (old new : State) → new ≡ old → IsNamed r line old new
+  same_named line old new same = inl (ap (λ (s : State). s.named) same)
+
+  change_named : (line : Line) (command : Command) (answer : settings_answer) (old new : State) → Changes r command answer old new → IsNamed r line old new
+  change_named line command (settings.Done units) old new is = inl (ap (λ (s : State). s.named) is.state)
+  change_named line command (settings.TooMany units) old new is = same_named line old new is.2
+  change_named line command (settings.NoSpace units need live) old new is = same_named line old new is.2
+  change_named line command (settings.Lost units false) old new is = inl (ap (λ (s : State). s.named) is.state)
+  change_named line command answer old new none = absurd none
+
+  get_named : (name : List ℕ) (answer : settings_answer) (old new : State) → Gets name answer old new → IsNamed r (Get name) old new
+  get_named name (settings.Value value) old new is = same_named (Get name) old new is.1
+  get_named name settings.Absent old new is = same_named (Get name) old new is.1
+  get_named name answer old new none = absurd none
+
+  names_named : (answer : settings_answer) (old new : State) → TellsAll r answer old new → IsNamed r Names old new
+  names_named (settings.Names active pairs) old new is = same_named Names old new is.2
+  names_named answer old new none = absurd none
+
+  trusted_named : (old new : State) (gone : Bool) → old.gone ≡ gone → new.named ≡ cond gone (r.beside old.named) old.named → IsNamed r Mount old new
+  trusted_named old new true gone is = inr (refl, gone, is)
+  trusted_named old new false gone is = inl is
+
+  mount_named : (answer : settings_answer) (old new : State) → Mounts r answer old new → IsNamed r Mount old new
+  mount_named (settings.Done units) old new is = trusted_named old new old.gone refl (ap (λ (s : State). s.named) is)
+  mount_named (settings.Lost units false) old new is = elim is.names [
+    | inl same ↦ inl same
+    | inr same ↦ trusted_named old new old.gone refl same
+  ]
+  mount_named answer old new none = absurd none
+
+  arm_named : (line : Line) (answer : settings_answer) (old new : State) → Arms answer old new → IsNamed r line old new
+  arm_named line (settings.Done units) old new is = same_named line old new is.1
+  arm_named line answer old new none = absurd none
+
+  blank_named : (label : List ℕ) (answer : Answer) (old new : State) → Blanks r label answer old new → IsNamed r (Blank label) old new
+  blank_named label On old new is = same_named (Blank label) old new is.1
+  blank_named label NoArea old new is = same_named (Blank label) old new is.2
+  blank_named label NotYet old new is = same_named (Blank label) old new is.3
+  blank_named label (Told (settings.Done units)) old new is = inl (ap (λ (s : State). s.named) is.3.2)
+  blank_named label answer old new none = absurd none
+
+  line_named : (line : Line) (answer : settings_answer) (old new : State) → Tells r line answer old new → IsNamed r line old new
+  line_named (Set name value) answer old new is = change_named (Set name value) (command_of name value) answer old new is
+  line_named (Del name) answer old new is = change_named (Del name) (Delete name) answer old new is
+  line_named (Get name) answer old new is = get_named name answer old new is
+  line_named Names answer old new is = names_named answer old new is
+  line_named Mount answer old new is = mount_named answer old new is
+  line_named (Cut units) answer old new is = arm_named (Cut units) answer old new is
+  line_named Uncut answer old new is = arm_named Uncut answer old new is
+  line_named (Blank label) answer old new is = blank_named label (Told answer) old new is
+
+  step_named : (line : Line) (answer : Answer) (old new : State) → Step r line answer old new → IsNamed r line old new
+  step_named line (Told settings.Off) old new is = same_named line old new is.2
+  step_named line (Told answer) old new is = line_named line answer old new is.1
+  step_named (Blank label) answer old new is = blank_named label answer old new is
+  step_named line answer old new none = absurd none
+
+pub keeps_named : KeepsNamed
+keeps_named r line answer old new is = step_named r line answer old new is
 
 pub loses_power : LosesPower
 loses_power r lines answers old new runs = seen (Step r) PowerStep (λ s. s.is_on) (step_power r) lines answers old new runs

@@ -15,11 +15,11 @@ use Rattle.mirror_lines.specs.declared.line.Line.{Line}
 use Rattle.mirror_lines.specs.declared.line.Line.TheVariants.{Set, Get, Del, Names, Mount, Cut, Uncut, Blank}
 use Rattle.mirror_lines.specs.declared.answer.Answer.{Answer}
 use Rattle.mirror_lines.specs.declared.answer.Answer.TheVariants.{Told, On, NoArea, NotYet}
-use Rattle.mirror_lines.specs.Plan.{as_told, is_lost}
-use Rattle.mirror_session.specs.History.{GoesAstray, IsAfterPrefix, IsMirrored, LogStep}
+use Rattle.mirror_lines.specs.Plan.{as_told}
+use Rattle.mirror_session.specs.History.{IsAfterPrefix, IsMirrored, LogStep}
 use Rattle.mirror_session.specs.Laws.{HoldsAcknowledged}
 use Rattle.mirror_session.specs.State.{State, Rules, IsOn, IsOff, trusted_of}
-use Rattle.mirror_session.specs.Step.{Arms, Blanks, Changes, Gets, HasOrNot, LosesArea, Mounts, Step, StopsMounting, Tells, TellsAll, changing, commands_of}
+use Rattle.mirror_session.specs.Step.{Arms, Blanks, Changes, Gets, HasOrNot, Mounts, Step, StopsMounting, Tells, TellsAll, changing, commands_of}
 use Rattle.mirror_session.proofs.PowerLemmas.{off_mirrored, step_mirrored}
 
 pub none_applied : (m : Map) → all_applied m [] ≡ m
@@ -154,12 +154,16 @@ module _ (r : Rules) (start : Map) where
           parted (inl none) = ([], stands_none units, none ∙ sym (none_applied old.settings))
           parted (inr all) = (command ∷ [], stands_all units busy, all ∙ sym (one_applied old.settings command))
 
+      has_or : {A : Type 0} {after : Map} → (after ≡ old.settings) ⊎ ((after ≡ applied old.settings command) × A) → HasOrNot command old.settings after
+      has_or (inl none) = inl none
+      has_or (inr some) = inr some.0
+
       changes : (answer : settings_answer) (new : State) → Changes r command answer old new → Goes line (Told answer) old new first second
       changes (settings.Done units) new is =
           goes_by line (Told (settings.Done units)) new (changing old.settings command) (changing old.settings command) (sym are) (sym are) (ap (λ (s : State). s.settings) is.state) (λ whole. ap (λ (s : State). s.other) is.state) (λ now. refl)
       changes (settings.TooMany units) new is = still line (Told (settings.TooMany units)) new is.2 refl
       changes (settings.NoSpace units need live) new is = still line (Told (settings.NoSpace units need live)) new is.2 refl
-      changes (settings.Lost units false) new is = lost units new is.changes (ap (λ (s : State). s.is_on) is.state) is.here is.there
+      changes (settings.Lost units false) new is = lost units new is.changes (ap (λ (s : State). s.is_on) is.state) is.here (has_or is.there)
       changes answer new none = absurd none
 
     -- ---- the other lines
@@ -173,24 +177,13 @@ module _ (r : Rules) (start : Map) where
     tells_all (settings.Names active pairs) new is = still Names (Told (settings.Names active pairs)) new is.2 refl
     tells_all answer new none = absurd none
 
-    not_mounted : (units : ℕ) (new : State) → StopsMounting r old new → new.settings ≡ old.settings → Goes Mount (Told (settings.Lost units false)) old new first second
-    not_mounted units new is same =
-        stays Mount (Told (settings.Lost units false)) new (record { rest = []; are = refl }) same (λ whole. on_or_off new.is_whole whole is.not_whole)
+    not_mounted : (units : ℕ) (new : State) → StopsMounting r old new → Goes Mount (Told (settings.Lost units false)) old new first second
+    not_mounted units new is =
+        stays Mount (Told (settings.Lost units false)) new (record { rest = []; are = refl }) is.settings (λ whole. on_or_off new.is_whole whole is.not_whole)
 
-    -- a mount that was cut went astray, or not
-    not_mounted_or : (units : ℕ) (new : State) → StopsMounting r old new → Goes Mount (Told (settings.Lost units false)) old new first second ⊎ LosesArea r old new
-    not_mounted_or units new is = by is.settings
-      where
-        by : (new.settings ≡ old.settings) ⊎ LosesArea r old new → Goes Mount (Told (settings.Lost units false)) old new first second ⊎ LosesArea r old new
-        by (inl same) = inl (not_mounted units new is same)
-        by (inr loses) = inr loses
-
-    mounts : (answer : settings_answer) (new : State) → Mounts r answer old new → Goes Mount (Told answer) old new first second ⊎ ((is_lost (Told answer) ≡ true) × LosesArea r old new)
-    mounts (settings.Done units) new is = inl (stays Mount (Told (settings.Done units)) new refl (ap (λ (s : State). s.settings) is) (λ whole. ap (λ (s : State). s.other) is))
-    mounts (settings.Lost units false) new is = elim (not_mounted_or units new is) [
-      | inl goes ↦ inl goes
-      | inr loses ↦ inr (refl, loses)
-    ]
+    mounts : (answer : settings_answer) (new : State) → Mounts r answer old new → Goes Mount (Told answer) old new first second
+    mounts (settings.Done units) new is = stays Mount (Told (settings.Done units)) new refl (ap (λ (s : State). s.settings) is) (λ whole. ap (λ (s : State). s.other) is)
+    mounts (settings.Lost units false) new is = not_mounted units new is
     mounts answer new none = absurd none
 
     arms : (line : Line) (answer : settings_answer) (new : State) → commands_of line old.settings ≡ [] → Arms answer old new → Goes line (Told answer) old new first second
@@ -198,7 +191,7 @@ module _ (r : Rules) (start : Map) where
     arms line answer new none not = absurd not
 
     replaced : (label : List ℕ) (units place : ℕ) (new : State) (b : Bool) → (place == trusted_of r old) ≡ b → IsOff old → old.is_whole ≡ true
-        → new ≡ record old { settings = cond b old.other old.settings; other = new.other; gone = new.gone; blank = new.blank; is_whole = false }
+        → new ≡ record old { settings = cond b old.other old.settings; other = new.other; gone = new.gone; is_whole = false }
         → Goes (Blank label) (Told (settings.Done units)) old new first second
     replaced label units place new true is off whole same =
         moved (Blank label) (Told (settings.Done units)) new refl off whole (ap (λ (s : State). s.is_whole) same) (ap (λ (s : State). s.settings) same)
@@ -210,29 +203,22 @@ module _ (r : Rules) (start : Map) where
         replaced label units is.3.0 new (is.3.0 == trusted_of r old) refl is.1 is.2 is.3.2
     blanks label answer new none = absurd none
 
-    -- a line other than a mount, or a mount that did not go astray
-    abbrev GoesOr : Line → Answer → State → Type 0
-    GoesOr line answer new = Goes line answer old new first second ⊎ ((line ≡ Mount) × (is_lost answer ≡ true) × LosesArea r old new)
+    by_line : (line : Line) (answer : settings_answer) (new : State) → Tells r line answer old new → Goes line (Told answer) old new first second
+    by_line (Set name value) answer new is = changes (Set name value) (command_of name value) refl answer new is
+    by_line (Del name) answer new is = changes (Del name) (Delete name) refl answer new is
+    by_line (Get name) answer new is = gets name answer new is
+    by_line Names answer new is = tells_all answer new is
+    by_line Mount answer new is = mounts answer new is
+    by_line (Cut units) answer new is = arms (Cut units) answer new refl is
+    by_line Uncut answer new is = arms Uncut answer new refl is
+    by_line (Blank label) answer new is = blanks label answer new is
 
-    by_line : (line : Line) (answer : settings_answer) (new : State) → Tells r line answer old new → GoesOr line (Told answer) new
-    by_line (Set name value) answer new is = inl (changes (Set name value) (command_of name value) refl answer new is)
-    by_line (Del name) answer new is = inl (changes (Del name) (Delete name) refl answer new is)
-    by_line (Get name) answer new is = inl (gets name answer new is)
-    by_line Names answer new is = inl (tells_all answer new is)
-    by_line Mount answer new is = elim (mounts answer new is) [
-      | inl goes ↦ inl goes
-      | inr loses ↦ inr (refl, loses.0, loses.1)
-    ]
-    by_line (Cut units) answer new is = inl (arms (Cut units) answer new refl is)
-    by_line Uncut answer new is = inl (arms Uncut answer new refl is)
-    by_line (Blank label) answer new is = inl (blanks label answer new is)
-
-    goes_on : (line : Line) (answer : Answer) (new : State) → Step r line answer old new → GoesOr line answer new
-    goes_on line (Told settings.Off) new is = inl (still line (Told settings.Off) new is.2 refl)
+    goes_on : (line : Line) (answer : Answer) (new : State) → Step r line answer old new → Goes line answer old new first second
+    goes_on line (Told settings.Off) new is = still line (Told settings.Off) new is.2 refl
     goes_on line (Told answer) new is = by_line line answer new is.1
-    goes_on (Blank label) On new is = inl (still (Blank label) On new is.1 refl)
-    goes_on (Blank label) NoArea new is = inl (still (Blank label) NoArea new is.2 refl)
-    goes_on (Blank label) NotYet new is = inl (still (Blank label) NotYet new is.3 refl)
+    goes_on (Blank label) On new is = still (Blank label) On new is.1 refl
+    goes_on (Blank label) NoArea new is = still (Blank label) NoArea new is.2 refl
+    goes_on (Blank label) NotYet new is = still (Blank label) NotYet new is.3 refl
     goes_on line answer new none = absurd none
 
   -- ---- a whole run
@@ -243,26 +229,6 @@ module _ (r : Rules) (start : Map) where
     pub log : List Command
     pub runs : Follows (LogStep r start) lines answers (record { state = old; log = before }) (record { state = new; log = log })
     pub settings : new.settings ≡ all_applied start log
-
-  -- as in `GoesAstray`, from commands that stand before
-  record Strays (lines : List Line) (answers : List Answer) (old : State) (first second : List Command) (new : State) : Type 0 where
-    pub front : List Line
-    pub rest : List Line
-    pub are : lines ≡ front ++ Mount ∷ rest
-    pub told : List Answer
-    pub answer : Answer
-    pub more : List Answer
-    pub answered : answers ≡ told ++ answer ∷ more
-    pub lost : is_lost answer ≡ true
-    pub mid : State
-    pub before : Continues front told old first second mid
-    pub next : State
-    pub step : Step r Mount answer mid next
-    pub loses : LosesArea r mid next
-    pub runs : Follows (Step r) rest more next new
-
-  none_yet : (old : State) (first second : List Command) → Holds old first second → Continues [] [] old first second old
-  none_yet old first second was = record { before = first; is = inl refl; log = first; runs = refl; settings = was.settings }
 
   one_more : (line : Line) (lines : List Line) (answer : Answer) (answers : List Answer) (old mid new : State) (first second : List Command) → Step r line answer old mid → IsMirrored mid
       → (head : Goes line answer old mid first second) → Continues lines answers mid head.one head.two new → Continues (line ∷ lines) (answer ∷ answers) old first second new
@@ -281,61 +247,20 @@ module _ (r : Rules) (start : Map) where
       }
 
   continues : (lines : List Line) (answers : List Answer) (old new : State) (first second : List Command) → Holds old first second → IsMirrored old → Follows (Step r) lines answers old new
-      → Continues lines answers old first second new ⊎ Strays lines answers old first second new
-  continues [] [] old new first second was both same = inl (record {
+      → Continues lines answers old first second new
+  continues [] [] old new first second was both same = record {
     before = first;
     is = inl refl;
     log = first;
     runs = ap (λ (s : State). record { state = s; log = first }) same;
     settings = ap (λ (s : State). s.settings) same ∙ was.settings;
-  })
+  }
   continues [] (answer ∷ answers) old new first second was both none = absurd none
   continues (line ∷ lines) [] old new first second was both none = absurd none
   continues (line ∷ lines) (answer ∷ answers) old new first second was both runs =
-      at_line (goes_on old first second was line answer runs.0 runs.1) (λ head. continues lines answers runs.0 new head.one head.two head.holds both_then runs.2)
-    where
-      both_then : IsMirrored runs.0
-      both_then = step_mirrored r line answer old runs.0 runs.1 both
-
-      behind : (head : Goes line answer old runs.0 first second) → Continues lines answers runs.0 head.one head.two new ⊎ Strays lines answers runs.0 head.one head.two new
-          → Continues (line ∷ lines) (answer ∷ answers) old first second new ⊎ Strays (line ∷ lines) (answer ∷ answers) old first second new
-      behind head (inl tail) = inl (one_more line lines answer answers old runs.0 new first second runs.1 both_then head tail)
-      behind head (inr astray) = inr (record {
-        front = line ∷ astray.front;
-        rest = astray.rest;
-        are = ap (λ (l : List Line). line ∷ l) astray.are;
-        told = answer ∷ astray.told;
-        answer = astray.answer;
-        more = astray.more;
-        answered = ap (λ (l : List Answer). answer ∷ l) astray.answered;
-        lost = astray.lost;
-        mid = astray.mid;
-        before = one_more line astray.front answer astray.told old runs.0 astray.mid first second runs.1 both_then head astray.before;
-        next = astray.next;
-        step = astray.step;
-        loses = astray.loses;
-        runs = astray.runs;
-      })
-
-      at_line : Goes line answer old runs.0 first second ⊎ ((line ≡ Mount) × (is_lost answer ≡ true) × LosesArea r old runs.0) → ((head : Goes line answer old runs.0 first second) → Continues lines answers runs.0 head.one head.two new ⊎ Strays lines answers runs.0 head.one head.two new)
-          → Continues (line ∷ lines) (answer ∷ answers) old first second new ⊎ Strays (line ∷ lines) (answer ∷ answers) old first second new
-      at_line (inl head) rest = behind head (rest head)
-      at_line (inr loses) rest = inr (record {
-        front = [];
-        rest = lines;
-        are = ap (λ (x : Line). x ∷ lines) loses.0;
-        told = [];
-        answer = answer;
-        more = answers;
-        answered = refl;
-        lost = loses.1;
-        mid = old;
-        before = none_yet old first second was;
-        next = runs.0;
-        step = subst (λ (l : Line). Step r l answer old runs.0) loses.0 runs.1;
-        loses = loses.2;
-        runs = runs.2;
-      })
+      let head = goes_on old first second was line answer runs.0 runs.1 in
+      let both_then = step_mirrored r line answer old runs.0 runs.1 both in
+      one_more line lines answer answers old runs.0 new first second runs.1 both_then head (continues lines answers runs.0 new head.one head.two head.holds both_then runs.2)
 
 pub holds_acknowledged : HoldsAcknowledged
 holds_acknowledged r lines answers old new not off runs = by (continues r old.settings lines answers old new [] [] start (off_mirrored r old off) runs)
@@ -347,30 +272,11 @@ holds_acknowledged r lines answers old new not off runs = by (continues r old.se
     none_before log (inl is) = is
     none_before log (inr is) = is.0
 
-    whole : (front : List Line) (told : List Answer) (mid : State) → Continues r old.settings front told old [] [] mid → IsAfterPrefix r front told old mid
-    whole front told mid is = record {
+    by : Continues r old.settings lines answers old [] [] new → IsAfterPrefix r lines answers old new
+    by is = record {
       log = is.log;
       runs =
-          subst (λ (l : List Command). Follows (LogStep r old.settings) front told (record { state = old; log = l }) (record { state = mid; log = is.log }))
+          subst (λ (l : List Command). Follows (LogStep r old.settings) lines answers (record { state = old; log = l }) (record { state = new; log = is.log }))
           (none_before is.before is.is) is.runs;
       settings = is.settings;
     }
-
-    by : Continues r old.settings lines answers old [] [] new ⊎ Strays r old.settings lines answers old [] [] new → IsAfterPrefix r lines answers old new ⊎ GoesAstray r lines answers old new
-    by (inl is) = inl (whole lines answers new is)
-    by (inr astray) = inr (record {
-      front = astray.front;
-      rest = astray.rest;
-      are = astray.are;
-      told = astray.told;
-      answer = astray.answer;
-      more = astray.more;
-      answered = astray.answered;
-      lost = astray.lost;
-      mid = astray.mid;
-      before = whole astray.front astray.told astray.mid astray.before;
-      next = astray.next;
-      step = astray.step;
-      loses = astray.loses;
-      runs = astray.runs;
-    })

@@ -2,7 +2,7 @@
 use Rattle.std.proofs.Common.{◌≡◌, ℕ, ◌+◌, ◌-◌, ◌&&◌, Bool, true, false, cond, List, [], map, Some, None, refl, sym, ap, subst, ◌∙◌, arith}
 use Rattle.std.specs.FinMap.{entries}
 use Rattle.std.proofs.lemmas.Bool.{false≢true}
-use Rattle.flash_sim.specs.Device.{Device, After, replanned, dropped}
+use Rattle.flash_sim.specs.Device.{Device, Plan, After, replanned, dropped}
 use Rattle.flash_map.specs.declared.area.Area.{Area}
 use Rattle.flash_map.specs.On.{on}
 use Rattle.flash_map.specs.Touches.{Touches}
@@ -14,6 +14,7 @@ use Rattle.mirror.specs.Trusted.{trusted_on}
 use Rattle.script_lines.specs.declared.answer.Answer.TheVariants as settings
 use Rattle.script_lines.specs.declared.lists.Pair.{Pair}
 use Rattle.script_lines.specs.Plan.Replan.{keeps}
+use Rattle.session.proofs.ActiveAreas.{selector_still}
 use Rattle.session_table.specs.Bench.{area_at}
 use Rattle.session_table.specs.Step.{as_pair}
 use Rattle.mirror_lines.specs.declared.line.Line.{Line}
@@ -23,7 +24,7 @@ use Rattle.mirror_lines.specs.declared.answer.Answer.TheVariants.{Told, On, NoAr
 use Rattle.mirror_lines.specs.Answer.{done, off}
 use Rattle.mirror_lines.specs.Plan.{units_of, is_lost, replan}
 use Rattle.mirror_session.specs.Bench.{Meanings, labelled, moment, rules_of, state_of}
-use Rattle.mirror_session.specs.LineDone.{Cuts, Finds, Fits, Keeps, LineDone, Replaced, StaysSound, powered_for, replaces, worked_on}
+use Rattle.mirror_session.specs.LineDone.{BothNow, Cuts, Finds, FitsThen, Keeps, LineDone, Replaced, StaysSound, powered_for, replaces, worked_on}
 use Rattle.mirror_session.specs.Step.{Step, needs_power}
 use Rattle.mirror_session.proofs.AccountLemmas.{counted_none, kept, kept_beside}
 
@@ -34,7 +35,7 @@ module _ (m : Meanings) (areas : List Area) (d : Device) where
   quiet : (whole : Bool) (line : Line) (answer : Answer)
       → ((last : ℕ) → Step (rules_of m areas d.banks last) line answer (state_of m areas (moment d whole)) (state_of m areas (moment d whole)))
       → powered_for line d ≡ d → replan line answer ≡ keeps → replaces line answer ≡ false → is_lost answer ≡ false → units_of answer ≡ 0
-      → Cuts m areas line answer d d → Finds m areas line answer d d → Replaced areas line answer d d → StaysSound m areas line answer (moment d whole) (moment d whole) → Fits m areas line answer (moment d whole)
+      → Cuts m areas line answer d d → Finds m areas line answer d d → Replaced areas line answer d d → StaysSound m areas (moment d whole) (moment d whole) → FitsThen m areas line answer (moment d whole)
       → LineDone m areas line answer (moment d whole) (moment d whole)
   quiet whole line answer step same stays none lasts units cuts finds left sound fits = record {
     step = λ last within. step last;
@@ -48,6 +49,8 @@ module _ (m : Meanings) (areas : List Area) (d : Device) where
     cuts = cuts;
     finds = finds;
     fits = fits;
+    fit = λ is. is;
+    both = λ is. is;
     sound = sound;
   }
 
@@ -112,6 +115,10 @@ no_keeping units answer is = cc
 no_dropping : (answer : Answer) → replan Uncut answer ≡ keeps → ⊥
 no_dropping answer is = cc
 
+both_still : (m : Meanings) (areas : List Area) (d : Device) (plan : Plan) (whole : Bool) → BothNow m areas (moment d whole) → BothNow m areas (moment (record d { plan = plan }) whole)
+both_still m areas d plan whole is power = let both = is power in
+    record { sound = selector_still areas d (record d { plan = plan }) refl (λ s at. refl) ∙ both.sound; undamaged = both.undamaged; reads = both.reads }
+
 pub planned : (m : Meanings) (areas : List Area) (old new : Device) (units : ℕ) → new ≡ record old { plan = replanned old.plan (After units) } → (whole : Bool)
     → LineDone m areas (Cut units) (done 0) (moment old whole) (moment new whole)
 planned m areas old new units is whole =
@@ -132,6 +139,8 @@ planned m areas old new units is whole =
       cuts = tt;
       finds = tt;
       fits = tt;
+      fit = λ is. is;
+      both = both_still m areas old (replanned old.plan (After units)) whole;
       sound = λ shown. shown;
     }
 
@@ -155,5 +164,7 @@ unplanned m areas old new is whole =
       cuts = tt;
       finds = tt;
       fits = tt;
+      fit = λ is. is;
+      both = both_still m areas old (dropped old.plan) whole;
       sound = λ shown. shown;
     }

@@ -41,6 +41,7 @@ module _ {S : Type 0} (mounted_on : S → Area) (stands : S → Geometry → Lis
     apart = is.apart;
     named = is.named ∙ sym (active_still areas d other refl (λ s at. refl));
     sound = selector_still areas d other refl (λ s at. refl) ∙ is.sound;
+    rests = λ s at. is.rests s at;
     up = λ power. mirror_other mirror.trusted mirror.other (is.up power);
   }
 

@@ -31,14 +31,14 @@ use Rattle.mirror_lines.specs.declared.line.Line.TheVariants.{Blank}
 use Rattle.mirror_lines.specs.Answer.{done}
 use Rattle.mirror_lines.specs.Plan.{replan}
 use Rattle.mirror_session.specs.Bench.{Meanings, beside_in, is_gone, is_labelled, labelled, moment, rules_of, state_of}
-use Rattle.mirror_session.specs.LineDone.{LineDone, blanked}
+use Rattle.mirror_session.specs.LineDone.{FitNow, FitsBoth, LineDone, blanked}
 use Rattle.mirror_session.specs.Standing.{IsHeld, IsReady}
 use Rattle.mirror_session.specs.State.{State, trusted_of}
 use Rattle.mirror_session.specs.Step.{Replaces}
 use Rattle.mirror_session.proofs.AccountLemmas.{counted_none}
 use Rattle.mirror_session.proofs.BlankLemmas.{blank_lawful, is_blank, outside_blank}
 use Rattle.mirror_session.proofs.HeldLemmas.{at_here, at_there, beside_here, beside_there, differs, reads_on}
-use Rattle.mirror_session.proofs.MountLemmas.{trusted_there}
+use Rattle.mirror_session.proofs.MountLemmas.{never_on, trusted_there}
 use Rattle.mirror_session.proofs.SoundLemmas.{none_shown}
 use Rattle.mirror_session.proofs.PlaceLemmas.{map_kept, other_is, trusted_is, trusted_of_is}
 use Rattle.mirror_session.proofs.SelectorLemmas.{listed, same_beyond}
@@ -276,7 +276,7 @@ module _ {S : Type 0} (mounted_on : S → Area) (stands : S → Geometry → Lis
   -- ---- the line
 
   abbrev made : Map → Map → ℕ → Bool → Bool → State
-  made settings other named gone power = record { settings = settings; other = other; named = named; gone = gone; blank = is_blank_at areas new (trusted_on areas new); is_on = power; is_whole = false }
+  made settings other named gone power = record { settings = settings; other = other; named = named; gone = gone; is_on = power; is_whole = false }
 
   replaced : (last : ℕ) → Replaces (rules_of m areas d.banks last) place (state_of m areas (moment d true)) (state_of m areas (moment new false))
   replaced last =
@@ -284,6 +284,17 @@ module _ {S : Type 0} (mounted_on : S → Area) (stands : S → Geometry → Lis
       (reads_then ∙ ap (λ (p : ℕ). cond (place == p) (on m.contents d (area_at areas (beside_in areas (trusted_on areas d)))) (on m.contents d (area_at areas (trusted_on areas d)))) (trusted_of_is areas d))
       ∙ ap (λ (n : ℕ). made (cond (place == trusted_of (rules_of m areas d.banks last) (state_of m areas (moment d true))) (on m.contents d (area_at areas (beside_in areas (trusted_on areas d)))) (on m.contents d (area_at areas (trusted_on areas d)))) (on m.contents new (area_at areas (beside_in areas (trusted_on areas new)))) n (is_gone areas new) false) named_stays
       ∙ ap (λ (b : Bool). made (cond (place == trusted_of (rules_of m areas d.banks last) (state_of m areas (moment d true))) (on m.contents d (area_at areas (beside_in areas (trusted_on areas d)))) (on m.contents d (area_at areas (trusted_on areas d)))) (on m.contents new (area_at areas (beside_in areas (trusted_on areas new)))) (active_on areas d) (is_gone areas new) b) (sym (ap (λ (b : Bool). b && true) dark))
+
+  -- what is read then fits, as what either area read as did
+  stays_fit : FitNow m areas (moment d true) → FitNow m areas (moment new false)
+  stays_fit is = record {
+    settings = subst (λ (s : Map). FitsBoth m areas d.banks s) (sym reads_then) (by (place == trusted_on areas d));
+    other = λ now. absurd (false≢true now);
+  }
+    where
+      by : (b : Bool) → FitsBoth m areas d.banks (cond b (on m.contents d (area_at areas (beside_in areas (trusted_on areas d)))) (on m.contents d (area_at areas (trusted_on areas d))))
+      by true = is.other refl
+      by false = is.settings
 
   outside_map : SameOutside areas d new
   outside_map bank offset out = outside bank offset (λ is. out (in_map (IsIn d.banks bank offset) area areas (listed areas place area is_there) is))
@@ -305,6 +316,8 @@ module _ {S : Type 0} (mounted_on : S → Area) (stands : S → Geometry → Lis
     cuts = tt;
     finds = tt;
     fits = tt;
+    fit = stays_fit;
+    both = λ was_both power. absurd (never_on new.is_on power);
     sound = λ shown. sound_then;
   }
     where

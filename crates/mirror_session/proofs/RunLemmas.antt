@@ -1,6 +1,7 @@
 -- What the clause of one line says of a run.
-use Rattle.std.proofs.Common.{◌≡◌, ℕ, ◌+◌, ◌≤◌, cond, List, [], ◌∷◌, refl, sym, ap, subst, ◌∙◌, arith}
+use Rattle.std.proofs.Common.{◌≡◌, ◌⊎◌, inl, inr, ℕ, ◌+◌, ◌≤◌, ◌||◌, Bool, true, false, cond, List, [], ◌∷◌, ◌++◌, refl, sym, ap, subst, ◌∙◌, arith}
 use Rattle.std.specs.Prelude.{All}
+use Rattle.std.proofs.lemmas.Bool.{false≢true}
 use Rattle.std.proofs.lemmas.List.Sums.{sum_by-cons}
 use Rattle.std.proofs.lemmas.List.Elements.{All-head, All-tail}
 use Rattle.flash_sim.specs.Device.{Device, Plan, counted}
@@ -8,15 +9,20 @@ use Rattle.flash_sim.specs.declared.flash.Bank.{Bank}
 use Rattle.flash_map.specs.declared.area.Area.{Area}
 use Rattle.flash_map.specs.Touches.{IsInSome}
 use Rattle.flash_map.proofs.Plans.{counted_counted}
+use Rattle.script_lines.specs.declared.answer.Answer.TheVariants as settings
 use Rattle.session_table.specs.Follows.{Follows}
 use Rattle.session_table.proofs.FollowsLemmas.{kept, summed}
 use Rattle.mirror_lines.specs.declared.line.Line.{Line}
+use Rattle.mirror_lines.specs.declared.line.Line.TheVariants.{Mount}
 use Rattle.mirror_lines.specs.declared.answer.Answer.{Answer}
+use Rattle.mirror_lines.specs.declared.answer.Answer.TheVariants.{Told}
 use Rattle.mirror_lines.specs.Plan.{units_of, is_lost, losses_in, Planned, plan_through, PlansNoLoss}
+use Rattle.mirror_session.specs.declared.fault.SessionFault.{SessionFault}
+use Rattle.mirror_session.specs.declared.fault.SessionFault.TheVariants.{Damaged, Unfit, NoMemory}
 use Rattle.mirror_session.specs.Bench.{Meanings, Moment, rules_of, state_of}
 use Rattle.mirror_session.specs.Laws.{LinesMakeRuns}
-use Rattle.mirror_session.specs.LineDone.{Keeps, LineDone, StaysUnplanned, replaces}
-use Rattle.mirror_session.specs.Running.{Ran, replaced_in}
+use Rattle.mirror_session.specs.LineDone.{BothNow, FitNow, FitsThen, Keeps, LineDone, StaysUnplanned, replaces}
+use Rattle.mirror_session.specs.Running.{LineStops, Ran, RunStops, StopsAt, TellsUnfit, is_mounted, mounted_in, replaced_in}
 use Rattle.mirror_session.specs.State.{IsCounted}
 use Rattle.mirror_session.specs.Step.{Step}
 use Rattle.mirror_session.proofs.AccountLemmas.{counted_none}
@@ -100,7 +106,62 @@ module _ (m : Meanings) (areas : List Area) where
     planned = λ counts. planned_of lines answers old new counts runs;
     keeps = keeps_of lines answers old new runs;
     unplanned = unplanned_of lines answers old new runs;
+    both = kept (LineDone m areas) (λ a b. BothNow m areas a → BothNow m areas b) (λ s is. is) (λ a b c one two is. two (one is)) (λ line answer a b done. done.both) lines answers old new runs;
   }
+
+  -- ---- what the areas read as fits
+
+  mounted_fits : (line : Line) (answer : Answer) (new : Moment) → is_mounted line answer ≡ true → FitsThen m areas line answer new → FitNow m areas new
+  mounted_fits Mount (Told (settings.Done units)) new is fits = fits
+  mounted_fits line answer new is fits = absurd (false≢true is)
+
+  -- from the beginning, or from a mount that was whole on
+  pub fit_of : (lines : List Line) (answers : List Answer) (old new : Moment) → Follows (LineDone m areas) lines answers old new → FitNow m areas old ⊎ (mounted_in lines answers ≡ true) → FitNow m areas new
+  fit_of [] [] old new same (inl fit) = subst (FitNow m areas) (sym same) fit
+  fit_of [] [] old new same (inr none) = absurd (false≢true none)
+  fit_of [] (answer ∷ answers) old new none either = absurd none
+  fit_of (line ∷ lines) [] old new none either = absurd none
+  fit_of (line ∷ lines) (answer ∷ answers) old new runs (inl fit) = fit_of lines answers runs.0 new runs.2 (inl (runs.1.fit fit))
+  fit_of (line ∷ lines) (answer ∷ answers) old new runs (inr mounted) = fit_of lines answers runs.0 new runs.2 (by (is_mounted line answer) refl)
+    where
+      by : (b : Bool) → is_mounted line answer ≡ b → FitNow m areas runs.0 ⊎ (mounted_in lines answers ≡ true)
+      by true is = inl (mounted_fits line answer runs.0 is runs.1.fits)
+      by false is = inr (sym (ap (λ (b : Bool). b || mounted_in lines answers) is) ∙ mounted)
+
+  wants_no_fit : (fault : SessionFault) → fault ≡ NoMemory → TellsUnfit fault → ⊥
+  wants_no_fit fault wants tells = no (subst TellsUnfit wants tells)
+    where
+      no : TellsUnfit NoMemory → ⊥
+      no is = is
+
+  line_fits : (line : Line) (old : Moment) (new : Device) (fault : SessionFault) → LineStops m areas line old.device new fault → TellsUnfit fault → FitNow m areas old → ⊥
+  line_fits line old new (Unfit place) stops tells fit = stops.2 fit.settings
+  line_fits line old new (Damaged place damaged) stops tells fit = tells
+  line_fits line old new NoMemory stops tells fit = tells
+
+  stop_fits : (front rest : List Line) (old : Moment) (new : Device) (fault : SessionFault) → StopsAt m areas front rest old.device new fault → TellsUnfit fault → FitNow m areas old → ⊥
+  stop_fits front [] old new fault stops tells fit = wants_no_fit fault stops.1 tells
+  stop_fits front (line ∷ rest) old new fault (inl lacks) tells fit = wants_no_fit fault lacks.1 tells
+  stop_fits front (line ∷ rest) old new fault (inr stops) tells fit = line_fits line old new fault stops tells fit
+
+  -- The first lines were carried out, and then one stopped.
+  pub stopped : (lines front rest : List Line) (answers : List Answer) (old mid : Moment) (new : Device) (fault : SessionFault) → lines ≡ front ++ rest → Follows (LineDone m areas) front answers old mid → StopsAt m areas front rest mid.device new fault
+      → RunStops m areas lines old new fault
+  stopped lines front rest answers old mid new fault are runs stops = record {
+    front = front;
+    rest = rest;
+    are = are;
+    answers = answers;
+    mid = mid;
+    runs = runs_of front answers old mid runs;
+    stops = stops;
+    early = λ tells. by tells (mounted_in front answers) refl;
+    fitting = λ tells fit. stop_fits front rest mid new fault stops tells (fit_of front answers old mid runs (inl fit));
+  }
+    where
+      by : TellsUnfit fault → (b : Bool) → mounted_in front answers ≡ b → mounted_in front answers ≡ false
+      by tells true is = absurd (stop_fits front rest mid new fault stops tells (fit_of front answers old mid runs (inr is)))
+      by tells false is = is
 
 pub lines_make_runs : LinesMakeRuns
 lines_make_runs m areas lines answers old new runs = runs_of m areas lines answers old new runs

@@ -14,9 +14,13 @@ use Rattle.flash_map.specs.Sectors.{sectors_from}
 use Rattle.flash_map.specs.Area.{IsLawfulArea, AreApart, sector_size, sectors_of}
 use Rattle.flash_map.specs.Touches.{IsIn, IsInSome, SameOutside, Touches}
 use Rattle.flash_map.proofs.Touches.{wider}
+use Rattle.fcb_ring.specs.Standing.{erases_due}
+use Rattle.fcb_ring.specs.Entries.{states}
 use Rattle.migrator.specs.Active.{active_on, selector_damage_on}
 use Rattle.migrator.specs.Areas.{is_store, selector_of}
 use Rattle.migrator.proofs.Migration.{selector-apart, selector-at}
+use Rattle.migrator.proofs.Moving.{still}
+use Rattle.mirror.specs.Mounting.{SelectorRests}
 use Rattle.mirror.specs.Trusted.{IsMirrorMap}
 use Rattle.session.proofs.ActiveAreas.{active_still, selector_still}
 use Rattle.mirror_session.proofs.PlaceLemmas.{store_at}
@@ -97,3 +101,6 @@ module _ (serves : Area → Geometry → Type 0) (areas : List Area) (old new : 
 
   pub sound_still : selector_damage_on areas new ≡ selector_damage_on areas old
   sound_still = selector_still areas old new banks selector_beyond
+
+  pub rests_still : SelectorRests areas old → SelectorRests areas new
+  rests_still rests s is = still (λ area geometry sectors. erases_due (states geometry.unit sectors)) old new s banks (selector_beyond s is) ∙ rests s is

@@ -1,5 +1,5 @@
 -- Stores that are up stand on areas without damage.
-use Rattle.std.proofs.Common.{◌≡◌, ℕ, List, None, subst}
+use Rattle.std.proofs.Common.{◌≡◌, ℕ, List, None, sym, ap, subst, ◌∙◌}
 use Rattle.flash_sim.specs.Device.{Device}
 use Rattle.flash_map.specs.declared.area.Area.{Area}
 use Rattle.flash_map.specs.declared.area.Geometry.{Geometry}
@@ -7,7 +7,8 @@ use Rattle.flash_map.specs.Area.{geometry_of, sectors_of}
 use Rattle.flash_map.specs.On.{on}
 use Rattle.mirror.specs.declared.mirror.Mirror.{Mirror}
 use Rattle.mirror.specs.declared.sides.Side.{Side}
-use Rattle.mirror.specs.Mirrored.{IsMirror, SameSide, SideStands}
+use Rattle.mirror.specs.Mirrored.{FitBoth, IsMirror, SameSide, SideStands}
+use Rattle.mirror.specs.Room.{FitsOn}
 use Rattle.mirror_session.specs.Bench.{Meanings}
 
 module _ {S : Type 0} (mounted_on : S → Area) (stands : S → Geometry → List (List ℕ) → Type 0) (m : Meanings) (d : Device) where
@@ -23,3 +24,18 @@ module _ {S : Type 0} (mounted_on : S → Area) (stands : S → Geometry → Lis
     subst (λ (a : Area). on m.damage d a ≡ None) same.area (side_sound new.trusted reads up.trusted_stands),
     subst (λ (a : Area). on m.damage d a ≡ None) same_other.area (side_sound new.other reads up.other_stands),
   )
+
+  -- and the settings of both fit those
+  pub sides_fit : (old new : Mirror S) → SameSide old.trusted new.trusted → SameSide old.other new.other → IsMirror mounted_on stands m.contents m.room m.prices d new.trusted new.other
+      → FitBoth m.room m.prices d old.trusted.area old.other.area (on m.contents d old.trusted.area)
+  sides_fit old new same same_other up = record {
+    trusted_fits = subst (λ (a : Area). FitsOn m.room m.prices d a (on m.contents d a)) same.area up.trusted_fits;
+    other_fits =
+        subst (λ (a : Area). FitsOn m.room m.prices d a (on m.contents d old.trusted.area)) same_other.area
+        (subst (λ (a : Area). FitsOn m.room m.prices d new.other.area (on m.contents d a)) same.area up.other_fits);
+  }
+
+  pub same_settings : (old new : Mirror S) → SameSide old.trusted new.trusted → SameSide old.other new.other → IsMirror mounted_on stands m.contents m.room m.prices d new.trusted new.other
+      → on m.contents d old.other.area ≡ on m.contents d old.trusted.area
+  same_settings old new same same_other up =
+      sym (ap (λ (a : Area). on m.contents d a) same_other.area) ∙ up.same ∙ ap (λ (a : Area). on m.contents d a) same.area

@@ -24,6 +24,13 @@ none_behind : (place : ℕ) (o : Option Damaged) (rest : Option (ℕ × Damaged)
 none_behind place None rest is = is
 none_behind place (Some x) rest is = absurd (false≢true (sym (ap (λ (o : Option (ℕ × Damaged)). is_some o) is)))
 
+none_first : (place : ℕ) (o : Option Damaged) (rest : Option (ℕ × Damaged)) → option_or (placed place o) rest ≡ None → o ≡ None
+none_first place None rest is = refl
+none_first place (Some x) rest is = absurd (false≢true (sym (ap (λ (o : Option (ℕ × Damaged)). is_some o) is)))
+
+pub selector_none : (damage : Area → Geometry → List (List ℕ) → Option Damaged) (areas : List Area) (d : Device) → damage_shown damage areas d ≡ None → selector_damage_on areas d ≡ None
+selector_none damage areas d shown = none_first (selector_place areas) (selector_damage_on areas d) (placed (trusted_on areas d) (trusted_damage damage areas d)) shown
+
 module _ (damage : Area → Geometry → List (List ℕ) → Option Damaged) (areas : List Area) (d : Device) (trusted : Area) (there : slice_get areas (trusted_on areas d) ≡ Some trusted) where
   trusted_shows : trusted_damage damage areas d ≡ on damage d trusted
   trusted_shows = ap (λ (o : Option Area). option_and_then (on damage d) o) there

@@ -111,7 +111,6 @@ state_of m areas now = record {
   other = on m.contents now.device (area_at areas (beside_in areas (trusted_on areas now.device)));
   named = active_on areas now.device;
   gone = is_gone areas now.device;
-  blank = is_blank_at areas now.device (trusted_on areas now.device);
   is_on = now.device.is_on && now.whole;
   is_whole = now.whole;
 }

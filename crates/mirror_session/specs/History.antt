@@ -1,5 +1,5 @@
 -- Which commands of a run stand: those of the lines that were done, and each one in which power was lost or not.
-use Rattle.std.specs.Prelude.{◌≡◌, Bool, true, false, List, [], ◌∷◌, ◌++◌, if◌then◌else◌}
+use Rattle.std.specs.Prelude.{◌≡◌, Bool, true, false, List, [], ◌++◌, if◌then◌else◌}
 use Rattle.backend_api.specs.Commands.{Command, all_applied}
 use Rattle.backend_api.specs.Map.{Map}
 use Rattle.session_table.specs.Follows.{Follows}
@@ -9,7 +9,7 @@ use Rattle.mirror_lines.specs.declared.line.Line.TheVariants.{Mount}
 use Rattle.mirror_lines.specs.declared.answer.Answer.{Answer}
 use Rattle.mirror_lines.specs.Plan.{as_told, is_lost}
 use Rattle.mirror_session.specs.State.{State, Rules, IsOn}
-use Rattle.mirror_session.specs.Step.{LosesArea, Step, commands_of}
+use Rattle.mirror_session.specs.Step.{Step, commands_of}
 
 -- with power on both areas read as the settings
 abbrev pub IsMirrored : State → Type 0
@@ -39,23 +39,6 @@ pub record IsAfterPrefix (r : Rules) (lines : List Line) (answers : List Answer)
       (record { state = old; log = [] })
       (record { state = new; log = log })
   pub settings : new.settings ≡ all_applied old.settings log
-
--- Behind a front of the lines, for which that holds and which left no settings, a mount was cut and left the area that was read all FF.
-pub record GoesAstray (r : Rules) (lines : List Line) (answers : List Answer) (old new : State) : Type 0 where
-  pub front : List Line
-  pub rest : List Line
-  pub are : lines ≡ front ++ Mount ∷ rest
-  pub told : List Answer
-  pub answer : Answer
-  pub more : List Answer
-  pub answered : answers ≡ told ++ answer ∷ more
-  pub lost : is_lost answer ≡ true
-  pub mid : State
-  pub before : IsAfterPrefix r front told old mid
-  pub next : State
-  pub step : Step r Mount answer mid next
-  pub loses : LosesArea r mid next
-  pub runs : Follows (Step r) rest more next new
 
 -- ---- power
 

@@ -1,25 +1,26 @@
 -- What the table says of runs.
-use Rattle.std.specs.Prelude.{◌≡◌, ◌⊎◌, ℕ, false, List, ◌++◌, map, All}
+use Rattle.std.specs.Prelude.{◌≡◌, ◌⊎◌, ℕ, true, false, List, ◌++◌, map, All}
 use Rattle.flash_map.specs.declared.area.Area.{Area}
 use Rattle.script_lines.specs.Script.{IsScript}
 use Rattle.session_table.specs.Follows.{Follows}
 use Rattle.mirror_lines.specs.Line.{mirror_forms, row_of}
 use Rattle.mirror_lines.specs.declared.line.Line.{Line}
+use Rattle.mirror_lines.specs.declared.line.Line.TheVariants.{Mount}
 use Rattle.mirror_lines.specs.declared.answer.Answer.{Answer}
 use Rattle.mirror_session.specs.Bench.{Meanings, Moment}
 use Rattle.mirror_session.specs.LineDone.{IsServed, LineDone}
 use Rattle.mirror_session.specs.Running.{Ran}
-use Rattle.mirror_session.specs.History.{GoesAstray, IsAfterPrefix, IsMirrored, PowerStep}
+use Rattle.mirror_session.specs.History.{IsAfterPrefix, IsMirrored, PowerStep}
 use Rattle.mirror_session.specs.State.{State, Rules}
 use Rattle.mirror_session.specs.Step.{Step}
 
 -- From before the opening mount on, wherever power is lost and an area is replaced, the settings are those after commands of the lines in
--- their order, all of the acknowledged ones among them; but where a mount that was cut left nothing of an area without settings.
+-- their order, all of the acknowledged ones among them.
 abbrev pub HoldsAcknowledged : Type 0
 HoldsAcknowledged =
     (r : Rules) (lines : List Line) (answers : List Answer) (old new : State)
     → old.is_whole ≡ false → old.is_on ≡ false
-    → Follows (Step r) lines answers old new → IsAfterPrefix r lines answers old new ⊎ GoesAstray r lines answers old new
+    → Follows (Step r) lines answers old new → IsAfterPrefix r lines answers old new
 
 -- With power on both areas read as the settings.
 abbrev pub StaysMirrored : Type 0
@@ -32,6 +33,13 @@ abbrev pub LosesPower : Type 0
 LosesPower =
     (r : Rules) (lines : List Line) (answers : List Answer) (old new : State)
     → Follows (Step r) lines answers old new → Follows PowerStep lines answers old.is_on new.is_on
+
+-- The selector names another area only behind a mount that found the one of before all FF, and the other one not.
+abbrev pub KeepsNamed : Type 0
+KeepsNamed =
+    (r : Rules) (line : Line) (answer : Answer) (old new : State)
+    → Step r line answer old new
+    → (new.named ≡ old.named) ⊎ ((line ≡ Mount) × (old.gone ≡ true) × (new.named ≡ r.beside old.named))
 
 -- Two runs in a row are one.
 abbrev pub RunsInRow : Type 0

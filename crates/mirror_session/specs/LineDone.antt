@@ -1,9 +1,11 @@
 -- What lines make of a bench.
 use Rattle.std.specs.Prelude.{◌≡◌, ◌⊎◌, ℕ, ◌+◌, ◌*◌, ◌≤◌, ⊤, Bool, true, false, List, [], ◌∷◌, length, replicate, slice_set, Some, None, if◌then◌else◌}
+use Rattle.std.specs.FinMap as finite
 use Rattle.std.specs.List.{slice_get}
+use Rattle.flash_sim.specs.declared.flash.Bank.{Bank}
 use Rattle.flash_sim.specs.Device.{Device, Never, bytes_of, counted, loaded, overwritten}
 use Rattle.flash_map.specs.declared.area.Area.{Area}
-use Rattle.flash_map.specs.Area.{sector_size}
+use Rattle.flash_map.specs.Area.{sector_size, value_limit}
 use Rattle.flash_map.specs.On.{on}
 use Rattle.flash_map.specs.Touches.{SameOutside, Touches}
 use Rattle.backend_api.specs.Commands.{Command, applied}
@@ -13,20 +15,21 @@ use Rattle.settings_core.specs.Carrying.{command_of}
 use Rattle.migrator.specs.Active.{active_on, selector_damage_on}
 use Rattle.migrator.specs.Areas.{is_store, selector_of}
 use Rattle.mirror.specs.Mirrored.{IsCutBoth}
-use Rattle.mirror.specs.Room.{FitsOn}
-use Rattle.mirror.specs.Trusted.{damage_shown, trusted_on}
+use Rattle.mirror.specs.Mounting.{both_units, other_place, trust_units}
+use Rattle.mirror.specs.Room.{Fits}
+use Rattle.mirror.specs.Trusted.{BothRead, damage_shown, trusted_on}
 use Rattle.script_lines.specs.declared.answer.Answer.TheVariants as settings
 use Rattle.script_lines.specs.Plan.Replan.{keeps as keeps_plan}
 use Rattle.session.specs.OnMap.{turned_on}
-use Rattle.session_table.specs.Bench.{area_at}
+use Rattle.session_table.specs.Bench.{area_at, geometry_in}
 use Rattle.mirror_lines.specs.declared.line.Line.{Line}
 use Rattle.mirror_lines.specs.declared.line.Line.TheVariants.{Set, Del, Mount, Blank}
 use Rattle.mirror_lines.specs.declared.answer.Answer.{Answer}
 use Rattle.mirror_lines.specs.declared.answer.Answer.TheVariants.{Told}
 use Rattle.mirror_lines.specs.Plan.{units_of, is_lost, replan, Allows, plan_after, PlansNoLoss}
 use Rattle.mirror_session.specs.Bench.{Meanings, Moment, beside_in, labelled, rules_of, state_of}
-use Rattle.mirror_session.specs.State.{IsCounted}
-use Rattle.mirror_session.specs.Step.{LosesArea, Step}
+use Rattle.mirror_session.specs.State.{State, IsCounted, IsOn}
+use Rattle.mirror_session.specs.Step.{Step}
 
 -- a line's value is one that the areas take
 abbrev pub IsServed : ℕ → Line → Type 0
@@ -103,34 +106,57 @@ Cuts m areas (Set name value) (Told (settings.Lost units chance)) old new = Cuts
 Cuts m areas (Del name) (Told (settings.Lost units chance)) old new = CutsBoth m areas (Delete name) old new
 Cuts m areas line answer old new = ⊤
 
+-- A mount spends at most so many units and erases as a mount of each of the three areas, a choice of the selector, and a repair of the map's
+-- names do.
+abbrev pub MountsWithin : Meanings → List Area → ℕ → Device → Type 0
+MountsWithin m areas units old =
+    (selector trusted other : Area) → selector_of areas ≡ Some selector → slice_get areas (trusted_on areas old) ≡ Some trusted
+    → slice_get areas (other_place areas (trusted_on areas old)) ≡ Some other
+    → units ≤ trust_units old selector + both_units old trusted other (finite.len (on m.contents old trusted))
+
 -- A mount that was whole found no damage. One that was cut found none in the selector, and none in the area that is read, or the loss
 -- lies in the selector's area.
 abbrev pub Finds : Meanings → List Area → Line → Answer → Device → Device → Type 0
-Finds m areas Mount (Told (settings.Done units)) old new = damage_shown m.damage areas old ≡ None
+Finds m areas Mount (Told (settings.Done units)) old new = (damage_shown m.damage areas old ≡ None) × MountsWithin m areas units old
 Finds m areas Mount (Told (settings.Lost units chance)) old new =
     (selector_damage_on areas old ≡ None)
     × ((on m.damage old (area_at areas (trusted_on areas old)) ≡ None)
     ⊎ ((selector : Area) → selector_of areas ≡ Some selector → Touches (selector ∷ []) (turned_on old) new true))
+    × MountsWithin m areas units old
 Finds m areas line answer old new = ⊤
 
+-- settings fit an area of these banks
+abbrev pub FitsIn : Meanings → List Bank → Area → Map → Type 0
+FitsIn m banks area settings =
+    let geometry = geometry_in banks area in
+    Fits (m.room area geometry) (m.prices area geometry) area.sectors (value_limit area) settings
+
 -- the settings fit both store areas
-abbrev pub FitsBoth : Meanings → List Area → Device → Map → Type 0
-FitsBoth m areas d settings =
-    (place : ℕ) (area : Area) → slice_get areas place ≡ Some area → is_store area ≡ true → FitsOn m.room m.prices d area settings
+abbrev pub FitsBoth : Meanings → List Area → List Bank → Map → Type 0
+FitsBoth m areas banks settings =
+    (place : ℕ) (area : Area) → slice_get areas place ≡ Some area → is_store area ≡ true → FitsIn m banks area settings
 
--- after a mount that was whole they fit both
-abbrev pub Fits : Meanings → List Area → Line → Answer → Moment → Type 0
-Fits m areas Mount (Told (settings.Done units)) new = FitsBoth m areas new.device (state_of m areas new).settings
-Fits m areas line answer new = ⊤
+-- What the mirror reads as fits both store areas; and so does what the other area reads as, where an area may be replaced.
+pub record AllFit (m : Meanings) (areas : List Area) (banks : List Bank) (s : State) : Type 0 where
+  pub settings : FitsBoth m areas banks s.settings
+  pub other : s.is_whole ≡ true → FitsBoth m areas banks s.other
 
--- Where the map showed no damage it shows none; but for a mount that was cut and went astray.
-abbrev pub StaysSound : Meanings → List Area → Line → Answer → Moment → Moment → Type 0
-StaysSound m areas Mount (Told (settings.Lost units chance)) old new =
-    damage_shown m.damage areas old.device ≡ None
-    → (damage_shown m.damage areas new.device ≡ None)
-    ⊎ LosesArea (rules_of m areas old.device.banks new.device.spent) (state_of m areas old) (state_of m areas new)
-StaysSound m areas line answer old new =
-    damage_shown m.damage areas old.device ≡ None → damage_shown m.damage areas new.device ≡ None
+-- so it is at this moment
+abbrev pub FitNow : Meanings → List Area → Moment → Type 0
+FitNow m areas now = AllFit m areas now.device.banks (state_of m areas now)
+
+-- and after a mount that was whole
+abbrev pub FitsThen : Meanings → List Area → Line → Answer → Moment → Type 0
+FitsThen m areas Mount (Told (settings.Done units)) new = FitNow m areas new
+FitsThen m areas line answer new = ⊤
+
+-- where the map showed no damage it shows none
+abbrev pub StaysSound : Meanings → List Area → Moment → Moment → Type 0
+StaysSound m areas old new = damage_shown m.damage areas old.device ≡ None → damage_shown m.damage areas new.device ≡ None
+
+-- with power on neither area is damaged, and both read as the settings
+abbrev pub BothNow : Meanings → List Area → Moment → Type 0
+BothNow m areas now = IsOn (state_of m areas now) → BothRead m.damage m.contents areas now.device (state_of m areas now).settings
 
 -- it changes neither bytes nor counts
 abbrev pub is_quiet : Line → Answer → Bool
@@ -157,5 +183,7 @@ pub record LineDone (m : Meanings) (areas : List Area) (line : Line) (answer : A
   pub quiet : is_quiet line answer ≡ true → SameButPlan old.device new.device
   pub cuts : Cuts m areas line answer old.device new.device
   pub finds : Finds m areas line answer old.device new.device
-  pub fits : Fits m areas line answer new
-  pub sound : StaysSound m areas line answer old new
+  pub fits : FitsThen m areas line answer new
+  pub fit : FitNow m areas old → FitNow m areas new
+  pub sound : StaysSound m areas old new
+  pub both : BothNow m areas old → BothNow m areas new

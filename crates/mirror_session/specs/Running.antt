@@ -1,20 +1,27 @@
 -- How lines end.
-use Rattle.std.specs.Prelude.{◌≡◌, ◌⊎◌, ℕ, ◌+◌, ◌≤◌, Bool, true, false, Some, Result, Ok, Err, List, [], ◌∷◌, ◌++◌, length, if◌then◌else◌, All}
+use Rattle.std.specs.Prelude.{◌≡◌, ◌⊎◌, ⊤, ℕ, ◌+◌, ◌≤◌, ◌||◌, Bool, true, false, Some, Result, Ok, Err, List, [], ◌∷◌, ◌++◌, length, if◌then◌else◌, All}
 use Rattle.flash_sim.specs.Device.{Device, counted}
 use Rattle.flash_map.specs.declared.area.Area.{Area}
+use Rattle.flash_map.specs.declared.area.Geometry.{Geometry}
+use Rattle.flash_map.specs.On.{on}
 use Rattle.flash_map.specs.Touches.{Touches}
+use Rattle.backend_api.specs.Map.{Map}
 use Rattle.migrator.specs.Areas.{selector_of}
 use Rattle.mirror.specs.Mounting.{IsUnfit}
-use Rattle.mirror.specs.Trusted.{damage_shown}
+use Rattle.mirror.specs.Trusted.{MirrorReads, damage_shown, trusted_on}
+use Rattle.script_lines.specs.declared.answer.Answer.TheVariants as settings
+use Rattle.session_table.specs.Bench.{area_at}
 use Rattle.session_table.specs.Follows.{Follows}
 use Rattle.mirror_lines.specs.declared.line.Line.{Line}
 use Rattle.mirror_lines.specs.declared.line.Line.TheVariants.{Get, Names, Mount, Blank}
 use Rattle.mirror_lines.specs.declared.answer.Answer.{Answer}
+use Rattle.mirror_lines.specs.declared.answer.Answer.TheVariants.{Told}
 use Rattle.mirror_lines.specs.Plan.{units_in, losses_in, Planned, plan_through, PlansNoLoss}
 use Rattle.mirror_session.specs.declared.fault.SessionFault.{SessionFault}
 use Rattle.mirror_session.specs.declared.fault.SessionFault.TheVariants.{Damaged, Unfit, NoMemory}
-use Rattle.mirror_session.specs.Bench.{Meanings, Moment, rules_of, state_of}
-use Rattle.mirror_session.specs.LineDone.{Keeps, LineDone, StaysUnplanned, replaces}
+use Rattle.mirror_session.specs.Bench.{Meanings, Moment, moment, rules_of, state_of}
+use Rattle.mirror_session.specs.Standing.{RestsNow}
+use Rattle.mirror_session.specs.LineDone.{BothNow, FitNow, FitsBoth, Keeps, LineDone, StaysUnplanned, replaces}
 use Rattle.session.specs.OnMap.{turned_on}
 use Rattle.mirror_session.specs.State.{IsCounted}
 use Rattle.mirror_session.specs.Step.{Step}
@@ -36,6 +43,7 @@ pub record Ran (m : Meanings) (areas : List Area) (lines : List Line) (answers :
       → Planned old.device.plan lines answers × (new.device.plan ≡ plan_through old.device.plan lines answers)
   pub keeps : Keeps areas (replaced_in lines answers) old.device new.device
   pub unplanned : All PlansNoLoss lines → StaysUnplanned old.device new.device
+  pub both : BothNow m areas old → BothNow m areas new
 
 -- ---- lines that stop
 
@@ -51,10 +59,17 @@ takes_memory line = false
 abbrev pub BeginsMount : List Area → Device → Device → Type 0
 BeginsMount areas old new = (selector : Area) → selector_of areas ≡ Some selector → Touches (selector ∷ []) (turned_on old) new false
 
--- What a line for which memory was wanting leaves of the bench: a mount has begun, and no other line changed it.
-abbrev pub BeginsLine : List Area → Line → Device → Device → Type 0
-BeginsLine areas Mount old new = Touches areas (turned_on old) new false
-BeginsLine areas line old new = new ≡ old
+-- What a line for which memory was wanting leaves of the bench: a mount has begun, and the same area is read, as the same map; no other
+-- line changed it.
+abbrev pub BeginsLine : Meanings → List Area → Line → Device → Device → Type 0
+BeginsLine m areas Mount old new =
+    Touches areas (turned_on old) new false × (trusted_on areas new ≡ trusted_on areas old)
+    × ((settings : Map) → MirrorReads m.damage m.contents areas old settings → MirrorReads m.damage m.contents areas new settings)
+BeginsLine m areas line old new = new ≡ old
+
+-- what the mirror reads as does not fit both areas
+abbrev pub FindsNoFit : Meanings → List Area → Device → Type 0
+FindsNoFit m areas d = ¬ FitsBoth m areas d.banks (on m.contents d (area_at areas (trusted_on areas d)))
 
 -- Why a line was not carried out: a mount found the damage that the map shows, or settings that do not fit one of the areas; or memory
 -- was wanting for a line that takes some.
@@ -62,8 +77,8 @@ abbrev pub LineStops : Meanings → List Area → Line → Device → Device →
 LineStops m areas line old new (Damaged place damaged) =
     (line ≡ Mount) × (damage_shown m.damage areas old ≡ Some (place, damaged)) × BeginsMount areas old new
 LineStops m areas line old new (Unfit place) =
-    (line ≡ Mount) × IsUnfit m.damage m.contents m.room m.prices areas (turned_on old) new place
-LineStops m areas line old new NoMemory = (takes_memory line ≡ true) × BeginsLine areas line old new
+    (line ≡ Mount) × IsUnfit m.damage m.contents m.room m.prices areas (turned_on old) new place × FindsNoFit m areas old
+LineStops m areas line old new NoMemory = (takes_memory line ≡ true) × BeginsLine m areas line old new
 
 -- ---- all lines
 
@@ -76,7 +91,23 @@ abbrev pub StopsAt : Meanings → List Area → List Line → List Line → Devi
 StopsAt m areas front [] old new fault = LacksAnswer front old new fault
 StopsAt m areas front (line ∷ lines) old new fault = LacksAnswer front old new fault ⊎ LineStops m areas line old new fault
 
--- The first lines were carried out, and then a line stopped.
+-- a mount among these lines was whole
+abbrev pub is_mounted : Line → Answer → Bool
+is_mounted Mount (Told (settings.Done units)) = true
+is_mounted line answer = false
+
+abbrev pub mounted_in : List Line → List Answer → Bool
+mounted_in (line ∷ lines) (answer ∷ answers) = is_mounted line answer || mounted_in lines answers
+mounted_in lines answers = false
+
+-- a mount found settings that do not fit
+abbrev pub TellsUnfit : SessionFault → Type 0
+TellsUnfit (Damaged place damaged) = ⊥
+TellsUnfit (Unfit place) = ⊤
+TellsUnfit NoMemory = ⊥
+
+-- The first lines were carried out, and then a line stopped. That settings do not fit is told by no mount behind one that was whole, and by
+-- none where the settings fitted both areas when the lines began.
 pub record RunStops (m : Meanings) (areas : List Area) (lines : List Line) (old : Moment) (new : Device) (fault : SessionFault) : Type 0 where
   pub front : List Line
   pub rest : List Line
@@ -85,8 +116,13 @@ pub record RunStops (m : Meanings) (areas : List Area) (lines : List Line) (old 
   pub mid : Moment
   pub runs : Ran m areas front answers old mid
   pub stops : StopsAt m areas front rest mid.device new fault
+  pub early : TellsUnfit fault → mounted_in front answers ≡ false
+  pub fitting : TellsUnfit fault → ¬ FitNow m areas old
 
--- How lines end: all were carried out, with these answers; or one stopped.
-abbrev pub RunEnds : Meanings → List Area → List Line → Moment → Device → Result (List Answer) SessionFault → Type 0
-RunEnds m areas lines old new (Ok answers) = (whole : Bool) × Ran m areas lines answers old (record { device = new; whole = whole })
-RunEnds m areas lines old new (Err fault) = RunStops m areas lines old new fault
+-- How lines end: all were carried out, with these answers, and a mount has nothing to do where power is on, and there are settings or
+-- the selector names the area that is read; or one stopped.
+abbrev pub RunEnds : (Area → Geometry → List (List ℕ) → Type 0) → Meanings → List Area → List Line → Moment → Device
+    → Result (List Answer) SessionFault → Type 0
+RunEnds rests m areas lines old new (Ok answers) =
+    (whole : Bool) × Ran m areas lines answers old (moment new whole) × RestsNow rests m areas (moment new whole)
+RunEnds rests m areas lines old new (Err fault) = RunStops m areas lines old new fault

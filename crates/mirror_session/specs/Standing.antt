@@ -1,5 +1,6 @@
 -- Between two lines.
-use Rattle.std.specs.Prelude.{◌≡◌, ◌≢◌, ℕ, ⊤, true, Option, Some, None, List}
+use Rattle.std.specs.Prelude.{◌≡◌, ◌≢◌, ◌⊎◌, ℕ, ⊤, true, false, Option, Some, None, List}
+use Rattle.std.specs.FinMap.{empty}
 use Rattle.std.specs.List.{slice_get}
 use Rattle.flash_sim.specs.Device.{Device}
 use Rattle.flash_map.specs.declared.area.Area.{Area}
@@ -10,7 +11,9 @@ use Rattle.migrator.specs.Areas.{is_store}
 use Rattle.mirror.specs.declared.mirror.Mirror.{Mirror}
 use Rattle.mirror.specs.declared.sides.Side.{Side}
 use Rattle.mirror.specs.Mirrored.{IsMirror}
-use Rattle.mirror_session.specs.Bench.{Meanings}
+use Rattle.mirror.specs.Mounting.{IsAtRest, SelectorRests}
+use Rattle.mirror_session.specs.Bench.{Meanings, Moment, state_of}
+use Rattle.mirror_session.specs.State.{State, IsOn}
 
 module _ {S : Type 0} (mounted_on : S → Area) (stands : S → Geometry → List (List ℕ) → Type 0) (m : Meanings) where
   -- the store is on the area at its place of the map, which shows no damage
@@ -20,16 +23,26 @@ module _ {S : Type 0} (mounted_on : S → Area) (stands : S → Geometry → Lis
     pub sound : on m.damage d side.area ≡ None
 
   -- The mirror is on the two store areas of the map, the trusted one being that which the selector names; none of the three is damaged.
-  -- With power on both stores are up and hold the same settings.
+  -- A mount of the selector has nothing to do. With power on both stores are up and hold the same settings.
   pub record IsHeld (areas : List Area) (d : Device) (mirror : Mirror S) : Type 0 where
     pub trusted : IsSide areas d mirror.trusted
     pub other : IsSide areas d mirror.other
     pub apart : mirror.other.place ≢ mirror.trusted.place
     pub named : mirror.trusted.place ≡ active_on areas d
     pub sound : selector_damage_on areas d ≡ None
+    pub rests : SelectorRests areas d
     pub up : d.is_on ≡ true → IsMirror mounted_on stands m.contents m.room m.prices d mirror.trusted mirror.other
 
   -- where the last mount was whole and no area was replaced since
   abbrev pub IsReady : List Area → Device → Option (Mirror S) → Type 0
   IsReady areas d None = ⊤
   IsReady areas d (Some mirror) = IsHeld areas d mirror
+
+-- The selector names the area that is read, or there are settings, so that it does.
+abbrev pub NamesRead : State → Type 0
+NamesRead s = (s.gone ≡ false) ⊎ (s.settings ≢ empty)
+
+-- With power on a mount has nothing to do then.
+abbrev pub RestsNow : (Area → Geometry → List (List ℕ) → Type 0) → Meanings → List Area → Moment → Type 0
+RestsNow rests m areas now =
+    IsOn (state_of m areas now) → NamesRead (state_of m areas now) → IsAtRest m.damage m.contents rests areas now.device

@@ -11,8 +11,6 @@ pub record State : Type 0 where
   pub named : ℕ
   -- that area is all FF and the other one is not, so that the other one is read
   pub gone : Bool
-  -- the one that is read is all FF
-  pub blank : Bool
   pub is_on : Bool
   -- the last mount was whole, and no area was replaced since
   pub is_whole : Bool

@@ -1,7 +1,7 @@
 -- The table: which answers a plain map gives to a line, and what they make of the state. The choices are whether power is lost in a
 -- line, which of the two areas a command that was cut has reached, and the units.
 use Rattle.std.specs.Prelude.{◌≡◌, ◌⊎◌, ℕ, ◌<◌, ◌≤◌, ◌==◌, Bool, true, false, List, [], ◌∷◌, map, Some, None, if◌then◌else◌}
-use Rattle.std.specs.FinMap.{empty, entries}
+use Rattle.std.specs.FinMap.{entries}
 use Rattle.script_lines.specs.declared.answer.Answer.{Answer as settings_answer}
 use Rattle.script_lines.specs.declared.answer.Answer.TheVariants as settings
 use Rattle.backend_api.specs.Commands.{Command, applied, all_applied}
@@ -45,21 +45,24 @@ pub record IsDone (r : Rules) (command : Command) (units : ℕ) (old new : State
   pub some : is_idle old.settings command ≡ false → IsCounted r.last → 0 < units
   pub at_most : units ≤ r.most
   pub state : let after = all_applied old.settings (changing old.settings command) in
-      new ≡ record old { settings = after; other = after; gone = new.gone; blank = new.blank }
+      new ≡ record old { settings = after; other = after; gone = new.gone }
 
 -- without the command, or with it
 abbrev pub HasOrNot : Command → Map → Map → Type 0
 HasOrNot command before after = (after ≡ before) ⊎ (after ≡ applied before command)
 
--- Power was lost in a command that both areas take: each of them has it, or has it not.
+-- Power was lost in a command that both areas take. The one that is read has it, or has it not; the other one has it only where that
+-- one has, or where that one is read since the named one is all FF.
 pub record IsCut (r : Rules) (command : Command) (units : ℕ) (old new : State) : Type 0 where
   pub free : IsFree r old.settings command
   pub room : HasRoom r old.settings command
   pub changes : is_idle old.settings command ≡ false
   pub here : HasOrNot command old.settings new.settings
-  pub there : HasOrNot command old.settings new.other
+  pub there :
+      (new.other ≡ old.settings)
+      ⊎ ((new.other ≡ applied old.settings command) × ((new.settings ≡ applied old.settings command) ⊎ (new.gone ≡ true)))
   pub at_most : units ≤ r.most
-  pub state : new ≡ record old { settings = new.settings; other = new.other; gone = new.gone; blank = new.blank; is_on = false }
+  pub state : new ≡ record old { settings = new.settings; other = new.other; gone = new.gone; is_on = false }
 
 -- A put is refused before anything is programmed: first for its name, then for room.
 abbrev pub RefusesName : Rules → Map → Command → Type 0
@@ -100,18 +103,14 @@ renamed r s = record s { named = trusted_of r s }
 
 -- The settings stay, and both areas then read as them.
 abbrev pub Remounts : Rules → State → State → Type 0
-Remounts r old new = new ≡ record (renamed r old) { other = old.settings; gone = new.gone; blank = new.blank; is_on = true; is_whole = true }
+Remounts r old new = new ≡ record (renamed r old) { other = old.settings; gone = new.gone; is_on = true; is_whole = true }
 
--- There were no settings, and in the area that was read nothing is left: the other one is read, whatever it has.
-abbrev pub LosesArea : Rules → State → State → Type 0
-LosesArea r old new =
-    (old.settings ≡ empty) × (new.named ≡ trusted_of r old) × (new.gone ≡ true)
-
--- The settings stay where power is lost, too, but for that. The selector names the area of before, or the trusted one; what is not read
--- may be anything.
+-- The settings stay where power is lost, too, and are read in the same area. The selector names the area of before, or that one; what is
+-- not read may be anything.
 pub record StopsMounting (r : Rules) (old new : State) : Type 0 where
   pub names : (new.named ≡ old.named) ⊎ (new.named ≡ trusted_of r old)
-  pub settings : (new.settings ≡ old.settings) ⊎ LosesArea r old new
+  pub trusted : trusted_of r new ≡ trusted_of r old
+  pub settings : new.settings ≡ old.settings
   pub off : IsOff new
   pub not_whole : new.is_whole ≡ false
 
@@ -134,7 +133,7 @@ Arms answer old new = ⊥
 abbrev pub Replaces : Rules → ℕ → State → State → Type 0
 Replaces r place old new =
     let after = if place == trusted_of r old then old.other else old.settings in
-    new ≡ record old { settings = after; other = new.other; gone = new.gone; blank = new.blank; is_whole = false }
+    new ≡ record old { settings = after; other = new.other; gone = new.gone; is_whole = false }
 
 abbrev pub Blanks : Rules → List ℕ → Answer → State → State → Type 0
 Blanks r label On old new = IsOn old × (new ≡ old)

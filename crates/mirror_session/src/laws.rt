@@ -1,5 +1,5 @@
 // Laws of the table. The functions do nothing: their contracts are the laws.
-ghost use Rattle.mirror_session.specs.Laws.{HoldsAcknowledged, LinesAreServed, LinesMakeRuns, LosesPower, RunsInRow, StaysMirrored};
+ghost use Rattle.mirror_session.specs.Laws.{HoldsAcknowledged, KeepsNamed, LinesAreServed, LinesMakeRuns, LosesPower, RunsInRow, StaysMirrored};
 
 /// Wherever power is lost and an area is replaced, the settings are those after commands of the lines in their order: all of
 /// each line that was done, and each one in which power was lost or not.
@@ -15,6 +15,11 @@ pub fn areas_stay_mirrored()
 /// Power is off from a line in which it was lost to the next mount that answers `ok`.
 pub fn power_follows_losses()
     ensures { LosesPower }
+{}
+
+/// The selector names another area only behind a mount that found the one of before all FF, and the other one not.
+pub fn named_area_stays()
+    ensures { KeepsNamed }
 {}
 
 /// Two runs in a row are one run of the lines of both.

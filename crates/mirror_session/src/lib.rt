@@ -17,7 +17,7 @@ pub use answers::Answers;
 pub use carrying::MirrorSession;
 pub use fault::SessionFault;
 pub use laws::{
-    acknowledged_commands_stand, areas_stay_mirrored, line_by_line, lines_fit,
+    acknowledged_commands_stand, areas_stay_mirrored, line_by_line, lines_fit, named_area_stays,
     power_follows_losses, two_runs,
 };
 pub use running::run_lines;

@@ -20,8 +20,9 @@ use std::sync::ledger::Ledger;
 /// Mounts the mirror of a map, carries out lines one after another, and gives the answers to the mount and to each line.
 ///
 /// # Errors
-/// `Damaged` and `Unfit` where the opening mount or another one finds damage, or settings that do not fit one of the areas.
-/// `NoMemory`. The bench is then what the first lines have made of it, and that mount.
+/// `Damaged` and `Unfit` where the opening mount or another one finds damage, or settings that do not fit one of the areas;
+/// `Unfit` never behind a mount that was whole, nor where the first settings fit both. `NoMemory`. The bench is then what the
+/// first lines have made of it, and that mount.
 pub fn run_lines<K: Priced, B: Bench, L: Ledger>(
     alloc: Global,
     lines: &[Line],
@@ -32,7 +33,7 @@ pub fn run_lines<K: Priced, B: Bench, L: Ledger>(
     requires map { IsMirrorMap K.serves map.now (B.device bench.old) }
     requires lines { All (IsServed (limit_of map.now)) lines.now }
     ensures { let m = meanings K.damage K.contents K.room K.prices in
-        RunEnds m map.now (Mount ∷ lines.now) (moment (B.device bench.old) false) (B.device bench.new) result }
+        RunEnds K.rests m map.now (Mount ∷ lines.now) (moment (B.device bench.old) false) (B.device bench.new) result }
 {
     let (mut session, first) = match MirrorSession::<K>::open(alloc, bench, map, steps) {
         Ok(opened) => opened,

@@ -13,7 +13,7 @@ use Rattle.flash_sim.specs.Device.{Device}
 use Rattle.flash_sim.specs.declared.flash.Loss.{Loss}
 use Rattle.flash_map.specs.Area.{geometry_of, sector_at, sector_size, sectors_of}
 use Rattle.flash_map.specs.Lawful.{IsLawfulFor}
-use Rattle.flash_map.specs.On.{on}
+use Rattle.flash_map.specs.On.{on, HoldsOn}
 use Rattle.flash_map.specs.Units.{is_erased, padded}
 use Rattle.flash_map.specs.declared.area.Area.{Area}
 use Rattle.flash_map.specs.declared.area.Geometry.{Geometry}
@@ -24,11 +24,11 @@ use Rattle.flash_map.proofs.Places.{length-sector}
 use Rattle.flash_map.proofs.Sectors.{length-sectors_from}
 use Rattle.zms_cycle.specs.Sector.{data_len}
 use Rattle.backend_api.specs.Map.{Map}
+use Rattle.backend_api.specs.Written.{is_blank_on}
 use Rattle.any_backend.specs.Blank.{IsBlank}
-use Rattle.any_backend.specs.ByRole.{any_chance, any_contents, any_damage, any_room, any_serves, chance_as, room_as}
-use Rattle.any_backend.proofs.Blanks.{blank_empty, blank_undamaged}
+use Rattle.any_backend.specs.ByRole.{any_chance, any_contents, any_damage, any_rests, any_room, any_serves, chance_as, room_as}
+use Rattle.any_backend.proofs.Blanks.{blank_empty, blank_rests, blank_undamaged}
 use Rattle.mirror.specs.Room.{IsMirrored, IsRoomBy, alike}
-use Rattle.mirror.specs.Trusted.{is_blank_on}
 use Rattle.mirror_stores.specs.Prices.{mirror_prices, of_nvs, prices_as}
 
 -- ---- longer bytes cost no less
@@ -120,3 +120,7 @@ blank-reads d area lawful for serves erased = blank_undamaged d area for serves 
 pub blank-empty : (d : Device) (area : Area) → IsLawful d.banks d.bytes → IsLawfulFor d.banks area → any_serves area (geometry_of d area) → is_blank_on d area ≡ true
     → on any_contents d area ≡ empty
 blank-empty d area lawful for serves erased = blank_empty d area for serves (is-blank d area lawful for erased)
+
+pub blank-rests : (d : Device) (area : Area) → IsLawful d.banks d.bytes → IsLawfulFor d.banks area → any_serves area (geometry_of d area) → is_blank_on d area ≡ true
+    → HoldsOn any_rests d area
+blank-rests d area lawful for serves erased = blank_rests d area for serves (is-blank d area lawful for erased)

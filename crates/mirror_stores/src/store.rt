@@ -1,7 +1,7 @@
 // The store of a mirror.
 ghost use Rattle.any_backend.specs.ByRole.{any_serves, any_damage, any_contents, any_room, any_rests, any_chance, any_tears};
 ghost use Rattle.any_backend.specs.Laws.{reads_settings};
-ghost use Rattle.mirror_stores.specs.Laws.{blank-empty, blank-reads, is-room, never-chance};
+ghost use Rattle.mirror_stores.specs.Laws.{blank-empty, blank-reads, blank-rests, is-room, never-chance};
 ghost use Rattle.mirror_stores.specs.Prices.{mirror_prices};
 ghost use Rattle.mirror_stores.specs.Standing.{area_of, Stands, is_up, stands-up, stands-serves, stands-reads, stands-rests};
 
@@ -138,6 +138,8 @@ impl Priced for MirrorStore {
     ghost blank_reads = { blank-reads };
 
     ghost blank_empty = { blank-empty };
+
+    ghost blank_rests = { blank-rests };
 
     fn price<F: Flash>(flash: &F, area: &Area, length: u32) -> u64 {
         match area.role {

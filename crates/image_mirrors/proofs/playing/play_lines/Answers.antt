@@ -10,6 +10,7 @@ use Rattle.image_plays.specs.Plays.{file_of}
 use Rattle.mirror.specs.Trusted.{IsMirrorMap}
 use Rattle.mirror_lines.specs.declared.line.Line.TheVariants.{Mount}
 use Rattle.mirror_lines.specs.Answer.{CanTell}
+use Rattle.mirror_session.proofs.PlaceLemmas.{map_kept}
 use Rattle.image_mirrors.specs.Plays.{any_meanings, texts}
 use Rattle.image_mirrors.proofs.AreaLemmas.{is_mirror_map}
 use Rattle.image_mirrors.proofs.Endings.{played, stopped, wanted}
@@ -68,7 +69,8 @@ returns g c = λ outside name script has plays.
     let bench' = g.B.Flash.device c.run-ran.new.bench in
     let image = c.args.image in (
       played name script c.args.out.now outside image.banks.items (contents image.bytes.items) image.map c.args.lines.now bench bench' c.requires.mirrored c.requires.stores has plays first c.in_ok-load.ensures.ok
-          c.in-Ok.answers c.in-Ok.ensures.0 c.in-Ok-all_texts.text.items (file_of c.in-Ok-file_left.file) c.in-Ok.ensures.1
+          c.in-Ok.answers c.in-Ok.ensures.0 c.in-Ok-all_texts.text.items (file_of c.in-Ok-file_left.file)
+          (map_kept any_serves image.map (begun (plain image) bench) bench' (c.in-Ok.ensures.1.keeps.banks ∙ ap (λ (d : Device). d.banks) c.in_ok-load.ensures.ok) (is_mirror_map image.map (begun (plain image) bench) c.requires.image c.requires.mirrored c.requires.stores)) c.in-Ok.ensures.1 c.in-Ok.ensures.2
           (c.in-Ok-all_texts.ensures ∙ ap texts c.as_slice.ensures) c.in-Ok-file_left.ensures,
       refl,
     )

@@ -1,3 +1,11 @@
+use Rattle.migrator.proofs.Spent.{put_units}
+use Rattle.std.proofs.Common.{◌*◌, None}
+use Rattle.backend_api.specs.Room.{most_units}
+use Rattle.std.specs.FinMap as maps
+use Rattle.flash_map.proofs.SpendingLemmas.{most_weaker}
+use Rattle.flash_map.specs.Area.{geometry_of}
+use Rattle.migrator.proofs.Spent.{put-all}
+use Rattle.migrator.proofs.Copies.{copying-most, copying-refused}
 use Rattle.std.proofs.Common.{ℕ, List, Option, Some, refl, ap, subst, ◌∙◌}
 use Rattle.std.specs.FinMap.{get}
 use Rattle.flash_sim.specs.Device.{Device}
@@ -21,7 +29,7 @@ loop-at-preserved g c =
     let v = has-value (get (on g.K.Backend.contents (g.F.Flash.device c.args.flash.now) (g.K.Backend.mounted_on c.args.from.now)) c.in-Some.name) (so_far.stored c.in-Some.name refl) in
     let same = source-same g.K.Backend.mounted_on g.K.Backend.stands g.K.Backend.contents g.K.Backend.room a d c.args.from.now c.args.to.now c.loop-at.to (Some c.in-Some.name) so_far in
     copying-step g.K.Backend.mounted_on g.K.Backend.stands g.K.Backend.contents g.K.Backend.room a d e c.args.from.now c.args.to.now c.loop-at.to c.copy_one.new.to c.in-Some.name v.0 c.next_name-at-in-Some.result c.copy_one.result c.in-Ok.field-0 c.in-Ok.is so_far v.1
-    c.copy_one.ensures.touches c.copy_one.ensures.area c.copy_one.ensures.source (c.copy_one.ensures.ends v.0 (ap (λ (m : Map). get m c.in-Some.name) same ∙ v.1)) c.copy_one.ensures.stands c.next_name-at-in-Some.ensures
+    c.copy_one.ensures.touches c.copy_one.ensures.area c.copy_one.ensures.source (c.copy_one.ensures.ends v.0 (ap (λ (m : Map). get m c.in-Some.name) same ∙ v.1)) c.copy_one.ensures.stands c.next_name-at-in-Some.ensures c.copy_one.ensures.at_most
 
 pub loop-at-smaller : goal.loop-at-smaller
 loop-at-smaller g c =
@@ -37,3 +45,28 @@ pub returns-clause-ends : goal.returns-clause-ends
 returns-clause-ends g c =
     copying-end g.K.Backend.mounted_on g.K.Backend.stands g.K.Backend.contents g.K.Backend.room (g.F.Flash.device c.args.flash.now) (g.F.Flash.device c.loop-at.flash) c.args.from.now c.args.to.now c.loop-at.to (tt {0})
     (subst (λ (o : Option (List ℕ)). IsCopying g.K.Backend.mounted_on g.K.Backend.stands g.K.Backend.contents g.K.Backend.room (g.F.Flash.device c.args.flash.now) (g.F.Flash.device c.loop-at.flash) c.args.from.now c.args.to.now c.loop-at.to o) c.in_default.is c.loop-at.invariant)
+
+pub returns-in-Err-clause-ends : goal.returns-in-Err-clause-ends
+returns-in-Err-clause-ends g c =
+    let a : Device = g.F.Flash.device c.args.flash.now in
+    let d : Device = g.F.Flash.device c.loop-at.flash in
+    let e : Device = g.F.Flash.device c.copy_one.new.flash in
+    let so_far : IsCopying g.K.Backend.mounted_on g.K.Backend.stands g.K.Backend.contents g.K.Backend.room (g.F.Flash.device c.args.flash.now) (g.F.Flash.device c.loop-at.flash) c.args.from.now c.args.to.now c.loop-at.to (Some c.in-Some.name) =
+    subst (λ (o : Option (List ℕ)). IsCopying g.K.Backend.mounted_on g.K.Backend.stands g.K.Backend.contents g.K.Backend.room (g.F.Flash.device c.args.flash.now) (g.F.Flash.device c.loop-at.flash) c.args.from.now c.args.to.now c.loop-at.to o) c.in-Some.is c.loop-at.invariant in
+    let v = has-value (get (on g.K.Backend.contents (g.F.Flash.device c.args.flash.now) (g.K.Backend.mounted_on c.args.from.now)) c.in-Some.name) (so_far.stored c.in-Some.name refl) in
+    let same = source-same g.K.Backend.mounted_on g.K.Backend.stands g.K.Backend.contents g.K.Backend.room a d c.args.from.now c.args.to.now c.loop-at.to (Some c.in-Some.name) so_far in
+    copying-refused g.K.Backend.mounted_on g.K.Backend.stands g.K.Backend.contents g.K.Backend.room (Unit {0}) a d e c.args.from.now c.args.to.now c.loop-at.to c.in-Some.name v.0 c.copy_one.result c.in-Err.fault c.in-Err.is so_far v.1
+    (c.copy_one.ensures.ends v.0 (ap (λ (m : Map). get m c.in-Some.name) same ∙ v.1))
+
+pub returns-in-Err-clause-at_most : goal.returns-in-Err-clause-at_most
+returns-in-Err-clause-at_most g c =
+    let so_far : IsCopying g.K.Backend.mounted_on g.K.Backend.stands g.K.Backend.contents g.K.Backend.room (g.F.Flash.device c.args.flash.now) (g.F.Flash.device c.loop-at.flash) c.args.from.now c.args.to.now c.loop-at.to (Some c.in-Some.name) =
+    subst (λ (o : Option (List ℕ)). IsCopying g.K.Backend.mounted_on g.K.Backend.stands g.K.Backend.contents g.K.Backend.room (g.F.Flash.device c.args.flash.now) (g.F.Flash.device c.loop-at.flash) c.args.from.now c.args.to.now c.loop-at.to o) c.in-Some.is c.loop-at.invariant in
+    copying-most g.K.Backend.mounted_on g.K.Backend.stands g.K.Backend.contents g.K.Backend.room (g.F.Flash.device c.args.flash.now) (g.F.Flash.device c.loop-at.flash) (g.F.Flash.device c.copy_one.new.flash) c.args.from.now c.args.to.now c.loop-at.to c.in-Some.name so_far c.copy_one.ensures.at_most
+
+pub returns-clause-at_most : goal.returns-clause-at_most
+returns-clause-at_most g c =
+    let a : Device = g.F.Flash.device c.args.flash.now in
+    let m : Map = on g.K.Backend.contents a (g.K.Backend.mounted_on c.args.from.now) in
+    let area = g.K.Backend.mounted_on c.args.to.now in
+    most_weaker a (g.F.Flash.device c.loop-at.flash) (put_units m c.loop-at.at (geometry_of a area)) (maps.len m * most_units (geometry_of a area)) (put-all m c.loop-at.at (geometry_of a area)) c.loop-at.invariant.units

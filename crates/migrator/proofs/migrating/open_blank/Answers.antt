@@ -1,3 +1,6 @@
+use Rattle.flash_map.specs.Area.{geometry_of}
+use Rattle.backend_api.specs.Room.{mount_units}
+use Rattle.migrator.proofs.Spent.{erased-first, erased-most, opened-most}
 use Rattle.std.proofs.Common.{[], ◌∷◌, Result, Err, ap, subst, ◌∙◌}
 use Rattle.flash_map.proofs.Touches.{then}
 use Rattle.flash_map.specs.Faults.{mount_lost}
@@ -12,3 +15,24 @@ pub returns-in-Err-PowerLost-clause-touches : goal.returns-in-Err-PowerLost-clau
 returns-in-Err-PowerLost-clause-touches g c =
     then c.in-Ok.ensures.touches
     (subst (λ (r : Result g.row.K.Denot MountFault). Touches (c.args.area ∷ []) (g.F.Flash.device c.erase-erased.new.flash) (g.F.Flash.device c.mount.new.flash) (mount_lost r)) (c.in-Err-PowerLost.is ∙ ap (λ (x : MountFault). Err x) c.in-Err-PowerLost.field-0-is) c.mount.ensures.touches)
+
+pub returns-in-Err-clause-at_most : goal.returns-in-Err-clause-at_most
+returns-in-Err-clause-at_most g c =
+    let a = g.F.Flash.device c.args.flash.now in
+    erased-first a (g.F.Flash.device c.erase-erased.new.flash) c.args.area (mount_units (geometry_of a c.args.area))
+    (erased-most a (g.F.Flash.device c.erase-erased.new.flash) c.args.area c.erase-erased.result c.erase-erased.ensures.units c.erase-erased.ensures.units_lost)
+
+pub returns-in-Ok-mount-clause-at_most : goal.returns-in-Ok-mount-clause-at_most
+returns-in-Ok-mount-clause-at_most g c =
+    opened-most (g.F.Flash.device c.args.flash.now) (g.F.Flash.device c.erase-erased.new.flash) (g.F.Flash.device c.mount.new.flash) c.args.area c.in-Ok.ensures.touches.banks
+    (erased-most (g.F.Flash.device c.args.flash.now) (g.F.Flash.device c.erase-erased.new.flash) c.args.area c.erase-erased.result c.erase-erased.ensures.units c.erase-erased.ensures.units_lost) c.mount.ensures.at_most
+
+pub returns-in-Err-PowerLost-clause-at_most : goal.returns-in-Err-PowerLost-clause-at_most
+returns-in-Err-PowerLost-clause-at_most g c =
+    opened-most (g.F.Flash.device c.args.flash.now) (g.F.Flash.device c.erase-erased.new.flash) (g.F.Flash.device c.mount.new.flash) c.args.area c.in-Ok.ensures.touches.banks
+    (erased-most (g.F.Flash.device c.args.flash.now) (g.F.Flash.device c.erase-erased.new.flash) c.args.area c.erase-erased.result c.erase-erased.ensures.units c.erase-erased.ensures.units_lost) c.mount.ensures.at_most
+
+pub returns-in-Err-NoMemory-clause-at_most : goal.returns-in-Err-NoMemory-clause-at_most
+returns-in-Err-NoMemory-clause-at_most g c =
+    opened-most (g.F.Flash.device c.args.flash.now) (g.F.Flash.device c.erase-erased.new.flash) (g.F.Flash.device c.mount.new.flash) c.args.area c.in-Ok.ensures.touches.banks
+    (erased-most (g.F.Flash.device c.args.flash.now) (g.F.Flash.device c.erase-erased.new.flash) c.args.area c.erase-erased.result c.erase-erased.ensures.units c.erase-erased.ensures.units_lost) c.mount.ensures.at_most

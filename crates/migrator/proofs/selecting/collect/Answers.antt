@@ -1,3 +1,8 @@
+use Rattle.migrator.proofs.Spent.{most_then, record-same}
+use Rattle.fcb_ring.specs.Changing.{header_units, record_units}
+use Rattle.flash_map.proofs.SpendingLemmas.{most_weaker, spends_most}
+use Rattle.flash_map.specs.Spending.{SpendsAtMost}
+use Rattle.std.proofs.Common.{◌≡◌, ℕ, ◌+◌, arith}
 use Rattle.std.proofs.Common.{true, false}
 use Rattle.flash_sim.specs.Device.{Device}
 use Rattle.flash_map.specs.Touches.{Touches}
@@ -44,3 +49,41 @@ returns-clause-collected g c =
     (g.met.F.Flash.is_lawful c.args.flash.now) (g.met.F.Flash.is_lawful c.begin_collect.new.flash) (g.met.F.Flash.is_lawful c.copy_last.new.flash) c.requires.mounted c.requires.left c.last_record-last.ensures
     one.banks two.touches.banks one.others two.others one.units two.units three.units one.list one.area one.stands one.goes_on two.list two.area two.collecting two.copied three.ends
     three.stands three.ready (three.reserve ∙ two.reserve ∙ one.reserve) three.end
+
+pub returns-in_err-begin_collect-clause-at_most : goal.returns-in_err-begin_collect-clause-at_most
+returns-in_err-begin_collect-clause-at_most g c =
+    let a : Device = g.F.Flash.device c.args.flash.now in
+    most_weaker a (g.F.Flash.device c.begin_collect.new.flash) (header_units a c.args.ring.now.area) (header_units a c.args.ring.now.area + record_units a c.args.ring.now.area 2 + 1) (omega arith) c.in_err-begin_collect.ensures.stopped.bound
+
+pub returns-in_err-copy_last-clause-at_most : goal.returns-in_err-copy_last-clause-at_most
+returns-in_err-copy_last-clause-at_most g c =
+    let a : Device = g.F.Flash.device c.args.flash.now in
+    let b : Device = g.F.Flash.device c.begin_collect.new.flash in
+    let e : Device = g.F.Flash.device c.copy_last.new.flash in
+    let area = c.args.ring.now.area in
+    let one = c.in_ok-begin_collect.ensures.begun in
+    let two : SpendsAtMost b e (record_units a area 2) = subst (λ (n : ℕ). SpendsAtMost b e n) (record-same a b area c.begin_collect.new.self.area one.banks one.area) c.copy_last.ensures.at_most in
+    most_weaker a e (header_units a area + record_units a area 2) (header_units a area + record_units a area 2 + 1) (omega arith)
+    (most_then a b e (header_units a area) (record_units a area 2) (spends_most a b (header_units a area) one.units) two)
+
+pub returns-in_err-end_collect-clause-at_most : goal.returns-in_err-end_collect-clause-at_most
+returns-in_err-end_collect-clause-at_most g c =
+    let a : Device = g.F.Flash.device c.args.flash.now in
+    let b : Device = g.F.Flash.device c.begin_collect.new.flash in
+    let m : Device = g.F.Flash.device c.copy_last.new.flash in
+    let e : Device = g.F.Flash.device c.end_collect.new.flash in
+    let area = c.args.ring.now.area in
+    let one = c.in_ok-begin_collect.ensures.begun in
+    let two : SpendsAtMost b m (record_units a area 2) = subst (λ (n : ℕ). SpendsAtMost b m n) (record-same a b area c.begin_collect.new.self.area one.banks one.area) c.copy_last.ensures.at_most in
+    most_then a m e (header_units a area + record_units a area 2) 1 (most_then a b m (header_units a area) (record_units a area 2) (spends_most a b (header_units a area) one.units) two) c.in_err-end_collect.ensures.bound
+
+pub returns-clause-at_most : goal.returns-clause-at_most
+returns-clause-at_most g c =
+    let a : Device = g.F.Flash.device c.args.flash.now in
+    let b : Device = g.F.Flash.device c.begin_collect.new.flash in
+    let m : Device = g.F.Flash.device c.copy_last.new.flash in
+    let e : Device = g.F.Flash.device c.end_collect.new.flash in
+    let area = c.args.ring.now.area in
+    let one = c.in_ok-begin_collect.ensures.begun in
+    let two : SpendsAtMost b m (record_units a area 2) = subst (λ (n : ℕ). SpendsAtMost b m n) (record-same a b area c.begin_collect.new.self.area one.banks one.area) c.copy_last.ensures.at_most in
+    most_then a m e (header_units a area + record_units a area 2) 1 (most_then a b m (header_units a area) (record_units a area 2) (spends_most a b (header_units a area) one.units) two) (spends_most m e 1 c.in_ok-end_collect.ensures.units)

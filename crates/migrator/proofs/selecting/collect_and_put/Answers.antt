@@ -1,3 +1,5 @@
+use Rattle.migrator.proofs.Spent.{choice-behind, choice-first}
+use Rattle.flash_sim.specs.Device.{Device}
 use Rattle.std.proofs.Common.{[], ◌∷◌, false, Result, Err, ap, subst, ◌∙◌}
 use Rattle.flash_map.specs.declared.area.Area.{Area}
 use Rattle.flash_map.specs.Touches.{Touches}
@@ -28,3 +30,20 @@ returns-in-Ok-clause-chosen g c =
     let put = put-ok c.args.map.now (g.F.Flash.device c.collect.new.flash) (g.F.Flash.device c.put_choice.new.flash) c.collect.new.ring c.put_choice.new.ring c.args.index c.put_choice.result _ c.in-Ok.is (c.put_choice.ensures.ends c.args.map.now c.requires.store) in
     adds-behind c.args.map.now (g.F.Flash.device c.args.flash.now) (g.F.Flash.device c.collect.new.flash) (g.F.Flash.device c.put_choice.new.flash) c.args.ring.now c.collect.new.ring c.args.index (g.met.F.Flash.is_lawful c.collect.new.flash)
     one.touches.banks one.area (left-used (g.F.Flash.device c.args.flash.now) c.args.ring.now c.requires.mounted c.requires.left) one.collected put.2
+
+pub returns-in_err-collect-clause-at_most : goal.returns-in_err-collect-clause-at_most
+returns-in_err-collect-clause-at_most g c = choice-first (g.F.Flash.device c.args.flash.now) (g.F.Flash.device c.collect.new.flash) c.args.ring.now.area c.collect.ensures.at_most
+
+pub returns-in-Ok-clause-at_most : goal.returns-in-Ok-clause-at_most
+returns-in-Ok-clause-at_most g c =
+    let a : Device = g.F.Flash.device c.args.flash.now in
+    let b : Device = g.F.Flash.device c.collect.new.flash in
+    let e : Device = g.F.Flash.device c.put_choice.new.flash in
+    choice-behind a b e c.args.ring.now.area c.collect.new.ring.area c.in_ok-collect.ensures.touches.banks c.in_ok-collect.ensures.area c.collect.ensures.at_most c.put_choice.ensures.at_most
+
+pub returns-in-Err-PowerLost-clause-at_most : goal.returns-in-Err-PowerLost-clause-at_most
+returns-in-Err-PowerLost-clause-at_most g c =
+    let a : Device = g.F.Flash.device c.args.flash.now in
+    let b : Device = g.F.Flash.device c.collect.new.flash in
+    let e : Device = g.F.Flash.device c.put_choice.new.flash in
+    choice-behind a b e c.args.ring.now.area c.collect.new.ring.area c.in_ok-collect.ensures.touches.banks c.in_ok-collect.ensures.area c.collect.ensures.at_most c.put_choice.ensures.at_most

@@ -1,3 +1,6 @@
+use Rattle.migrator.proofs.Spent.{copied-most, most_none}
+use Rattle.fcb_ring.specs.Changing.{record_units}
+use Rattle.std.proofs.Common.{refl}
 use Rattle.migrator.proofs.Collecting.{copy-short, copy-fits, no-copy, others-stay, kept-itself}
 use Rattle.migrator.proofs.selecting.copy_last.Goals as goal
 
@@ -24,3 +27,13 @@ returns-in_default-clause-units g c = no-copy (g.F.Flash.device c.args.flash.now
 
 pub returns-in_default-2-clause-units : goal.returns-in_default-2-clause-units
 returns-in_default-2-clause-units g c = no-copy (g.F.Flash.device c.args.flash.now) c.args.ring.now c.requires.no_copies
+
+pub returns-in-Some-clause-at_most : goal.returns-in-Some-clause-at_most
+returns-in-Some-clause-at_most g c =
+    copied-most (g.F.Flash.device c.args.flash.now) (g.F.Flash.device c.copy.new.flash) c.args.ring.now c.copy.new.self c.in-Some.record c.copy.result (c.requires.short c.in-Some.record c.in-Some.is) c.copy.ensures.copied c.copy.ensures.stopped
+
+pub returns-in_default-clause-at_most : goal.returns-in_default-clause-at_most
+returns-in_default-clause-at_most g c = let d = g.F.Flash.device c.args.flash.now in most_none d d (record_units d c.args.ring.now.area 2) refl
+
+pub returns-in_default-2-clause-at_most : goal.returns-in_default-2-clause-at_most
+returns-in_default-2-clause-at_most g c = let d = g.F.Flash.device c.args.flash.now in most_none d d (record_units d c.args.ring.now.area 2) refl

@@ -1,4 +1,5 @@
 use Rattle.std.proofs.Common.{◌≡◌, ◌<◌, ℕ, Bool, true, false, List, [], ◌∷◌, length, Err, Some, None, sym, ap, subst, ◌∙◌}
+use Rattle.std.specs.FinMap as maps
 use Rattle.std.specs.List.{slice_get}
 use Rattle.flash_sim.specs.declared.flash.Bank.{Bank}
 use Rattle.flash_map.specs.Area.{AreApart, geometry_of, sectors_of}
@@ -15,9 +16,11 @@ use Rattle.migrator.proofs.AreaLemmas.{store-within}
 use Rattle.migrator.proofs.Migration.{store-of}
 use Rattle.mirror.specs.declared.mirror.Mirror.{Mirror}
 use Rattle.mirror.specs.declared.sides.Side.{Side}
-use Rattle.mirror.specs.Mounting.{BothFitEnds, FitsAt, mount_lost, other_place}
+use Rattle.mirror.specs.Mounting.{BothFitEnds, FitsAt, SideEnds, mount_lost, other_place}
+use Rattle.mirror.specs.Room.{FitsOn}
 use Rattle.mirror.proofs.MapSteps.{both-mounted, look-ends, look-lost, map-still, other-is, selector-still, some-area}
 use Rattle.mirror.proofs.MountSteps.{lost-same}
+use Rattle.mirror.proofs.SideSteps.{idle-then, other-done, other-stops, side-done, side-stops, spares-first, spares-then, units-first, units-then}
 use Rattle.mirror.proofs.mounting.mount_both.Goals as goal
 
 pub mount_side-side-requires-clause-lawful : goal.mount_side-side-requires-clause-lawful
@@ -158,3 +161,182 @@ returns-in-Ok-opened-clause-ends g c trusted other there beside =
     c.in-Ok.side (record { store = c.in-Ok-opened.store; area = c.area_at-in-Ok-opened.result; place = c.other_place-other.result }) area c.in-Ok.ensures.ends.2 c.in-Ok.ensures.ends.3 last c.other_place-other.ensures (c.in-Ok-opened.ensures.ends.0 ∙ o-same) c.in-Ok-opened.ensures.ends.1 holds
     (subst (λ (x : Map). FitsAt g.K.Backend.room g.K.Priced.prices c.args.map.now m c.args.place x) settings (subst (λ (n : ℕ). FitsAt g.K.Backend.room g.K.Priced.prices c.args.map.now m n (on g.K.Backend.contents m c.in-Ok.side.area)) c.in-Ok.ensures.ends.2 fits.0))
     (subst (λ (x : Map). FitsAt g.K.Backend.room g.K.Priced.prices c.args.map.now m (other_place c.args.map.now c.args.place) x) settings (subst (λ (n : ℕ). FitsAt g.K.Backend.room g.K.Priced.prices c.args.map.now m n (on g.K.Backend.contents m c.in-Ok.side.area)) c.other_place-other.ensures fits.1))
+
+pub returns-in-Err-clause-spares : goal.returns-in-Err-clause-spares
+returns-in-Err-clause-spares g c trusted other there beside =
+    let d : Device = g.F.Flash.device c.args.flash.now in
+    let m : Device = g.F.Flash.device c.mount_side-side.new.flash in
+    let one = side-done g.K.Backend.damage g.K.Backend.contents g.K.Backend.rests g.K.Backend.serves c.args.map.now d c.requires.map m c.args.place c.area_at.result trusted other (mount_lost c.mount_side-side.result) c.area_at.ensures there beside
+    (g.met.F.Flash.is_lawful c.args.flash.now) (g.met.F.Flash.is_lawful c.mount_side-side.new.flash) c.mount_side-side.ensures.touches c.mount_side-side.ensures.sound c.mount_side-side.ensures.keeps c.mount_side-side.ensures.rests c.mount_side-side.ensures.written c.mount_side-side.ensures.at_most in
+    spares-first g.K.Backend.damage g.K.Backend.contents g.K.Backend.rests d m trusted other one
+
+pub returns-in-Err-clause-idle : goal.returns-in-Err-clause-idle
+returns-in-Err-clause-idle g c trusted other there beside rest other_rest holds =
+    let d : Device = g.F.Flash.device c.args.flash.now in
+    let m : Device = g.F.Flash.device c.mount_side-side.new.flash in
+    let one = side-done g.K.Backend.damage g.K.Backend.contents g.K.Backend.rests g.K.Backend.serves c.args.map.now d c.requires.map m c.args.place c.area_at.result trusted other (mount_lost c.mount_side-side.result) c.area_at.ensures there beside
+    (g.met.F.Flash.is_lawful c.args.flash.now) (g.met.F.Flash.is_lawful c.mount_side-side.new.flash) c.mount_side-side.ensures.touches c.mount_side-side.ensures.sound c.mount_side-side.ensures.keeps c.mount_side-side.ensures.rests c.mount_side-side.ensures.written c.mount_side-side.ensures.at_most in
+    one.rest rest
+
+pub returns-in-Err-clause-at_most : goal.returns-in-Err-clause-at_most
+returns-in-Err-clause-at_most g c trusted other there beside =
+    let d : Device = g.F.Flash.device c.args.flash.now in
+    let m : Device = g.F.Flash.device c.mount_side-side.new.flash in
+    let one = side-done g.K.Backend.damage g.K.Backend.contents g.K.Backend.rests g.K.Backend.serves c.args.map.now d c.requires.map m c.args.place c.area_at.result trusted other (mount_lost c.mount_side-side.result) c.area_at.ensures there beside
+    (g.met.F.Flash.is_lawful c.args.flash.now) (g.met.F.Flash.is_lawful c.mount_side-side.new.flash) c.mount_side-side.ensures.touches c.mount_side-side.ensures.sound c.mount_side-side.ensures.keeps c.mount_side-side.ensures.rests c.mount_side-side.ensures.written c.mount_side-side.ensures.at_most in
+    units-first g.K.Backend.damage g.K.Backend.contents g.K.Backend.rests d m trusted other one (maps.len (on g.K.Backend.contents d trusted))
+
+pub returns-in-Err-look_for_both-clause-spares : goal.returns-in-Err-look_for_both-clause-spares
+returns-in-Err-look_for_both-clause-spares g c trusted other there beside =
+    let d : Device = g.F.Flash.device c.args.flash.now in
+    let m : Device = g.F.Flash.device c.mount_side-side.new.flash in
+    let one = side-done g.K.Backend.damage g.K.Backend.contents g.K.Backend.rests g.K.Backend.serves c.args.map.now d c.requires.map m c.args.place c.area_at.result trusted other (mount_lost c.mount_side-side.result) c.area_at.ensures there beside
+    (g.met.F.Flash.is_lawful c.args.flash.now) (g.met.F.Flash.is_lawful c.mount_side-side.new.flash) c.mount_side-side.ensures.touches c.mount_side-side.ensures.sound c.mount_side-side.ensures.keeps c.mount_side-side.ensures.rests c.mount_side-side.ensures.written c.mount_side-side.ensures.at_most in
+    spares-first g.K.Backend.damage g.K.Backend.contents g.K.Backend.rests d m trusted other one
+
+pub returns-in-Err-look_for_both-clause-idle : goal.returns-in-Err-look_for_both-clause-idle
+returns-in-Err-look_for_both-clause-idle g c trusted other there beside rest other_rest holds =
+    let d : Device = g.F.Flash.device c.args.flash.now in
+    let m : Device = g.F.Flash.device c.mount_side-side.new.flash in
+    let one = side-done g.K.Backend.damage g.K.Backend.contents g.K.Backend.rests g.K.Backend.serves c.args.map.now d c.requires.map m c.args.place c.area_at.result trusted other (mount_lost c.mount_side-side.result) c.area_at.ensures there beside
+    (g.met.F.Flash.is_lawful c.args.flash.now) (g.met.F.Flash.is_lawful c.mount_side-side.new.flash) c.mount_side-side.ensures.touches c.mount_side-side.ensures.sound c.mount_side-side.ensures.keeps c.mount_side-side.ensures.rests c.mount_side-side.ensures.written c.mount_side-side.ensures.at_most in
+    one.rest rest
+
+pub returns-in-Err-look_for_both-clause-at_most : goal.returns-in-Err-look_for_both-clause-at_most
+returns-in-Err-look_for_both-clause-at_most g c trusted other there beside =
+    let d : Device = g.F.Flash.device c.args.flash.now in
+    let m : Device = g.F.Flash.device c.mount_side-side.new.flash in
+    let one = side-done g.K.Backend.damage g.K.Backend.contents g.K.Backend.rests g.K.Backend.serves c.args.map.now d c.requires.map m c.args.place c.area_at.result trusted other (mount_lost c.mount_side-side.result) c.area_at.ensures there beside
+    (g.met.F.Flash.is_lawful c.args.flash.now) (g.met.F.Flash.is_lawful c.mount_side-side.new.flash) c.mount_side-side.ensures.touches c.mount_side-side.ensures.sound c.mount_side-side.ensures.keeps c.mount_side-side.ensures.rests c.mount_side-side.ensures.written c.mount_side-side.ensures.at_most in
+    units-first g.K.Backend.damage g.K.Backend.contents g.K.Backend.rests d m trusted other one (maps.len (on g.K.Backend.contents d trusted))
+
+pub returns-in-Ok-opened-clause-spares : goal.returns-in-Ok-opened-clause-spares
+returns-in-Ok-opened-clause-spares g c trusted other there beside =
+    let d : Device = g.F.Flash.device c.args.flash.now in
+    let m : Device = g.F.Flash.device c.mount_side-side.new.flash in
+    let one = side-done g.K.Backend.damage g.K.Backend.contents g.K.Backend.rests g.K.Backend.serves c.args.map.now d c.requires.map m c.args.place c.area_at.result trusted other (mount_lost c.mount_side-side.result) c.area_at.ensures there beside
+    (g.met.F.Flash.is_lawful c.args.flash.now) (g.met.F.Flash.is_lawful c.mount_side-side.new.flash) c.mount_side-side.ensures.touches c.mount_side-side.ensures.sound c.mount_side-side.ensures.keeps c.mount_side-side.ensures.rests c.mount_side-side.ensures.written c.mount_side-side.ensures.at_most in
+    let e : Device = g.F.Flash.device c.open_other-opened.new.flash in
+    let same : c.area_at.result ≡ trusted = some-area c.area_at.result trusted (sym c.area_at.ensures ∙ there) in
+    let o-same : c.area_at-2.result ≡ other = some-area c.area_at-2.result other (sym c.area_at-2.ensures ∙ ap (slice_get c.args.map.now) c.other_place-other.ensures ∙ beside) in
+    let on_it : g.K.Backend.mounted_on c.in-Ok.side.store ≡ trusted = c.in-Ok.ensures.ends.3.here ∙ c.in-Ok.ensures.ends.1 ∙ same in
+    let was : on g.K.Backend.damage d trusted ≡ None = subst (λ (x : Area). on g.K.Backend.damage d x ≡ None) same c.in-Ok.ensures.ends.0 in
+    let two = other-done g.K.Backend.damage g.K.Backend.contents g.K.Backend.rests m e c.area_at-2.result other (g.K.Backend.mounted_on c.in-Ok.side.store) trusted o-same on_it c.open_other-opened.ensures.touches.banks c.open_other-opened.ensures.trusted
+    c.open_other-opened.ensures.held c.open_other-opened.ensures.idle c.open_other-opened.ensures.at_most in
+    spares-then g.K.Backend.damage g.K.Backend.contents g.K.Backend.rests d m trusted other one e two
+
+pub returns-in-Ok-opened-clause-idle : goal.returns-in-Ok-opened-clause-idle
+returns-in-Ok-opened-clause-idle g c trusted other there beside rest other_rest holds =
+    let d : Device = g.F.Flash.device c.args.flash.now in
+    let m : Device = g.F.Flash.device c.mount_side-side.new.flash in
+    let one = side-done g.K.Backend.damage g.K.Backend.contents g.K.Backend.rests g.K.Backend.serves c.args.map.now d c.requires.map m c.args.place c.area_at.result trusted other (mount_lost c.mount_side-side.result) c.area_at.ensures there beside
+    (g.met.F.Flash.is_lawful c.args.flash.now) (g.met.F.Flash.is_lawful c.mount_side-side.new.flash) c.mount_side-side.ensures.touches c.mount_side-side.ensures.sound c.mount_side-side.ensures.keeps c.mount_side-side.ensures.rests c.mount_side-side.ensures.written c.mount_side-side.ensures.at_most in
+    let e : Device = g.F.Flash.device c.open_other-opened.new.flash in
+    let same : c.area_at.result ≡ trusted = some-area c.area_at.result trusted (sym c.area_at.ensures ∙ there) in
+    let o-same : c.area_at-2.result ≡ other = some-area c.area_at-2.result other (sym c.area_at-2.ensures ∙ ap (slice_get c.args.map.now) c.other_place-other.ensures ∙ beside) in
+    let on_it : g.K.Backend.mounted_on c.in-Ok.side.store ≡ trusted = c.in-Ok.ensures.ends.3.here ∙ c.in-Ok.ensures.ends.1 ∙ same in
+    let was : on g.K.Backend.damage d trusted ≡ None = subst (λ (x : Area). on g.K.Backend.damage d x ≡ None) same c.in-Ok.ensures.ends.0 in
+    let two = other-done g.K.Backend.damage g.K.Backend.contents g.K.Backend.rests m e c.area_at-2.result other (g.K.Backend.mounted_on c.in-Ok.side.store) trusted o-same on_it c.open_other-opened.ensures.touches.banks c.open_other-opened.ensures.trusted
+    c.open_other-opened.ensures.held c.open_other-opened.ensures.idle c.open_other-opened.ensures.at_most in
+    idle-then g.K.Backend.damage g.K.Backend.contents g.K.Backend.rests d m trusted other one e two rest other_rest holds
+
+pub returns-in-Ok-opened-clause-at_most : goal.returns-in-Ok-opened-clause-at_most
+returns-in-Ok-opened-clause-at_most g c trusted other there beside =
+    let d : Device = g.F.Flash.device c.args.flash.now in
+    let m : Device = g.F.Flash.device c.mount_side-side.new.flash in
+    let one = side-done g.K.Backend.damage g.K.Backend.contents g.K.Backend.rests g.K.Backend.serves c.args.map.now d c.requires.map m c.args.place c.area_at.result trusted other (mount_lost c.mount_side-side.result) c.area_at.ensures there beside
+    (g.met.F.Flash.is_lawful c.args.flash.now) (g.met.F.Flash.is_lawful c.mount_side-side.new.flash) c.mount_side-side.ensures.touches c.mount_side-side.ensures.sound c.mount_side-side.ensures.keeps c.mount_side-side.ensures.rests c.mount_side-side.ensures.written c.mount_side-side.ensures.at_most in
+    let e : Device = g.F.Flash.device c.open_other-opened.new.flash in
+    let same : c.area_at.result ≡ trusted = some-area c.area_at.result trusted (sym c.area_at.ensures ∙ there) in
+    let o-same : c.area_at-2.result ≡ other = some-area c.area_at-2.result other (sym c.area_at-2.ensures ∙ ap (slice_get c.args.map.now) c.other_place-other.ensures ∙ beside) in
+    let on_it : g.K.Backend.mounted_on c.in-Ok.side.store ≡ trusted = c.in-Ok.ensures.ends.3.here ∙ c.in-Ok.ensures.ends.1 ∙ same in
+    let was : on g.K.Backend.damage d trusted ≡ None = subst (λ (x : Area). on g.K.Backend.damage d x ≡ None) same c.in-Ok.ensures.ends.0 in
+    let two = other-done g.K.Backend.damage g.K.Backend.contents g.K.Backend.rests m e c.area_at-2.result other (g.K.Backend.mounted_on c.in-Ok.side.store) trusted o-same on_it c.open_other-opened.ensures.touches.banks c.open_other-opened.ensures.trusted
+    c.open_other-opened.ensures.held c.open_other-opened.ensures.idle c.open_other-opened.ensures.at_most in
+    units-then g.K.Backend.damage g.K.Backend.contents g.K.Backend.rests d m trusted other one e two was
+
+pub returns-in-Err-opened-clause-spares : goal.returns-in-Err-opened-clause-spares
+returns-in-Err-opened-clause-spares g c trusted other there beside =
+    let d : Device = g.F.Flash.device c.args.flash.now in
+    let m : Device = g.F.Flash.device c.mount_side-side.new.flash in
+    let one = side-done g.K.Backend.damage g.K.Backend.contents g.K.Backend.rests g.K.Backend.serves c.args.map.now d c.requires.map m c.args.place c.area_at.result trusted other (mount_lost c.mount_side-side.result) c.area_at.ensures there beside
+    (g.met.F.Flash.is_lawful c.args.flash.now) (g.met.F.Flash.is_lawful c.mount_side-side.new.flash) c.mount_side-side.ensures.touches c.mount_side-side.ensures.sound c.mount_side-side.ensures.keeps c.mount_side-side.ensures.rests c.mount_side-side.ensures.written c.mount_side-side.ensures.at_most in
+    let e : Device = g.F.Flash.device c.open_other-opened.new.flash in
+    let same : c.area_at.result ≡ trusted = some-area c.area_at.result trusted (sym c.area_at.ensures ∙ there) in
+    let o-same : c.area_at-2.result ≡ other = some-area c.area_at-2.result other (sym c.area_at-2.ensures ∙ ap (slice_get c.args.map.now) c.other_place-other.ensures ∙ beside) in
+    let on_it : g.K.Backend.mounted_on c.in-Ok.side.store ≡ trusted = c.in-Ok.ensures.ends.3.here ∙ c.in-Ok.ensures.ends.1 ∙ same in
+    let was : on g.K.Backend.damage d trusted ≡ None = subst (λ (x : Area). on g.K.Backend.damage d x ≡ None) same c.in-Ok.ensures.ends.0 in
+    let two = other-done g.K.Backend.damage g.K.Backend.contents g.K.Backend.rests m e c.area_at-2.result other (g.K.Backend.mounted_on c.in-Ok.side.store) trusted o-same on_it c.open_other-opened.ensures.touches.banks c.open_other-opened.ensures.trusted
+    c.open_other-opened.ensures.held c.open_other-opened.ensures.idle c.open_other-opened.ensures.at_most in
+    spares-then g.K.Backend.damage g.K.Backend.contents g.K.Backend.rests d m trusted other one e two
+
+pub returns-in-Err-opened-clause-idle : goal.returns-in-Err-opened-clause-idle
+returns-in-Err-opened-clause-idle g c trusted other there beside rest other_rest holds =
+    let d : Device = g.F.Flash.device c.args.flash.now in
+    let m : Device = g.F.Flash.device c.mount_side-side.new.flash in
+    let one = side-done g.K.Backend.damage g.K.Backend.contents g.K.Backend.rests g.K.Backend.serves c.args.map.now d c.requires.map m c.args.place c.area_at.result trusted other (mount_lost c.mount_side-side.result) c.area_at.ensures there beside
+    (g.met.F.Flash.is_lawful c.args.flash.now) (g.met.F.Flash.is_lawful c.mount_side-side.new.flash) c.mount_side-side.ensures.touches c.mount_side-side.ensures.sound c.mount_side-side.ensures.keeps c.mount_side-side.ensures.rests c.mount_side-side.ensures.written c.mount_side-side.ensures.at_most in
+    let e : Device = g.F.Flash.device c.open_other-opened.new.flash in
+    let same : c.area_at.result ≡ trusted = some-area c.area_at.result trusted (sym c.area_at.ensures ∙ there) in
+    let o-same : c.area_at-2.result ≡ other = some-area c.area_at-2.result other (sym c.area_at-2.ensures ∙ ap (slice_get c.args.map.now) c.other_place-other.ensures ∙ beside) in
+    let on_it : g.K.Backend.mounted_on c.in-Ok.side.store ≡ trusted = c.in-Ok.ensures.ends.3.here ∙ c.in-Ok.ensures.ends.1 ∙ same in
+    let was : on g.K.Backend.damage d trusted ≡ None = subst (λ (x : Area). on g.K.Backend.damage d x ≡ None) same c.in-Ok.ensures.ends.0 in
+    let two = other-done g.K.Backend.damage g.K.Backend.contents g.K.Backend.rests m e c.area_at-2.result other (g.K.Backend.mounted_on c.in-Ok.side.store) trusted o-same on_it c.open_other-opened.ensures.touches.banks c.open_other-opened.ensures.trusted
+    c.open_other-opened.ensures.held c.open_other-opened.ensures.idle c.open_other-opened.ensures.at_most in
+    idle-then g.K.Backend.damage g.K.Backend.contents g.K.Backend.rests d m trusted other one e two rest other_rest holds
+
+pub returns-in-Err-opened-clause-at_most : goal.returns-in-Err-opened-clause-at_most
+returns-in-Err-opened-clause-at_most g c trusted other there beside =
+    let d : Device = g.F.Flash.device c.args.flash.now in
+    let m : Device = g.F.Flash.device c.mount_side-side.new.flash in
+    let one = side-done g.K.Backend.damage g.K.Backend.contents g.K.Backend.rests g.K.Backend.serves c.args.map.now d c.requires.map m c.args.place c.area_at.result trusted other (mount_lost c.mount_side-side.result) c.area_at.ensures there beside
+    (g.met.F.Flash.is_lawful c.args.flash.now) (g.met.F.Flash.is_lawful c.mount_side-side.new.flash) c.mount_side-side.ensures.touches c.mount_side-side.ensures.sound c.mount_side-side.ensures.keeps c.mount_side-side.ensures.rests c.mount_side-side.ensures.written c.mount_side-side.ensures.at_most in
+    let e : Device = g.F.Flash.device c.open_other-opened.new.flash in
+    let same : c.area_at.result ≡ trusted = some-area c.area_at.result trusted (sym c.area_at.ensures ∙ there) in
+    let o-same : c.area_at-2.result ≡ other = some-area c.area_at-2.result other (sym c.area_at-2.ensures ∙ ap (slice_get c.args.map.now) c.other_place-other.ensures ∙ beside) in
+    let on_it : g.K.Backend.mounted_on c.in-Ok.side.store ≡ trusted = c.in-Ok.ensures.ends.3.here ∙ c.in-Ok.ensures.ends.1 ∙ same in
+    let was : on g.K.Backend.damage d trusted ≡ None = subst (λ (x : Area). on g.K.Backend.damage d x ≡ None) same c.in-Ok.ensures.ends.0 in
+    let two = other-done g.K.Backend.damage g.K.Backend.contents g.K.Backend.rests m e c.area_at-2.result other (g.K.Backend.mounted_on c.in-Ok.side.store) trusted o-same on_it c.open_other-opened.ensures.touches.banks c.open_other-opened.ensures.trusted
+    c.open_other-opened.ensures.held c.open_other-opened.ensures.idle c.open_other-opened.ensures.at_most in
+    units-then g.K.Backend.damage g.K.Backend.contents g.K.Backend.rests d m trusted other one e two was
+
+pub returns-in-Err-clause-ends : goal.returns-in-Err-clause-ends
+returns-in-Err-clause-ends g c trusted other there beside =
+    let d : Device = g.F.Flash.device c.args.flash.now in
+    let m : Device = g.F.Flash.device c.mount_side-side.new.flash in
+    let one = side-done g.K.Backend.damage g.K.Backend.contents g.K.Backend.rests g.K.Backend.serves c.args.map.now d c.requires.map m c.args.place c.area_at.result trusted other (mount_lost c.mount_side-side.result) c.area_at.ensures there beside
+    (g.met.F.Flash.is_lawful c.args.flash.now) (g.met.F.Flash.is_lawful c.mount_side-side.new.flash) c.mount_side-side.ensures.touches c.mount_side-side.ensures.sound c.mount_side-side.ensures.keeps c.mount_side-side.ensures.rests c.mount_side-side.ensures.written c.mount_side-side.ensures.at_most in
+    let same : c.area_at.result ≡ trusted = some-area c.area_at.result trusted (sym c.area_at.ensures ∙ there) in
+    side-stops g.K.Backend.damage g.K.Backend.contents g.K.Backend.rests g.K.Backend.mounted_on g.K.Backend.stands g.K.Backend.room g.K.Priced.prices c.args.map.now d m trusted other c.args.place one c.in-Err.fault
+    (subst (λ (x : Area). SideEnds g.K.Backend.mounted_on g.K.Backend.stands g.K.Backend.damage d m x c.args.place (Err c.in-Err.fault)) same c.in-Err.ensures.ends)
+    (subst (λ (x : Area). Touches (x ∷ []) d m (mount_lost {T = Side g.row.K.Denot} (Err c.in-Err.fault))) same c.in-Err.ensures.touches)
+
+pub returns-in-Err-opened-clause-ends : goal.returns-in-Err-opened-clause-ends
+returns-in-Err-opened-clause-ends g c trusted other there beside =
+    let d : Device = g.F.Flash.device c.args.flash.now in
+    let m : Device = g.F.Flash.device c.mount_side-side.new.flash in
+    let one = side-done g.K.Backend.damage g.K.Backend.contents g.K.Backend.rests g.K.Backend.serves c.args.map.now d c.requires.map m c.args.place c.area_at.result trusted other (mount_lost c.mount_side-side.result) c.area_at.ensures there beside
+    (g.met.F.Flash.is_lawful c.args.flash.now) (g.met.F.Flash.is_lawful c.mount_side-side.new.flash) c.mount_side-side.ensures.touches c.mount_side-side.ensures.sound c.mount_side-side.ensures.keeps c.mount_side-side.ensures.rests c.mount_side-side.ensures.written c.mount_side-side.ensures.at_most in
+    let e : Device = g.F.Flash.device c.open_other-opened.new.flash in
+    let same : c.area_at.result ≡ trusted = some-area c.area_at.result trusted (sym c.area_at.ensures ∙ there) in
+    let o-same : c.area_at-2.result ≡ other = some-area c.area_at-2.result other (sym c.area_at-2.ensures ∙ ap (slice_get c.args.map.now) c.other_place-other.ensures ∙ beside) in
+    let on_it : g.K.Backend.mounted_on c.in-Ok.side.store ≡ trusted = c.in-Ok.ensures.ends.3.here ∙ c.in-Ok.ensures.ends.1 ∙ same in
+    let was : on g.K.Backend.damage d trusted ≡ None = subst (λ (x : Area). on g.K.Backend.damage d x ≡ None) same c.in-Ok.ensures.ends.0 in
+    let two = other-done g.K.Backend.damage g.K.Backend.contents g.K.Backend.rests m e c.area_at-2.result other (g.K.Backend.mounted_on c.in-Ok.side.store) trusted o-same on_it c.open_other-opened.ensures.touches.banks c.open_other-opened.ensures.trusted
+    c.open_other-opened.ensures.held c.open_other-opened.ensures.idle c.open_other-opened.ensures.at_most in
+    let fits = c.in-Ok-look_for_both.ensures in
+    let settings : on g.K.Backend.contents m c.in-Ok.side.area ≡ on g.K.Backend.contents m trusted = ap (on g.K.Backend.contents m) (c.in-Ok.ensures.ends.1 ∙ same) in
+    other-stops g.K.Backend.damage g.K.Backend.contents g.K.Backend.rests g.K.Backend.mounted_on g.K.Backend.stands g.K.Backend.room g.K.Priced.prices c.args.map.now d m trusted other c.args.place one e two c.area_at-2.result (on g.K.Backend.contents e c.area_at-2.result ≡ on g.K.Backend.contents m (g.K.Backend.mounted_on c.in-Ok.side.store)) c.in-Err-opened.fault was c.in-Err-opened.ensures.ends
+    (subst (λ (x : Map). FitsAt g.K.Backend.room g.K.Priced.prices c.args.map.now m c.args.place x) settings (subst (λ (n : ℕ). FitsAt g.K.Backend.room g.K.Priced.prices c.args.map.now m n (on g.K.Backend.contents m c.in-Ok.side.area)) c.in-Ok.ensures.ends.2 fits.0))
+    (subst (λ (x : Map). FitsAt g.K.Backend.room g.K.Priced.prices c.args.map.now m (other_place c.args.map.now c.args.place) x) settings (subst (λ (n : ℕ). FitsAt g.K.Backend.room g.K.Priced.prices c.args.map.now m n (on g.K.Backend.contents m c.in-Ok.side.area)) c.other_place-other.ensures fits.1))
+
+pub open_other-opened-requires-clause-version : goal.open_other-opened-requires-clause-version
+open_other-opened-requires-clause-version g c =
+    c.requires.map.lawful.versions c.other_place-other.result c.args.place c.area_at-2.result c.area_at.result c.area_at-2.ensures c.area_at.ensures
+    ∙ sym (ap (λ (x : Area). x.version) (c.in-Ok.ensures.ends.3.here ∙ c.in-Ok.ensures.ends.1))
+
+pub open_other-opened-requires-clause-fits : goal.open_other-opened-requires-clause-fits
+open_other-opened-requires-clause-fits g c =
+    let m : Device = g.F.Flash.device c.mount_side-side.new.flash in
+    subst (λ (x : Area). FitsOn g.K.Backend.room g.K.Priced.prices m c.area_at-2.result (on g.K.Backend.contents m x)) (sym c.in-Ok.ensures.ends.3.here)
+    (c.in-Ok-look_for_both.ensures.1 c.area_at-2.result c.area_at-2.ensures)

@@ -1,11 +1,13 @@
-use Rattle.std.proofs.Common.{◌≡◌, sym, ap, subst, ◌∙◌}
+use Rattle.std.proofs.Common.{◌≡◌, Err, sym, ap, subst, ◌∙◌}
 use Rattle.flash_sim.specs.Device.{Device}
+use Rattle.flash_map.specs.declared.faults.MountFault.{MountFault}
 use Rattle.flash_map.specs.Area.{sectors_of}
 use Rattle.flash_map.specs.On.{on}
 use Rattle.flash_map.proofs.Apart.{same_apart}
 use Rattle.migrator.proofs.Copies.{stands-still}
 use Rattle.migrator.proofs.Moving.{still}
 use Rattle.mirror.proofs.RepairSteps.{hold-ends}
+use Rattle.mirror.proofs.SideSteps.{held-on, not-held}
 use Rattle.mirror.proofs.mounting.mount_other.Goals as goal
 
 pub if_same-requires-clause-stands : goal.if_same-requires-clause-stands
@@ -24,8 +26,26 @@ returns-in-Ok-clause-ends g c =
     let m : Device = g.F.Flash.device c.mount.new.flash in
     let source = g.K.Backend.mounted_on c.args.trusted.now in
     let same = same_apart (g.met.F.Flash.is_lawful c.args.flash.now) (g.met.F.Flash.is_lawful c.mount.new.flash) c.requires.lawful_trusted.in_bank c.requires.apart c.mount.ensures.touches in
-    hold-ends g.K.Backend.mounted_on g.K.Backend.stands g.K.Backend.contents d m c.args.area source c.in-Ok.store c.if_same.result c.in-Ok.ensures.on c.in-Ok.ensures.stands
-    (still g.K.Backend.contents d m source c.mount.ensures.touches.banks same) c.if_same.ensures
+    hold-ends g.K.Backend.mounted_on g.K.Backend.stands g.K.Backend.damage g.K.Backend.contents d m c.args.area source c.in-Ok.store c.if_same.result c.in-Ok.ensures.on c.in-Ok.ensures.stands
+    (still g.K.Backend.contents d m source c.mount.ensures.touches.banks same) c.mount.ensures.keeps c.if_same.ensures
+
+pub returns-in-Err-Damaged-clause-ends : goal.returns-in-Err-Damaged-clause-ends
+returns-in-Err-Damaged-clause-ends g c =
+    let d : Device = g.F.Flash.device c.args.flash.now in
+    not-held g.K.Backend.damage g.K.Backend.contents g.K.Backend.rests d (g.F.Flash.device c.mount.new.flash) c.args.area (on g.K.Backend.contents d (g.K.Backend.mounted_on c.args.trusted.now)) c.mount.result _
+    (c.in-Err-Damaged.is ∙ ap (λ (x : MountFault). Err x) c.in-Err-Damaged.field-0-is) c.mount.ensures.ends
+
+pub returns-in-Ok-clause-held : goal.returns-in-Ok-clause-held
+returns-in-Ok-clause-held g c settings = held-on g.K.Backend.damage g.K.Backend.contents g.K.Backend.rests (g.F.Flash.device c.args.flash.now) (g.F.Flash.device c.mount.new.flash) c.args.area settings c.mount.ensures.sound c.mount.ensures.keeps
+
+pub returns-in-Err-Damaged-clause-held : goal.returns-in-Err-Damaged-clause-held
+returns-in-Err-Damaged-clause-held g c settings = held-on g.K.Backend.damage g.K.Backend.contents g.K.Backend.rests (g.F.Flash.device c.args.flash.now) (g.F.Flash.device c.mount.new.flash) c.args.area settings c.mount.ensures.sound c.mount.ensures.keeps
+
+pub returns-in-Err-PowerLost-clause-held : goal.returns-in-Err-PowerLost-clause-held
+returns-in-Err-PowerLost-clause-held g c settings = held-on g.K.Backend.damage g.K.Backend.contents g.K.Backend.rests (g.F.Flash.device c.args.flash.now) (g.F.Flash.device c.mount.new.flash) c.args.area settings c.mount.ensures.sound c.mount.ensures.keeps
+
+pub returns-in-Err-NoMemory-clause-held : goal.returns-in-Err-NoMemory-clause-held
+returns-in-Err-NoMemory-clause-held g c settings = held-on g.K.Backend.damage g.K.Backend.contents g.K.Backend.rests (g.F.Flash.device c.args.flash.now) (g.F.Flash.device c.mount.new.flash) c.args.area settings c.mount.ensures.sound c.mount.ensures.keeps
 
 pub returns-in-Err-PowerLost-clause-trusted : goal.returns-in-Err-PowerLost-clause-trusted
 returns-in-Err-PowerLost-clause-trusted g c = same_apart (g.met.F.Flash.is_lawful c.args.flash.now) (g.met.F.Flash.is_lawful c.mount.new.flash) c.requires.lawful_trusted.in_bank c.requires.apart c.mount.ensures.touches

@@ -6,9 +6,16 @@ use Rattle.mirror.specs.Mounting.{fault_at, mount_lost}
 use Rattle.mirror.specs.declared.mounting.MirrorMount.{MirrorMount}
 use Rattle.mirror.specs.declared.sides.Side.{Side}
 use Rattle.mirror.proofs.MountSteps.{fault-lost}
+use Rattle.mirror.proofs.SideSteps.{not-records}
 use Rattle.mirror.proofs.mounting.mount_side.Goals as goal
 
 pub returns-in-Err-clause-touches : goal.returns-in-Err-clause-touches
 returns-in-Err-clause-touches g c =
     subst (λ (lost : Bool). Touches (c.args.area ∷ []) (g.F.Flash.device c.args.flash.now) (g.F.Flash.device c.mount.new.flash) lost)
     (fault-lost g.row.K.Denot (Side g.row.K.Denot) c.args.place c.in-Err.fault c.fault_at.result c.fault_at.ensures) c.in-Err.ensures.touches
+
+pub returns-in-Ok-clause-written : goal.returns-in-Ok-clause-written
+returns-in-Ok-clause-written g c = c.mount.ensures.written (not-records c.args.area c.requires.role)
+
+pub returns-in-Err-clause-written : goal.returns-in-Err-clause-written
+returns-in-Err-clause-written g c = c.mount.ensures.written (not-records c.args.area c.requires.role)

@@ -1,7 +1,10 @@
-use Rattle.std.proofs.Common.{◌≡◌, ◌<◌, ◌≤◌, length, sym, ◌∙◌, arith}
+use Rattle.std.proofs.Common.{◌≡◌, ◌<◌, ◌≤◌, length, refl, sym, ◌∙◌, arith}
 use Rattle.flash_sim.specs.Device.{Device}
 use Rattle.migrator.proofs.AreaLemmas.{store-within}
+use Rattle.migrator.specs.Choosing.{choice_units}
 use Rattle.migrator.proofs.Moving.{open-sound}
+use Rattle.migrator.proofs.Spent.{most_none}
+use Rattle.mirror.proofs.TrustSteps.{chosen-opens}
 use Rattle.mirror.proofs.trusting.name_trusted.Goals as goal
 
 pub returns-then-active-trusted-clause-ends : goal.returns-then-active-trusted-clause-ends
@@ -13,3 +16,10 @@ overflow_cast-trusted g c =
     let within : c.args.trusted < length c.args.map.now = store-within c.args.map.now c.args.trusted c.requires.store in
     let few : length c.args.map.now ≤ 8 = c.requires.lawful.few in
     omega arith
+
+pub returns-then-active-trusted-clause-at_most : goal.returns-then-active-trusted-clause-at_most
+returns-then-active-trusted-clause-at_most g c = let d = g.F.Flash.device c.args.flash.now in most_none d d (choice_units d c.args.selector.now.ring.area) refl
+
+pub returns-clause-opened : goal.returns-clause-opened
+returns-clause-opened g c =
+    chosen-opens c.args.map.now (g.F.Flash.device c.args.flash.now) (g.F.Flash.device c.choose.new.flash) c.args.selector.now.ring c.choose.new.self.ring _ c.choose.result c.choose.ensures.ends

@@ -15,7 +15,7 @@ use Rattle.mirror_session.specs.LineDone.{LineDone}
 use Rattle.mirror_session.proofs.CommandLines.{held_again, set_done, set_full, set_lost_sound, set_many}
 use Rattle.mirror_session.proofs.CommandLines.{set_lost as set_line_lost}
 use Rattle.mirror_session.proofs.HeldLemmas.{limit_is}
-use Rattle.mirror_session.proofs.SideLemmas.{sides_sound}
+use Rattle.mirror_session.proofs.SideLemmas.{sides_fit, sides_sound}
 use Rattle.mirror_session.proofs.changing.set_setting.Goals as goal
 
 pub set-end-requires-clause-short : goal.set-end-requires-clause-short
@@ -35,7 +35,7 @@ returns-in-Ok-clause-done g c =
     let some : 0 < length c.as_slice.result.now = rw (c.as_slice.ensures) c.requires.some in
     let up = c.set-end.ensures.mirrors (ap (λ (r : Result (Unit {0}) SetFault). set_lost r) c.in-Ok.is) in
     let sound = sides_sound K.mounted_on K.stands m new c.args.mirror.now c.set-end.new.self (λ s h x is. g.met.K.Backend.stands_reads s h x is) c.set-end.ensures.trusted c.set-end.ensures.other up in
-    let line = set_done K.mounted_on K.stands m K.serves c.args.map.now old new c.args.mirror.now c.set-end.new.self c.requires.map c.requires.held c.requires.on lawful lawful_new c.args.name.now c.as_slice.result.now some c.set-end.ensures.at_most (new.spent - old.spent) refl c.set-end.result c.set-end.ensures.ends c.in-Ok.field-0 c.in-Ok.is (subst (λ (r : Result (Unit {0}) SetFault). Touches (c.args.mirror.now.trusted.area ∷ c.args.mirror.now.other.area ∷ []) old new (set_lost r)) c.in-Ok.is c.set-end.ensures.touches) sound.0 sound.1 in
+    let line = set_done K.mounted_on K.stands m K.serves c.args.map.now old new c.args.mirror.now c.set-end.new.self c.requires.map c.requires.held c.requires.on lawful lawful_new c.args.name.now c.as_slice.result.now some c.set-end.ensures.at_most (new.spent - old.spent) refl c.set-end.result c.set-end.ensures.ends c.in-Ok.field-0 c.in-Ok.is (subst (λ (r : Result (Unit {0}) SetFault). Touches (c.args.mirror.now.trusted.area ∷ c.args.mirror.now.other.area ∷ []) old new (set_lost r)) c.in-Ok.is c.set-end.ensures.touches) sound.0 sound.1 (sides_fit K.mounted_on K.stands m new c.args.mirror.now c.set-end.new.self c.set-end.ensures.trusted c.set-end.ensures.other up) in
     rw (c.done.ensures, c.spent.ensures, c.spent-before.ensures) (subst (λ (v : List ℕ). LineDone m c.args.map.now (Set c.args.name.now v) (done (new.spent - old.spent)) (moment old true) (moment new true)) c.as_slice.ensures line)
 
 pub returns-in-Err-NoSpace-clause-done : goal.returns-in-Err-NoSpace-clause-done

@@ -2,8 +2,10 @@
 use Rattle.std.proofs.Common.{◌≡◌, ◌-◌, ◌≤◌, Err, refl, ap, ◌∙◌}
 use Rattle.mirror.specs.declared.mounting.MirrorMount.{MirrorMount}
 use Rattle.mirror.specs.declared.mounting.MirrorMount.TheVariants.{Damaged as HasDamage, Unfit as IsNotFit, PowerLost, NoMemory as WantsMemory}
+use Rattle.flash_sim.specs.Device.{Device}
+use Rattle.mirror.specs.Trusted.{trusted_on}
 use Rattle.mirror_session.specs.Bench.{meanings}
-use Rattle.mirror_session.proofs.CutLemmas.{stays_sound, stops_mounting}
+use Rattle.mirror_session.proofs.CutLemmas.{stays_fit, stays_sound, stops_mounting}
 use Rattle.mirror_session.proofs.MountLemmas.{banks_stay, cut_so, damaged_stops, held_now, lost_line, memory_stops, off_now, spent_risen, unfit_stops, whole_line}
 use Rattle.mirror_session.proofs.mounting.mount.Goals as goal
 
@@ -14,7 +16,7 @@ returns-in-Ok-clause-done g c =
     let old = g.B.Flash.device c.args.bench.now in
     let mid = g.B.Flash.device c.restore.new.self in
     let new = g.B.Flash.device c.mount-end.new.flash in
-    λ was. rw (c.done.ensures, c.spent.ensures, c.spent-before.ensures) (whole_line K.mounted_on K.stands m K.serves c.args.map.now old mid new c.requires.map c.restore.ensures c.mount-end.result c.mount-end.ensures.touches c.mount-end.ensures.ends c.in-Ok.mirror c.in-Ok.is (λ s h x is. g.met.K.Backend.stands_reads s h x is) (new.spent - mid.spent) was refl)
+    λ was. rw (c.done.ensures, c.spent.ensures, c.spent-before.ensures) (whole_line K.mounted_on K.stands m K.serves c.args.map.now old mid new c.requires.map c.restore.ensures c.mount-end.result c.mount-end.ensures.touches c.mount-end.ensures.ends c.in-Ok.mirror c.in-Ok.is (λ s h x is. g.met.K.Backend.stands_reads s h x is) (new.spent - mid.spent) was refl c.mount-end.ensures.at_most)
 
 pub returns-in-Ok-clause-ready : goal.returns-in-Ok-clause-ready
 returns-in-Ok-clause-ready g c =
@@ -34,9 +36,14 @@ returns-in-Err-PowerLost-clause-done g c =
     let new = g.B.Flash.device c.mount-end.new.flash in
     let which : c.in-Err-PowerLost.field-0 ≡ PowerLost = rw c.in-Err-PowerLost.is at c.in-Err-PowerLost.field-0-is in
     let end : c.mount-end.result ≡ Err (PowerLost) = c.in-Err-PowerLost.is ∙ ap (λ (fault : MirrorMount). Err fault) which in
-    let stops = stops_mounting m K.serves c.args.map.now old new c.requires.map (g.met.B.Flash.is_lawful c.args.bench.now) (g.met.B.Flash.is_lawful c.mount-end.new.flash) (banks_stay K.mounted_on K.stands m K.serves c.args.map.now old mid new c.requires.map c.restore.ensures c.mount-end.result c.mount-end.ensures.touches c.mount-end.ensures.ends) (λ x a fine is served blank. g.met.K.Priced.blank_empty x a fine is served blank) (cut_so K.mounted_on K.stands m K.serves c.args.map.now old mid new c.requires.map c.restore.ensures c.mount-end.result c.mount-end.ensures.touches c.mount-end.ensures.ends end) (off_now K.mounted_on K.stands m K.serves c.args.map.now old mid new c.requires.map c.restore.ensures c.mount-end.result c.mount-end.ensures.touches c.mount-end.ensures.ends end) in
-    let sound = stays_sound m K.serves c.args.map.now old new c.requires.map (g.met.B.Flash.is_lawful c.args.bench.now) (g.met.B.Flash.is_lawful c.mount-end.new.flash) (banks_stay K.mounted_on K.stands m K.serves c.args.map.now old mid new c.requires.map c.restore.ensures c.mount-end.result c.mount-end.ensures.touches c.mount-end.ensures.ends) (λ x a fine is served blank. g.met.K.Priced.blank_empty x a fine is served blank) (cut_so K.mounted_on K.stands m K.serves c.args.map.now old mid new c.requires.map c.restore.ensures c.mount-end.result c.mount-end.ensures.touches c.mount-end.ensures.ends end) (off_now K.mounted_on K.stands m K.serves c.args.map.now old mid new c.requires.map c.restore.ensures c.mount-end.result c.mount-end.ensures.touches c.mount-end.ensures.ends end) in
-    λ was. rw (c.lost.ensures, c.spent.ensures, c.spent-before.ensures) (lost_line K.mounted_on K.stands m K.serves c.args.map.now old mid new c.requires.map c.restore.ensures c.mount-end.result c.mount-end.ensures.touches c.mount-end.ensures.ends end (new.spent - mid.spent) was refl (λ last. stops last was) (λ shown. sound new.spent was shown))
+    let banks = banks_stay K.mounted_on K.stands m K.serves c.args.map.now old mid new c.requires.map c.restore.ensures c.mount-end.result c.mount-end.ensures.touches c.mount-end.ensures.ends in
+    let same : trusted_on c.args.map.now new ≡ trusted_on c.args.map.now old = c.mount-end.ensures.trusted ∙ ap (λ (d : Device). trusted_on c.args.map.now d) c.restore.ensures in
+    let cut = cut_so K.mounted_on K.stands m K.serves c.args.map.now old mid new c.requires.map c.restore.ensures c.mount-end.result c.mount-end.ensures.touches c.mount-end.ensures.ends end in
+    let off = off_now K.mounted_on K.stands m K.serves c.args.map.now old mid new c.requires.map c.restore.ensures c.mount-end.result c.mount-end.ensures.touches c.mount-end.ensures.ends end in
+    let stops = stops_mounting m K.serves c.args.map.now old new c.requires.map (g.met.B.Flash.is_lawful c.args.bench.now) (g.met.B.Flash.is_lawful c.mount-end.new.flash) banks same cut off in
+    let sound = stays_sound m K.serves c.args.map.now old new c.requires.map (g.met.B.Flash.is_lawful c.args.bench.now) (g.met.B.Flash.is_lawful c.mount-end.new.flash) banks same cut off in
+    let fit = stays_fit m K.serves c.args.map.now old new c.requires.map (g.met.B.Flash.is_lawful c.args.bench.now) (g.met.B.Flash.is_lawful c.mount-end.new.flash) banks same cut off in
+    λ was. rw (c.lost.ensures, c.spent.ensures, c.spent-before.ensures) (lost_line K.mounted_on K.stands m K.serves c.args.map.now old mid new c.requires.map c.restore.ensures c.mount-end.result c.mount-end.ensures.touches c.mount-end.ensures.ends end (new.spent - mid.spent) was refl c.mount-end.ensures.at_most (λ last. stops last was) (sound was) (fit was))
 
 pub returns-in-Err-Damaged-clause-stops : goal.returns-in-Err-Damaged-clause-stops
 returns-in-Err-Damaged-clause-stops g c =
@@ -69,7 +76,7 @@ returns-in-Err-NoMemory-clause-stops g c =
     let new = g.B.Flash.device c.mount-end.new.flash in
     let which : c.in-Err-NoMemory.field-0 ≡ WantsMemory = rw c.in-Err-NoMemory.is at c.in-Err-NoMemory.field-0-is in
     let end : c.mount-end.result ≡ Err (WantsMemory) = c.in-Err-NoMemory.is ∙ ap (λ (fault : MirrorMount). Err fault) which in
-    memory_stops K.mounted_on K.stands m K.serves c.args.map.now old mid new c.requires.map c.restore.ensures c.mount-end.result c.mount-end.ensures.touches c.mount-end.ensures.ends end
+    memory_stops K.mounted_on K.stands m K.serves c.args.map.now old mid new c.requires.map c.restore.ensures c.mount-end.result c.mount-end.ensures.touches c.mount-end.ensures.ends end c.mount-end.ensures.trusted c.mount-end.ensures.keeps
 
 pub returns-in-Ok-clause-banks : goal.returns-in-Ok-clause-banks
 returns-in-Ok-clause-banks g c =

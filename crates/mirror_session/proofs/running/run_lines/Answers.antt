@@ -3,6 +3,7 @@ use Rattle.std.proofs.Common.{◌+◌, ◌≤◌, [], ◌∷◌, ◌++◌, lengt
 use Rattle.mirror_session.specs.Bench.{meanings}
 use Rattle.mirror_session.proofs.FoldLemmas.{lacks, one_more, opened, ran, stops_at, stops_first}
 use Rattle.mirror_session.proofs.PlaceLemmas.{map_kept}
+use Rattle.mirror_session.proofs.HeldLemmas.{rests_now}
 use Rattle.mirror_session.proofs.running.run_lines.Goals as goal
 
 pub loop-line-init : goal.loop-line-init
@@ -42,7 +43,8 @@ returns g c =
     let K = g.K.Backend in
     let m = meanings K.damage K.contents K.room g.K.Priced.prices in
     let all : length c.args.lines.now ≤ c.loop-line.line-index = omega (arith, c.loop-line-test.false) in
-    ran m c.args.map.now c.args.lines.now c.loop-line.line-index c.loop-line.answers (device c.args.bench.now) (device c.loop-line.bench) (is_some c.loop-line.session.mirror) all c.loop-line.invariant.so_far
+    ran m c.args.map.now K.rests c.args.lines.now c.loop-line.line-index c.loop-line.answers (device c.args.bench.now) (device c.loop-line.bench) (is_some c.loop-line.session.mirror) all c.loop-line.invariant.so_far
+    (rests_now K.mounted_on K.stands m K.serves c.args.map.now (device c.loop-line.bench) c.loop-line.invariant.map K.rests (λ s h x is. g.met.K.Backend.stands_rests s h x is) (g.met.B.Flash.is_lawful c.loop-line.bench) (λ x a fine is served blank. g.met.K.Priced.blank_empty x a fine is served blank) c.loop-line.session.mirror c.loop-line.invariant.ready)
 
 pub returns-in-Err : goal.returns-in-Err
 returns-in-Err g c =

@@ -4,7 +4,7 @@ use Rattle.flash_map.specs.Area.{geometry_of}
 use Rattle.flash_map.proofs.Touches.{first_of_two, second_of_two, then}
 use Rattle.backend_api.specs.Room.{most_units}
 use Rattle.mirror.proofs.BothSteps.{most-both-on, most-first}
-use Rattle.mirror.proofs.MirrorEnds.{delete-ends, delete-mirror, first-cut, other-stands}
+use Rattle.mirror.proofs.MirrorEnds.{delete-ends, delete-mirror, first-cut, other-stands, removed-fit}
 use Rattle.mirror.proofs.mirror.Mirror.delete.Goals as goal
 
 pub returns-in-Err-clause-touches : goal.returns-in-Err-clause-touches
@@ -13,8 +13,11 @@ returns-in-Err-clause-touches g c = first_of_two c.in-Err.ensures.touches
 pub returns-in-Err-clause-ends : goal.returns-in-Err-clause-ends
 returns-in-Err-clause-ends g c =
     let d : Device = g.F.Flash.device c.args.flash.now in
-    let m : Device = g.F.Flash.device c.take.new.flash in
-    (c.in-Err.ensures.ends.some, first-cut g.K.Backend.mounted_on g.K.Backend.stands g.K.Backend.damage g.K.Backend.contents g.K.Backend.room g.K.Priced.prices d c.args.self.now.trusted c.args.self.now.other c.requires.mirrors (g.met.F.Flash.is_lawful c.args.flash.now) g.met.K.Backend.stands_reads m _ _ true (g.met.F.Flash.is_lawful c.take.new.flash) c.in-Err.ensures.touches c.in-Err.ensures.sound c.in-Err.ensures.ends)
+    let m : Device = g.F.Flash.device c.take.new.flash in (
+      c.in-Err.ensures.ends.some,
+      first-cut g.K.Backend.mounted_on g.K.Backend.stands g.K.Backend.damage g.K.Backend.contents g.K.Backend.room g.K.Priced.prices d c.args.self.now.trusted c.args.self.now.other c.requires.mirrors (g.met.F.Flash.is_lawful c.args.flash.now) g.met.K.Backend.stands_reads m _ _ true (g.met.F.Flash.is_lawful c.take.new.flash) c.in-Err.ensures.touches c.in-Err.ensures.sound c.in-Err.ensures.ends,
+      removed-fit g.K.Backend.mounted_on g.K.Backend.stands g.K.Backend.damage g.K.Backend.contents g.K.Backend.room g.K.Priced.prices d c.args.self.now.trusted c.args.self.now.other c.requires.mirrors (g.met.F.Flash.is_lawful c.args.flash.now) (g.met.K.Priced.is_room c.args.self.now.trusted.area (geometry_of d c.args.self.now.trusted.area) c.requires.mirrors.trusted_stands.role) (g.met.K.Priced.is_room c.args.self.now.other.area (geometry_of d c.args.self.now.other.area) c.requires.mirrors.other_stands.role) m c.args.name.now c.in-Err.ensures.touches.banks,
+    )
 
 pub returns-in-Err-clause-at_most : goal.returns-in-Err-clause-at_most
 returns-in-Err-clause-at_most g c =
@@ -36,7 +39,7 @@ returns-clause-ends g c =
     let d : Device = g.F.Flash.device c.args.flash.now in
     let m : Device = g.F.Flash.device c.take.new.flash in
     let e : Device = g.F.Flash.device c.take-2.new.flash in
-    delete-ends g.K.Backend.mounted_on g.K.Backend.stands g.K.Backend.damage g.K.Backend.contents g.K.Backend.room g.K.Priced.prices d c.args.self.now.trusted c.args.self.now.other c.requires.mirrors (g.met.F.Flash.is_lawful c.args.flash.now) m e (is_err c.take-2.result) c.args.name.now c.take-2.result (g.met.F.Flash.is_lawful c.take.new.flash) (g.met.F.Flash.is_lawful c.take-2.new.flash) c.in-Ok.ensures.touches c.take-2.ensures.touches c.in-Ok.ensures.ends c.take.ensures.sound c.take-2.ensures.sound c.take-2.ensures.ends
+    delete-ends g.K.Backend.mounted_on g.K.Backend.stands g.K.Backend.damage g.K.Backend.contents g.K.Backend.room g.K.Priced.prices d c.args.self.now.trusted c.args.self.now.other c.requires.mirrors (g.met.F.Flash.is_lawful c.args.flash.now) m e (is_err c.take-2.result) c.args.name.now c.take-2.result (g.met.F.Flash.is_lawful c.take.new.flash) (g.met.F.Flash.is_lawful c.take-2.new.flash) c.in-Ok.ensures.touches c.take-2.ensures.touches c.in-Ok.ensures.ends c.take.ensures.sound c.take-2.ensures.sound (g.met.K.Priced.is_room c.args.self.now.trusted.area (geometry_of d c.args.self.now.trusted.area) c.requires.mirrors.trusted_stands.role) (g.met.K.Priced.is_room c.args.self.now.other.area (geometry_of d c.args.self.now.other.area) c.requires.mirrors.other_stands.role) c.take-2.ensures.ends
 
 pub returns-clause-at_most : goal.returns-clause-at_most
 returns-clause-at_most g c =

@@ -9,7 +9,7 @@ use Rattle.migrator.proofs.Values.{limit-same}
 use Rattle.mirror.specs.Room.{prices_on}
 use Rattle.mirror.proofs.BothSteps.{most-both-on, most-first}
 use Rattle.mirror.proofs.FitLemmas.{not-tight}
-use Rattle.mirror.proofs.MirrorEnds.{few-then, first-cut, no-second, other-stands, room-then, set-cut, set-done, set-mirror}
+use Rattle.mirror.proofs.MirrorEnds.{few-then, first-cut, no-second, other-stands, put-fits, room-then, set-cut, set-done, set-mirror}
 use Rattle.mirror.proofs.mirror.Mirror.put_both.Goals as goal
 
 pub put-requires-clause-room : goal.put-requires-clause-room
@@ -23,8 +23,12 @@ returns-in-Err-clause-touches g c = first_of_two c.in-Err.ensures.touches
 pub returns-in-Err-clause-ends : goal.returns-in-Err-clause-ends
 returns-in-Err-clause-ends g c =
     let d : Device = g.F.Flash.device c.args.flash.now in
-    let m : Device = g.F.Flash.device c.put.new.flash in
-    (c.requires.room, c.in-Err.ensures.ends.some, first-cut g.K.Backend.mounted_on g.K.Backend.stands g.K.Backend.damage g.K.Backend.contents g.K.Backend.room g.K.Priced.prices d c.args.self.now.trusted c.args.self.now.other c.requires.mirrors (g.met.F.Flash.is_lawful c.args.flash.now) g.met.K.Backend.stands_reads m _ _ true (g.met.F.Flash.is_lawful c.put.new.flash) c.in-Err.ensures.touches c.in-Err.ensures.sound c.in-Err.ensures.ends)
+    let m : Device = g.F.Flash.device c.put.new.flash in (
+      c.requires.room,
+      c.in-Err.ensures.ends.some,
+      first-cut g.K.Backend.mounted_on g.K.Backend.stands g.K.Backend.damage g.K.Backend.contents g.K.Backend.room g.K.Priced.prices d c.args.self.now.trusted c.args.self.now.other c.requires.mirrors (g.met.F.Flash.is_lawful c.args.flash.now) g.met.K.Backend.stands_reads m _ _ true (g.met.F.Flash.is_lawful c.put.new.flash) c.in-Err.ensures.touches c.in-Err.ensures.sound c.in-Err.ensures.ends,
+      put-fits g.K.Backend.mounted_on g.K.Backend.stands g.K.Backend.damage g.K.Backend.contents g.K.Backend.room g.K.Priced.prices d c.args.self.now.trusted c.args.self.now.other c.requires.mirrors (g.met.F.Flash.is_lawful c.args.flash.now) (g.met.K.Priced.is_room c.args.self.now.trusted.area (geometry_of d c.args.self.now.trusted.area) c.requires.mirrors.trusted_stands.role) (g.met.K.Priced.is_room c.args.self.now.other.area (geometry_of d c.args.self.now.other.area) c.requires.mirrors.other_stands.role) m c.args.name.now c.args.value.now c.in-Err.ensures.touches.banks c.requires.room,
+    )
 
 pub returns-in-Err-clause-at_most : goal.returns-in-Err-clause-at_most
 returns-in-Err-clause-at_most g c =
@@ -86,7 +90,7 @@ returns-in-Err-put-clause-ends g c =
     let m : Device = g.F.Flash.device c.put.new.flash in
     let e : Device = g.F.Flash.device c.put-2.new.flash in
     let cut = set-cut g.K.Backend.mounted_on g.K.Backend.stands g.K.Backend.damage g.K.Backend.contents g.K.Backend.room g.K.Priced.prices d c.args.self.now.trusted c.args.self.now.other c.requires.mirrors (g.met.F.Flash.is_lawful c.args.flash.now) m e true c.args.name.now c.args.value.now (g.met.F.Flash.is_lawful c.put.new.flash) (g.met.F.Flash.is_lawful c.put-2.new.flash) c.in-Ok.ensures.touches c.in-Err-put.ensures.touches c.in-Ok.ensures.ends c.put.ensures.sound c.put-2.ensures.sound c.in-Err-put.ensures.ends in
-    (c.requires.room, cut.0, cut.1)
+    (c.requires.room, cut.0, cut.1, put-fits g.K.Backend.mounted_on g.K.Backend.stands g.K.Backend.damage g.K.Backend.contents g.K.Backend.room g.K.Priced.prices d c.args.self.now.trusted c.args.self.now.other c.requires.mirrors (g.met.F.Flash.is_lawful c.args.flash.now) (g.met.K.Priced.is_room c.args.self.now.trusted.area (geometry_of d c.args.self.now.trusted.area) c.requires.mirrors.trusted_stands.role) (g.met.K.Priced.is_room c.args.self.now.other.area (geometry_of d c.args.self.now.other.area) c.requires.mirrors.other_stands.role) e c.args.name.now c.args.value.now (c.in-Err-put.ensures.touches.banks ∙ c.in-Ok.ensures.touches.banks) c.requires.room)
 
 pub returns-in-Err-put-clause-at_most : goal.returns-in-Err-put-clause-at_most
 returns-in-Err-put-clause-at_most g c =

@@ -1,0 +1,136 @@
+-- What the choice of an area and the filling of one spend at most.
+use Rattle.std.proofs.Common.{◌≡◌, ℕ, ◌+◌, ◌-◌, ◌*◌, ◌/◌, ◌<◌, ◌≤◌, Bool, true, false, cond, List, [], ◌∷◌, length, Option, Some, None, Result, Ok, Err, refl, sym, ap, subst, ◌∙◌, arith}
+use Rattle.std.specs.Prelude.{OnOk, OnErr, map, count_by}
+use Rattle.std.specs.FinMap as maps
+use Rattle.std.proofs.lemmas.Bool.{cases_Bool}
+use Rattle.std.proofs.lemmas.List.Sums.{count_by-le-length}
+use Rattle.std.proofs.lemmas.Nat.{mul-le, row_fits}
+use Rattle.flash_sim.specs.Bank.{bank_at}
+use Rattle.flash_sim.specs.Device.{Device}
+use Rattle.flash_sim.specs.declared.flash.Bank.{Bank}
+use Rattle.flash_sim.specs.declared.flash.PowerLost.{PowerLost as Lost}
+use Rattle.flash_map.specs.declared.area.Area.{Area}
+use Rattle.flash_map.specs.declared.area.Geometry.{Geometry}
+use Rattle.flash_map.specs.Area.{geometry_of, sectors_of}
+use Rattle.flash_map.specs.Spending.{Spends, SpendsAtMost}
+use Rattle.flash_map.specs.Units.{is_written, padded}
+use Rattle.flash_map.proofs.SpendingLemmas.{most_weaker, spends_most, spends_none, spends_then}
+use Rattle.fcb_ring.specs.declared.record.RecordAt.{RecordAt}
+use Rattle.fcb_ring.specs.declared.ring.Ring.{Ring}
+use Rattle.fcb_ring.specs.declared.writing.AppendFault.{AppendFault}
+use Rattle.fcb_ring.specs.declared.writing.AppendFault.TheVariants.{Full, TooLong, PowerLost}
+use Rattle.fcb_ring.specs.Changing.{AppendEnds, CopiedRecord, StopsCopyingRecord, append_units, header_units, record_units}
+use Rattle.fcb_ring.specs.Writing.{record_cost}
+use Rattle.fcb_ring.proofs.AppendLemmas.{unit-after}
+use Rattle.fcb_ring.proofs.AreaLemmas.{count-sectors}
+use Rattle.backend_api.specs.Map.{Map}
+use Rattle.backend_api.specs.Room.{most_units, mount_units}
+use Rattle.migrator.specs.Choosing.{choice_units}
+use Rattle.migrator.specs.Migrating.{fill_units}
+use Rattle.migrator.proofs.Names.{left, left-within}
+
+-- ---- two calls in a row, and none
+
+pub most_then : (a b c : Device) (first second : ℕ) → SpendsAtMost a b first → SpendsAtMost b c second → SpendsAtMost a c (first + second)
+most_then a b c first second one two = (one.0 + two.0, (let x = one.1 in let y = two.1 in omega arith), spends_then a b c one.0 two.0 one.2 two.2)
+
+pub most_none : (d e : Device) (most : ℕ) → e ≡ d → SpendsAtMost d e most
+most_none d e most same = subst (λ (x : Device). SpendsAtMost d x most) (sym same) (0, omega arith, spends_none d)
+
+-- ---- the selector's units, on a device with the same banks
+
+pub header-same : (a d : Device) (area other : Area) → d.banks ≡ a.banks → other ≡ area → header_units d other ≡ header_units a area
+header-same a d area other banks same = ap (λ (u : ℕ). padded u 8 / u) (unit-after a d area other banks same)
+
+pub record-same : (a d : Device) (area other : Area) → d.banks ≡ a.banks → other ≡ area → record_units d other 2 ≡ record_units a area 2
+record-same a d area other banks same = ap (λ (u : ℕ). record_cost u 2 / u) (unit-after a d area other banks same)
+
+-- a copy, whole or cut
+pub copied-most : (d e : Device) (ring after : Ring) (r : RecordAt) (result : Result (Unit {0}) Lost) → r.len ≡ 2 → OnOk result (CopiedRecord d e ring after r) → OnErr result (StopsCopyingRecord d e ring after r) → SpendsAtMost d e (record_units d ring.area 2)
+copied-most d e ring after r (Ok x) two did stopped = subst (λ (n : ℕ). SpendsAtMost d e (record_units d ring.area n)) two (spends_most d e (record_units d ring.area r.len) did.units)
+copied-most d e ring after r (Err x) two did stopped = subst (λ (n : ℕ). SpendsAtMost d e (record_units d ring.area n)) two stopped.bound
+
+-- a record that names an area, whole or cut
+here-within : (here : Bool) (body header : ℕ) → body + cond here 0 header ≤ header + body
+here-within true body header = omega arith
+here-within false body header = omega arith
+
+pub put-most : (d e : Device) (before after : Ring) (body : List ℕ) (kept : ℕ) (result : Result (Unit {0}) AppendFault) → length body ≡ 2 → AppendEnds d e before after body kept result → SpendsAtMost d e (header_units d before.area + record_units d before.area 2)
+put-most d e before after body kept result two ends =
+    subst (λ (n : ℕ). SpendsAtMost d e (header_units d before.area + record_units d before.area n)) two (by result ends)
+  where
+    by : (r : Result (Unit {0}) AppendFault) → AppendEnds d e before after body kept r → SpendsAtMost d e (header_units d before.area + record_units d before.area (length body))
+    by (Ok x) did = most_weaker d e _ (header_units d before.area + record_units d before.area (length body)) (here-within _ (record_units d before.area (length body)) (header_units d before.area)) (spends_most d e _ did.3.units)
+    by (Err TooLong) did = most_none d e _ did.1.flash
+    by (Err Full) did = most_none d e _ did.3.flash
+    by (Err PowerLost) did = most_weaker d e _ (header_units d before.area + record_units d before.area (length body)) (here-within _ (record_units d before.area (length body)) (header_units d before.area)) did.2.units
+
+-- ---- a choice
+
+-- it fits
+pub choice-put : (a e : Device) (area : Area) → SpendsAtMost a e (header_units a area + record_units a area 2) → SpendsAtMost a e (choice_units a area)
+choice-put a e area spent = most_weaker a e (header_units a area + record_units a area 2) (choice_units a area) (omega arith) spent
+
+-- the collection before it was cut
+pub choice-first : (a e : Device) (area : Area) → SpendsAtMost a e (header_units a area + record_units a area 2 + 1) → SpendsAtMost a e (choice_units a area)
+choice-first a e area spent = most_weaker a e (header_units a area + record_units a area 2 + 1) (choice_units a area) (omega arith) spent
+
+-- a collection, and then the record
+pub choice-behind : (a b e : Device) (area other : Area) → b.banks ≡ a.banks → other ≡ area → SpendsAtMost a b (header_units a area + record_units a area 2 + 1) → SpendsAtMost b e (header_units b other + record_units b other 2) → SpendsAtMost a e (choice_units a area)
+choice-behind a b e area other banks same first second =
+    let header : header_units b other ≡ header_units a area = header-same a b area other banks same in
+    let record_is : record_units b other 2 ≡ record_units a area 2 = record-same a b area other banks same in
+    most_weaker a e (header_units a area + record_units a area 2 + 1 + (header_units b other + record_units b other 2)) (choice_units a area) (omega arith)
+    (most_then a b e (header_units a area + record_units a area 2 + 1) (header_units b other + record_units b other 2) first second)
+
+-- where it does not fit, nothing was spent yet
+pub choice-full : (a b e : Device) (before ring : Ring) → b ≡ a → ring ≡ before → SpendsAtMost b e (choice_units b ring.area) → SpendsAtMost a e (choice_units a before.area)
+choice-full a b e before ring flash same spent = subst (λ (d : Device). SpendsAtMost d e (choice_units d before.area)) flash (subst (λ (r : Ring). SpendsAtMost b e (choice_units b r.area)) same spent)
+
+-- ---- an area that is erased, and then filled
+
+pub written-within : (d : Device) (area : Area) → count_by is_written (sectors_of d area) ≤ area.sectors
+written-within d area = subst (λ (n : ℕ). count_by is_written (sectors_of d area) ≤ n) (count-sectors d area) (count_by-le-length is_written (sectors_of d area))
+
+-- what was spent until it is the turn of a name
+abbrev pub put_units : Map → Option (List ℕ) → Geometry → ℕ
+put_units m at g = (maps.len m - left (maps.keys m) at) * most_units g
+
+pub put-next : (m : Map) (at next : Option (List ℕ)) (g : Geometry) → left (maps.keys m) next < left (maps.keys m) at → put_units m at g + most_units g ≤ put_units m next g
+put-next m at next g fewer =
+    let within = left-within m at in
+    let more : maps.len m - left (maps.keys m) at < maps.len m - left (maps.keys m) next = omega arith in
+    row_fits (maps.len m - left (maps.keys m) at) (most_units g) (maps.len m - left (maps.keys m) next) (most_units g) more (omega arith)
+
+pub put-all : (m : Map) (at : Option (List ℕ)) (g : Geometry) → put_units m at g ≤ maps.len m * most_units g
+put-all m at g = mul-le (maps.len m - left (maps.keys m) at) (most_units g) (maps.len m) (most_units g) (omega arith) (omega arith)
+
+-- it was erased, whole or in part
+pub erased-most : {E : Type 0} (d e : Device) (area : Area) (result : Result (Unit {0}) E) → OnOk result (Spends d e (count_by is_written (sectors_of d area))) → OnErr result (SpendsAtMost d e (count_by is_written (sectors_of d area))) → SpendsAtMost d e area.sectors
+erased-most d e area (Ok x) units lost = most_weaker d e (count_by is_written (sectors_of d area)) area.sectors (written-within d area) (spends_most d e (count_by is_written (sectors_of d area)) units)
+erased-most d e area (Err x) units lost = most_weaker d e (count_by is_written (sectors_of d area)) area.sectors (written-within d area) lost
+
+units-still : (a b : Device) (area : Area) → b.banks ≡ a.banks → geometry_of b area ≡ geometry_of a area
+units-still a b area banks = ap (λ (all : List Bank). record { unit = (bank_at all area.bank).unit; sector = (bank_at all area.bank).sector; sectors = area.sectors; kind = (bank_at all area.bank).kind }) banks
+
+-- and then mounted
+pub opened-most : (a b e : Device) (area : Area) → b.banks ≡ a.banks → SpendsAtMost a b area.sectors → SpendsAtMost b e (mount_units (geometry_of b area)) → SpendsAtMost a e (area.sectors + mount_units (geometry_of a area))
+opened-most a b e area banks first second =
+    most_then a b e area.sectors (mount_units (geometry_of a area)) first (subst (λ (g : Geometry). SpendsAtMost b e (mount_units g)) (units-still a b area banks) second)
+
+-- it was erased, and not mounted
+pub erased-first : (a b : Device) (area : Area) (more : ℕ) → SpendsAtMost a b area.sectors → SpendsAtMost a b (area.sectors + more)
+erased-first a b area more spent = most_weaker a b area.sectors (area.sectors + more) (omega arith) spent
+
+-- nothing was put yet
+pub opened-first : (a b : Device) (area : Area) (m : Map) → SpendsAtMost a b (area.sectors + mount_units (geometry_of a area)) → SpendsAtMost a b (fill_units (geometry_of a area) (maps.len m))
+opened-first a b area m spent = most_weaker a b (area.sectors + mount_units (geometry_of a area)) (fill_units (geometry_of a area) (maps.len m)) (omega arith) spent
+
+-- all settings were put
+pub filled-most : (a b e : Device) (area into : Area) (m copied : Map) → b.banks ≡ a.banks → into ≡ area → copied ≡ m → SpendsAtMost a b (area.sectors + mount_units (geometry_of a area)) → SpendsAtMost b e (maps.len copied * most_units (geometry_of b into))
+    → SpendsAtMost a e (fill_units (geometry_of a area) (maps.len m))
+filled-most a b e area into m copied banks same is first second =
+    let g : geometry_of b into ≡ geometry_of a area = ap (geometry_of b) same ∙ units-still a b area banks in
+    let puts : SpendsAtMost b e (maps.len m * most_units (geometry_of a area)) =
+    subst (λ (x : Geometry). SpendsAtMost b e (maps.len m * most_units x)) g (subst (λ (x : Map). SpendsAtMost b e (maps.len x * most_units (geometry_of b into))) is second) in
+    most_then a b e (area.sectors + mount_units (geometry_of a area)) (maps.len m * most_units (geometry_of a area)) first puts

@@ -1,4 +1,3 @@
-pub mod LineLemmas
-pub mod ScriptLaws
+pub mod NumberPairs
 pub mod TableFacts
-pub mod TableLemmas
+pub mod TableLaws

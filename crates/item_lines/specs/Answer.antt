@@ -1,17 +1,21 @@
--- The text of an answer.
-use Rattle.std.specs.Prelude.{ℕ, List, [], ◌∷◌, ◌++◌, codes}
+-- The words that an answer is told in, and their text.
+use Rattle.std.specs.Prelude.{ℕ, List, [], ◌∷◌, codes}
 use Rattle.std.specs.Fmt.{decimal}
 use Rattle.hex.specs.Hex.{encode_lower}
+use Rattle.script_lines.specs.Answer.{lines_text, one}
 use Rattle.item_lines.specs.declared.answer.Answer.{Answer}
-use Rattle.item_lines.specs.declared.answer.Answer.TheVariants.{Done, Value, Absent, NoSpace, Lost, Off}
+use Rattle.item_lines.specs.declared.answer.Answer.TheVariants.{Done, Value, Absent, Deleted, Gone, Space, NoSpace, Lost, Off}
 
-abbrev pub line_end : List ℕ
-line_end = 10 ∷ []
+abbrev pub words_of : Answer → List (List ℕ)
+words_of (Done units) = codes "ok" ∷ decimal units ∷ []
+words_of (Value value) = codes "value" ∷ encode_lower value ∷ []
+words_of Absent = codes "none" ∷ []
+words_of Deleted = codes "deleted" ∷ []
+words_of Gone = codes "gone" ∷ []
+words_of (Space live stale free) = codes "space" ∷ decimal live ∷ decimal stale ∷ decimal free ∷ []
+words_of (NoSpace units need live) = codes "nospace" ∷ decimal units ∷ []
+words_of (Lost units) = codes "lost" ∷ decimal units ∷ []
+words_of Off = codes "off" ∷ []
 
 abbrev pub text_of : Answer → List ℕ
-text_of (Done units) = codes "ok " ++ decimal units ++ line_end
-text_of (Value value) = codes "value " ++ encode_lower value ++ line_end
-text_of Absent = codes "none" ++ line_end
-text_of (NoSpace units need live) = codes "nospace " ++ decimal units ++ line_end
-text_of (Lost units) = codes "lost " ++ decimal units ++ line_end
-text_of Off = codes "off" ++ line_end
+text_of answer = lines_text (one (words_of answer))

@@ -1,17 +1,17 @@
--- No text is read in two ways.
-use Rattle.std.specs.Prelude.{◌≡◌, ℕ, List}
-use Rattle.item_lines.specs.Line.{Spells}
-use Rattle.item_lines.specs.Script.{IsScript, IsBadLine}
+-- What the table of the lines says of all words.
+use Rattle.std.specs.Prelude.{◌≡◌, ◌⊎◌, ℕ, ◌<◌, List, length}
+use Rattle.script_lines.specs.declared.why.LineWhy.{LineWhy}
+use Rattle.script_lines.specs.Forms.{Spells, Refuses}
+use Rattle.item_lines.specs.declared.ids.Ids.{Ids}
 use Rattle.item_lines.specs.declared.line.Line.{Line}
+use Rattle.item_lines.specs.Line.{ids_end, item_forms, row_of}
 
--- words are one line at most
-abbrev pub OneLine : Type 0
-OneLine = (words : List (List ℕ)) (a b : Line) → Spells words a → Spells words b → a ≡ b
+-- no two lines say the same
+abbrev pub OneMeaning : Type 0
+OneMeaning = (one other : Line) → row_of one ≡ row_of other → one ≡ other
 
--- a text is one list of lines at most, and then none of its lines is refused
-abbrev pub OneScript : Type 0
-OneScript = (bytes : List ℕ) (lines : List Line) → IsScript bytes lines → ((other : List Line) → IsScript bytes other → other ≡ lines) × ((n : ℕ) → IsBadLine bytes n → ⊥)
-
--- a text has one first refused line at most
-abbrev pub OneRefusal : Type 0
-OneRefusal = (bytes : List ℕ) (n m : ℕ) → IsBadLine bytes n → IsBadLine bytes m → n ≡ m
+-- words spell a line, or are refused for some cause
+abbrev pub EachIsRead : Type 0
+EachIsRead = (ids : Ids) (limit : ℕ) (words : List (List ℕ)) → 0 < length words
+    → ((line : Line) × Spells (item_forms (ids_end ids)) limit words (row_of line))
+    ⊎ ((why : LineWhy) × Refuses (item_forms (ids_end ids)) limit words why)

@@ -1,5 +1,4 @@
 pub mod Answer
-pub mod Line
-pub mod Table
-pub mod Script
 pub mod Laws
+pub mod Line
+pub mod Plan

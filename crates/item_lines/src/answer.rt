@@ -12,16 +12,29 @@ use std::alloc::{AllocError, Global};
 pub enum Answer {
     /// Done, with so many units and erases.
     Done { units: u64 },
-    /// The bytes of an item.
+    /// The bytes of an item, or of a version of it.
     Value { value: Bytes },
     /// There is no such item.
     Absent,
-    /// There is no room for the item, after so many units and erases: the bytes that it needs, and those of all items.
+    /// This version is a delete.
+    Deleted,
+    /// The area has no such version any more, or never had one.
+    Gone,
+    /// What the items cost, what the other entries cost, and what is free beside the items, in bytes.
+    Space { live: u64, stale: u64, free: u64 },
+    /// There is no room for the item, after so many units and erases: the bytes that it costs, and
+    /// those that all items cost.
     NoSpace { units: u64, need: u64, live: u64 },
     /// Power was lost after so many units and erases.
     Lost { units: u64 },
     /// Power is off.
     Off,
+}
+
+fn space_text(alloc: Global, live: u64, stale: u64, free: u64) -> Result<String, AllocError>
+    ensures { IfOk result (λ text. string_bytes text ≡ text_of (Answer.Space live stale free)) }
+{
+    format!(in alloc; "space {live} {stale} {free}\n")
 }
 
 fn written(alloc: Global, answer: &Answer) -> Result<String, AllocError>
@@ -34,13 +47,17 @@ fn written(alloc: Global, answer: &Answer) -> Result<String, AllocError>
             format!(in alloc; "value {digits}\n")
         }
         Answer::Absent => String::from_str(alloc, "none\n"),
+        Answer::Deleted => String::from_str(alloc, "deleted\n"),
+        Answer::Gone => String::from_str(alloc, "gone\n"),
+        Answer::Space { live, stale, free } => space_text(alloc, *live, *stale, *free),
         Answer::NoSpace { units, .. } => format!(in alloc; "nospace {units}\n"),
         Answer::Lost { units } => format!(in alloc; "lost {units}\n"),
         Answer::Off => String::from_str(alloc, "off\n"),
     }
 }
 
-/// The bytes of an answer's text: one line with its LF, numbers in decimal, bytes in lower-case hexadecimal digits.
+/// The bytes of an answer's text: one line with its LF, numbers in decimal, bytes in lower-case
+/// hexadecimal digits. A refusal for want of room tells its units alone.
 ///
 /// # Errors
 /// Want of memory alone.

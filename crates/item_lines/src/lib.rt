@@ -1,12 +1,16 @@
-//! The lines of a script on numbered items, and the texts of their answers.
+//! The lines of a script on numbered items, the texts of their answers, and the plan of a loss through them.
 #![tactic(auto)]
 
 mod answer;
+mod ids;
 mod line;
+mod plan;
 mod reading;
 mod script;
 
 pub use answer::{Answer, answer_text};
+pub use ids::Ids;
 pub use line::Line;
-pub use script::{LineWhy, ScriptFault, one_reading, read_script};
-pub use script_lines::Bytes;
+pub use plan::{is_lost, units_of};
+pub use script::{each_is_read, one_meaning, read_script};
+pub use script_lines::{Bytes, LineWhy, ScriptFault};

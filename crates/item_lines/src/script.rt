@@ -1,71 +1,103 @@
 // A whole script.
-ghost use Rattle.item_lines.specs.Laws.{OneLine, OneScript, OneRefusal};
-ghost use Rattle.item_lines.specs.Script.{ReadsScript};
+ghost use Rattle.std.specs.Prelude.{◌≡◌, IfOk, map};
+ghost use Rattle.script_lines.specs.Script.{ReadsLines};
+ghost use Rattle.item_lines.specs.Laws.{EachIsRead, OneMeaning};
+ghost use Rattle.item_lines.specs.Line.{ReadsScript, item_forms, row_of};
 
-use crate::line::{Line, MOST_VALUE};
+use crate::ids::{Ids, IdsEnd, LongIds, ShortIds};
+use crate::line::Line;
 use crate::reading::read_line;
-use script_lines::{LineFault, ScriptLine, read_lines};
+use flash_sim::NoMemory;
+use script_lines::{LineFault, ScriptFault, ScriptLine, read_lines};
 use std::alloc::Global;
-use thiserror::Error;
+use std::marker::PhantomData;
 
-/// Why a line is refused.
-#[derive(Clone, Copy, Debug, PartialEq, Eq)]
-pub enum LineWhy {
-    /// It is no line of the grammar.
-    Unknown,
-    /// The script, told as line 0, is longer than its reader takes; `read_script` never says so.
-    Long,
+// A line whose ids are below the end that the type says.
+#[derive(Drop)]
+struct LineBelow<I> {
+    line: Line,
+    ids: PhantomData<I>,
 }
 
-/// What keeps a script from being read.
-#[derive(Clone, Copy, Debug, PartialEq, Eq, Error)]
-pub enum ScriptFault {
-    /// The number of the refused line, from 1, skipped lines counted too.
-    #[error("line {line} is refused")]
-    BadLine { line: u64, why: LineWhy },
-    /// There was not enough memory.
-    #[error("out of memory")]
-    NoMemory,
-}
+impl<I: IdsEnd> ScriptLine for LineBelow<I> {
+    ghost use Rattle.item_lines.specs.Line.{item_forms, row_of};
 
-impl ScriptLine for Line {
-    ghost use Rattle.item_lines.specs.Table.{item_forms, item_row};
+    ghost forms = { item_forms I.below };
 
-    ghost forms = { item_forms };
+    ghost says = { λ told. row_of told.line };
 
-    ghost says = { item_row };
-
-    fn read(alloc: Global, text: &[u8], limit: usize) -> Result<Line, LineFault> {
-        read_line(alloc, text, limit)
+    fn read(alloc: Global, text: &[u8], limit: usize) -> Result<LineBelow<I>, LineFault> {
+        match read_line(alloc, text, I::end(), limit) {
+            Ok(line) => Ok(LineBelow {
+                line,
+                ids: PhantomData,
+            }),
+            Err(fault) => Err(fault),
+        }
     }
 }
 
-/// The lines of a script.
+// The lines alone.
+fn lines_of<I>(alloc: Global, told: Vec<LineBelow<I>>) -> Result<Vec<Line>, NoMemory>
+    ensures { IfOk result (λ lines. map row_of lines.items ≡ map (λ below. row_of below.line) told.items) }
+{
+    let mut lines = Vec::new(alloc);
+    for below in told {
+        match lines.push(below.line) {
+            Ok(()) => {}
+            Err(_) => return Err(NoMemory),
+        }
+    }
+    Ok(lines)
+}
+
+fn read_below<I: IdsEnd>(
+    alloc: Global,
+    bytes: &[u8],
+    limit: usize,
+) -> Result<Vec<Line>, ScriptFault>
+    ensures { ReadsLines (item_forms I.below) row_of limit bytes.now result }
+{
+    match read_lines::<LineBelow<I>>(alloc, bytes, limit) {
+        Ok(told) => match lines_of(alloc, told) {
+            Ok(lines) => Ok(lines),
+            Err(_) => Err(ScriptFault::NoMemory),
+        },
+        Err(fault) => Err(fault),
+    }
+}
+
+/// The lines of a script on numbered items.
 ///
-/// Lines end with LF, which the last may lack. An empty line and one that begins with `#` are skipped, and counted.
-/// A line's words are separated by one space. The lines are `set ID HEX`, `get ID`, `del ID`, `cut N`, `uncut` and
-/// `mount`, where ID is at most 65,534, N is below 2^32, both decimal without a sign or leading zeros, and HEX is 1 to
-/// 256 bytes in digits of either case.
+/// Lines end with LF, which the last may lack. An empty line and one that begins with `#` are skipped,
+/// and counted. A line's words are separated by one space. The lines are `set ID HEX`, `get ID`, `del
+/// ID`, `older ID N`, `space`, `cut N`, `uncut` and `mount`. ID is one of these ids and N below 2^32,
+/// in decimal without a sign or leading zeros; HEX is one byte at least and no more than the limit, in
+/// digits of either case.
 ///
 /// # Errors
-/// `BadLine` where a line is another one: the first such line, which is refused as `Unknown`. `NoMemory`.
-pub fn read_script(alloc: Global, bytes: &[u8]) -> Result<Vec<Line>, ScriptFault>
-    ensures { ReadsScript bytes.now result }
+/// `BadLine` where a line is no line of these: the first such line, with its first cause. `NoMemory`.
+pub fn read_script(
+    alloc: Global,
+    bytes: &[u8],
+    ids: Ids,
+    limit: usize,
+) -> Result<Vec<Line>, ScriptFault>
+    ensures { ReadsScript ids limit bytes.now result }
 {
-    match read_lines(alloc, bytes, MOST_VALUE) {
-        Ok(lines) => Ok(lines),
-        Err(script_lines::ScriptFault::BadLine { line, .. }) => Err(ScriptFault::BadLine {
-            line,
-            why: LineWhy::Unknown,
-        }),
-        Err(script_lines::ScriptFault::NoMemory) => Err(ScriptFault::NoMemory),
+    match ids {
+        Ids::Short => read_below::<ShortIds>(alloc, bytes, limit),
+        Ids::Long => read_below::<LongIds>(alloc, bytes, limit),
     }
 }
 
-/// Words are one line at most. A text is one script at most, and then none of its lines is refused. A text has one
-/// first refused line at most.
-pub fn one_reading()
-    ensures line { OneLine }
-    ensures script { OneScript }
-    ensures refusal { OneRefusal }
+/// No two lines say the same. That no text has two readings, or both a reading and a refusal, holds by
+/// any table: `script_lines::one_reading`.
+pub fn one_meaning()
+    ensures { OneMeaning }
+{}
+
+/// Words spell a line or are refused for some cause.
+pub fn each_is_read()
+    ensures { EachIsRead }
 {}

@@ -15,7 +15,7 @@ use Rattle.pair_laws.specs.Live.{names, live_pairs}
 use Rattle.pair_laws.proofs.ItemLemmas.{get-items_of}
 use Rattle.pair_laws.proofs.LivePairs.{step, last-is, absent, present, live-absent}
 use Rattle.pair_laws.specs.Rounds.{copies_cost, live_cost}
-use Rattle.item_session.specs.Contents.{items_cost}
+use Rattle.item_session.specs.Step.{items_cost}
 
 some_none : (bytes : List ℕ) → Some bytes ≡ None → ⊥
 some_none bytes e = cc

@@ -1,8 +1,9 @@
-pub mod Contents
-pub mod Counts
-pub mod Fault
-pub mod Listing
+pub mod Device
+pub mod Fits
+pub mod History
+pub mod Laws
 pub mod LineDone
-pub mod Planned
-pub mod Session
+pub mod Running
 pub mod Standing
+pub mod Step
+pub mod Whole

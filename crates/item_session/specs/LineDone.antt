@@ -1,43 +1,41 @@
--- What a line makes of a flash.
-use Rattle.std.specs.Prelude.{◌≡◌, ℕ, ◌+◌, ◌<◌, ◌≤◌, ⊤, List, [], ◌∷◌, All, length, if◌then◌else◌}
-use Rattle.flash_sim.specs.Device.{Device, counted}
+-- What lines make of a bench.
+use Rattle.std.specs.Prelude.{◌≡◌, ℕ, ◌+◌, ◌≤◌, ⊤, Bool, true, false, None, List, [], ◌∷◌, if◌then◌else◌, All}
+use Rattle.flash_sim.specs.Device.{Device, Never, counted}
 use Rattle.flash_map.specs.declared.area.Area.{Area}
-use Rattle.flash_map.specs.Area.{unit_of, sectors_of, geometry_of, value_limit}
-use Rattle.flash_map.specs.Touches.{SameOutside}
-use Rattle.nvs_gc.specs.Standing.{IsUndamaged}
+use Rattle.flash_map.specs.Area.{sectors_of}
+use Rattle.flash_map.specs.Touches.{SameOutside, Touches}
+use Rattle.script_lines.specs.Plan.Replan.{keeps as keeps_plan}
+use Rattle.session_table.specs.Follows.{Follows}
 use Rattle.item_lines.specs.declared.line.Line.{Line}
-use Rattle.item_lines.specs.declared.line.TheConstants.{ID_END}
-use Rattle.item_lines.specs.declared.line.Line.TheVariants.{Set, Get, Delete, Cut, Uncut, Mount}
+use Rattle.item_lines.specs.declared.line.Line.TheVariants.{Set, Get, Delete, Older, Space, Mount}
 use Rattle.item_lines.specs.declared.answer.Answer.{Answer}
-use Rattle.item_session.specs.Contents.{items_in}
-use Rattle.item_session.specs.Counts.{units_of, is_lost, units_in, losses_in}
-use Rattle.item_session.specs.Planned.{Allows, plan_after, Planned, PlansNoLoss, StaysUnplanned}
-use Rattle.item_session.specs.Session.{State, Step, Session, IsCounted}
+use Rattle.item_lines.specs.declared.answer.Answer.TheVariants as answers
+use Rattle.item_lines.specs.Plan.{units_of, is_lost, units_in, losses_in, replan, Allows, plan_after, Planned, plan_through, PlansNoLoss}
+use Rattle.ring_laws.specs.Area.{open_sector}
+use Rattle.ring_store.specs.Collecting.{redo_of, redo_list, redo_units, KeepsOrRedoes}
+use Rattle.ring_store.specs.Kind.{Kind}
+use Rattle.ring_store.specs.Listed.{kind_on}
+use Rattle.ring_store.specs.Standing.{list_at, KeepsItems, SpendsIn, SpendsUpTo}
+use Rattle.ring_store.specs.Writing.{Deletes, FindsNoSpace, StopsDeleting, StopsWriting, Writes}
+use Rattle.item_session.specs.Device.{RestsOn, rules_on, state_of, turned_on}
+use Rattle.item_session.specs.Step.{IsCounted, Step}
 
--- the state that the flash's bytes and power are
-abbrev pub state_of : Area → Device → State
-state_of area d = record { items = items_in (unit_of d area) (sectors_of d area); is_on = d.is_on }
+-- a mount turns power on first
+abbrev pub powered_for : Line → Device → Device
+powered_for Mount d = turned_on d
+powered_for line d = d
 
--- the id and the value that a line may have where a value has at most so many bytes
-abbrev pub IsLawfulLine : ℕ → Line → Type 0
-IsLawfulLine limit (Set id value) = (id < ID_END) × (0 < length value) × (length value ≤ limit)
-IsLawfulLine limit (Get id) = id < ID_END
-IsLawfulLine limit (Delete id) = id < ID_END
-IsLawfulLine limit (Cut units) = ⊤
-IsLawfulLine limit Uncut = ⊤
-IsLawfulLine limit Mount = ⊤
-
--- each line is one that an area takes
-abbrev pub AreLawfulFor : Area → List Line → Type 0
-AreLawfulFor area lines = All (IsLawfulLine (value_limit area)) lines
-
--- what no line changes, whatever it answers: the banks, the count of loads, and each byte outside the area
+-- the banks, the count of loads, and each byte outside the area
 pub record Keeps (area : Area) (old new : Device) : Type 0 where
   pub banks : new.banks ≡ old.banks
   pub loads : new.loads ≡ old.loads
   pub outside : SameOutside (area ∷ []) old new
 
--- counts and plan, whatever the line is
+-- on a flash that tells that no loss is planned none comes, and none is planned afterwards
+abbrev pub StaysUnplanned : Device → Device → Type 0
+StaysUnplanned old new = old.plan ≡ Never → (new.plan ≡ Never) × (new.losses ≡ old.losses)
+
+-- counts and plan
 pub record Accounts (line : Line) (answer : Answer) (old new : Device) : Type 0 where
   pub spent : old.spent + units_of answer ≡ new.spent
   pub losses : new.losses ≡ counted old.losses (if is_lost answer then 1 else 0)
@@ -45,23 +43,78 @@ pub record Accounts (line : Line) (answer : Answer) (old new : Device) : Type 0 
   pub plan : IsCounted new.spent → new.plan ≡ plan_after old.plan line answer
   pub unplanned : PlansNoLoss line → StaysUnplanned old new
 
-pub record LineDone (area : Area) (line : Line) (answer : Answer) (old new : Device) : Type 0 where
-  pub step : (last : ℕ) → new.spent ≤ last → Step (geometry_of old area) last line answer (state_of area old) (state_of area new)
+-- A set or a delete ends as the store's: it collects only where its entry does not fit, and so on.
+abbrev pub WritesBy : (ℕ → Kind) → Area → Line → Answer → Device → Device → Type 0
+WritesBy kind area (Set id value) (answers.Done units) old new =
+    Writes (kind_on kind old area) old new area id value
+WritesBy kind area (Set id value) (answers.NoSpace units need live) old new =
+    FindsNoSpace (kind_on kind old area) old new area id value need live
+WritesBy kind area (Set id value) (answers.Lost units) old new =
+    StopsWriting (kind_on kind old area) old new area id value
+WritesBy kind area (Delete id) (answers.Done units) old new = Deletes (kind_on kind old area) old new area id
+WritesBy kind area (Delete id) (answers.Lost units) old new =
+    StopsDeleting (kind_on kind old area) old new area id
+WritesBy kind area line answer old new = ⊤
+
+-- A mount spends what there is to redo, by the area's bytes, and its list is what that leaves. A cut one
+-- spends at most the `lost` of that range, which may be above its `most`, and leaves that list or the one
+-- before.
+abbrev pub Redoes : Kind → Area → Answer → Device → Device → Type 0
+Redoes k area (answers.Done units) old new =
+    let place = open_sector k.reading (sectors_of old area) in
+    let redo = redo_of k (sectors_of old area) place in
+    SpendsIn old new (redo_units k (sectors_of old area) place redo)
+    × (list_at k new area ≡ redo_list k (sectors_of old area) place redo)
+Redoes k area (answers.Lost units) old new =
+    let place = open_sector k.reading (sectors_of old area) in
+    let redo = redo_of k (sectors_of old area) place in
+    SpendsUpTo old new (redo_units k (sectors_of old area) place redo)
+    × KeepsOrRedoes k (sectors_of old area) (sectors_of new area) place
+Redoes k area answer old new = ⊥
+
+-- An area that shows no damage is mounted, and shows none afterwards. At rest nothing is done.
+pub record MountsBy (kind : ℕ → Kind) (area : Area) (answer : Answer) (old new : Device) : Type 0 where
+  pub undamaged : (kind_on kind old area).damage (sectors_of old area) ≡ None
+  pub items : KeepsItems (kind_on kind old area) (sectors_of old area) (sectors_of new area)
+  pub redoes : Redoes (kind_on kind old area) area answer (turned_on old) new
+  pub rests : RestsOn kind old area → (answer ≡ answers.Done 0) × (new ≡ turned_on old)
+
+-- the line only asks
+abbrev pub asks : Line → Bool
+asks (Get id) = true
+asks (Older id n) = true
+asks Space = true
+asks line = false
+
+-- the plan alone may differ
+abbrev pub SameButPlan : Device → Device → Type 0
+SameButPlan old new = new ≡ record old { plan = new.plan }
+
+-- A line was carried out by the table. But for the plan, the bench was touched in the area alone: a
+-- loss of power lies in it, and without a unit no byte changed. A line on the plan changes nothing
+-- else, and one that only asks changes nothing.
+pub record LineDone (kind : ℕ → Kind) (area : Area) (line : Line) (answer : Answer) (old new : Device)
+    : Type 0 where
+  pub step :
+      (last : ℕ) → new.spent ≤ last
+      → Step (rules_on kind old area) last line answer (state_of kind area old) (state_of kind area new)
   pub accounts : Accounts line answer old new
   pub keeps : Keeps area old new
+  pub touches : replan line ≡ keeps_plan → Touches (area ∷ []) (powered_for line old) new (is_lost answer)
+  pub writes : WritesBy kind area line answer old new
+  pub mounts : line ≡ Mount → MountsBy kind area answer old new
+  pub tells : asks line ≡ true → new ≡ old
+  pub plans : (replan line ≡ keeps_plan → ⊥) → SameButPlan old new
 
 -- a whole run of lines
-pub record Runs (area : Area) (lines : List Line) (answers : List Answer) (old new : Device) : Type 0 where
-  pub session : Session (geometry_of old area) new.spent lines answers (state_of area old) (state_of area new)
+pub record Runs (kind : ℕ → Kind) (area : Area) (lines : List Line) (answers : List Answer) (old new : Device)
+    : Type 0 where
+  pub session :
+      Follows (Step (rules_on kind old area) new.spent) lines answers
+      (state_of kind area old) (state_of kind area new)
   pub spent : old.spent + units_in answers ≡ new.spent
   pub losses : new.losses ≡ counted old.losses (losses_in answers)
-  pub planned : IsCounted new.spent → Planned old.plan lines answers
-
--- What holds after a run of lines whatever it answers, also where it came to no end.
-pub record EndsSafely (area : Area) (lines : List Line) (old new : Device) : Type 0 where
+  pub planned :
+      IsCounted new.spent → Planned old.plan lines answers × (new.plan ≡ plan_through old.plan lines answers)
   pub keeps : Keeps area old new
-  -- with no plan at the start power is lost only where a line is `cut`, however much is spent
   pub unplanned : All PlansNoLoss lines → StaysUnplanned old new
-  pub undamaged : IsUndamaged old area → IsUndamaged new area
-  -- an area that is damaged stays as it was
-  pub damaged : ¬ IsUndamaged old area → new ≡ old

@@ -1,23 +1,42 @@
--- An area on which a session stands.
-use Rattle.std.specs.Prelude.{◌≡◌, true, false, Option, Some, None}
+-- Between two lines.
+use Rattle.std.specs.Prelude.{◌≡◌, ℕ, true, false, List, Option, Some, None}
 use Rattle.flash_sim.specs.Device.{Device}
 use Rattle.flash_map.specs.declared.area.Area.{Area}
-use Rattle.flash_map.specs.Area.{unit_of, sectors_of}
-use Rattle.nvs_store.specs.declared.scan.Redo.TheVariants.{Nothing}
-use Rattle.nvs_store.specs.Scans.{scan_of}
-use Rattle.nvs_gc.specs.declared.nvs.Nvs.{Nvs}
-use Rattle.nvs_gc.specs.Standing.{IsNvsArea, IsUndamaged, StandsOn}
+use Rattle.flash_map.specs.declared.area.Role.{Role}
+use Rattle.flash_map.specs.declared.faults.Damaged.{Damaged}
+use Rattle.flash_map.specs.Area.{sectors_of}
+use Rattle.ring_store.specs.declared.store.Store.{Store}
+use Rattle.ring_store.specs.Kind.{Kind}
+use Rattle.ring_store.specs.Listed.{kind_on}
+use Rattle.ring_store.specs.Standing.{IsStoreArea}
+use Rattle.ring_store.specs.Stands.{StandsOn}
+use Rattle.item_session.specs.declared.session.ItemSession.{ItemSession}
+use Rattle.item_session.specs.Device.{TakesValues, turned_on}
 
--- the area is an NVS area of the flash, and its bytes are not damaged
-pub record IsSound (d : Device) (area : Area) : Type 0 where
-  pub is_area : IsNvsArea d.banks area
-  pub undamaged : IsUndamaged d area
+-- the damage that the area's bytes show
+abbrev pub damage_on : (ℕ → Kind) → Device → Area → Option Damaged
+damage_on kind d area = (kind_on kind d area).damage (sectors_of d area)
 
--- nothing that a loss left undone is left: a mount has nothing to do again
-abbrev pub IsAtRest : Device → Area → Type 0
-IsAtRest d area = (scan_of (unit_of d area) (sectors_of d area)).redo ≡ Nothing
+-- a store may stand on the area, its bytes show no damage, and each value within its limit fits a sector
+pub record IsSound (role : Role) (kind : ℕ → Kind) (d : Device) (area : Area) : Type 0 where
+  pub is_area : IsStoreArea role d.banks area
+  pub undamaged : damage_on kind d area ≡ None
+  pub values : TakesValues kind d area
 
--- while power is on, there is a store, which stands on the area
-abbrev pub IsReady : Device → Area → Option Nvs → Type 0
-IsReady d area None = d.is_on ≡ false
-IsReady d area (Some nvs) = (nvs.area ≡ area) × (d.is_on ≡ true → StandsOn d nvs)
+-- while power is on, a store stands on the area
+abbrev pub IsMounted : {T : Type 0} → Role → (ℕ → Kind) → (ℕ → List ℕ → T) → Device → Area
+    → Option (Store T) → Type 0
+IsMounted role kind kept d area None = d.is_on ≡ false
+IsMounted role kind kept d area (Some store) =
+    (store.area ≡ area) × (d.is_on ≡ true → StandsOn role kind kept d store)
+
+-- the session is ready for the next line
+pub record IsReady {T : Type 0} (role : Role) (kind : ℕ → Kind) (kept : ℕ → List ℕ → T)
+    (d : Device) (session : ItemSession T)
+    : Type 0 where
+  pub sound : IsSound role kind d session.area
+  pub mounted : IsMounted role kind kept d session.area session.store
+
+-- the area's bytes show the damage, and nothing changed but that power is on
+abbrev pub ShowsDamage : (ℕ → Kind) → Area → Device → Device → Damaged → Type 0
+ShowsDamage kind area old new damaged = (damage_on kind old area ≡ Some damaged) × (new ≡ turned_on old)

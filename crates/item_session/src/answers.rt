@@ -1,12 +1,12 @@
-// The answers of a run.
-ghost use Rattle.std.specs.Prelude.{◌≡◌, List, [], ◌∷◌, ◌++◌, OnOk, OnErr};
+// Answers that contracts see as a list.
+ghost use Rattle.std.specs.Prelude.{◌≡◌, [], ◌∷◌, ◌++◌, OnOk, OnErr};
 
 use flash_sim::NoMemory;
 use item_lines::Answer;
 use std::alloc::Global;
 use std::marker::Model;
 
-/// Answers, which contracts see as a list.
+/// The answers to lines.
 #[derive(Debug, Drop)]
 pub struct Answers {
     items: Vec<Answer>,
@@ -14,9 +14,9 @@ pub struct Answers {
 
 impl Model for Answers {
     ghost use Rattle.std.specs.Prelude.{List};
-    ghost use Rattle.item_lines.specs.declared.answer.Answer.{Answer as answer};
+    ghost use Rattle.item_lines.specs.declared.answer.Answer.{Answer};
 
-    ghost Value = { List answer };
+    ghost Value = { List Answer };
 
     ghost view = { λ answers. answers.items.items };
 }
@@ -39,8 +39,10 @@ impl Answers {
         ensures ok { OnOk result (self.new ≡ self.old ++ item ∷ []) }
         ensures err { OnErr result (self.new ≡ self.old) }
     {
-        self.items.push(item)?;
-        Ok(())
+        match self.items.push(item) {
+            Ok(()) => Ok(()),
+            Err(_) => Err(NoMemory),
+        }
     }
 
     /// The answers in order.

@@ -1,0 +1,4 @@
+pub mod AreaLemmas
+pub mod InputLemmas
+pub mod Endings
+pub mod WholeLemmas

@@ -1,0 +1,4 @@
+pub mod FitLemmas
+pub mod SearchSteps
+pub mod UsageSteps
+pub mod VersionReads

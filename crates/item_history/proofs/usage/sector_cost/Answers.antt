@@ -1,0 +1,74 @@
+use Rattle.std.proofs.Common.{◌≡◌, ℕ, ◌+◌, ◌-◌, List, ap, ◌∙◌, arith}
+use Rattle.std.specs.Prelude.{sum_by}
+use Rattle.ring_store.proofs.OlderSteps.{placed_to}
+use Rattle.flash_sim.specs.Device.{Device}
+use Rattle.flash_map.specs.declared.area.Area.{Area}
+use Rattle.flash_map.specs.Area.{unit_of, sectors_of, sector_at}
+use Rattle.ring_store.specs.declared.entry.Placed.{Placed}
+use Rattle.ring_store.specs.Kind.{Kind, IsKind}
+use Rattle.ring_store.proofs.Areas.{unit_is}
+use Rattle.item_history.proofs.UsageSteps.{slot_more}
+use Rattle.item_history.proofs.usage.sector_cost.Goals as goal
+
+pub overflow_add-slot-end : goal.overflow_add-slot-end
+overflow_add-slot-end g c = omega (arith, c.slots-slots.ensures.few, c.first_slot-first.ensures.small)
+
+pub loop-slot-init : goal.loop-slot-init
+loop-slot-init g c =
+    let d : Device = g.F.Flash.device c.args.flash.now in
+    let area : Area = c.args.area.now in
+    let k : Kind = g.T.SlotSectors.kind (unit_of d area) in
+    let sectors : List (List ℕ) = sectors_of d area in
+    let law : IsKind (g.T.SlotSectors.kind (unit_of d area)) = g.met.T.SlotSectors.lawful (unit_of d area) (unit_is d area (g.met.F.Flash.is_lawful c.args.flash.now) c.requires.area.lawful) in
+    let none : 0 ≡ c.first_slot-first.result - c.first_slot-first.result = omega arith in
+    record { so_far = ap (λ (n : ℕ). sum_by (λ (p : Placed). k.cost p.len) (placed_to k (sector_at sectors c.args.place) c.args.place n)) none; small = omega arith }
+
+pub slot_cost-cost-requires-clause-slot : goal.slot_cost-cost-requires-clause-slot
+slot_cost-cost-requires-clause-slot g c =
+    let d : Device = g.F.Flash.device c.args.flash.now in
+    let area : Area = c.args.area.now in
+    let k : Kind = g.T.SlotSectors.kind (unit_of d area) in
+    let sectors : List (List ℕ) = sectors_of d area in
+    let law : IsKind (g.T.SlotSectors.kind (unit_of d area)) = g.met.T.SlotSectors.lawful (unit_of d area) (unit_is d area (g.met.F.Flash.is_lawful c.args.flash.now) c.requires.area.lawful) in
+    let count : c.slots-slots.result ≡ k.count (sector_at sectors c.args.place) = c.slots-slots.ensures.value in
+    let first : c.first_slot-first.result ≡ k.first = c.first_slot-first.ensures.value (unit_of d area) in
+    (omega arith, omega arith)
+
+pub overflow_add-cost : goal.overflow_add-cost
+overflow_add-cost g c = omega (arith, c.slots-slots.ensures.few, c.loop-slot.invariant.small, c.slot_cost-cost.ensures.small)
+
+pub loop-slot-preserved : goal.loop-slot-preserved
+loop-slot-preserved g c =
+    let d : Device = g.F.Flash.device c.args.flash.now in
+    let area : Area = c.args.area.now in
+    let k : Kind = g.T.SlotSectors.kind (unit_of d area) in
+    let sectors : List (List ℕ) = sectors_of d area in
+    let law : IsKind (g.T.SlotSectors.kind (unit_of d area)) = g.met.T.SlotSectors.lawful (unit_of d area) (unit_is d area (g.met.F.Flash.is_lawful c.args.flash.now) c.requires.area.lawful) in
+    let count : c.slots-slots.result ≡ k.count (sector_at sectors c.args.place) = c.slots-slots.ensures.value in
+    let first : c.first_slot-first.result ≡ k.first = c.first_slot-first.ensures.value (unit_of d area) in
+    let n : ℕ = c.loop-slot.slot - c.first_slot-first.result in
+    let at : c.loop-slot.slot ≡ k.first + n = omega arith in
+    let up : n + 1 ≡ c.loop-slot.slot + 1 - c.first_slot-first.result = omega arith in
+    let one = slot_more k law sectors c.args.place (c.loop-slot.slot - c.first_slot-first.result) c.loop-slot.slot at in
+    let before = c.loop-slot.invariant.so_far in
+    let own = c.slot_cost-cost.ensures.cost in
+    let all : c.loop-slot.cost + c.slot_cost-cost.result ≡ sum_by (λ (p : Placed). k.cost p.len) (placed_to k (sector_at sectors c.args.place) c.args.place (n + 1)) = omega arith in
+    record {
+      so_far = all ∙ ap (λ (m : ℕ). sum_by (λ (p : Placed). k.cost p.len) (placed_to k (sector_at sectors c.args.place) c.args.place m)) up;
+      small = omega (arith, c.loop-slot.invariant.small, c.slot_cost-cost.ensures.small);
+    }
+
+pub returns-clause-cost : goal.returns-clause-cost
+returns-clause-cost g c =
+    let d : Device = g.F.Flash.device c.args.flash.now in
+    let area : Area = c.args.area.now in
+    let k : Kind = g.T.SlotSectors.kind (unit_of d area) in
+    let sectors : List (List ℕ) = sectors_of d area in
+    let law : IsKind (g.T.SlotSectors.kind (unit_of d area)) = g.met.T.SlotSectors.lawful (unit_of d area) (unit_is d area (g.met.F.Flash.is_lawful c.args.flash.now) c.requires.area.lawful) in
+    let count : c.slots-slots.result ≡ k.count (sector_at sectors c.args.place) = c.slots-slots.ensures.value in
+    let first : c.first_slot-first.result ≡ k.first = c.first_slot-first.ensures.value (unit_of d area) in
+    let all : c.loop-slot.slot - c.first_slot-first.result ≡ k.count (sector_at sectors c.args.place) = omega arith in
+    c.loop-slot.invariant.so_far ∙ ap (λ (m : ℕ). sum_by (λ (p : Placed). k.cost p.len) (placed_to k (sector_at sectors c.args.place) c.args.place m)) all
+
+pub returns-clause-small : goal.returns-clause-small
+returns-clause-small g c = omega (arith, c.slots-slots.ensures.few, c.loop-slot.invariant.small)

@@ -1,0 +1,16 @@
+-- What holds of the room of every area.
+use Rattle.std.specs.Prelude.{◌≡◌, ℕ, ◌-◌, ◌*◌, ◌<◌, ◌≤◌, List, length}
+use Rattle.flash_map.specs.Area.{sector_at}
+use Rattle.pair_laws.specs.Rounds.{live_cost}
+use Rattle.ring_laws.specs.Area.{open_sector}
+use Rattle.ring_laws.specs.Forms.{AtRest}
+use Rattle.ring_store.specs.Kind.{Kind, IsKind}
+use Rattle.ring_store.specs.Standing.{list_of}
+
+-- At rest the items cost no more than all sectors but one have room for, so what is told as free is never cut off at 0.
+abbrev pub ItemsFit : Type 0
+ItemsFit =
+    (k : Kind) (sectors : List (List ℕ)) (size : ℕ)
+    → IsKind k → 512 ≤ size → ((place : ℕ) → place < length sectors → length (sector_at sectors place) ≡ size)
+    → AtRest k.reading sectors (open_sector k.reading sectors)
+    → live_cost k.cost (list_of k sectors) ≤ (length sectors - 1) * k.cap size

@@ -1,0 +1,197 @@
+-- The whole history is kept while all sets and deletes fit a sector.
+use Rattle.std.proofs.Common.{◌≡◌, inl, inr, ℕ, ◌+◌, ◌*◌, ◌<◌, ◌≤◌, Bool, true, false, cond, eqb, leb, List, [], ◌∷◌, ◌++◌, length, refl, sym, ap, subst, ◌∙◌, arith}
+use Rattle.std.proofs.lemmas.Bool.{cases_lt, le-leb}
+use Rattle.flash_sim.specs.Bank.{bank_at}
+use Rattle.flash_sim.specs.Device.{Device}
+use Rattle.flash_sim.specs.declared.flash.Bank.{Bank}
+use Rattle.flash_map.specs.declared.area.Area.{Area}
+use Rattle.item_lines.specs.declared.line.Line.{Line}
+use Rattle.item_lines.specs.declared.line.Line.TheVariants.{Set, Get, Delete, Older, Space, Cut, Uncut, Mount}
+use Rattle.item_lines.specs.declared.answer.Answer.{Answer}
+use Rattle.item_lines.specs.declared.answer.Answer.TheVariants as answers
+use Rattle.ring_store.specs.Kind.{IsKind, Kind, fits}
+use Rattle.ring_store.specs.Listed.{kind_on, list_on}
+use Rattle.ring_store.specs.Versions.{versions}
+use Rattle.ring_store.specs.Writing.{open_at}
+use Rattle.ring_store.proofs.CallFacts.{from_unit}
+use Rattle.ring_store.proofs.VersionLemmas.{keeps_all}
+use Rattle.session_table.specs.Follows.{Follows}
+use Rattle.item_session.specs.Device.{RestsOn, rules_on, state_of, turned_on}
+use Rattle.item_session.specs.Fits.{FitsOpen}
+use Rattle.item_session.specs.History.{Adds, IsKept, TellsHistory}
+use Rattle.item_session.specs.Laws.{HistoryStaysWhole}
+use Rattle.item_session.specs.LineDone.{LineDone}
+use Rattle.item_session.specs.Whole.{Tracked, WholeStep, cap_on, free_on, line_cost, spare_on}
+use Rattle.item_session.proofs.FitLemmas.{forgets_for_room}
+use Rattle.item_session.proofs.HistoryLemmas.{GoesOn, goes_on, kept_by}
+use Rattle.item_session.proofs.LineLemmas.{no_dropping, no_keeping}
+use Rattle.item_session.proofs.RoomLemmas.{LeavesRoom, delete_room, set_room}
+
+-- ---- what fits
+
+module _ (k : Kind) (b : List ℕ) (len : ℕ) (enough : k.cost len + 3 * k.slot ≤ k.free b) where
+  by_mark : (t : Bool) → leb (k.cost len + cond t 2 3 * k.slot) (k.free b) ≡ true
+  by_mark true = le-leb (k.cost len + 2 * k.slot) (k.free b) (omega (arith, enough))
+  by_mark false = le-leb (k.cost len + 3 * k.slot) (k.free b) enough
+
+  by_len : (t : Bool) → cond t (leb (2 * k.slot) (k.free b)) (leb (k.cost len + cond (k.reading.has_gc_done b) 2 3 * k.slot) (k.free b)) ≡ true
+  by_len true = le-leb (2 * k.slot) (k.free b) (omega (arith, enough))
+  by_len false = by_mark (k.reading.has_gc_done b)
+
+  room_fits : fits k b len ≡ true
+  room_fits = by_len (eqb len 0)
+
+-- ---- an area that kept the whole history so far
+
+record WholeNow (kind : ℕ → Kind) (area : Area) (d : Device) (all : List (ℕ × List ℕ)) (costs : ℕ) : Type 0 where
+  pub list : list_on kind d area ≡ all
+  pub rests : RestsOn kind d area
+  pub room : cap_on kind d area + spare_on kind d area ≤ free_on kind d area + costs
+
+-- what of that is no list
+record RoomNow (kind : ℕ → Kind) (area : Area) (d : Device) (costs : ℕ) : Type 0 where
+  pub rests : RestsOn kind d area
+  pub room : cap_on kind d area + spare_on kind d area ≤ free_on kind d area + costs
+
+module _ (kind : ℕ → Kind) (area : Area) (old new : Device) where
+  same_cap : new.banks ≡ old.banks → cap_on kind new area ≡ cap_on kind old area
+  same_cap banks = ap (λ (banks : List Bank). (kind (bank_at banks area.bank).unit).cap (bank_at banks area.bank).sector) banks
+
+  same_spare : new.banks ≡ old.banks → spare_on kind new area ≡ spare_on kind old area
+  same_spare banks = ap (λ (banks : List Bank). 3 * (kind (bank_at banks area.bank).unit).slot) banks
+
+  module _ (law : IsKind (kind_on kind old area)) (all : List (ℕ × List ℕ)) (costs : ℕ) (now : WholeNow kind area old all costs) where
+    -- so much more fits
+    entry_fits : (len : ℕ) → costs + (kind_on kind old area).cost len ≤ cap_on kind old area → fits (kind_on kind old area) (open_at (kind_on kind old area) old area) len ≡ true
+    entry_fits len few = let room = now.room in room_fits (kind_on kind old area) (open_at (kind_on kind old area) old area) len (omega (arith, room, few))
+
+    line_fits : (line : Line) → costs + line_cost (kind_on kind old area).cost line ≤ cap_on kind old area → FitsOpen kind old area line
+    line_fits (Set id value) few = entry_fits (length value) few
+    line_fits (Delete id) few = entry_fits 0 few
+    line_fits Mount few = now.rests
+    line_fits (Get id) few = tt
+    line_fits (Older id n) few = tt
+    line_fits Space few = tt
+    line_fits (Cut units) few = tt
+    line_fits Uncut few = tt
+
+    as_before : RoomNow kind area old (costs + 0)
+    as_before = let room = now.room in record { rests = now.rests; room = omega (arith, room) }
+
+    moved : (x : Device) → new ≡ x → RoomNow kind area x (costs + 0) → RoomNow kind area new (costs + 0)
+    moved x is room = subst (λ (d : Device). RoomNow kind area d (costs + 0)) (sym is) room
+
+    after_write : (cost : ℕ) → new.banks ≡ old.banks → LeavesRoom kind area old new cost → RoomNow kind area new (costs + cost)
+    after_write cost banks leaves =
+        let room = now.room in
+        let cap = same_cap banks in
+        let spare = same_spare banks in
+        let left = leaves.room in
+        record { rests = leaves.rests; room = omega (arith, room, cap, spare, left) }
+
+    after : (line : Line) (answer : Answer) → LineDone kind area line answer old new → costs + line_cost (kind_on kind old area).cost line ≤ cap_on kind old area → RoomNow kind area new (costs + line_cost (kind_on kind old area).cost line)
+    after (Set id value) answer is few =
+        after_write ((kind_on kind old area).cost (length value)) is.keeps.banks (set_room kind area old new now.rests law id value answer (entry_fits (length value) few) is)
+    after (Delete id) answer is few = after_write ((kind_on kind old area).cost 0) is.keeps.banks (delete_room kind area old new now.rests law id answer (entry_fits 0 few) is)
+    after (Get id) answer is few = moved old (is.tells refl) as_before
+    after (Older id n) answer is few = moved old (is.tells refl) as_before
+    after Space answer is few = moved old (is.tells refl) as_before
+    after Mount answer is few =
+        let mounts = is.mounts refl in
+        let rests = mounts.rests now.rests in
+        let before = as_before in
+        moved (turned_on old) rests.1 (record { rests = before.rests; room = before.room })
+    after (Cut units) answer is few = let before = as_before in moved (record old { plan = new.plan }) (is.plans (no_keeping units)) (record { rests = before.rests; room = before.room })
+    after Uncut answer is few = let before = as_before in moved (record old { plan = new.plan }) (is.plans no_dropping) (record { rests = before.rests; room = before.room })
+
+-- ---- one line
+
+abbrev WholeSoFar : (ℕ → Kind) → Area → Device → List (ℕ × List ℕ) → ℕ → Type 0
+WholeSoFar kind area d all costs = costs ≤ cap_on kind d area → WholeNow kind area d all costs
+
+record Goes (kind : ℕ → Kind) (area : Area) (line : Line) (answer : Answer) (old new : Device) (all : List (ℕ × List ℕ)) (costs : ℕ) : Type 0 where
+  pub added : List (ℕ × List ℕ)
+  pub adds : Adds new.spent line answer added
+  pub tells : TellsHistory line answer (record { state = state_of kind area old; all = all })
+  pub keeps : IsKept (record { state = state_of kind area new; all = all ++ added })
+  pub whole : WholeSoFar kind area new (all ++ added) (costs + line_cost (kind_on kind old area).cost line)
+
+module _ (kind : ℕ → Kind) (area : Area) (line : Line) (answer : Answer) (old new : Device) (all : List (ℕ × List ℕ)) (costs : ℕ) (law : IsKind (kind_on kind old area))
+    (kept : IsKept (record { state = state_of kind area old; all = all })) (so_far : WholeSoFar kind area old all costs) (is : LineDone kind area line answer old new) where
+  told : GoesOn new.spent line answer all (state_of kind area old) (state_of kind area new)
+  told = goes_on new.spent all (state_of kind area old) kept (rules_on kind old area) line answer (state_of kind area new) (is.step new.spent (omega arith))
+
+  -- more than a sector has
+  goes_past : cap_on kind old area < costs + line_cost (kind_on kind old area).cost line → Goes kind area line answer old new all costs
+  goes_past many =
+      let keeps = is.keeps in
+      let cap = same_cap kind area old new keeps.banks in
+      record { added = told.added; adds = told.adds; tells = told.tells; keeps = told.keeps; whole = λ few. absurd (omega (arith, many, cap, few)) }
+
+  goes_whole : costs + line_cost (kind_on kind old area).cost line ≤ cap_on kind old area → Goes kind area line answer old new all costs
+  goes_whole few =
+      let now = so_far (omega (arith, few)) in
+      let forgets = forgets_for_room kind area line answer old new law is (line_fits kind area old new law all costs now line few) in
+      let room = after kind area old new law all costs now line answer is few in
+      let list : list_on kind new area ≡ all ++ forgets.added = forgets.list ∙ ap (λ (pairs : List (ℕ × List ℕ)). pairs ++ forgets.added) now.list in
+      record {
+        added = forgets.added;
+        adds = forgets.adds;
+        tells = told.tells;
+        keeps = kept_by (all ++ forgets.added) (state_of kind area new) (keeps_all (all ++ forgets.added) (list_on kind new area) list);
+        whole = λ within. record { list = list; rests = room.rests; room = room.room };
+      }
+
+  goes : Goes kind area line answer old new all costs
+  goes = elim (cases_lt (cap_on kind old area) (costs + line_cost (kind_on kind old area).cost line)) [
+    | inl many ↦ goes_past many
+    | inr few ↦ goes_whole few
+  ]
+
+  -- what is kept no more there never was
+  gone : (id n : ℕ) → line ≡ Older id n → answer ≡ answers.Gone → costs ≤ cap_on kind old area → length (versions all id) ≤ n
+  gone id n asked told within =
+      let now = so_far within in
+      let done = subst (λ (l : Line). LineDone kind area l answers.Gone old new) asked (subst (λ (a : Answer). LineDone kind area line a old new) told is) in
+      let step = done.step new.spent (omega arith) in
+      subst (λ (pairs : List (ℕ × List ℕ)). length (versions pairs id) ≤ n) now.list step.1.0
+
+-- ---- a whole run
+
+record Continues (kind : ℕ → Kind) (area : Area) (lines : List Line) (answers : List Answer) (from : Tracked) (new : Device) : Type 0 where
+  pub all : List (ℕ × List ℕ)
+  pub costs : ℕ
+  pub runs : Follows (WholeStep kind area) lines answers from (record { device = new; all = all; costs = costs })
+
+continues : (kind : ℕ → Kind) (area : Area) (lines : List Line) (answers : List Answer) (old new : Device) (all : List (ℕ × List ℕ)) (costs : ℕ) → IsKind (kind_on kind old area) → IsKept (record { state = state_of kind area old; all = all })
+    → WholeSoFar kind area old all costs → Follows (LineDone kind area) lines answers old new → Continues kind area lines answers (record { device = old; all = all; costs = costs }) new
+continues kind area [] [] old new all costs law kept so_far same = record { all = all; costs = costs; runs = ap (λ (d : Device). record { device = d; all = all; costs = costs }) same }
+continues kind area [] (answer ∷ answers) old new all costs law kept so_far none = absurd none
+continues kind area (line ∷ lines) [] old new all costs law kept so_far none = absurd none
+continues kind area (line ∷ lines) (answer ∷ answers) old new all costs law kept so_far runs =
+    let mid : Device = runs.0 in
+    let head = goes kind area line answer old mid all costs law kept so_far runs.1 in
+    let there = from_unit (λ (u : ℕ). IsKind (kind u)) old mid area runs.1.keeps.banks law in
+    let tail = continues kind area lines answers mid new (all ++ head.added) (costs + line_cost (kind_on kind old area).cost line) there head.keeps head.whole runs.2 in
+    record {
+      all = tail.all;
+      costs = tail.costs;
+      runs = (
+        record { device = mid; all = all ++ head.added; costs = costs + line_cost (kind_on kind old area).cost line },
+        record {
+          done = runs.1;
+          records = record { added = head.added; adds = head.adds; all = refl; tells = head.tells; keeps = head.keeps };
+          costs = refl;
+          whole = λ within. let now = head.whole within in now.list;
+          gone = gone kind area line answer old mid all costs law kept so_far runs.1;
+        },
+        tail.runs,
+      );
+    }
+
+pub history_stays_whole : HistoryStaysWhole
+history_stays_whole kind area lines answers old new law fresh runs =
+    let room = fresh.room in
+    let whole = continues kind area lines answers old new [] 0 law (kept_by [] (state_of kind area old) (keeps_all [] (list_on kind old area) fresh.list))
+    (λ within. record { list = fresh.list; rests = fresh.rests; room = omega (arith, room) }) runs in
+    record { all = whole.all; costs = whole.costs; runs = whole.runs }

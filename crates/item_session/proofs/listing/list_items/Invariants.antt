@@ -1,4 +1,0 @@
-use Rattle.item_session.proofs.listing.list_items.Given as goal
-
-abbrev pub ghosts-list_counted : goal.ghosts-list_counted
-ghosts-list_counted g a = record { name = a.blank.name; parts = a.blank.parts }

@@ -1,0 +1,53 @@
+-- What the table is told of an area on a device, for any kind of store.
+use Rattle.std.specs.Prelude.{ℕ, ◌<◌, ◌≤◌, ⊤, true, length}
+use Rattle.flash_sim.specs.Device.{Device}
+use Rattle.flash_map.specs.declared.area.Area.{Area}
+use Rattle.flash_map.specs.Area.{sector_size, value_limit}
+use Rattle.item_lines.specs.declared.line.Line.{Line}
+use Rattle.item_lines.specs.declared.line.Line.TheVariants.{Set, Get, Delete, Older}
+use Rattle.ring_store.specs.Kind.{Kind}
+use Rattle.ring_store.specs.Listed.{kind_on, list_on}
+use Rattle.ring_store.specs.Room.{IsShort}
+use Rattle.ring_store.specs.Standing.{RestsAt}
+use Rattle.item_session.specs.Step.{Rules, State}
+
+-- those of a kind, in an area of so many sectors of this size
+abbrev pub rules_of : Kind → ℕ → ℕ → Rules
+rules_of k size sectors = record {
+  cost = k.cost;
+  cap = k.cap size;
+  sectors = sectors;
+  round = k.units.round size;
+  entry = k.units.entry;
+  mount = k.units.mount size;
+}
+
+abbrev pub rules_on : (ℕ → Kind) → Device → Area → Rules
+rules_on kind d area = rules_of (kind_on kind d area) (sector_size d area) area.sectors
+
+-- the state that the flash's bytes and power are
+abbrev pub state_of : (ℕ → Kind) → Area → Device → State
+state_of kind area d = record { list = list_on kind d area; is_on = d.is_on }
+
+abbrev pub turned_on : Device → Device
+turned_on d = record d { is_on = true }
+
+-- nothing is left to do for a mount
+abbrev pub RestsOn : (ℕ → Kind) → Device → Area → Type 0
+RestsOn kind d area = RestsAt (kind_on kind d area) d area
+
+-- a value that the area's limit lets through fits a sector
+abbrev pub TakesValues : (ℕ → Kind) → Device → Area → Type 0
+TakesValues kind d area = (len : ℕ) → len ≤ value_limit area → IsShort (kind_on kind d area) d area len
+
+-- the line's id is below this end, and its value has one byte at least and at most so many
+abbrev pub IsServed : ℕ → ℕ → Line → Type 0
+IsServed ids limit (Set id value) = (id < ids) × (1 ≤ length value) × (length value ≤ limit)
+IsServed ids limit (Get id) = id < ids
+IsServed ids limit (Delete id) = id < ids
+IsServed ids limit (Older id n) = id < ids
+IsServed ids limit line = ⊤
+
+-- the same of an area
+abbrev pub IsServedOn : (ℕ → Kind) → Device → Area → Line → Type 0
+IsServedOn kind d area line = IsServed (kind_on kind d area).ids (value_limit area) line

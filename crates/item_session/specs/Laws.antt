@@ -1,0 +1,92 @@
+-- What the table says of runs.
+use Rattle.std.specs.Prelude.{ℕ, List, ◌++◌, map}
+use Rattle.std.specs.List.{All}
+use Rattle.flash_sim.specs.Bank.{IsLawful}
+use Rattle.flash_sim.specs.Device.{Device}
+use Rattle.flash_map.specs.declared.area.Area.{Area}
+use Rattle.flash_map.specs.declared.area.Role.{Role}
+use Rattle.flash_map.specs.declared.area.Role.TheVariants.{Nvs, Zms}
+use Rattle.script_lines.specs.Script.{IsScript}
+use Rattle.session_table.specs.Follows.{Follows}
+use Rattle.item_lines.specs.Line.{item_forms, row_of}
+use Rattle.item_lines.specs.declared.line.Line.{Line}
+use Rattle.item_lines.specs.declared.answer.Answer.{Answer}
+use Rattle.nvs_kind.specs.Kinds as nvs
+use Rattle.ring_store.specs.Kind.{IsKind, Kind}
+use Rattle.ring_store.specs.Listed.{kind_on}
+use Rattle.ring_store.specs.Standing.{IsStoreArea}
+use Rattle.zms_kind.specs.Kinds as zms
+use Rattle.item_session.specs.Device.{IsServed, TakesValues}
+use Rattle.item_session.specs.Fits.{FitsOpen, ForgetsNone}
+use Rattle.item_session.specs.History.{HasHistory, PowerStep}
+use Rattle.item_session.specs.LineDone.{LineDone, Runs}
+use Rattle.item_session.specs.Step.{Rules, State, Step}
+use Rattle.item_session.specs.Whole.{IsBlankOn, IsFresh, KeepsWhole}
+
+-- wherever power is lost, the items are those of a plain list, and what is kept of each id is the
+-- newest of its history in that list
+abbrev pub HoldsAcknowledged : Type 0
+HoldsAcknowledged =
+    (rules : Rules) (last : ℕ) (lines : List Line) (answers : List Answer) (old new : State)
+    → Follows (Step rules last) lines answers old new → HasHistory rules last lines answers old new
+
+-- power is off from a line in which it was lost to the next mount that answers `ok`
+abbrev pub LosesPower : Type 0
+LosesPower =
+    (rules : Rules) (last : ℕ) (lines : List Line) (answers : List Answer) (old new : State)
+    → Follows (Step rules last) lines answers old new → Follows PowerStep lines answers old.is_on new.is_on
+
+-- two runs in a row are one
+abbrev pub RunsInRow : Type 0
+RunsInRow =
+    (rules : Rules) (last : ℕ) (lines more : List Line) (answers others : List Answer) (old mid new : State)
+    → Follows (Step rules last) lines answers old mid → Follows (Step rules last) more others mid new
+    → Follows (Step rules last) (lines ++ more) (answers ++ others) old new
+
+-- a run of a bench, line by line, follows the table, its counts and its plan are those that its answers
+-- say, and no byte changed outside the area
+abbrev pub LinesMakeRuns : Type 0
+LinesMakeRuns =
+    (kind : ℕ → Kind) (area : Area) (lines : List Line) (answers : List Answer) (old new : Device)
+    → Follows (LineDone kind area) lines answers old new → Runs kind area lines answers old new
+
+-- a line whose entry fits the open sector forgets no version, nor does a mount of an area at rest
+abbrev pub ForgetsForRoom : Type 0
+ForgetsForRoom =
+    (kind : ℕ → Kind) (area : Area) (line : Line) (answer : Answer) (old new : Device)
+    → IsKind (kind_on kind old area) → LineDone kind area line answer old new → FitsOpen kind old area line
+    → ForgetsNone kind area line answer old new
+
+-- From a fresh area the whole history of each id is kept as long as the sets and deletes of the lines, each
+-- whatever it answered, cost no more than a sector has, wherever power is lost.
+abbrev pub HistoryStaysWhole : Type 0
+HistoryStaysWhole =
+    (kind : ℕ → Kind) (area : Area) (lines : List Line) (answers : List Answer) (old new : Device)
+    → IsKind (kind_on kind old area) → IsFresh kind old area
+    → Follows (LineDone kind area) lines answers old new
+    → KeepsWhole kind area lines answers old new
+
+-- areas of NVS and of ZMS that are blank are fresh
+abbrev pub BlankIsFresh : Role → (ℕ → Kind) → Type 0
+BlankIsFresh role kind =
+    (d : Device) (area : Area) → IsLawful d.banks d.bytes → IsStoreArea role d.banks area → IsBlankOn d area
+    → IsFresh kind d area
+
+abbrev pub NvsBlankIsFresh : Type 0
+NvsBlankIsFresh = BlankIsFresh Nvs nvs.kind
+
+abbrev pub ZmsBlankIsFresh : Type 0
+ZmsBlankIsFresh = BlankIsFresh Zms zms.kind
+
+-- the lines of a text have ids below the end and values within the limit
+abbrev pub LinesAreServed : Type 0
+LinesAreServed =
+    (ids limit : ℕ) (text : List ℕ) (lines : List Line)
+    → IsScript (item_forms ids) limit text (map row_of lines) → All (IsServed ids limit) lines
+
+-- the areas of NVS and of ZMS take each value within their limit
+abbrev pub NvsTakesValues : Type 0
+NvsTakesValues = (d : Device) (area : Area) → IsStoreArea Nvs d.banks area → TakesValues nvs.kind d area
+
+abbrev pub ZmsTakesValues : Type 0
+ZmsTakesValues = (d : Device) (area : Area) → IsStoreArea Zms d.banks area → TakesValues zms.kind d area

@@ -1,0 +1,79 @@
+-- How long an area keeps the whole history of each id.
+use Rattle.std.specs.Prelude.{◌≡◌, ℕ, ◌+◌, ◌*◌, ◌≤◌, true, List, [], length}
+use Rattle.std.specs.List.{All}
+use Rattle.flash_sim.specs.Device.{Device}
+use Rattle.flash_map.specs.declared.area.Area.{Area}
+use Rattle.flash_map.specs.Area.{sector_size, sectors_of}
+use Rattle.flash_map.specs.Units.{is_erased}
+use Rattle.item_lines.specs.declared.line.Line.{Line}
+use Rattle.item_lines.specs.declared.line.Line.TheVariants.{Set, Delete, Older}
+use Rattle.item_lines.specs.declared.answer.Answer.{Answer}
+use Rattle.item_lines.specs.declared.answer.Answer.TheVariants as answers
+use Rattle.ring_store.specs.Kind.{Kind}
+use Rattle.ring_store.specs.Listed.{kind_on, list_on}
+use Rattle.ring_store.specs.Versions.{versions}
+use Rattle.ring_store.specs.Writing.{open_at}
+use Rattle.session_table.specs.Follows.{Follows}
+use Rattle.item_session.specs.Device.{RestsOn, state_of}
+use Rattle.item_session.specs.History.{Records}
+use Rattle.item_session.specs.LineDone.{LineDone}
+
+-- what a set or a delete costs, whatever it answers
+abbrev pub line_cost : (ℕ → ℕ) → Line → ℕ
+line_cost cost (Set id value) = cost (length value)
+line_cost cost (Delete id) = cost 0
+line_cost cost line = 0
+
+-- what is free in the open sector, in bytes
+abbrev pub free_on : (ℕ → Kind) → Device → Area → ℕ
+free_on kind d area = let k = kind_on kind d area in k.free (open_at k d area)
+
+-- what a sector of the area has for values and entries, and the slots that it keeps beside these
+abbrev pub cap_on : (ℕ → Kind) → Device → Area → ℕ
+cap_on kind d area = (kind_on kind d area).cap (sector_size d area)
+
+abbrev pub spare_on : (ℕ → Kind) → Device → Area → ℕ
+spare_on kind d area = 3 * (kind_on kind d area).slot
+
+-- each byte of the area is FF
+abbrev pub IsBlankOn : Device → Area → Type 0
+IsBlankOn d area = All (λ sector. is_erased sector ≡ true) (sectors_of d area)
+
+-- nothing was said of any item yet, and the open sector is all free
+pub record IsFresh (kind : ℕ → Kind) (d : Device) (area : Area) : Type 0 where
+  pub list : list_on kind d area ≡ []
+  pub rests : RestsOn kind d area
+  pub room : cap_on kind d area + spare_on kind d area ≤ free_on kind d area
+
+-- a bench, all sets and deletes that were carried out so far, and what the lines cost so far: each set and
+-- delete of them, whatever it answered
+pub record Tracked : Type 0 where
+  pub device : Device
+  pub all : List (ℕ × List ℕ)
+  pub costs : ℕ
+
+-- The history goes on, and all of it is kept as long as the sets and deletes of the lines so far, each
+-- whatever it answered, cost no more than a sector has. So long `gone` tells that there never was such a
+-- version.
+pub record WholeStep (kind : ℕ → Kind) (area : Area) (line : Line) (answer : Answer) (old new : Tracked)
+    : Type 0 where
+  pub done : LineDone kind area line answer old.device new.device
+  pub records :
+      Records new.device.spent line answer
+      (record { state = state_of kind area old.device; all = old.all })
+      (record { state = state_of kind area new.device; all = new.all })
+  pub costs : new.costs ≡ old.costs + line_cost (kind_on kind old.device area).cost line
+  pub whole : new.costs ≤ cap_on kind new.device area → list_on kind new.device area ≡ new.all
+  pub gone :
+      (id n : ℕ) → line ≡ Older id n → answer ≡ answers.Gone
+      → old.costs ≤ cap_on kind old.device area → length (versions old.all id) ≤ n
+
+-- The history begins empty, and goes on so line by line.
+pub record KeepsWhole (kind : ℕ → Kind) (area : Area) (lines : List Line) (answers : List Answer)
+    (old new : Device) : Type 0 where
+  pub all : List (ℕ × List ℕ)
+  pub costs : ℕ
+  pub runs :
+      Follows (WholeStep kind area) lines answers
+      (record { device = old; all = []; costs = 0 })
+      (record { device = new; all = all; costs = costs })

@@ -1,0 +1,27 @@
+// Plans of losses.
+ghost use Rattle.std.specs.Prelude.{◌≡◌};
+ghost use Rattle.item_lines.specs.declared.line.Line.TheVariants.{Cut, Uncut};
+ghost use Rattle.item_session.specs.LineDone.{LineDone};
+
+use flash_map::Area;
+use flash_sim::{Bench, Flash};
+use item_lines::Answer;
+use ring_store::SlotSectors;
+
+// Plans a loss of power.
+pub(crate) fn plan_loss<T: SlotSectors, B: Bench>(bench: &mut B, area: &Area, units: u64) -> Answer
+    ensures done { LineDone T.kind area.now (Cut units) result (B.device bench.old) (B.device bench.new) }
+    ensures same { B.device bench.new ≡ record (B.device bench.old) { plan = (B.device bench.new).plan } }
+{
+    bench.arm(units);
+    Answer::Done { units: 0 }
+}
+
+// Drops that plan.
+pub(crate) fn drop_plan<T: SlotSectors, B: Bench>(bench: &mut B, area: &Area) -> Answer
+    ensures done { LineDone T.kind area.now Uncut result (B.device bench.old) (B.device bench.new) }
+    ensures same { B.device bench.new ≡ record (B.device bench.old) { plan = (B.device bench.new).plan } }
+{
+    bench.disarm();
+    Answer::Done { units: 0 }
+}

@@ -1,0 +1,65 @@
+// All lines of a script.
+ghost use Rattle.std.specs.Prelude.{◌≡◌, ◌∷◌, true, All, None, OnOk};
+ghost use Rattle.ring_store.specs.Standing.{IsStoreArea};
+ghost use Rattle.item_lines.specs.declared.line.Line.TheVariants.{Mount};
+ghost use Rattle.item_session.specs.Device.{IsServedOn, RestsOn, TakesValues};
+ghost use Rattle.item_session.specs.Running.{RunEnds};
+ghost use Rattle.item_session.specs.Standing.{damage_on};
+
+use crate::answers::Answers;
+use crate::fault::SessionFault;
+use crate::session::ItemSession;
+use flash_map::Area;
+use flash_sim::{Bench, Flash, Steps};
+use item_lines::Line;
+use ring_store::SlotSectors;
+use std::alloc::Global;
+use std::sync::ledger::Ledger;
+
+/// Mounts the store of an area, carries out lines one after another, and gives the answers to the mount
+/// and to each line. With power on after the lines a mount of the area would have nothing to do. An
+/// area without damage has none afterwards, whatever the result.
+///
+/// # Errors
+/// `Damaged` with the damage that the area shows; the bench is then as before, but that power is on.
+/// `NoMemory`; the bench is then what the first lines have made of it, but that power may be on where a
+/// mount was next.
+pub fn run_lines<T: SlotSectors, B: Bench, L: Ledger>(
+    alloc: Global,
+    lines: &[Line],
+    bench: &mut B,
+    area: &Area,
+    steps: &mut Steps<L>,
+) -> Result<Answers, SessionFault>
+    requires area { IsStoreArea T.role (B.device bench.old).banks area.now }
+    requires values { TakesValues T.kind (B.device bench.old) area.now }
+    requires lines { All (IsServedOn T.kind (B.device bench.old) area.now) lines.now }
+
+    ensures ends { RunEnds T.kind area.now (Mount ∷ lines.now)
+        (B.device bench.old) (B.device bench.new) result }
+    ensures undamaged { damage_on T.kind (B.device bench.old) area.now ≡ None
+        → damage_on T.kind (B.device bench.new) area.now ≡ None }
+    ensures rests { OnOk result ((B.device bench.new).is_on ≡ true
+        → RestsOn T.kind (B.device bench.new) area.now) }
+{
+    let (mut session, first) = match ItemSession::<T>::open(alloc, bench, area, steps) {
+        Ok(opened) => opened,
+        Err(fault) => return Err(fault),
+    };
+    let mut answers = Answers::new(alloc);
+    match answers.push(first) {
+        Ok(()) => {}
+        Err(_) => return Err(SessionFault::NoMemory),
+    }
+    for line in lines {
+        let answer = match session.carry_out(alloc, line, bench, steps) {
+            Ok(answer) => answer,
+            Err(_) => return Err(SessionFault::NoMemory),
+        };
+        match answers.push(answer) {
+            Ok(()) => {}
+            Err(_) => return Err(SessionFault::NoMemory),
+        }
+    }
+    Ok(answers)
+}

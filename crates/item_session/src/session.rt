@@ -1,0 +1,167 @@
+// A session, and carrying out one line in it.
+ghost use Rattle.std.specs.Prelude.{◌≡◌, ◌⊎◌, true, None, IfOk, IfErr, OnErr, OnOk};
+ghost use Rattle.ring_store.specs.Standing.{IsStoreArea};
+ghost use Rattle.item_lines.specs.declared.line.Line.TheVariants.{Mount};
+ghost use Rattle.item_session.specs.Device.{IsServedOn, TakesValues};
+ghost use Rattle.item_session.specs.LineDone.{LineDone};
+ghost use Rattle.item_session.specs.Running.{MountStops, WantsMemory};
+ghost use Rattle.item_session.specs.Standing.{IsMounted, IsReady, IsSound, damage_on};
+
+use crate::fault::SessionFault;
+use crate::mounting::mount;
+use crate::planning::{drop_plan, plan_loss};
+use crate::telling::{tell_item, tell_older, tell_space};
+use crate::writing::{delete_item, set_item};
+use flash_map::Area;
+use flash_sim::{Bench, Flash, NoMemory, Steps};
+use item_lines::{Answer, Line};
+use ring_store::{SlotSectors, Store};
+use std::alloc::Global;
+use std::sync::ledger::Ledger;
+
+/// A session on the items of one area.
+#[derive(Drop)]
+pub struct ItemSession<T> {
+    pub(crate) area: Area,
+    // none once a mount lost power
+    pub(crate) store: Option<Store<T>>,
+}
+
+impl<T: SlotSectors> ItemSession<T> {
+    /// Turns power on, mounts the store of an area, and gives the session with the answer to that
+    /// mount. A mount of an area at rest spends nothing.
+    ///
+    /// # Errors
+    /// `Damaged` with the damage that the area shows; the bench is then as before, but that power is
+    /// on. So it is at `NoMemory`.
+    pub fn open<B: Bench, L: Ledger>(
+        alloc: Global,
+        bench: &mut B,
+        area: &Area,
+        steps: &mut Steps<L>,
+    ) -> Result<(ItemSession<T>, Answer), SessionFault>
+        requires area { IsStoreArea T.role (B.device bench.old).banks area.now }
+        requires values { TakesValues T.kind (B.device bench.old) area.now }
+
+        ensures done { IfOk result (λ opened.
+            LineDone T.kind area.now Mount opened.1 (B.device bench.old) (B.device bench.new)) }
+        ensures ready { IfOk result (λ opened. IsReady T.role T.kind T.kept (B.device bench.new) opened.0) }
+        ensures area { IfOk result (λ opened. opened.0.area ≡ area.now) }
+        ensures before { OnOk result (damage_on T.kind (B.device bench.old) area.now ≡ None) }
+        ensures stops { IfErr result (MountStops T.kind area.now (B.device bench.old) (B.device bench.new)) }
+    {
+        match mount::<T, B, L>(alloc, bench, area, steps) {
+            Ok(mounted) => {
+                let session = ItemSession {
+                    area: area.copy(),
+                    store: mounted.store,
+                };
+                Ok((session, mounted.answer))
+            }
+            Err(fault) => Err(fault),
+        }
+    }
+
+    /// Carries out a line. With power off `set`, `del`, `get`, `older` and `space` answer `off`. A
+    /// mount of an area at rest spends nothing, and each mount that is not cut succeeds.
+    ///
+    /// # Errors
+    /// `NoMemory`, for the bytes that `get` or `older` tells, or for what a mount keeps of the area; no
+    /// other line wants memory. The bench is then as before, but that a mount turned power on; the
+    /// session carries out no more lines.
+    pub fn carry_out<B: Bench, L: Ledger>(
+        &mut self,
+        alloc: Global,
+        line: &Line,
+        bench: &mut B,
+        steps: &mut Steps<L>,
+    ) -> Result<Answer, NoMemory>
+        requires ready { IsReady T.role T.kind T.kept (B.device bench.old) self.old }
+        requires line { IsServedOn T.kind (B.device bench.old) self.old.area line.now }
+
+        ensures done { IfOk result (λ answer.
+            LineDone T.kind self.old.area line.now answer (B.device bench.old) (B.device bench.new)) }
+        ensures ready { OnOk result (IsReady T.role T.kind T.kept (B.device bench.new) self.new) }
+        ensures area { self.new.area ≡ self.old.area }
+        ensures undamaged { damage_on T.kind (B.device bench.new) self.old.area ≡ None }
+        ensures wants { OnErr result (WantsMemory T.kind self.old.area line.now
+            (B.device bench.old) (B.device bench.new)) }
+    {
+        let area = self.area.copy();
+        run_line(alloc, line, bench, &area, &mut self.store, steps)
+    }
+}
+
+// Mounts anew an area that is not damaged.
+fn mount_again<T: SlotSectors, B: Bench, L: Ledger>(
+    alloc: Global,
+    bench: &mut B,
+    area: &Area,
+    store: &mut Option<Store<T>>,
+    steps: &mut Steps<L>,
+) -> Result<Answer, NoMemory>
+    requires { IsSound T.role T.kind (B.device bench.old) area.now }
+
+    ensures done { IfOk result (λ answer.
+        LineDone T.kind area.now Mount answer (B.device bench.old) (B.device bench.new)) }
+    ensures sound { IsSound T.role T.kind (B.device bench.new) area.now }
+    ensures mounted { OnOk result (IsMounted T.role T.kind T.kept (B.device bench.new) area.now store.new) }
+    ensures wants { OnErr result (WantsMemory T.kind area.now Mount
+        (B.device bench.old) (B.device bench.new)) }
+{
+    match mount::<T, B, L>(alloc, bench, area, steps) {
+        Ok(mounted) => {
+            *store = mounted.store;
+            Ok(mounted.answer)
+        }
+        Err(SessionFault::Damaged(_)) => unreachable!(),
+        Err(SessionFault::NoMemory) => Err(NoMemory),
+    }
+}
+
+// Carries out a line on an area that is not damaged, with the store that was mounted on it.
+fn run_line<T: SlotSectors, B: Bench, L: Ledger>(
+    alloc: Global,
+    line: &Line,
+    bench: &mut B,
+    area: &Area,
+    store: &mut Option<Store<T>>,
+    steps: &mut Steps<L>,
+) -> Result<Answer, NoMemory>
+    requires sound { IsSound T.role T.kind (B.device bench.old) area.now }
+    requires mounted { IsMounted T.role T.kind T.kept (B.device bench.old) area.now store.old }
+    requires line { IsServedOn T.kind (B.device bench.old) area.now line.now }
+
+    ensures done { IfOk result (λ answer.
+        LineDone T.kind area.now line.now answer (B.device bench.old) (B.device bench.new)) }
+    ensures sound { IsSound T.role T.kind (B.device bench.new) area.now }
+    ensures mounted { OnOk result (IsMounted T.role T.kind T.kept (B.device bench.new) area.now store.new) }
+    ensures wants { OnErr result (WantsMemory T.kind area.now line.now
+        (B.device bench.old) (B.device bench.new)) }
+{
+    match line {
+        Line::Set { id, value } => match store {
+            Some(store) if bench.is_on() => Ok(set_item(bench, store, area, *id, value, steps)),
+            _ => Ok(Answer::Off),
+        },
+        Line::Delete { id } => match store {
+            Some(store) if bench.is_on() => Ok(delete_item(bench, store, area, *id, steps)),
+            _ => Ok(Answer::Off),
+        },
+        Line::Get { id } => match store {
+            Some(store) if bench.is_on() => tell_item(alloc, bench, store, area, *id, steps),
+            _ => Ok(Answer::Off),
+        },
+        Line::Older { id, n } => match store {
+            Some(store) if bench.is_on() => tell_older(alloc, bench, store, area, *id, *n, steps),
+            _ => Ok(Answer::Off),
+        },
+        Line::Space => match store {
+            Some(store) if bench.is_on() => Ok(tell_space(bench, store, area, steps)),
+            _ => Ok(Answer::Off),
+        },
+        Line::Mount => mount_again(alloc, bench, area, store, steps),
+        Line::Cut { units } => Ok(plan_loss::<T, B>(bench, area, *units)),
+        Line::Uncut => Ok(drop_plan::<T, B>(bench, area)),
+    }
+}

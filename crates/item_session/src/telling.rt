@@ -1,0 +1,95 @@
+// Telling items, their versions and what they take up, with power on.
+ghost use Rattle.std.specs.Prelude.{◌≡◌, true, IfOk, OnErr};
+ghost use Rattle.ring_store.specs.Stands.{StandsOn};
+ghost use Rattle.item_lines.specs.declared.answer.Answer.TheVariants.{Value};
+ghost use Rattle.item_lines.specs.declared.line.Line.TheVariants.{Get, Older as OlderLine, Space as SpaceLine};
+ghost use Rattle.item_session.specs.LineDone.{LineDone};
+ghost use Rattle.item_session.specs.Running.{WantsMemory};
+
+use flash_map::Area;
+use flash_sim::{Bench, Flash, NoMemory, Steps};
+use item_history::{Older, store_older, store_space};
+use item_lines::{Answer, Bytes};
+use ring_store::{SlotSectors, Store};
+use std::alloc::Global;
+use std::sync::ledger::Ledger;
+
+// These bytes as an answer.
+fn value_of(alloc: Global, bytes: &[u8]) -> Result<Answer, NoMemory>
+    ensures { IfOk result (λ answer. answer ≡ Value bytes.now) }
+{
+    match Vec::from_slice(alloc, bytes) {
+        Ok(items) => Ok(Answer::Value {
+            value: Bytes::from_vec(items),
+        }),
+        Err(_) => Err(NoMemory),
+    }
+}
+
+// The bytes of an item. `NoMemory`: there was none for these.
+pub(crate) fn tell_item<T: SlotSectors, B: Bench, L: Ledger>(
+    alloc: Global,
+    bench: &B,
+    store: &Store<T>,
+    area: &Area,
+    id: u32,
+    steps: &mut Steps<L>,
+) -> Result<Answer, NoMemory>
+    requires on { (B.device bench.now).is_on ≡ true }
+    requires area { store.now.area ≡ area.now }
+    requires mounted { StandsOn T.role T.kind T.kept (B.device bench.now) store.now }
+    ensures done { IfOk result (λ answer.
+        LineDone T.kind area.now (Get id) answer (B.device bench.now) (B.device bench.now)) }
+    ensures wants { OnErr result (WantsMemory T.kind area.now (Get id)
+        (B.device bench.now) (B.device bench.now)) }
+{
+    match store.get(bench, id, steps) {
+        Some(bytes) => value_of(alloc, bytes),
+        None => Ok(Answer::Absent),
+    }
+}
+
+// A version of an item. `NoMemory`: there was none for its bytes.
+pub(crate) fn tell_older<T: SlotSectors, B: Bench, L: Ledger>(
+    alloc: Global,
+    bench: &B,
+    store: &Store<T>,
+    area: &Area,
+    id: u32,
+    n: u32,
+    steps: &mut Steps<L>,
+) -> Result<Answer, NoMemory>
+    requires on { (B.device bench.now).is_on ≡ true }
+    requires area { store.now.area ≡ area.now }
+    requires mounted { StandsOn T.role T.kind T.kept (B.device bench.now) store.now }
+    ensures done { IfOk result (λ answer.
+        LineDone T.kind area.now (OlderLine id n) answer (B.device bench.now) (B.device bench.now)) }
+    ensures wants { OnErr result (WantsMemory T.kind area.now (OlderLine id n)
+        (B.device bench.now) (B.device bench.now)) }
+{
+    match store_older(store, bench, id, n, steps) {
+        Older::Value(bytes) => value_of(alloc, bytes),
+        Older::Deleted => Ok(Answer::Deleted),
+        Older::Gone => Ok(Answer::Gone),
+    }
+}
+
+// What the items and their other versions cost, and what is free.
+pub(crate) fn tell_space<T: SlotSectors, B: Bench, L: Ledger>(
+    bench: &B,
+    store: &Store<T>,
+    area: &Area,
+    steps: &mut Steps<L>,
+) -> Answer
+    requires on { (B.device bench.now).is_on ≡ true }
+    requires area { store.now.area ≡ area.now }
+    requires mounted { StandsOn T.role T.kind T.kept (B.device bench.now) store.now }
+    ensures { LineDone T.kind area.now SpaceLine result (B.device bench.now) (B.device bench.now) }
+{
+    let space = store_space(store, bench, steps);
+    Answer::Space {
+        live: space.live,
+        stale: space.stale,
+        free: space.free,
+    }
+}

@@ -21,7 +21,7 @@ use Rattle.command_words.specs.Commands.{name_of, operands_of, store_word}
 use Rattle.command_words.specs.Forms.{IsFound, IsNoneFound, form, operand_names, operand_rule, values_at}
 use Rattle.command_words.specs.Operands.{IsNoLineCount, IsNoStoreWord}
 use Rattle.command_words.specs.declared.commands.Command.{Command}
-use Rattle.command_words.specs.declared.commands.Command.TheVariants.{Build, Run, Dump, Migrate, Gen, Log, Mirror}
+use Rattle.command_words.specs.declared.commands.Command.TheVariants.{Build, Run, Dump, Migrate, Gen, Log, Items, Mirror}
 
 pub found_at : (m : ArgMatches) (name : Text) (rows : List Row) → Some name ≡ subcommand_name_of m → Some rows ≡ option_map (λ p. p.1) (subcommand_rows_of m)
     → subcommand_rows_of m ≡ Some (name, rows)
@@ -73,15 +73,16 @@ found_values name rows c f =
     (same.0, ap₂ (λ n rows. values_at (operand_names n) rows) same.0 same.1 ∙ f.values)
 
 -- a name that no form has is no command
-pub other_name : (name : Text) (rows : List Row) → name ≢ codes "build" → name ≢ codes "run" → name ≢ codes "dump" → name ≢ codes "migrate" → name ≢ codes "gen" → name ≢ codes "log" → name ≢ codes "mirror"
+pub other_name : (name : Text) (rows : List Row) → name ≢ codes "build" → name ≢ codes "run" → name ≢ codes "dump" → name ≢ codes "migrate" → name ≢ codes "gen" → name ≢ codes "log" → name ≢ codes "items" → name ≢ codes "mirror"
     → IsNoneFound (Some (name, rows))
-other_name name rows build run dump migrate gen log mirror (Build out spec) f = build (found_values name rows (Build out spec) f).0
-other_name name rows build run dump migrate gen log mirror (Run image script out) f = run (found_values name rows (Run image script out) f).0
-other_name name rows build run dump migrate gen log mirror (Dump image) f = dump (found_values name rows (Dump image) f).0
-other_name name rows build run dump migrate gen log mirror (Migrate image out) f = migrate (found_values name rows (Migrate image out) f).0
-other_name name rows build run dump migrate gen log mirror (Gen out backend n) f = gen (found_values name rows (Gen out backend n) f).0
-other_name name rows build run dump migrate gen log mirror (Log image script out) f = log (found_values name rows (Log image script out) f).0
-other_name name rows build run dump migrate gen log mirror (Mirror image script out) f = mirror (found_values name rows (Mirror image script out) f).0
+other_name name rows build run dump migrate gen log items mirror (Build out spec) f = build (found_values name rows (Build out spec) f).0
+other_name name rows build run dump migrate gen log items mirror (Run image script out) f = run (found_values name rows (Run image script out) f).0
+other_name name rows build run dump migrate gen log items mirror (Dump image) f = dump (found_values name rows (Dump image) f).0
+other_name name rows build run dump migrate gen log items mirror (Migrate image out) f = migrate (found_values name rows (Migrate image out) f).0
+other_name name rows build run dump migrate gen log items mirror (Gen out backend n) f = gen (found_values name rows (Gen out backend n) f).0
+other_name name rows build run dump migrate gen log items mirror (Log image script out) f = log (found_values name rows (Log image script out) f).0
+other_name name rows build run dump migrate gen log items mirror (Items image script out) f = items (found_values name rows (Items image script out) f).0
+other_name name rows build run dump migrate gen log items mirror (Mirror image script out) f = mirror (found_values name rows (Mirror image script out) f).0
 
 -- ---- a generated script
 
@@ -98,6 +99,8 @@ no_gen rows kind lines backend count none (Migrate image out) f =
     apart (codes "gen") (codes "migrate") refl (found_values (codes "gen") rows (Migrate image out) f).0
 no_gen rows kind lines backend count none (Log image script out) f =
     apart (codes "gen") (codes "log") refl (found_values (codes "gen") rows (Log image script out) f).0
+no_gen rows kind lines backend count none (Items image script out) f =
+    apart (codes "gen") (codes "items") refl (found_values (codes "gen") rows (Items image script out) f).0
 no_gen rows kind lines backend count none (Mirror image script out) f =
     apart (codes "gen") (codes "mirror") refl (found_values (codes "gen") rows (Mirror image script out) f).0
 no_gen rows kind lines backend count none (Gen out store n) f =

@@ -14,7 +14,7 @@ use Rattle.clap.proofs.OnLiterals.{clap_on_literals}
 use Rattle.command_words.specs.Commands.{IsCommand, IsNoCommand, asks_for_help, is_operand, name_of, operands_of}
 use Rattle.command_words.specs.Forms.{FindsIn, IsFound, form, image_tool, operand_names, values_at}
 use Rattle.command_words.specs.declared.commands.Command.{Command}
-use Rattle.command_words.specs.declared.commands.Command.TheVariants.{Build, Run, Dump, Migrate, Gen, Log, Mirror}
+use Rattle.command_words.specs.declared.commands.Command.TheVariants.{Build, Run, Dump, Migrate, Gen, Log, Items, Mirror}
 use Rattle.command_words.proofs.OperandWalk.{first_of_all, rest_of_all}
 use Rattle.command_words.proofs.FormWalk.{IsEntered, began_with, entered_form, fault_of_form, fault_of_operands, operand_rows, operands_fault, rows_of_operands, takes_one}
 
@@ -40,6 +40,7 @@ entered_for (Dump image) = record { met = refl; no_help = refl; form = refl; qui
 entered_for (Migrate image out) = record { met = refl; no_help = refl; form = refl; quiet = refl }
 entered_for (Gen out backend n) = record { met = refl; no_help = refl; form = refl; quiet = refl }
 entered_for (Log image script out) = record { met = refl; no_help = refl; form = refl; quiet = refl }
+entered_for (Items image script out) = record { met = refl; no_help = refl; form = refl; quiet = refl }
 entered_for (Mirror image script out) = record { met = refl; no_help = refl; form = refl; quiet = refl }
 
 named_for : (c : Command) → (form_for c).name ≡ name_of c
@@ -52,6 +53,7 @@ ones_for (Dump image) = refl
 ones_for (Migrate image out) = refl
 ones_for (Gen out backend n) = refl
 ones_for (Log image script out) = refl
+ones_for (Items image script out) = refl
 ones_for (Mirror image script out) = refl
 
 -- the form takes its operands
@@ -63,6 +65,7 @@ taken_for (Dump image) = refl
 taken_for (Migrate image out) = refl
 taken_for (Gen out backend n) = refl
 taken_for (Log image script out) = refl
+taken_for (Items image script out) = refl
 taken_for (Mirror image script out) = refl
 
 -- words that a form takes are the values of its operands, in their order
@@ -114,6 +117,14 @@ log_read (a ∷ b ∷ []) none = cc
 log_read (a ∷ b ∷ c ∷ []) none = refl
 log_read (a ∷ b ∷ c ∷ d ∷ more) none = cc
 
+items_read : ReadsAll (codes "items") (codes "IMAGE" ∷ codes "SCRIPT" ∷ codes "OUT" ∷ [])
+unfolding clap_on_literals
+items_read [] none = cc
+items_read (a ∷ []) none = cc
+items_read (a ∷ b ∷ []) none = cc
+items_read (a ∷ b ∷ c ∷ []) none = refl
+items_read (a ∷ b ∷ c ∷ d ∷ more) none = cc
+
 mirror_read : ReadsAll (codes "mirror") (codes "IMAGE" ∷ codes "SCRIPT" ∷ codes "OUT" ∷ [])
 unfolding clap_on_literals
 mirror_read [] none = cc
@@ -130,6 +141,7 @@ read_for (Dump image) words none = dump_read words none
 read_for (Migrate image out) words none = migrate_read words none
 read_for (Gen out backend n) words none = gen_read words none
 read_for (Log image script out) words none = log_read words none
+read_for (Items image script out) words none = items_read words none
 read_for (Mirror image script out) words none = mirror_read words none
 
 -- ---- both ways
@@ -201,6 +213,7 @@ command_operands words c w = ap (list_all is_operand) w.written ∙ named c (ope
     named (Migrate image out) operands h = h
     named (Gen out backend n) operands h = h
     named (Log image script out) operands h = h
+    named (Items image script out) operands h = h
     named (Mirror image script out) operands h = h
 
 pub command_no_help : (words : List Text) (c : Command) → IsCommand words c → asks_for_help words ≡ false
@@ -213,6 +226,7 @@ command_no_help words c w = ap asks_for_help w.written ∙ named c
     named (Migrate image out) = refl
     named (Gen out backend n) = refl
     named (Log image script out) = refl
+    named (Items image script out) = refl
     named (Mirror image script out) = refl
 
 -- ---- what a parse says of the words

@@ -5,7 +5,7 @@ use Rattle.std.specs.List.{list_all}
 use Rattle.std.specs.Str.{bytes_eq}
 use Rattle.command_words.specs.declared.commands.TheConstants.{MOST_LINES}
 use Rattle.command_words.specs.declared.commands.Command.{Command}
-use Rattle.command_words.specs.declared.commands.Command.TheVariants.{Build, Run, Dump, Migrate, Gen, Log, Mirror}
+use Rattle.command_words.specs.declared.commands.Command.TheVariants.{Build, Run, Dump, Migrate, Gen, Log, Items, Mirror}
 use Rattle.command_words.specs.declared.commands.StoreKind.{StoreKind}
 use Rattle.command_words.specs.declared.commands.StoreKind.TheVariants.{Nvs, Zms, Fcb}
 
@@ -37,6 +37,7 @@ name_of (Dump image) = codes "dump"
 name_of (Migrate image out) = codes "migrate"
 name_of (Gen out backend n) = codes "gen"
 name_of (Log image script out) = codes "log"
+name_of (Items image script out) = codes "items"
 name_of (Mirror image script out) = codes "mirror"
 
 -- The words that the command is about, in the order in which they are written. A number is in decimal, without a sign or
@@ -48,6 +49,7 @@ operands_of (Dump image) = image.now ∷ []
 operands_of (Migrate image out) = image.now ∷ out.now ∷ []
 operands_of (Gen out backend n) = out.now ∷ store_word backend ∷ decimal n ∷ []
 operands_of (Log image script out) = image.now ∷ script.now ∷ out.now ∷ []
+operands_of (Items image script out) = image.now ∷ script.now ∷ out.now ∷ []
 operands_of (Mirror image script out) = image.now ∷ script.now ∷ out.now ∷ []
 
 -- the numbers of the command are in range
@@ -58,6 +60,7 @@ IsInRange (Dump image) = ⊤
 IsInRange (Migrate image out) = ⊤
 IsInRange (Gen out backend n) = IsLines n
 IsInRange (Log image script out) = ⊤
+IsInRange (Items image script out) = ⊤
 IsInRange (Mirror image script out) = ⊤
 
 -- the words write the command

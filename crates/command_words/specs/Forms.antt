@@ -31,6 +31,7 @@ forms =
     ∷ (codes "migrate", codes "IMAGE" ∷ codes "OUT" ∷ [])
     ∷ (codes "gen", codes "OUT" ∷ codes "BACKEND" ∷ codes "N" ∷ [])
     ∷ (codes "log", codes "IMAGE" ∷ codes "SCRIPT" ∷ codes "OUT" ∷ [])
+    ∷ (codes "items", codes "IMAGE" ∷ codes "SCRIPT" ∷ codes "OUT" ∷ [])
     ∷ (codes "mirror", codes "IMAGE" ∷ codes "SCRIPT" ∷ codes "OUT" ∷ [])
     ∷ []
 

@@ -51,6 +51,13 @@ pub enum Command<'a> {
         script: &'a str,
         out: &'a str,
     },
+    /// Runs the script in the file `script` on the numbered items of the image in the file `image`, and writes the image into
+    /// `out`.
+    Items {
+        image: &'a str,
+        script: &'a str,
+        out: &'a str,
+    },
     /// Runs the script in the file `script` on the two store areas of the image in the file `image`, which hold one map of
     /// settings between them, and writes the image into `out`.
     Mirror {

@@ -29,6 +29,7 @@ pub fn image_tool<'a>(alloc: Global) -> Result<Command<'a>, AllocError>
     let migrate = form(alloc, "migrate", &["IMAGE", "OUT"])?;
     let generate = form(alloc, "gen", &["OUT", "BACKEND", "N"])?;
     let log = form(alloc, "log", &["IMAGE", "SCRIPT", "OUT"])?;
+    let items = form(alloc, "items", &["IMAGE", "SCRIPT", "OUT"])?;
     let mirror = form(alloc, "mirror", &["IMAGE", "SCRIPT", "OUT"])?;
     Command::new(alloc, "image_tool")
         .no_binary_name(true)
@@ -38,5 +39,6 @@ pub fn image_tool<'a>(alloc: Global) -> Result<Command<'a>, AllocError>
         .subcommand(migrate)?
         .subcommand(generate)?
         .subcommand(log)?
+        .subcommand(items)?
         .subcommand(mirror)
 }

@@ -79,6 +79,16 @@ fn found_log<'a>(operands: &ArgMatches<'a>) -> Option<Command<'a>>
     })
 }
 
+fn found_items<'a>(operands: &ArgMatches<'a>) -> Option<Command<'a>>
+    ensures { FindsIn (Some (codes "items", rows_of (found_of operands.now))) result }
+{
+    Some(Command::Items {
+        image: operands.get_str("IMAGE")?,
+        script: operands.get_str("SCRIPT")?,
+        out: operands.get_str("OUT")?,
+    })
+}
+
 fn found_mirror<'a>(operands: &ArgMatches<'a>) -> Option<Command<'a>>
     ensures { FindsIn (Some (codes "mirror", rows_of (found_of operands.now))) result }
 {
@@ -109,6 +119,7 @@ pub fn found_command<'a>(
         "migrate" => Ok(found_migrate(operands)),
         "gen" => found_gen(alloc, operands),
         "log" => Ok(found_log(operands)),
+        "items" => Ok(found_items(operands)),
         "mirror" => Ok(found_mirror(operands)),
         _ => Ok(None),
     }

@@ -20,7 +20,7 @@ use Rattle.image_maps.specs.Held.{held}
 use Rattle.image_maps.specs.Laws.{unserved}
 use Rattle.image_plays.specs.Images.{ReadsAs, begun, damage_of, left}
 use Rattle.image_plays.specs.Inputs.{BeginsWith, PlaysLines, out_of, told_by}
-use Rattle.image_plays.specs.declared.stops.Refusal.TheVariants.{BadSpec, NoFile, BadFile, Unbuilt, NoLog, NoMirror, BadArea, Unfit, BadScript}
+use Rattle.image_plays.specs.declared.stops.Refusal.TheVariants.{BadSpec, NoFile, BadFile, Unbuilt, NoLog, NoItems, NoMirror, BadArea, Unfit, BadScript}
 use Rattle.image_plays.specs.declared.stops.Stop.{Stop}
 use Rattle.image_plays.specs.declared.stops.Stop.TheVariants.{Refused, HostFailed, NoMemory}
 use Rattle.image_plays.specs.Plays.{File, FindsDamage, HasBegun, IsStop, PlayEnds, Plays, Sets, WritesLeft, closing, opening}
@@ -105,6 +105,7 @@ module _ (k : Stores) (kinds : List HandlerKind) (play : Play) (outside : Outsid
     stopped_at (IsDamaged place damage) (Refused (BadFile at why)) stops serves is = absurd is
     stopped_at (IsDamaged place damage) (Refused (Unbuilt label)) stops serves is = absurd is
     stopped_at (IsDamaged place damage) (Refused NoLog) stops serves is = absurd is
+    stopped_at (IsDamaged place damage) (Refused NoItems) stops serves is = absurd is
     stopped_at (IsDamaged place damage) (Refused NoMirror) stops serves is = absurd is
     stopped_at (IsDamaged place damage) (Refused (Unfit label)) stops serves is = absurd is
     stopped_at (IsDamaged place damage) (Refused (BadScript n why)) stops serves is = absurd is

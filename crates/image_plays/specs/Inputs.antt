@@ -23,7 +23,7 @@ use Rattle.image_plays.specs.declared.plays.Telling.TheVariants.{All, Last, Summ
 use Rattle.image_plays.specs.declared.plays.Output.{Output}
 use Rattle.image_plays.specs.declared.plays.Output.TheVariants.{Nowhere, Into}
 use Rattle.image_plays.specs.declared.stops.Refusal.{Refusal}
-use Rattle.image_plays.specs.declared.stops.Refusal.TheVariants.{BadSpec, NoFile, BadFile, Unbuilt, NoLog, NoMirror, BadArea, Unfit, BadScript}
+use Rattle.image_plays.specs.declared.stops.Refusal.TheVariants.{BadSpec, NoFile, BadFile, Unbuilt, NoLog, NoItems, NoMirror, BadArea, Unfit, BadScript}
 use Rattle.image_plays.specs.Reading.{HasImage, LacksImage, HasScript, LacksScript}
 use Rattle.image_plays.specs.Images.{HasAreas}
 use Rattle.image_plays.specs.Texts.{texts, last_text, summary}
@@ -49,6 +49,7 @@ IsUnbuilt banks areas BadSpec = ⊥
 IsUnbuilt banks areas (NoFile word) = ⊥
 IsUnbuilt banks areas (BadFile at why) = ⊥
 IsUnbuilt banks areas NoLog = ⊥
+IsUnbuilt banks areas NoItems = ⊥
 IsUnbuilt banks areas NoMirror = ⊥
 IsUnbuilt banks areas (BadArea label damage) = ⊥
 IsUnbuilt banks areas (Unfit label) = ⊥

@@ -18,7 +18,7 @@ use Rattle.session.specs.OnMap.{Ran, RunStops, IsAtRest, limit_of, moment}
 use Rattle.image_plays.specs.declared.outcome.Outcome.{Outcome}
 use Rattle.image_plays.specs.declared.outcome.OutFile.{OutFile}
 use Rattle.image_plays.specs.declared.stops.Refusal.{Refusal}
-use Rattle.image_plays.specs.declared.stops.Refusal.TheVariants.{BadSpec, NoFile, BadFile, Unbuilt, NoLog, NoMirror, BadArea, Unfit, BadScript}
+use Rattle.image_plays.specs.declared.stops.Refusal.TheVariants.{BadSpec, NoFile, BadFile, Unbuilt, NoLog, NoItems, NoMirror, BadArea, Unfit, BadScript}
 use Rattle.image_plays.specs.declared.stops.Stop.{Stop}
 use Rattle.image_plays.specs.declared.stops.Stop.TheVariants.{Refused, HostFailed, NoMemory}
 use Rattle.image_plays.specs.Images.{HasAreas, ReadsAs, begun, damage_of, left}
@@ -118,6 +118,7 @@ IsDamage k kinds play host old new (NoFile word) = ⊥
 IsDamage k kinds play host old new (BadFile at why) = ⊥
 IsDamage k kinds play host old new (Unbuilt label) = ⊥
 IsDamage k kinds play host old new NoLog = ⊥
+IsDamage k kinds play host old new NoItems = ⊥
 IsDamage k kinds play host old new NoMirror = ⊥
 IsDamage k kinds play host old new (Unfit label) = ⊥
 IsDamage k kinds play host old new (BadScript n why) = ⊥

@@ -13,7 +13,7 @@ use Rattle.image_file.specs.Format.{Plain}
 use Rattle.image_file.specs.Reading.{IsImageFile}
 use Rattle.image_file.specs.Table.{FirstFault, rows}
 use Rattle.image_plays.specs.declared.stops.Refusal.{Refusal}
-use Rattle.image_plays.specs.declared.stops.Refusal.TheVariants.{BadSpec, NoFile, BadFile, Unbuilt, NoLog, NoMirror, BadArea, Unfit, BadScript}
+use Rattle.image_plays.specs.declared.stops.Refusal.TheVariants.{BadSpec, NoFile, BadFile, Unbuilt, NoLog, NoItems, NoMirror, BadArea, Unfit, BadScript}
 use Rattle.image_plays.specs.declared.stops.Stop.{Stop}
 use Rattle.image_plays.specs.declared.stops.Stop.TheVariants.{Refused, HostFailed, NoMemory}
 
@@ -64,6 +64,7 @@ LacksImage host name (BadFile at why) = HasBadFile host name at why
 LacksImage host name BadSpec = ⊥
 LacksImage host name (Unbuilt label) = ⊥
 LacksImage host name NoLog = ⊥
+LacksImage host name NoItems = ⊥
 LacksImage host name NoMirror = ⊥
 LacksImage host name (BadArea label damage) = ⊥
 LacksImage host name (Unfit label) = ⊥
@@ -79,6 +80,7 @@ LacksText host name BadSpec = ⊥
 LacksText host name (BadFile at why) = ⊥
 LacksText host name (Unbuilt label) = ⊥
 LacksText host name NoLog = ⊥
+LacksText host name NoItems = ⊥
 LacksText host name NoMirror = ⊥
 LacksText host name (BadArea label damage) = ⊥
 LacksText host name (Unfit label) = ⊥
@@ -103,6 +105,7 @@ LacksScript limit host name BadSpec = ⊥
 LacksScript limit host name (BadFile at why) = ⊥
 LacksScript limit host name (Unbuilt label) = ⊥
 LacksScript limit host name NoLog = ⊥
+LacksScript limit host name NoItems = ⊥
 LacksScript limit host name NoMirror = ⊥
 LacksScript limit host name (BadArea label damage) = ⊥
 LacksScript limit host name (Unfit label) = ⊥

@@ -91,7 +91,7 @@ fn bad_area(alloc: Global, label: &ArrayString<8>, damage: &Damaged) -> Result<S
 
 /// The usage line.
 pub const USAGE: &str =
-    "usage: image_tool build OUT SPEC | run IMAGE SCRIPT OUT | dump IMAGE | migrate IMAGE OUT | gen OUT BACKEND N | log IMAGE SCRIPT OUT | mirror IMAGE SCRIPT OUT\n";
+    "usage: image_tool build OUT SPEC | run IMAGE SCRIPT OUT | dump IMAGE | migrate IMAGE OUT | gen OUT BACKEND N | log IMAGE SCRIPT OUT | items IMAGE SCRIPT OUT | mirror IMAGE SCRIPT OUT\n";
 
 /// The line that a refusal prints.
 ///
@@ -112,6 +112,7 @@ pub fn refusal_line(alloc: Global, refusal: &Refusal<'_>) -> Result<String, Allo
             format!(in alloc; "bad image: area {label}: Unbuilt\n")
         }
         Refusal::NoLog => String::from_str(alloc, "bad image: no log\n"),
+        Refusal::NoItems => String::from_str(alloc, "bad image: no items\n"),
         Refusal::NoMirror => String::from_str(alloc, "bad image: no mirror\n"),
         Refusal::BadArea { label, damage } => bad_area(alloc, label, damage),
         Refusal::Unfit { label } => {

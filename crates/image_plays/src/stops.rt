@@ -28,6 +28,8 @@ pub enum Refusal<'a> {
     },
     /// The image is not exactly one area, for FCB.
     NoLog,
+    /// The image is not exactly one area, for NVS or ZMS.
+    NoItems,
     /// The image is not exactly two areas for settings, each for NVS or ZMS, and their selector.
     NoMirror,
     /// A mount found the bytes of the area with this label damaged.

@@ -7,7 +7,7 @@ use Rattle.image_plays.specs.declared.plays.Output.{Output}
 use Rattle.image_plays.specs.declared.plays.Output.TheVariants.{Nowhere, Into}
 use Rattle.image_plays.specs.declared.plays.Play.{Play}
 use Rattle.image_plays.specs.declared.stops.Refusal.{Refusal}
-use Rattle.image_plays.specs.declared.stops.Refusal.TheVariants.{BadSpec, NoFile, BadFile, Unbuilt, NoLog, NoMirror, BadArea, Unfit, BadScript}
+use Rattle.image_plays.specs.declared.stops.Refusal.TheVariants.{BadSpec, NoFile, BadFile, Unbuilt, NoLog, NoItems, NoMirror, BadArea, Unfit, BadScript}
 use Rattle.image_plays.specs.Inputs.{out_of}
 use Rattle.command_words.specs.Commands.{IsCommand, IsNoCommand, name_of, operands_of}
 use Rattle.command_words.specs.declared.commands.Command.TheVariants as command
@@ -16,6 +16,7 @@ use Rattle.image_plays.specs.declared.outcome.Outcome.{Outcome}
 use Rattle.image_plays.specs.declared.stops.Stop.{Stop}
 use Rattle.image_plays.specs.declared.stops.Stop.TheVariants.{Refused, HostFailed, NoMemory}
 use Rattle.std.specs.Borrow.{Bor}
+use Rattle.image_items.specs.Plays.{ItemPlayEnds}
 use Rattle.image_logs.specs.Plays.{LogPlayEnds}
 use Rattle.image_mirrors.specs.Plays.{MirrorPlayEnds}
 use Rattle.image_plays.specs.Plays.{File, WritesLeft, file_of}
@@ -25,7 +26,7 @@ use Rattle.image_plays.specs.Stages.{Stage, Stores}
 use Rattle.image_tool.specs.declared.status.Status.{Status}
 use Rattle.image_tool.specs.declared.status.Status.TheVariants as status
 use Rattle.image_tool.specs.declared.tasks.Task.{Task}
-use Rattle.image_tool.specs.declared.tasks.Task.TheVariants.{Build, Plays, Log, Mirror}
+use Rattle.image_tool.specs.declared.tasks.Task.TheVariants.{Build, Plays, Log, Items, Mirror}
 use Rattle.image_tool.specs.Tasks.{Causes, Does, Prepares, task_of}
 use Rattle.image_tool.specs.Telling.{Delivers, DeliversOnly, PrintsFront, Reports}
 use Rattle.image_tool.specs.Tool.{MayWrite, OnlyFile, TaskEnds, ToolEnds, out_file, status_of}
@@ -50,6 +51,7 @@ module _ (k : Stores) (kinds : List HandlerKind) (task : Task) (host host' : Out
   refused_ends (BadFile at why) causes is = (BadFile at why, causes, refl, is)
   refused_ends (Unbuilt label) causes is = (Unbuilt label, causes, refl, is)
   refused_ends NoLog causes is = (NoLog, causes, refl, is)
+  refused_ends NoItems causes is = (NoItems, causes, refl, is)
   refused_ends NoMirror causes is = (NoMirror, causes, refl, is)
   refused_ends (BadArea label damage) causes is = (BadArea label damage, causes, refl, is)
   refused_ends (Unfit label) causes is = (Unfit label, causes, refl, is)
@@ -104,6 +106,7 @@ module _ (k : Stores) (kinds : List HandlerKind) (host0 host host' : Outside) (o
   wrote (Build out spec) text file does only = subst (λ (f : Option File). DeliversOnly f host host') does.0.writes only
   wrote (Plays play) text file does only = play_wrote k kinds (Plays play) host host' old new play.output _ file does.writes only
   wrote (Log image script out) text file does only = subst (λ (f : Option File). DeliversOnly f host host') does.0.writes.2 only
+  wrote (Items image script out) text file does only = subst (λ (f : Option File). DeliversOnly f host host') does.0.writes.2 only
   wrote (Mirror image script out) text file does only = subst (λ (f : Option File). DeliversOnly f host host') does.0.writes.2 only
 
 -- ---- a play on a log
@@ -114,6 +117,15 @@ log_prepared k kinds image script out host host' old new (Ok outcome) ends same 
 log_prepared k kinds image script out host host' old new (Err (Refused refusal)) ends same = ((ends.0, same), ends.1)
 log_prepared k kinds image script out host host' old new (Err HostFailed) ends same = ((inl ends.0, same), ends.1)
 log_prepared k kinds image script out host host' old new (Err NoMemory) ends same = ((ends.0, same), ends.1)
+
+-- ---- a play on items
+
+pub items_prepared : (k : Stores) (kinds : List HandlerKind) (image script out : Bor (List ℕ)) (host host' : Outside) (old new : Stage) (result : Result Outcome Stop)
+    → ItemPlayEnds image.now script.now out.now host host' old.bench new.bench result → new.registry ≡ old.registry → Prepares k kinds (Items image script out) host host' old new result
+items_prepared k kinds image script out host host' old new (Ok outcome) ends same = ((ends.0, same), ends.1)
+items_prepared k kinds image script out host host' old new (Err (Refused refusal)) ends same = ((ends.0, same), ends.1)
+items_prepared k kinds image script out host host' old new (Err HostFailed) ends same = ((inl ends.0, same), ends.1)
+items_prepared k kinds image script out host host' old new (Err NoMemory) ends same = ((ends.0, same), ends.1)
 
 -- ---- a play on a mirror
 
@@ -139,6 +151,7 @@ same_out (command.Build out spec) (command.Dump image') names operands = let sam
 same_out (command.Build out spec) (command.Migrate image' out') names operands = let same : 98 ≡ 109 = ap first names in absurd (omega (arith, same))
 same_out (command.Build out spec) (command.Gen out' backend' n') names operands = let same : 98 ≡ 103 = ap first names in absurd (omega (arith, same))
 same_out (command.Build out spec) (command.Log image' script' out') names operands = let same : 98 ≡ 108 = ap first names in absurd (omega (arith, same))
+same_out (command.Build out spec) (command.Items image' script' out') names operands = let same : 98 ≡ 105 = ap first names in absurd (omega (arith, same))
 same_out (command.Build out spec) (command.Mirror image' script' out') names operands = let same : 98 ≡ 109 = ap first names in absurd (omega (arith, same))
 same_out (command.Run image script out) (command.Build out' spec') names operands = let same : 114 ≡ 98 = ap first names in absurd (omega (arith, same))
 same_out (command.Run image script out) (command.Run image' script' out') names operands = let same : out.now ≡ out'.now = cc in ap Some same
@@ -146,6 +159,7 @@ same_out (command.Run image script out) (command.Dump image') names operands = l
 same_out (command.Run image script out) (command.Migrate image' out') names operands = let same : 114 ≡ 109 = ap first names in absurd (omega (arith, same))
 same_out (command.Run image script out) (command.Gen out' backend' n') names operands = let same : 114 ≡ 103 = ap first names in absurd (omega (arith, same))
 same_out (command.Run image script out) (command.Log image' script' out') names operands = let same : 114 ≡ 108 = ap first names in absurd (omega (arith, same))
+same_out (command.Run image script out) (command.Items image' script' out') names operands = let same : 114 ≡ 105 = ap first names in absurd (omega (arith, same))
 same_out (command.Run image script out) (command.Mirror image' script' out') names operands = let same : 114 ≡ 109 = ap first names in absurd (omega (arith, same))
 same_out (command.Dump image) (command.Build out' spec') names operands = let same : 100 ≡ 98 = ap first names in absurd (omega (arith, same))
 same_out (command.Dump image) (command.Run image' script' out') names operands = let same : 100 ≡ 114 = ap first names in absurd (omega (arith, same))
@@ -153,6 +167,7 @@ same_out (command.Dump image) (command.Dump image') names operands = refl
 same_out (command.Dump image) (command.Migrate image' out') names operands = let same : 100 ≡ 109 = ap first names in absurd (omega (arith, same))
 same_out (command.Dump image) (command.Gen out' backend' n') names operands = let same : 100 ≡ 103 = ap first names in absurd (omega (arith, same))
 same_out (command.Dump image) (command.Log image' script' out') names operands = let same : 100 ≡ 108 = ap first names in absurd (omega (arith, same))
+same_out (command.Dump image) (command.Items image' script' out') names operands = let same : 100 ≡ 105 = ap first names in absurd (omega (arith, same))
 same_out (command.Dump image) (command.Mirror image' script' out') names operands = let same : 100 ≡ 109 = ap first names in absurd (omega (arith, same))
 same_out (command.Migrate image out) (command.Build out' spec') names operands = let same : 109 ≡ 98 = ap first names in absurd (omega (arith, same))
 same_out (command.Migrate image out) (command.Run image' script' out') names operands = let same : 109 ≡ 114 = ap first names in absurd (omega (arith, same))
@@ -160,6 +175,7 @@ same_out (command.Migrate image out) (command.Dump image') names operands = let 
 same_out (command.Migrate image out) (command.Migrate image' out') names operands = let same : out.now ≡ out'.now = cc in ap Some same
 same_out (command.Migrate image out) (command.Gen out' backend' n') names operands = let same : 109 ≡ 103 = ap first names in absurd (omega (arith, same))
 same_out (command.Migrate image out) (command.Log image' script' out') names operands = let same : 109 ≡ 108 = ap first names in absurd (omega (arith, same))
+same_out (command.Migrate image out) (command.Items image' script' out') names operands = let same : 109 ≡ 105 = ap first names in absurd (omega (arith, same))
 same_out (command.Migrate image out) (command.Mirror image' script' out') names operands = let same : 103 ≡ 114 = ap (λ (word : List ℕ). slice_index word 2) names in absurd (omega (arith, same))
 same_out (command.Gen out backend n) (command.Build out' spec') names operands = let same : 103 ≡ 98 = ap first names in absurd (omega (arith, same))
 same_out (command.Gen out backend n) (command.Run image' script' out') names operands = let same : 103 ≡ 114 = ap first names in absurd (omega (arith, same))
@@ -167,6 +183,7 @@ same_out (command.Gen out backend n) (command.Dump image') names operands = let 
 same_out (command.Gen out backend n) (command.Migrate image' out') names operands = let same : 103 ≡ 109 = ap first names in absurd (omega (arith, same))
 same_out (command.Gen out backend n) (command.Gen out' backend' n') names operands = let same : out.now ≡ out'.now = cc in ap Some same
 same_out (command.Gen out backend n) (command.Log image' script' out') names operands = let same : 103 ≡ 108 = ap first names in absurd (omega (arith, same))
+same_out (command.Gen out backend n) (command.Items image' script' out') names operands = let same : 103 ≡ 105 = ap first names in absurd (omega (arith, same))
 same_out (command.Gen out backend n) (command.Mirror image' script' out') names operands = let same : 103 ≡ 109 = ap first names in absurd (omega (arith, same))
 same_out (command.Log image script out) (command.Build out' spec') names operands = let same : 108 ≡ 98 = ap first names in absurd (omega (arith, same))
 same_out (command.Log image script out) (command.Run image' script' out') names operands = let same : 108 ≡ 114 = ap first names in absurd (omega (arith, same))
@@ -174,13 +191,23 @@ same_out (command.Log image script out) (command.Dump image') names operands = l
 same_out (command.Log image script out) (command.Migrate image' out') names operands = let same : 108 ≡ 109 = ap first names in absurd (omega (arith, same))
 same_out (command.Log image script out) (command.Gen out' backend' n') names operands = let same : 108 ≡ 103 = ap first names in absurd (omega (arith, same))
 same_out (command.Log image script out) (command.Log image' script' out') names operands = let same : out.now ≡ out'.now = cc in ap Some same
+same_out (command.Log image script out) (command.Items image' script' out') names operands = let same : 108 ≡ 105 = ap first names in absurd (omega (arith, same))
 same_out (command.Log image script out) (command.Mirror image' script' out') names operands = let same : 108 ≡ 109 = ap first names in absurd (omega (arith, same))
+same_out (command.Items image script out) (command.Build out' spec') names operands = let same : 105 ≡ 98 = ap first names in absurd (omega (arith, same))
+same_out (command.Items image script out) (command.Run image' script' out') names operands = let same : 105 ≡ 114 = ap first names in absurd (omega (arith, same))
+same_out (command.Items image script out) (command.Dump image') names operands = let same : 105 ≡ 100 = ap first names in absurd (omega (arith, same))
+same_out (command.Items image script out) (command.Migrate image' out') names operands = let same : 105 ≡ 109 = ap first names in absurd (omega (arith, same))
+same_out (command.Items image script out) (command.Gen out' backend' n') names operands = let same : 105 ≡ 103 = ap first names in absurd (omega (arith, same))
+same_out (command.Items image script out) (command.Log image' script' out') names operands = let same : 105 ≡ 108 = ap first names in absurd (omega (arith, same))
+same_out (command.Items image script out) (command.Items image' script' out') names operands = let same : out.now ≡ out'.now = cc in ap Some same
+same_out (command.Items image script out) (command.Mirror image' script' out') names operands = let same : 105 ≡ 109 = ap first names in absurd (omega (arith, same))
 same_out (command.Mirror image script out) (command.Build out' spec') names operands = let same : 109 ≡ 98 = ap first names in absurd (omega (arith, same))
 same_out (command.Mirror image script out) (command.Run image' script' out') names operands = let same : 109 ≡ 114 = ap first names in absurd (omega (arith, same))
 same_out (command.Mirror image script out) (command.Dump image') names operands = let same : 109 ≡ 100 = ap first names in absurd (omega (arith, same))
 same_out (command.Mirror image script out) (command.Migrate image' out') names operands = let same : 114 ≡ 103 = ap (λ (word : List ℕ). slice_index word 2) names in absurd (omega (arith, same))
 same_out (command.Mirror image script out) (command.Gen out' backend' n') names operands = let same : 109 ≡ 103 = ap first names in absurd (omega (arith, same))
 same_out (command.Mirror image script out) (command.Log image' script' out') names operands = let same : 109 ≡ 108 = ap first names in absurd (omega (arith, same))
+same_out (command.Mirror image script out) (command.Items image' script' out') names operands = let same : 109 ≡ 105 = ap first names in absurd (omega (arith, same))
 same_out (command.Mirror image script out) (command.Mirror image' script' out') names operands = let same : out.now ≡ out'.now = cc in ap Some same
 
 module _ (words : List (List ℕ)) (field : Option Command) (found command : Command) (field_is : field ≡ Some found) (found_is : command ≡ found)

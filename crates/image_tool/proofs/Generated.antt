@@ -7,7 +7,7 @@ use Rattle.zs_host.specs.Outside.{Outside}
 use Rattle.handlers.specs.declared.handler.HandlerKind.{HandlerKind}
 use Rattle.command_words.specs.Commands.{IsCommand, name_of}
 use Rattle.command_words.specs.declared.commands.Command.{Command}
-use Rattle.command_words.specs.declared.commands.Command.TheVariants.{Build, Run, Dump, Migrate, Gen, Log, Mirror}
+use Rattle.command_words.specs.declared.commands.Command.TheVariants.{Build, Run, Dump, Migrate, Gen, Log, Items, Mirror}
 use Rattle.command_words.specs.declared.commands.StoreKind.{StoreKind}
 use Rattle.image_file.specs.Format.{Plain, plain_area, version_of}
 use Rattle.image_file.specs.Lawful.{IsImage}
@@ -20,7 +20,7 @@ use Rattle.image_plays.specs.declared.plays.Play.{Play}
 use Rattle.image_plays.specs.declared.plays.Start.{Start}
 use Rattle.image_plays.specs.declared.plays.Start.TheVariants.{Blank}
 use Rattle.image_plays.specs.declared.stops.Refusal.{Refusal}
-use Rattle.image_plays.specs.declared.stops.Refusal.TheVariants.{BadSpec, NoFile, BadFile, Unbuilt, NoLog, NoMirror, BadArea, Unfit, BadScript}
+use Rattle.image_plays.specs.declared.stops.Refusal.TheVariants.{BadSpec, NoFile, BadFile, Unbuilt, NoLog, NoItems, NoMirror, BadArea, Unfit, BadScript}
 use Rattle.image_plays.specs.Images.{HasAreas, damage_of, flash_of}
 use Rattle.image_plays.specs.Inputs.{BeginsWith, HasUnbuilt, LacksStart, blank_spec}
 use Rattle.image_plays.specs.Plays.{IsDamage, LacksLines, Refuses}
@@ -64,6 +64,7 @@ module _ (kinds : List HandlerKind) (play : Play) (kind : StoreKind) (host : Out
   built (NoFile word) has = has.unbuilt
   built (BadFile at why) has = has.unbuilt
   built NoLog has = has.unbuilt
+  built NoItems has = has.unbuilt
   built NoMirror has = has.unbuilt
   built (BadArea label damage) has = has.unbuilt
   built (Unfit label) has = has.unbuilt
@@ -79,6 +80,7 @@ module _ (kinds : List HandlerKind) (play : Play) (kind : StoreKind) (host : Out
   whole (BadFile at why) finds = finds
   whole (Unbuilt label) finds = finds
   whole NoLog finds = finds
+  whole NoItems finds = finds
   whole NoMirror finds = finds
   whole (Unfit label) finds = finds
   whole (BadScript n why) finds = finds
@@ -124,6 +126,7 @@ module _ (kinds : List HandlerKind) (host host' : Outside) (old new : Stage) whe
   ends_as words out kind n result gen (Dump image) is ends = let no : ◌≡◌ {A = ℕ} 103 100 = first_byte words (Gen out kind n) (Dump image) gen is in absurd (omega arith)
   ends_as words out kind n result gen (Migrate image to) is ends = let no : ◌≡◌ {A = ℕ} 103 109 = first_byte words (Gen out kind n) (Migrate image to) gen is in absurd (omega arith)
   ends_as words out kind n result gen (Log image script to) is ends = let no : ◌≡◌ {A = ℕ} 103 108 = first_byte words (Gen out kind n) (Log image script to) gen is in absurd (omega arith)
+  ends_as words out kind n result gen (Items image script to) is ends = let no : ◌≡◌ {A = ℕ} 103 105 = first_byte words (Gen out kind n) (Items image script to) gen is in absurd (omega arith)
   ends_as words out kind n result gen (Mirror image script to) is ends = let no : ◌≡◌ {A = ℕ} 103 109 = first_byte words (Gen out kind n) (Mirror image script to) gen is in absurd (omega arith)
 
 pub gen_is_carried_out : GenIsCarriedOut

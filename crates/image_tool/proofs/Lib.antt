@@ -4,5 +4,6 @@ pub mod Generated
 pub mod Pool
 pub mod Sound
 pub mod SoundFiles
+pub mod SoundItems
 pub mod SoundLog
 pub mod SoundMirror

@@ -17,7 +17,7 @@ use Rattle.image_plays.specs.declared.plays.Source.TheVariants.{Script, Names, M
 use Rattle.image_plays.specs.declared.plays.Start.{Start}
 use Rattle.image_plays.specs.declared.plays.Start.TheVariants.{File, Blank}
 use Rattle.image_plays.specs.declared.stops.Refusal.{Refusal}
-use Rattle.image_plays.specs.declared.stops.Refusal.TheVariants.{BadSpec, NoFile, BadFile, Unbuilt, NoLog, NoMirror, BadArea, Unfit, BadScript}
+use Rattle.image_plays.specs.declared.stops.Refusal.TheVariants.{BadSpec, NoFile, BadFile, Unbuilt, NoLog, NoItems, NoMirror, BadArea, Unfit, BadScript}
 use Rattle.image_plays.specs.Images.{HasAreas, damage_of}
 use Rattle.image_plays.specs.Inputs.{BeginsWith, HasUnbuilt, LacksSource, LacksStart, PlaysLines, blank_spec}
 use Rattle.image_plays.specs.Plays.{IsDamage, LacksLines, Refuses}
@@ -26,12 +26,13 @@ use Rattle.image_plays.specs.Stages.{Stage, Stores}
 use Rattle.image_tool.specs.declared.status.Status.{Status}
 use Rattle.image_tool.specs.declared.status.Status.TheVariants as status
 use Rattle.image_tool.specs.declared.tasks.Task.{Task}
-use Rattle.image_tool.specs.declared.tasks.Task.TheVariants.{Build, Plays, Log, Mirror}
+use Rattle.image_tool.specs.declared.tasks.Task.TheVariants.{Build, Plays, Log, Items, Mirror}
 use Rattle.image_tool.specs.Complete.{IsCarriedOut, IsSound, IsSoundTask, SoundIsCarriedOut}
 use Rattle.image_tool.specs.Tasks.{Causes}
 use Rattle.image_tool.specs.Tool.{TaskEnds, any_stores}
 use Rattle.image_tool.proofs.SoundFiles.{has_image, never_long, never_missing, same_file, same_image, some_none}
 use Rattle.image_tool.proofs.SoundLog.{log_is_not_refused}
+use Rattle.image_tool.proofs.SoundItems.{items_are_not_refused}
 use Rattle.image_tool.proofs.SoundMirror.{mirror_is_not_refused}
 
 module _ (host : Outside) (tells : IsSome host.files) (name : List ℕ) where
@@ -45,6 +46,7 @@ module _ (host : Outside) (tells : IsSome host.files) (name : List ℕ) where
   has_script limit lines (BadFile at why) has lacks = lacks
   has_script limit lines (Unbuilt label) has lacks = lacks
   has_script limit lines NoLog has lacks = lacks
+  has_script limit lines NoItems has lacks = lacks
   has_script limit lines NoMirror has lacks = lacks
   has_script limit lines (BadArea label damage) has lacks = lacks
   has_script limit lines (Unfit label) has lacks = lacks
@@ -78,6 +80,7 @@ module _ (k : Stores) (kinds : List HandlerKind) (play : Play) (host : Outside) 
   built (NoFile word) has = has.unbuilt
   built (BadFile at why) has = has.unbuilt
   built NoLog has = has.unbuilt
+  built NoItems has = has.unbuilt
   built NoMirror has = has.unbuilt
   built (BadArea label damage) has = has.unbuilt
   built (Unfit label) has = has.unbuilt
@@ -98,6 +101,7 @@ module _ (k : Stores) (kinds : List HandlerKind) (play : Play) (host : Outside) 
   whole (BadFile at why) finds = finds
   whole (Unbuilt label) finds = finds
   whole NoLog finds = finds
+  whole NoItems finds = finds
   whole NoMirror finds = finds
   whole (Unfit label) finds = finds
   whole (BadScript n why) finds = finds
@@ -115,6 +119,7 @@ module _ (k : Stores) (kinds : List HandlerKind) (host host' : Outside) (old new
   no_cause (Build out spec) refusal (image, is) (lacks, _) = no_bad_item spec.now image lacks.1 is lacks.2
   no_cause (Plays play) refusal sound causes = never_refused k kinds play host old new sound refusal causes
   no_cause (Log image script out) refusal sound causes = log_is_not_refused image.now script.now host old.bench new.bench sound refusal causes.0
+  no_cause (Items image script out) refusal sound causes = items_are_not_refused image.now script.now host old.bench new.bench sound refusal causes.0
   no_cause (Mirror image script out) refusal sound causes = mirror_is_not_refused image.now script.now host old.bench new.bench sound refusal causes.0
 
   carried_out : (task : Task) (result : Status) → IsSoundTask k task host → TaskEnds k kinds task host host' old new result → IsCarriedOut result

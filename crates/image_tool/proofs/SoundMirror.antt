@@ -1,5 +1,5 @@
 -- A play on a mirror that is sound is not refused.
-use Rattle.std.proofs.Common.{◌≡◌, ℕ, List, ◌∷◌, None, inl, inr, sym, subst}
+use Rattle.std.proofs.Common.{◌≡◌, ℕ, List, None, inl, inr, refl, sym, subst}
 use Rattle.std.specs.Prelude.{IsSome}
 use Rattle.flash_sim.specs.Device.{Device}
 use Rattle.flash_map.specs.declared.area.Area.{Area}
@@ -11,18 +11,17 @@ use Rattle.script_lines.proofs.ScriptLaws.{one_script}
 use Rattle.image_file.specs.Format.{Plain}
 use Rattle.image_maps.specs.Laws.{unserved}
 use Rattle.mirror_lines.specs.declared.line.Line.{Line}
-use Rattle.mirror_lines.specs.declared.line.Line.TheVariants.{Mount}
 use Rattle.mirror_lines.specs.Line.{mirror_forms}
 use Rattle.mirror_session.specs.declared.fault.SessionFault.{SessionFault}
-use Rattle.mirror_session.specs.declared.fault.SessionFault.TheVariants.{NoMemory as WantsMemory}
-use Rattle.mirror_session.specs.Running.{RunStops}
+use Rattle.mirror_session.specs.declared.fault.SessionFault.TheVariants.{Damaged as IsDamaged, Unfit as IsUnfit, NoMemory as WantsMemory}
+use Rattle.mirror_session.specs.Running.{TellsUnfit}
 use Rattle.image_plays.specs.declared.stops.Refusal.{Refusal}
-use Rattle.image_plays.specs.declared.stops.Refusal.TheVariants.{BadSpec, NoFile, BadFile, Unbuilt, NoLog, NoMirror, BadArea, Unfit, BadScript}
+use Rattle.image_plays.specs.declared.stops.Refusal.TheVariants.{BadSpec, NoFile, BadFile, Unbuilt, NoLog, NoItems, NoMirror, BadArea, Unfit, BadScript}
 use Rattle.image_plays.specs.declared.stops.Stop.TheVariants.{Refused}
 use Rattle.image_plays.specs.Images.{HasAreas}
 use Rattle.image_plays.specs.Reading.{HasImage, LacksText}
 use Rattle.image_mirrors.specs.Inputs.{AreMirrored, HasBadLine, HasLines, LacksLines, LacksMirror, LacksStore}
-use Rattle.image_mirrors.specs.Plays.{IsStop, LacksMirrorLines, RefusesMirror, StopsAtMount, any_meanings, opening}
+use Rattle.image_mirrors.specs.Plays.{FitsImage, IsStop, LacksMirrorLines, RefusesMirror, StopsAtMount, TellsDamage, damage_in}
 use Rattle.image_tool.specs.Complete.{IsSoundMirror}
 use Rattle.image_tool.proofs.SoundFiles.{has_image, never_long, never_missing, same_file, same_image, some_none}
 
@@ -36,6 +35,7 @@ module _ (host : Outside) (tells : IsSome host.files) (name : List ℕ) (limit :
   has_text (BadFile at why) lacks = lacks
   has_text (Unbuilt label) lacks = lacks
   has_text NoLog lacks = lacks
+  has_text NoItems lacks = lacks
   has_text NoMirror lacks = lacks
   has_text (BadArea label damage) lacks = lacks
   has_text (Unfit label) lacks = lacks
@@ -69,6 +69,7 @@ module _ (name script : List ℕ) (host : Outside) (old new : Device) (sound : I
   built (NoFile word) lacks = lacks.finds.1
   built (BadFile at why) lacks = lacks.finds.1
   built NoLog lacks = lacks.finds.1
+  built NoItems lacks = lacks.finds.1
   built NoMirror lacks = lacks.finds.1
   built (BadArea label damage) lacks = lacks.finds.1
   built (Unfit label) lacks = lacks.finds.1
@@ -86,12 +87,19 @@ module _ (name script : List ℕ) (host : Outside) (old new : Device) (sound : I
       no : IsStop areas WantsMemory (Refused refusal) → ⊥
       no is = cc
 
+  -- it shows no damage, and its settings fit
+  fine : (areas : List Area) (fault : SessionFault) (refusal : Refusal) → ¬ TellsDamage fault → ¬ TellsUnfit fault → IsStop areas fault (Refused refusal) → ⊥
+  fine areas (IsDamaged place damage) refusal sound fits is = sound tt
+  fine areas (IsUnfit place) refusal sound fits is = fits tt
+  fine areas WantsMemory refusal sound fits is = told areas WantsMemory refusal refl is
+
   whole : (refusal : Refusal) → StopsAtMount name script host old new refusal → ⊥
   whole refusal finds =
       let opens = finds.sets.opens in
-      let stops = subst (λ (i : Plain). RunStops any_meanings finds.areas (Mount ∷ finds.lines) (opening i old) new finds.fault) (same finds.image opens.has) finds.stops in
-      told finds.areas finds.fault refusal
-      (sound.mounts finds.areas (areas_of finds.image finds.areas opens.has opens.are) finds.lines finds.sets.plays old new finds.fault stops) finds.is
+      let are = areas_of finds.image finds.areas opens.has opens.are in
+      fine finds.areas finds.fault refusal
+      (finds.shows (subst (λ (i : Plain). damage_in finds.areas i ≡ None) (sym (same finds.image opens.has)) (sound.undamaged finds.areas are)))
+      (finds.fits (subst (λ (i : Plain). FitsImage finds.areas i) (sym (same finds.image opens.has)) (sound.fits finds.areas are))) finds.is
 
   pub mirror_is_not_refused : (refusal : Refusal) → RefusesMirror name script host old new refusal → ⊥
   mirror_is_not_refused refusal (inl (lacks, _)) = has_image host sound.tells name sound.image refusal sound.has lacks

@@ -1,7 +1,6 @@
 -- When a command is carried out, unless the host fails or memory runs out.
-use Rattle.std.specs.Prelude.{◌≡◌, ⊤, ℕ, None, IsSome, List, ◌∷◌}
+use Rattle.std.specs.Prelude.{◌≡◌, ⊤, ℕ, None, IsSome, List}
 use Rattle.flash_map.specs.declared.area.Area.{Area}
-use Rattle.flash_sim.specs.Device.{Device}
 use Rattle.zs_host.specs.Outside.{Outside}
 use Rattle.handlers.specs.declared.handler.HandlerKind.{HandlerKind}
 use Rattle.command_words.specs.Commands.{IsCommand, IsNoCommand}
@@ -13,16 +12,15 @@ use Rattle.image_file.specs.Format.{Plain}
 use Rattle.image_file.specs.Spec.{IsSpec}
 use Rattle.image_maps.specs.Laws.{unserved}
 use Rattle.flash_map.specs.Area.{value_limit}
+use Rattle.item_lines.specs.declared.line.Line.{Line as ItemLine}
 use Rattle.log_lines.specs.declared.line.Line.{Line as LogLine}
+use Rattle.image_items.specs.Inputs.{HasLines as HasItemLines, ids_of}
+use Rattle.image_items.specs.Plays.{OpensItems, damage_in as item_damage_in}
 use Rattle.image_logs.specs.Inputs.{HasLines}
 use Rattle.image_logs.specs.Plays.{OpensLog, damage_in}
 use Rattle.mirror_lines.specs.declared.line.Line.{Line as MirrorLine}
-use Rattle.mirror_lines.specs.declared.line.Line.TheVariants.{Mount}
-use Rattle.mirror_session.specs.declared.fault.SessionFault.{SessionFault}
-use Rattle.mirror_session.specs.declared.fault.SessionFault.TheVariants.{NoMemory as WantsMemory}
-use Rattle.mirror_session.specs.Running.{RunStops}
 use Rattle.image_mirrors.specs.Inputs.{AreMirrored, HasLines as HasMirrorLines}
-use Rattle.image_mirrors.specs.Plays.{any_meanings, opening}
+use Rattle.image_mirrors.specs.Plays.{FitsImage, damage_in as mirror_damage}
 use Rattle.image_plays.specs.declared.plays.Play.{Play}
 use Rattle.image_plays.specs.declared.plays.Start.TheVariants.{Blank}
 use Rattle.image_plays.specs.declared.stops.Refusal.{Refusal}
@@ -33,7 +31,7 @@ use Rattle.image_plays.specs.Stages.{Stage, Stores}
 use Rattle.image_tool.specs.declared.status.Status.{Status}
 use Rattle.image_tool.specs.declared.status.Status.TheVariants as status
 use Rattle.image_tool.specs.declared.tasks.Task.{Task}
-use Rattle.image_tool.specs.declared.tasks.Task.TheVariants.{Build, Plays, Log, Mirror}
+use Rattle.image_tool.specs.declared.tasks.Task.TheVariants.{Build, Plays, Log, Items, Mirror}
 use Rattle.image_tool.specs.Tasks.{task_of}
 use Rattle.image_tool.specs.Tool.{ToolEnds, any_stores}
 
@@ -57,8 +55,18 @@ pub record IsSoundLog (name script : List ℕ) (host : Outside) : Type 0 where
   pub lines : List LogLine
   pub reads : HasLines (value_limit area) host script lines
 
--- The host tells its files, and IMAGE is an image with a mirror: stores work on all of its areas, and SCRIPT has lines to play. No mount
--- in a run of the lines finds damage, or settings that do not fit one of the two areas.
+-- The host tells its files, and IMAGE is an image with items, which shows no damage, and SCRIPT has lines to play.
+pub record IsSoundItems (name script : List ℕ) (host : Outside) : Type 0 where
+  pub tells : IsSome host.files
+  pub image : Plain
+  pub area : Area
+  pub opens : OpensItems name host image area
+  pub undamaged : item_damage_in image area ≡ None
+  pub lines : List ItemLine
+  pub reads : HasItemLines (ids_of area.role) (value_limit area) host script lines
+
+-- The host tells its files, and IMAGE is an image with a mirror: stores work on all of its areas, it shows no damage (in its
+-- selector, and in the area that is read), its settings fit both areas, and SCRIPT has lines to play.
 pub record IsSoundMirror (name script : List ℕ) (host : Outside) : Type 0 where
   pub tells : IsSome host.files
   pub image : Plain
@@ -66,15 +74,15 @@ pub record IsSoundMirror (name script : List ℕ) (host : Outside) : Type 0 wher
   pub mirrored : AreMirrored image.areas
   pub served : (areas : List Area) → HasAreas image areas → unserved image.banks areas ≡ None
   pub reads : (areas : List Area) → HasAreas image areas → (lines : List MirrorLine) × HasMirrorLines (limit_of areas) host script lines
-  pub mounts : (areas : List Area) → HasAreas image areas → (lines : List MirrorLine) → HasMirrorLines (limit_of areas) host script lines
-      → (old new : Device) (fault : SessionFault)
-      → RunStops any_meanings areas (Mount ∷ lines) (opening image old) new fault → fault ≡ WantsMemory
+  pub undamaged : (areas : List Area) → HasAreas image areas → mirror_damage areas image ≡ None
+  pub fits : (areas : List Area) → HasAreas image areas → FitsImage areas image
 
 -- what the task works on is sound
 abbrev pub IsSoundTask : Stores → Task → Outside → Type 0
 IsSoundTask k (Build out spec) host = (image : Plain) × IsSpec spec.now image
 IsSoundTask k (Plays play) host = IsSound k play host
 IsSoundTask k (Log image script out) host = IsSoundLog image.now script.now host
+IsSoundTask k (Items image script out) host = IsSoundItems image.now script.now host
 IsSoundTask k (Mirror image script out) host = IsSoundMirror image.now script.now host
 
 -- done, but where the host failed or memory ran out

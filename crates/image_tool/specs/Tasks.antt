@@ -4,6 +4,7 @@ use Rattle.zs_host.specs.Outside.{Outside, failed}
 use Rattle.handlers.specs.declared.handler.HandlerKind.{HandlerKind}
 use Rattle.command_words.specs.declared.commands.Command.{Command}
 use Rattle.command_words.specs.declared.commands.Command.TheVariants as command
+use Rattle.image_items.specs.Plays.{PlaysItems, RefusesItems, StopsItems}
 use Rattle.image_logs.specs.Plays.{PlaysLog, RefusesLog, StopsLog}
 use Rattle.image_mirrors.specs.Plays.{PlaysMirror, RefusesMirror, StopsMirror}
 use Rattle.image_plays.specs.declared.outcome.Outcome.{Outcome}
@@ -19,10 +20,10 @@ use Rattle.image_plays.specs.Inputs.{LacksSpec}
 use Rattle.image_plays.specs.Plays.{Builds, File, PlayEnds, Plays, Refuses, Stops, file_of}
 use Rattle.image_plays.specs.Stages.{Stage, Stores}
 use Rattle.image_tool.specs.declared.tasks.Task.{Task}
-use Rattle.image_tool.specs.declared.tasks.Task.TheVariants.{Build, Plays as ToPlay, Log, Mirror}
+use Rattle.image_tool.specs.declared.tasks.Task.TheVariants.{Build, Plays as ToPlay, Log, Items, Mirror}
 
 -- `run` plays a script, `dump` asks for the names and prints that answer alone, `migrate` mounts and migrates, and `gen` plays a
--- generated script on a blank image and prints its summary; `log` plays a script on a log, and `mirror` one on a mirror
+-- generated script on a blank image and prints its summary; `log` plays a script on a log, `items` one on items, and `mirror` one on a mirror
 abbrev pub task_of : Command → Task
 task_of (command.Build out spec) = Build out spec
 task_of (command.Run image script out) = ToPlay (record { start = FromFile image; source = Script script; telling = All; output = Into out })
@@ -30,6 +31,7 @@ task_of (command.Dump image) = ToPlay (record { start = FromFile image; source =
 task_of (command.Migrate image out) = ToPlay (record { start = FromFile image; source = Migration; telling = All; output = Into out })
 task_of (command.Gen out backend n) = ToPlay (record { start = Blank backend; source = Generated n; telling = Summary backend n; output = Into out })
 task_of (command.Log image script out) = Log image script out
+task_of (command.Items image script out) = Items image script out
 task_of (command.Mirror image script out) = Mirror image script out
 
 -- this text is printed, and this file is written, if any
@@ -38,6 +40,8 @@ Does k kinds (Build out spec) host old new text file = Builds out.now spec.now t
 Does k kinds (ToPlay play) host old new text file = Plays k kinds play host old new text file
 Does k kinds (Log image script out) host old new text file =
     PlaysLog image.now script.now out.now host old.bench new.bench text file × (new.registry ≡ old.registry)
+Does k kinds (Items image script out) host old new text file =
+    PlaysItems image.now script.now out.now host old.bench new.bench text file × (new.registry ≡ old.registry)
 Does k kinds (Mirror image script out) host old new text file =
     PlaysMirror image.now script.now out.now host old.bench new.bench text file × (new.registry ≡ old.registry)
 
@@ -47,6 +51,8 @@ Causes k kinds (Build out spec) host old new refusal = LacksSpec spec.now refusa
 Causes k kinds (ToPlay play) host old new refusal = Refuses k kinds play host old new refusal
 Causes k kinds (Log image script out) host old new refusal =
     RefusesLog image.now script.now host old.bench new.bench refusal × (new.registry ≡ old.registry)
+Causes k kinds (Items image script out) host old new refusal =
+    RefusesItems image.now script.now host old.bench new.bench refusal × (new.registry ≡ old.registry)
 Causes k kinds (Mirror image script out) host old new refusal =
     RefusesMirror image.now script.now host old.bench new.bench refusal × (new.registry ≡ old.registry)
 
@@ -56,6 +62,8 @@ StopsAt k kinds (Build out spec) host old new = new ≡ old
 StopsAt k kinds (ToPlay play) host old new = Stops k kinds play host old new
 StopsAt k kinds (Log image script out) host old new =
     StopsLog image.now script.now host old.bench new.bench × (new.registry ≡ old.registry)
+StopsAt k kinds (Items image script out) host old new =
+    StopsItems image.now script.now host old.bench new.bench × (new.registry ≡ old.registry)
 StopsAt k kinds (Mirror image script out) host old new =
     StopsMirror image.now script.now host old.bench new.bench × (new.registry ≡ old.registry)
 

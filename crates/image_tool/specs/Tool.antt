@@ -5,7 +5,7 @@ use Rattle.handlers.specs.declared.handler.HandlerKind.{HandlerKind}
 use Rattle.command_words.specs.Commands.{IsCommand, IsNoCommand}
 use Rattle.command_words.specs.declared.commands.Command.{Command}
 use Rattle.image_plays.specs.declared.stops.Refusal.{Refusal}
-use Rattle.image_plays.specs.declared.stops.Refusal.TheVariants.{BadSpec, NoFile, BadFile, Unbuilt, NoLog, NoMirror, BadArea, Unfit, BadScript}
+use Rattle.image_plays.specs.declared.stops.Refusal.TheVariants.{BadSpec, NoFile, BadFile, Unbuilt, NoLog, NoItems, NoMirror, BadArea, Unfit, BadScript}
 use Rattle.image_plays.specs.Inputs.{out_of}
 use Rattle.image_plays.specs.Plays.{File}
 use Rattle.image_plays.specs.Refusals.{line_of, usage_line}
@@ -14,7 +14,7 @@ use Rattle.image_plays.specs.Stages.{Stage, Stores, stores}
 use Rattle.image_tool.specs.declared.status.Status.{Status}
 use Rattle.image_tool.specs.declared.status.Status.TheVariants as status
 use Rattle.image_tool.specs.declared.tasks.Task.{Task}
-use Rattle.image_tool.specs.declared.tasks.Task.TheVariants.{Build, Plays, Log, Mirror}
+use Rattle.image_tool.specs.declared.tasks.Task.TheVariants.{Build, Plays, Log, Items, Mirror}
 use Rattle.image_tool.specs.Tasks.{Causes, Does, StopsAt, task_of}
 use Rattle.image_tool.specs.Telling.{DeliversPart, PrintsFront, delivered}
 
@@ -28,6 +28,7 @@ status_of (NoFile word) = status.NoFile
 status_of (BadFile at reason) = status.BadImage
 status_of (Unbuilt label) = status.BadImage
 status_of NoLog = status.BadImage
+status_of NoItems = status.BadImage
 status_of NoMirror = status.BadImage
 status_of (BadArea label damage) = status.BadImage
 status_of (Unfit label) = status.BadImage
@@ -103,6 +104,7 @@ abbrev pub out_file : Task → Option (List ℕ)
 out_file (Build out spec) = Some out.now
 out_file (Plays play) = out_of play.output
 out_file (Log image script out) = Some out.now
+out_file (Items image script out) = Some out.now
 out_file (Mirror image script out) = Some out.now
 
 -- of files at most this one changed

@@ -54,6 +54,7 @@ fn status_of(refusal: &Refusal<'_>) -> Status
         Refusal::BadFile { .. }
         | Refusal::Unbuilt { .. }
         | Refusal::NoLog
+        | Refusal::NoItems
         | Refusal::NoMirror
         | Refusal::BadArea { .. }
         | Refusal::Unfit { .. } => Status::BadImage,

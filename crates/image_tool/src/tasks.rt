@@ -21,6 +21,12 @@ pub enum Task<'a> {
         script: &'a str,
         out: &'a str,
     },
+    /// Plays the lines of a script on the numbered items of an image.
+    Items {
+        image: &'a str,
+        script: &'a str,
+        out: &'a str,
+    },
     /// Plays the lines of a script on the mirror of an image.
     Mirror {
         image: &'a str,
@@ -60,6 +66,7 @@ pub fn task_of<'a>(command: &Command<'a>) -> Task<'a>
             output: Output::Into { name: out },
         },
         Command::Log { image, script, out } => return Task::Log { image, script, out },
+        Command::Items { image, script, out } => return Task::Items { image, script, out },
         Command::Mirror { image, script, out } => return Task::Mirror { image, script, out },
     };
     Task::Plays(play)

@@ -30,6 +30,8 @@ const RUN: &str = "run x.img s.txt y.img";
 
 const RUN_LOG: &str = "log x.img s.txt y.img";
 
+const RUN_ITEMS: &str = "items x.img s.txt y.img";
+
 const RUN_MIRROR: &str = "mirror x.img s.txt y.img";
 
 // Carries out one command.
@@ -78,7 +80,7 @@ struct Row {
     left: &'static [(usize, u8)],
 }
 
-static ROWS: [Row; 31] = [
+static ROWS: [Row; 35] = [
     Row {
         spec: NVS,
         script: "set a 01\nget a\n",
@@ -298,6 +300,38 @@ static ROWS: [Row; 31] = [
             record 55*100 \nrecord 66*100 \nrecord 77*100 \nrecord 88*100 \nlog 4\n",
         left: &[(36, 0xFF), (1060, 0xEE), (1068, 0xFF)],
     },
+    // the versions of an item, and the room
+    Row {
+        spec: NVS,
+        script: "set 1 01\nset 1 02\ndel 1\nolder 1 0\nolder 1 1\nolder 1 2\nolder 1 3\nspace\n",
+        commands: RUN_ITEMS,
+        printed: "ok 0\nok 3\nok 3\nok 2\ndeleted\nvalue 02\nvalue 01\ngone\nspace 0 32 480\n",
+        left: &[],
+    },
+    // the fifth value collects: the one before it was copied
+    Row {
+        spec: NVS,
+        script: "set 1 11*100 \nset 1 22*100 \nset 1 33*100 \nset 1 44*100 \nset 1 55*100 \n\
+            older 1 1\nolder 1 2\nspace\n",
+        commands: RUN_ITEMS,
+        printed: "ok 0\nok 27\nok 27\nok 27\nok 27\nok 59\nvalue 44*100 \ngone\nspace 108 108 372\n",
+        left: &[],
+    },
+    Row {
+        spec: ZMS,
+        script: "set 1 01\nspace\n",
+        commands: RUN_ITEMS,
+        printed: "ok 0\nok 2\nspace 16 0 416\n",
+        left: &[],
+    },
+    // a set that was cut adds no version
+    Row {
+        spec: NVS,
+        script: "set 7 01\ncut 1\nset 7 02\nolder 7 0\nmount\nolder 7 0\nolder 7 1\nget 7\n",
+        commands: RUN_ITEMS,
+        printed: "ok 0\nok 3\nok 0\nlost 1\noff\nok 0\nvalue 01\ngone\nvalue 01\n",
+        left: &[],
+    },
     // room for the settings in each of two areas, whatever is put
     Row {
         spec: MIRROR,
@@ -364,7 +398,7 @@ const PASSES_FENCE: &[(usize, usize, u8)] = &[
     (539, 1, 0x49),
 ];
 
-static REFUSED: [Refused; 22] = [
+static REFUSED: [Refused; 25] = [
     Refused {
         spec: NVS,
         script: "",
@@ -478,6 +512,34 @@ static REFUSED: [Refused; 22] = [
         command: RUN_LOG,
         status: 4,
         printed: "bad image: no log\n",
+    },
+    // an image without items, one on which no store works, and an id that NVS has not
+    Refused {
+        spec: FCB,
+        script: "fly\n",
+        put: &[],
+        size: 1060,
+        command: RUN_ITEMS,
+        status: 4,
+        printed: "bad image: no items\n",
+    },
+    Refused {
+        spec: "bank=erasing/16/512/2,area=zms/main/0/0/2",
+        script: "fly\n",
+        put: &[],
+        size: 1060,
+        command: RUN_ITEMS,
+        status: 4,
+        printed: "bad image: area main: Unbuilt\n",
+    },
+    Refused {
+        spec: NVS,
+        script: "set 65535 01\n",
+        put: &[],
+        size: 1060,
+        command: RUN_ITEMS,
+        status: 3,
+        printed: "bad script: line 1: Number\n",
     },
     // an image without a mirror: one of three store areas has no place in it
     Refused {

@@ -22,6 +22,7 @@ use backend_api::Backend;
 use command_words::read_words;
 use flash_sim::Bench;
 use handlers::{Handler, Registry};
+use image_items::play_items;
 use image_logs::play_log;
 use image_mirrors::play_mirror;
 use image_plays::{Outcome, Stop, USAGE, build, play};
@@ -48,6 +49,7 @@ fn prepare<'a, K: Backend, H: Host, B: Bench>(
         Task::Build { out, spec } => build(alloc, out, spec),
         Task::Plays(plays) => play::<K, H, B>(alloc, plays, host, bench, pool, registry),
         Task::Log { image, script, out } => play_log(alloc, image, script, out, host, bench),
+        Task::Items { image, script, out } => play_items(alloc, image, script, out, host, bench),
         Task::Mirror { image, script, out } => {
             play_mirror(alloc, image, script, out, host, bench)
         }
@@ -121,9 +123,10 @@ fn serve<K: Backend, H: Host, B: Bench>(
 /// of all answers, and then writes the image that is left. `dump IMAGE` prints the settings of the image. `migrate IMAGE OUT` plays
 /// `mount` and `migrate`. `gen OUT BACKEND N` plays a generated script of N lines on a blank image, and prints its summary.
 /// `log IMAGE SCRIPT OUT` plays the lines of SCRIPT on the application log that is the image's only area, prints the texts of all
-/// answers, and then writes the image that is left. `mirror IMAGE SCRIPT OUT` does so with the settings that the image's two store
-/// areas hold between them. What is refused prints one line, and nothing is written. Where the host fails or memory runs out before
-/// anything is printed, the bench is as it was, or it holds what the lines have made of the image so far.
+/// answers, and then writes the image that is left. `items IMAGE SCRIPT OUT` does so with the numbered items of the image's only
+/// area, and `mirror IMAGE SCRIPT OUT` with the settings that its two store areas hold between them. What is refused prints one
+/// line, and nothing is written. Where the host fails or memory runs out before anything is printed, the bench is as it was, or it
+/// holds what the lines have made of the image so far.
 pub fn tool<H: Host, B: Bench>(
     alloc: Global,
     words: &[String],

@@ -35,5 +35,7 @@ returns c =
     c.in_ok-subcommand-5.ensures c.in_ok-generate.ensures.local migrate c.in_ok-generate.ensures.shape in
     let log = with_form c.in_ok-subcommand-5.field-0 c.in_ok-log.log c.in_ok-subcommand-6.field-0 _ (form (codes "log") (codes "IMAGE" ∷ codes "SCRIPT" ∷ codes "OUT" ∷ []))
     c.in_ok-subcommand-6.ensures c.in_ok-log.ensures.local generate c.in_ok-log.ensures.shape in
-    last_form c.in_ok-subcommand-6.field-0 c.in_ok-mirror.mirror c.subcommand-7.result _ (form (codes "mirror") (codes "IMAGE" ∷ codes "SCRIPT" ∷ codes "OUT" ∷ []))
-    c.subcommand-7.ensures c.in_ok-mirror.ensures.local log c.in_ok-mirror.ensures.shape
+    let items = with_form c.in_ok-subcommand-6.field-0 c.in_ok-items.items c.in_ok-subcommand-7.field-0 _ (form (codes "items") (codes "IMAGE" ∷ codes "SCRIPT" ∷ codes "OUT" ∷ []))
+    c.in_ok-subcommand-7.ensures c.in_ok-items.ensures.local log c.in_ok-items.ensures.shape in
+    last_form c.in_ok-subcommand-7.field-0 c.in_ok-mirror.mirror c.subcommand-8.result _ (form (codes "mirror") (codes "IMAGE" ∷ codes "SCRIPT" ∷ codes "OUT" ∷ []))
+    c.subcommand-8.ensures c.in_ok-mirror.ensures.local items c.in_ok-mirror.ensures.shape

@@ -40,6 +40,12 @@ returns-in-log c =
     let at : subcommand_rows_of c.args.matches.now ≡ Some (c.in-Some.name.now, rows) = found_at c.args.matches.now c.in-Some.name.now rows (search rules) (search rules) in
     subst (λ found. FindsIn found c.found_log.result) (sym (at ∙ ap (λ name. Some (name, rows)) c.in-log.is)) c.found_log.ensures
 
+pub returns-in-items : goal.returns-in-items
+returns-in-items c =
+    let rows = rows_of (found_of c.in-Some.operands.now) in
+    let at : subcommand_rows_of c.args.matches.now ≡ Some (c.in-Some.name.now, rows) = found_at c.args.matches.now c.in-Some.name.now rows (search rules) (search rules) in
+    subst (λ found. FindsIn found c.found_items.result) (sym (at ∙ ap (λ name. Some (name, rows)) c.in-items.is)) c.found_items.ensures
+
 pub returns-in-mirror : goal.returns-in-mirror
 returns-in-mirror c =
     let rows = rows_of (found_of c.in-Some.operands.now) in

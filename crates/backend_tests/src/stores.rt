@@ -6,6 +6,7 @@ ghost use Rattle.backend_api.specs.Ends.{set_lost};
 ghost use Rattle.any_backend.specs.ByRole.{any_serves, serves_as};
 ghost use Rattle.any_backend.specs.Standing.{IsReady};
 
+use crate::counted::{CountedSim, Views};
 use crate::rows::{
     Call, Cut, FCB, FCB_CUTS, FCB_LONG, FCB_LONGER, Left, NVS, NVS_CUTS, Play, ZMS, ZMS_CUTS,
 };
@@ -13,7 +14,7 @@ use any_backend::*;
 use arrayvec::ArrayString;
 use backend_api::{Backend, SetFault};
 use flash_map::{Area, Role};
-use flash_sim::{Bank, Bench, FlatSim, Kind, Steps};
+use flash_sim::{Bank, Bench, Kind, Steps};
 use setting_name::Name;
 use std::alloc::{AllocError, Global};
 use std::marker::Brand;
@@ -337,7 +338,34 @@ fn cuts_of_role<B: Bench, L: Ledger, R: Abort>(
     Ok(())
 }
 
-fn exercise<B: Bench, L: Ledger, R: Abort>(
+// A name that was never set, on an area where `a` has so many bytes: that is told with no view of the flash.
+fn is_absent<B: Views, L: Ledger, R: Abort>(
+    rt: &R,
+    alloc: Global,
+    bench: &mut B,
+    role: Role,
+    kind: Kind,
+    unit: u32,
+    held: usize,
+    name: &[u8],
+    steps: &mut Steps<L>,
+) -> Result<(), Fail>
+    requires kind { HasKind role kind }
+    requires unit { HasUnit role unit }
+    requires serves { serves_as role kind }
+{
+    let image = image(alloc, 0, b"")?;
+    let area = bed(alloc, bench, role, kind, unit, image)?;
+    let mut backend = mounted(alloc, bench, &area, steps)?;
+    carry_out(&mut backend, bench, b"a", 0x11, held, steps)?;
+    let name = Name::read(name)?;
+    let start = bench.views();
+    assert!(rt; backend.get(bench, &name, steps).is_none());
+    assert_eq!(rt; bench.views(), start);
+    Ok(())
+}
+
+fn exercise<B: Views, L: Ledger, R: Abort>(
     rt: &R,
     alloc: Global,
     bench: &mut B,
@@ -357,12 +385,14 @@ fn exercise<B: Bench, L: Ledger, R: Abort>(
     of_role(rt, alloc, bench, fcb, erasing, 16, &FCB_LONGER, &mut steps)?;
     cuts_of_role(rt, alloc, bench, nvs, erasing, 4, &NVS_CUTS, &mut steps)?;
     cuts_of_role(rt, alloc, bench, zms, rewritable, 16, &ZMS_CUTS, &mut steps)?;
-    cuts_of_role(rt, alloc, bench, fcb, erasing, 4, &FCB_CUTS, &mut steps)
+    cuts_of_role(rt, alloc, bench, fcb, erasing, 4, &FCB_CUTS, &mut steps)?;
+    is_absent(rt, alloc, bench, nvs, erasing, 4, 0, b"a", &mut steps)?;
+    is_absent(rt, alloc, bench, zms, rewritable, 16, 1, b"c", &mut steps)
 }
 
 #[test]
 fn settings_over_each_store(rt: HostRuntime) -> Result<(), Fail> {
     let alloc = rt.alloc();
-    let mut sim = FlatSim::new(alloc);
-    exercise::<FlatSim, Brand, HostRuntime>(&rt, alloc, &mut sim, Blank::new(1))
+    let mut sim = CountedSim::new(alloc);
+    exercise::<CountedSim, Brand, HostRuntime>(&rt, alloc, &mut sim, Blank::new(1))
 }

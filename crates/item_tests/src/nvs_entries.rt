@@ -41,7 +41,7 @@ fn entry_bytes(rt: HostRuntime) {
 fn room(rt: HostRuntime) {
     let room = (cost(4, 256), cost(16, 1), capacity(4, 512));
     assert_eq!(rt; room, (264, 32, 480));
-    let blank = blank_scan(&SMALL_AREA);
+    let blank = scan_sector(&[0xFFu8; 512], 4, 0);
     assert_eq!(rt; blank.low, 504);
     let fitting = (
         fits(&SMALL_AREA, &blank, 472),

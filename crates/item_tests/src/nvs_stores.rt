@@ -5,6 +5,7 @@ ghost use Rattle.nvs_gc.specs.Standing.{IsNvsArea, StandsOn};
 use arrayvec::ArrayString;
 use flash_map::{Area, Role, WriteFault, sector_view};
 use flash_sim::{Bank, Bench, FlatSim, Kind, PowerLost, Steps};
+use item_history::{Older, Space, nvs_older, nvs_space};
 use nvs_gc::*;
 use std::alloc::Global;
 use std::marker::Brand;
@@ -166,6 +167,20 @@ fn one_item<B: Bench, L: Ledger, R: Abort>(
     assert_eq!(rt; nvs.next_by(bench, &last, None, steps), first);
 }
 
+// Behind a collection the item has one older version, and the area this room.
+fn told<B: Bench, L: Ledger, R: Abort>(rt: &R, bench: &B, nvs: &Nvs, steps: &mut Steps<L>)
+    requires stands { StandsOn (B.device bench.now) nvs.now }
+{
+    assert!(rt; matches!(nvs_older(nvs, bench, 1, 1, steps), Older::Value([0x44, ..])));
+    assert!(rt; matches!(nvs_older(nvs, bench, 1, 2, steps), Older::Gone));
+    let space = Space {
+        live: 108,
+        stale: 108,
+        free: 372,
+    };
+    assert_eq!(rt; nvs_space(nvs, bench, steps), space);
+}
+
 // What is on the flash behind a collection.
 fn rounds<B: Bench, L: Ledger, R: Abort>(
     rt: &R,
@@ -175,6 +190,7 @@ fn rounds<B: Bench, L: Ledger, R: Abort>(
 ) -> Result<(), Fail> {
     let nvs = plays(rt, alloc, bench, &ROUNDS, steps)?;
     one_item(rt, bench, &nvs, 1, 108, steps);
+    told(rt, bench, &nvs, steps);
     assert!(rt; nvs.is_up() && nvs.area().sectors == 2);
     assert!(rt; sector_view(bench, nvs.area(), 1, steps).ends_with(&ENDS));
     Ok(())

@@ -6,6 +6,7 @@ ghost use Rattle.zms_store.specs.Standing.{StandsOn};
 use arrayvec::ArrayString;
 use flash_map::{Area, Damaged, MountFault, Role, Why, WriteFault, sector_view};
 use flash_sim::{Bank, Bench, FlatSim, Kind, Steps};
+use item_history::{Older, Space, zms_older, zms_space};
 use std::alloc::Global;
 use std::marker::Brand;
 use std::process::Abort;
@@ -154,7 +155,7 @@ fn mounted<B: Bench, L: Ledger>(
 ) -> Result<Zms, Fail>
     requires { (B.device bench.old).banks ≡ BANK ∷ [] }
     ensures stands { IfOk result (λ zms. StandsOn (B.device bench.new) zms) }
-    ensures area { IfOk result (λ zms. zms.area.sectors ≡ 3) }
+    ensures area { IfOk result (λ zms. zms.store.area.sectors ≡ 3) }
 {
     let area = Area::new(ArrayString::new(), Role::Zms, 0, 0, 3, 1);
     let zms = Zms::mount(alloc, bench, area, steps)?;
@@ -242,7 +243,7 @@ fn lays<B: Bench, L: Ledger, R: Abort>(
 // The entries from the newest to the oldest, by sector, slot and id.
 fn walks<B: Bench, L: Ledger, R: Abort>(rt: &R, bench: &B, zms: &Zms, steps: &mut Steps<L>)
     requires stands { StandsOn (B.device bench.now) zms.now }
-    requires area { zms.now.area.sectors ≡ 3 }
+    requires area { zms.now.store.area.sectors ≡ 3 }
 {
     let mut after = None;
     for row in [(2, 2, 9), (1, 4, 8), (1, 3, 3), (1, 2, 7)] {
@@ -289,6 +290,40 @@ fn reads<B: Bench, L: Ledger, R: Abort>(
     Ok(())
 }
 
+// One item of one byte on a blank area: its version, none behind it, and the room.
+fn tells<B: Bench, L: Ledger, R: Abort>(
+    rt: &R,
+    alloc: Global,
+    bench: &mut B,
+    steps: &mut Steps<L>,
+) -> Result<(), Fail> {
+    load(rt, alloc, bench, &[])?;
+    let mut zms = mounted(alloc, bench, steps)?;
+    carry_out(bench, &mut zms, 1, &[1], steps)?;
+    assert!(rt; matches!(zms_older(&zms, bench, 1, 0, steps), Older::Value([1])));
+    assert!(rt; matches!(zms_older(&zms, bench, 1, 1, steps), Older::Gone));
+    let space = Space {
+        live: 16,
+        stale: 0,
+        free: 848,
+    };
+    assert_eq!(rt; zms_space(&zms, bench, steps), space);
+    Ok(())
+}
+
+// A close with power for so many units. Whether it ended.
+fn close_with<B: Bench, L: Ledger>(
+    bench: &mut B,
+    zms: &mut Zms,
+    plan: u64,
+    steps: &mut Steps<L>,
+) -> bool
+    requires stands { StandsOn (B.device bench.old) zms.old }
+{
+    bench.arm(plan);
+    zms.close_and_collect(bench, steps).is_ok()
+}
+
 // A close with power for so many units spends so many, and the store stays up or does not.
 fn closes<B: Bench, L: Ledger, R: Abort>(
     rt: &R,
@@ -304,9 +339,8 @@ fn closes<B: Bench, L: Ledger, R: Abort>(
     for (puts, plan, units, up) in rows {
         load(rt, alloc, bench, puts)?;
         let mut zms = mounted(alloc, bench, steps)?;
-        bench.arm(plan);
         let start = bench.spent();
-        assert_eq!(rt; zms.close_and_collect(bench, steps).is_ok(), up);
+        assert_eq!(rt; close_with(bench, &mut zms, plan, steps), up);
         let spent = bench.spent().saturating_sub(start);
         assert_eq!(rt; (spent, zms.is_up()), (units, up));
     }
@@ -346,6 +380,7 @@ fn exercise<B: Bench, L: Ledger, R: Abort>(
     lays(rt, alloc, bench, &mut steps)?;
     reads(rt, alloc, bench, &mut steps)?;
     closes(rt, alloc, bench, &mut steps)?;
+    tells(rt, alloc, bench, &mut steps)?;
     is_damaged(rt, alloc, bench, &mut steps)
 }
 

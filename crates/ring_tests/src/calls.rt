@@ -4,6 +4,7 @@ ghost use Rattle.ring_store.specs.Listed.{kind_on};
 ghost use Rattle.ring_store.specs.Standing.{IsStoreArea};
 ghost use Rattle.ring_store.specs.Stands.{StandsOn};
 
+use crate::counted::Views;
 use flash_map::{Area, WriteFault};
 use flash_sim::{Bench, PowerLost, Steps};
 use ring_store::{Placed, SlotSectors, Store};
@@ -221,4 +222,21 @@ pub fn write_is_cut<T: SlotSectors, B: Bench, L: Ledger, R: Abort>(
     );
     assert!(rt; !store.is_up());
     bench.restore();
+}
+
+/// The value of an id, no bytes where it has none, is got by at most so many views.
+pub fn looks_up<T: SlotSectors, B: Views, L: Ledger, R: Abort>(
+    rt: &R,
+    bench: &B,
+    store: &Store<T>,
+    id: u32,
+    value: &[u8],
+    most: u64,
+    steps: &mut Steps<L>,
+)
+    requires { StandsOn T.role T.kind T.kept (B.device bench.now) store.now }
+{
+    let start = bench.views();
+    assert!(rt; store.get(bench, id, steps).unwrap_or(b"") == value);
+    assert!(rt; bench.views().saturating_sub(start) <= most);
 }

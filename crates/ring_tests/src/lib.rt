@@ -4,6 +4,10 @@
 #[cfg(test)]
 mod calls;
 #[cfg(test)]
+mod counted;
+#[cfg(test)]
+mod history;
+#[cfg(test)]
 mod nvs;
 #[cfg(test)]
 mod zms;

@@ -3,10 +3,15 @@ ghost use Rattle.std.specs.Prelude.{◌≡◌, ◌<◌, ◌∷◌, [], OnOk};
 ghost use Rattle.flash_map.specs.declared.area.Role.TheVariants.{Nvs as nvs_role};
 ghost use Rattle.ring_store.specs.Standing.{IsStoreArea};
 
-use crate::calls::{Call, close_is_cut, closes, mounted, plays, shows, walks, write_is_cut};
+use crate::calls::{
+    Call, close_is_cut, closes, looks_up, mounted, plays, shows, walks, write_is_cut,
+};
+use crate::counted::{CountedSim, Views};
+use crate::history::{Told, tells};
 use arrayvec::ArrayString;
 use flash_map::{Area, Role, sector_view};
 use flash_sim::{Bank, Bench, FlatSim, Kind, Steps};
+use item_history::Space;
 use nvs_sectors::NvsOpen;
 use std::alloc::Global;
 use std::marker::Brand;
@@ -37,6 +42,40 @@ const ENDS: [u8; 32] = [
     255, 255, 255, 255, 255, 255, 255, 255,
 ];
 
+// The newest version, and the copied one before it.
+const COLLECTED: [Told; 3] = [
+    (1, 0, Some((0x55, 100))),
+    (1, 1, Some((0x44, 100))),
+    (1, 2, None),
+];
+
+const COLLECTED_SPACE: Space = Space {
+    live: 108,
+    stale: 108,
+    free: 372,
+};
+
+// One id three times, and what is told of it.
+const THREE: [Call; 3] = [
+    (1, (1, 1), 3, None, (1, 1)),
+    (1, (2, 1), 3, None, (2, 1)),
+    (1, (0, 0), 2, None, (0, 0)),
+];
+
+const PAST: [Told; 5] = [
+    (1, 0, Some((0, 0))),
+    (1, 1, Some((2, 1))),
+    (1, 2, Some((1, 1))),
+    (1, 3, None),
+    (2, 0, None),
+];
+
+const PAST_SPACE: Space = Space {
+    live: 0,
+    stale: 32,
+    free: 480,
+};
+
 // A value for which the other one leaves no room, until that is deleted; and one that is too long.
 const FULL: [Call; 6] = [
     (1, (0x22, 256), 66, None, (0x22, 256)),
@@ -45,6 +84,13 @@ const FULL: [Call; 6] = [
     (2, (0x22, 256), 71, None, (0x22, 256)),
     (1, (0, 0), 0, None, (0, 0)),
     (3, (0, 600), 0, Some((0, 0)), (0, 0)),
+];
+
+// One value; another of the same cache slot; the first one deleted.
+const SHARED: [Call; 3] = [
+    (1, (0x11, 100), 27, None, (0x11, 100)),
+    (65, (0x22, 100), 27, None, (0x22, 100)),
+    (1, (0, 0), 2, None, (0, 0)),
 ];
 
 // The area of both sectors.
@@ -82,6 +128,22 @@ fn rounds<B: Bench, L: Ledger, R: Abort>(
     shows(rt, bench, &store, &[1], 108, steps);
     let rows = [(1, 3, 1, 100), (1, 1, 1, 100)];
     walks(rt, bench, &store, 2, &rows, steps);
+    tells(rt, bench, &store, &COLLECTED, COLLECTED_SPACE, steps);
+    Ok(())
+}
+
+// Two values and a delete of one id.
+fn tells_the_past<B: Bench, L: Ledger, R: Abort>(
+    rt: &R,
+    alloc: Global,
+    bench: &mut B,
+    steps: &mut Steps<L>,
+) -> Result<(), Fail> {
+    load_blank(alloc, bench, 1024)?;
+    let area = both(bench);
+    let mut store = mounted::<NvsOpen, B, L, R>(rt, alloc, bench, area, 0, steps)?;
+    plays(rt, alloc, bench, &mut store, &THREE, steps)?;
+    tells(rt, bench, &store, &PAST, PAST_SPACE, steps);
     Ok(())
 }
 
@@ -126,6 +188,32 @@ fn losses<B: Bench, L: Ledger, R: Abort>(
     Ok(())
 }
 
+// How many views a look-up takes: none where the cache slot is empty, at most two where its latest entry has the id.
+fn look_ups<B: Views, L: Ledger, R: Abort>(
+    rt: &R,
+    alloc: Global,
+    bench: &mut B,
+    steps: &mut Steps<L>,
+) -> Result<(), Fail> {
+    load_blank(alloc, bench, 1024)?;
+    let area = both(bench);
+    let mut store = mounted::<NvsOpen, B, L, R>(rt, alloc, bench, area, 0, steps)?;
+    plays(rt, alloc, bench, &mut store, &SHARED[..1], steps)?;
+    looks_up(rt, bench, &store, 2, b"", 0, steps);
+    looks_up(rt, bench, &store, 1, &[0x11; 100], 2, steps);
+    plays(rt, alloc, bench, &mut store, &SHARED[1..2], steps)?;
+    looks_up(rt, bench, &store, 65, &[0x22; 100], 2, steps);
+    looks_up(rt, bench, &store, 1, &[0x11; 100], u64::MAX, steps);
+    load_blank(alloc, bench, 1024)?;
+    let area = both(bench);
+    let mut store = mounted::<NvsOpen, B, L, R>(rt, alloc, bench, area, 0, steps)?;
+    plays(rt, alloc, bench, &mut store, &SHARED[..1], steps)?;
+    plays(rt, alloc, bench, &mut store, &SHARED[2..], steps)?;
+    closes(rt, bench, &mut store, 5, steps)?;
+    looks_up(rt, bench, &store, 1, b"", 0, steps);
+    Ok(())
+}
+
 // With a counter of steps.
 fn exercise<B: Bench, L: Ledger, R: Abort>(
     rt: &R,
@@ -139,6 +227,7 @@ fn exercise<B: Bench, L: Ledger, R: Abort>(
 {
     let mut steps = Steps::<L>::new(blank);
     rounds(rt, alloc, bench, &mut steps)?;
+    tells_the_past(rt, alloc, bench, &mut steps)?;
     collects(rt, alloc, bench, &mut steps)?;
     losses(rt, alloc, bench, &mut steps)
 }
@@ -148,4 +237,26 @@ fn two_sectors_of_nvs(rt: HostRuntime) -> Result<(), Fail> {
     let alloc = rt.alloc();
     let mut sim = FlatSim::new(alloc);
     exercise::<FlatSim, Brand, HostRuntime>(&rt, alloc, &mut sim, Blank::new(1))
+}
+
+// The same for look-ups.
+fn count<B: Views, L: Ledger, R: Abort>(
+    rt: &R,
+    alloc: Global,
+    bench: &mut B,
+    blank: Blank,
+) -> Result<(), Fail>
+    requires name { blank.name ≡ L.name }
+    requires parts { blank.parts ≡ L.parts }
+    requires some { 0 < L.parts }
+{
+    let mut steps = Steps::<L>::new(blank);
+    look_ups(rt, alloc, bench, &mut steps)
+}
+
+#[test]
+fn views_of_look_ups(rt: HostRuntime) -> Result<(), Fail> {
+    let alloc = rt.alloc();
+    let mut sim = CountedSim::new(alloc);
+    count::<CountedSim, Brand, HostRuntime>(&rt, alloc, &mut sim, Blank::new(1))
 }

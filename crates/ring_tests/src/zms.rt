@@ -4,9 +4,11 @@ ghost use Rattle.flash_map.specs.declared.area.Role.TheVariants.{Zms as zms_role
 ghost use Rattle.ring_store.specs.Standing.{IsStoreArea};
 
 use crate::calls::{Call, close_is_cut, closes, mounted, plays, shows, walks, write_is_cut};
+use crate::history::{Told, tells};
 use arrayvec::ArrayString;
 use flash_map::{Area, Role, sector_view};
 use flash_sim::{Bank, Bench, FlatSim, Kind, Steps};
+use item_history::Space;
 use std::alloc::Global;
 use std::marker::Brand;
 use std::process::Abort;
@@ -46,6 +48,20 @@ const CUT: [Put; 13] = [
     (1520, EMPTY),
     (1488, [223, 1, 1, 0, 3, 0, 0, 0, 81, 0, 0, 0, 0, 0, 0, 0]),
 ];
+
+// What is told once that collection is done: its copy, a delete, and what is gone.
+const AFTER_CUT: [Told; 4] = [
+    (9, 0, Some((1, 9))),
+    (9, 1, None),
+    (8, 0, Some((0, 0))),
+    (7, 0, Some((33, 1))),
+];
+
+const AFTER_CUT_SPACE: Space = Space {
+    live: 64,
+    stale: 16,
+    free: 800,
+};
 
 const ON_BLANK: [Call; 17] = [
     (1, (7, 1), 2, None, (7, 1)),
@@ -164,6 +180,7 @@ fn after_a_cut<B: Bench, L: Ledger, R: Abort>(
     shows(rt, bench, &store, &[3, 7, 9], 64, steps);
     let rows = [(2, 2, 9, 9), (1, 4, 8, 0), (1, 3, 3, 1), (1, 2, 7, 1)];
     walks(rt, bench, &store, 3, &rows, steps);
+    tells(rt, bench, &store, &AFTER_CUT, AFTER_CUT_SPACE, steps);
     Ok(())
 }
 

@@ -1,31 +1,37 @@
-// Lines and texts against the grammar's table.
-use item_lines::{Answer, Bytes, Line, LineWhy, ScriptFault, answer_text, read_script};
+// Lines on numbered items and texts of their answers, against the grammar's table.
+use item_lines::{
+    Answer, Bytes, Ids, Line, LineWhy, ScriptFault, answer_text, is_lost, read_script, units_of,
+};
 use std::test::Fail;
 
-// A line's word, its number, and its value.
-fn parts(line: &Line) -> (&str, u64, &[u8]) {
+// A line's word, its numbers, and its value.
+fn parts(line: &Line) -> (&str, u64, u64, &[u8]) {
     match line {
-        Line::Set { id, value } => ("set", u64::from(*id), value.as_slice()),
-        Line::Get { id } => ("get", u64::from(*id), b""),
-        Line::Delete { id } => ("del", u64::from(*id), b""),
-        Line::Cut { units } => ("cut", *units, b""),
-        Line::Uncut => ("uncut", 0, b""),
-        Line::Mount => ("mount", 0, b""),
+        Line::Set { id, value } => ("set", u64::from(*id), 0, value.as_slice()),
+        Line::Get { id } => ("get", u64::from(*id), 0, b""),
+        Line::Delete { id } => ("del", u64::from(*id), 0, b""),
+        Line::Older { id, n } => ("older", u64::from(*id), u64::from(*n), b""),
+        Line::Space => ("space", 0, 0, b""),
+        Line::Cut { units } => ("cut", *units, 0, b""),
+        Line::Uncut => ("uncut", 0, 0, b""),
+        Line::Mount => ("mount", 0, 0, b""),
     }
 }
 
 #[test]
 fn each_form(rt: HostRuntime) -> Result<(), Fail> {
-    let text = b"set 1 0aFf\nget 65534\n#\n\ndel 3\ncut 0\ncut 4294967295\nuncut\nmount";
-    let lines = read_script(rt.alloc(), text)?;
-    let rows: [(&str, u64, &[u8]); 7] = [
-        ("set", 1, b"\x0A\xFF"),
-        ("get", 65534, b""),
-        ("del", 3, b""),
-        ("cut", 0, b""),
-        ("cut", 4_294_967_295, b""),
-        ("uncut", 0, b""),
-        ("mount", 0, b""),
+    let text =
+        b"set 1 0aFf\nget 65534\n#\n\ndel 3\nolder 4294967294 4294967295\nspace\ncut 4294967295\nuncut\nmount";
+    let lines = read_script(rt.alloc(), text, Ids::Long, 2)?;
+    let rows: [(&str, u64, u64, &[u8]); 8] = [
+        ("set", 1, 0, b"\x0A\xFF"),
+        ("get", 65534, 0, b""),
+        ("del", 3, 0, b""),
+        ("older", 4_294_967_294, 4_294_967_295, b""),
+        ("space", 0, 0, b""),
+        ("cut", 4_294_967_295, 0, b""),
+        ("uncut", 0, 0, b""),
+        ("mount", 0, 0, b""),
     ];
     assert_eq!(rt; lines.len(), rows.len());
     for (line, row) in lines.iter().zip(rows) {
@@ -34,46 +40,47 @@ fn each_form(rt: HostRuntime) -> Result<(), Fail> {
     Ok(())
 }
 
-// A text, and the number of its first line that is none.
-const REFUSED: [(&[u8], u64); 31] = [
-    (b"del 65535", 1),
-    (b"del", 1),
-    (b"del 1 00", 1),
-    (b"get 65535", 1),
-    (b"mount\n\n#\nfly\nget", 4),
-    (b"get 01", 1),
-    (b"get +1", 1),
-    (b"get -1", 1),
-    (b"get", 1),
-    (b"get ", 1),
-    (b"get 1 ", 1),
-    (b" get 1", 1),
-    (b"get  1", 1),
-    (b" ", 1),
-    (b"get 1\r\n", 1),
-    (b"set 1", 1),
-    (b"set 1 ", 1),
-    (b"set 1 -", 1),
-    (b"set 1 0", 1),
-    (b"set 1 0g", 1),
-    (b"set 1 00 00", 1),
-    (b"set 65535 00", 1),
-    (b"cut 4294967296", 1),
-    (b"cut 18446744073709551616", 1),
-    (b"cut 00", 1),
-    (b"cut", 1),
-    (b"uncut 1", 1),
-    (b"mount ", 1),
-    (b"Mount", 1),
-    (b"g\xC3\xA9t 1", 1),
-    (b"set 1 0aFf\n\xFF", 2),
+// A text, and the number of its first refused line, with the cause; values have 2 bytes at most.
+const REFUSED: [(&[u8], Ids, u64, LineWhy); 33] = [
+    (b"del 65535", Ids::Short, 1, LineWhy::Number),
+    (b"get 65534\nget 65535", Ids::Short, 2, LineWhy::Number),
+    (b"older 65535 0", Ids::Short, 1, LineWhy::Number),
+    (b"set 65535 00", Ids::Short, 1, LineWhy::Number),
+    (b"get 65535\nget 4294967295", Ids::Long, 2, LineWhy::Number),
+    (b"get 4294967296", Ids::Long, 1, LineWhy::Number),
+    (b"del", Ids::Short, 1, LineWhy::Words),
+    (b"del 1 00", Ids::Short, 1, LineWhy::Words),
+    (b"mount\n\n#\nfly\nget", Ids::Short, 4, LineWhy::Unknown),
+    (b"get 01", Ids::Short, 1, LineWhy::Number),
+    (b"get +1", Ids::Short, 1, LineWhy::Number),
+    (b"get -1", Ids::Short, 1, LineWhy::Number),
+    (b"get ", Ids::Short, 1, LineWhy::Number),
+    (b"get 1 ", Ids::Short, 1, LineWhy::Words),
+    (b" get 1", Ids::Short, 1, LineWhy::Unknown),
+    (b" ", Ids::Short, 1, LineWhy::Unknown),
+    (b"get 1\r\n", Ids::Short, 1, LineWhy::Number),
+    (b"set 1", Ids::Short, 1, LineWhy::Words),
+    (b"set 1 ", Ids::Short, 1, LineWhy::Hex),
+    (b"set 1 -", Ids::Short, 1, LineWhy::Hex),
+    (b"set x 0", Ids::Short, 1, LineWhy::Hex),
+    (b"set x 001122", Ids::Short, 1, LineWhy::Long),
+    (b"set x 0011", Ids::Short, 1, LineWhy::Number),
+    (b"older 1", Ids::Short, 1, LineWhy::Words),
+    (b"older 1 4294967296", Ids::Short, 1, LineWhy::Number),
+    (b"older 1 -", Ids::Short, 1, LineWhy::Number),
+    (b"space 1", Ids::Short, 1, LineWhy::Words),
+    (b"cut 4294967296", Ids::Short, 1, LineWhy::Number),
+    (b"cut 00", Ids::Short, 1, LineWhy::Number),
+    (b"uncut 1", Ids::Short, 1, LineWhy::Words),
+    (b"mount ", Ids::Short, 1, LineWhy::Words),
+    (b"Mount", Ids::Short, 1, LineWhy::Unknown),
+    (b"set 1 0aFf\n\xFF", Ids::Short, 2, LineWhy::Unknown),
 ];
 
 #[test]
 fn refused_lines(rt: HostRuntime) {
-    for (text, line) in REFUSED {
-        let why = LineWhy::Unknown;
-        let fault = read_script(rt.alloc(), text).err();
+    for (text, ids, line, why) in REFUSED {
+        let fault = read_script(rt.alloc(), text, ids, 2).err();
         assert_eq!(rt; fault, Some(ScriptFault::BadLine { line, why }), "{text:?}");
     }
 }
@@ -83,9 +90,21 @@ fn texts(rt: HostRuntime) -> Result<(), Fail> {
     let alloc = rt.alloc();
     let value = Bytes::from_vec(vec![in alloc; 0x0au8, 0xff]?);
     let rows = [
-        (Answer::Done { units: 0 }, "ok 0\n"),
-        (Answer::Value { value }, "value 0aff\n"),
-        (Answer::Absent, "none\n"),
+        (Answer::Done { units: 3 }, "ok 3\n", 3, false),
+        (Answer::Value { value }, "value 0aff\n", 0, false),
+        (Answer::Absent, "none\n", 0, false),
+        (Answer::Deleted, "deleted\n", 0, false),
+        (Answer::Gone, "gone\n", 0, false),
+        (
+            Answer::Space {
+                live: 12,
+                stale: 0,
+                free: 468,
+            },
+            "space 12 0 468\n",
+            0,
+            false,
+        ),
         (
             Answer::NoSpace {
                 units: 71,
@@ -93,13 +112,16 @@ fn texts(rt: HostRuntime) -> Result<(), Fail> {
                 live: 264,
             },
             "nospace 71\n",
+            71,
+            false,
         ),
-        (Answer::Lost { units: 66 }, "lost 66\n"),
-        (Answer::Off, "off\n"),
+        (Answer::Lost { units: 66 }, "lost 66\n", 66, true),
+        (Answer::Off, "off\n", 0, false),
     ];
-    for (answer, expected) in &rows {
+    for (answer, expected, units, lost) in &rows {
         let text = answer_text(alloc, answer).map_err(|_| "no memory")?;
         assert!(rt; text.as_slice() == expected.as_bytes());
+        assert_eq!(rt; (units_of(answer), is_lost(answer)), (*units, *lost));
     }
     Ok(())
 }

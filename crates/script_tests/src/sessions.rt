@@ -1,103 +1,230 @@
-ghost use Rattle.std.specs.Prelude.{◌≡◌, ◌∷◌, [], true, OnOk};
-ghost use Rattle.flash_map.specs.declared.area.Role.TheVariants.{Nvs};
+// Scripts on the items of two small sectors, of NVS and of ZMS. Answers are those of an independent reading of the same scripts.
+ghost use Rattle.std.specs.Prelude.{◌≡◌, ◌<◌, ◌∷◌, [], OnOk};
+ghost use Rattle.flash_map.specs.declared.area.Role.TheVariants.{Nvs as nvs_role, Zms as zms_role};
+ghost use Rattle.flash_map.specs.Area.{unit_of};
+ghost use Rattle.item_lines.specs.Line.{ids_end};
+ghost use Rattle.item_session.specs.Device.{TakesValues};
+ghost use Rattle.ring_store.specs.Standing.{IsStoreArea};
 
 use arrayvec::ArrayString;
-use flash_map::{Area, Damaged, Role, Why};
-use flash_sim::{Bank, Bench, FlatSim, Kind};
-use item_lines::{Line, answer_text};
-use item_session::*;
+use flash_map::{Area, Role};
+use flash_sim::{Bank, Bench, FlatSim, Kind, Steps};
+use item_lines::{Answer, Ids, answer_text, read_script};
+use item_session::{SessionFault, areas_take_values, run_lines};
+use nvs_sectors::NvsOpen;
+use ring_store::SlotSectors;
 use std::alloc::Global;
+use std::marker::Brand;
 use std::process::Abort;
+use std::sync::ledger::{Blank, Ledger};
 use std::test::Fail;
+use zms_sectors::ZmsOpen;
 
-const SMALL: Bank = Bank {
+const NVS: Bank = Bank {
     kind: Kind::Erasing,
     unit: 4,
     sector: 512,
     count: 2,
 };
 
-fn small_area() -> Area
-    ensures role { result.role ≡ Nvs }
-    ensures bank { result.bank ≡ 0 }
-    ensures first { result.first ≡ 0 }
-    ensures sectors { result.sectors ≡ 2 }
-    ensures version { result.version ≡ 1 }
+const ZMS: Bank = Bank {
+    kind: Kind::Rewritable,
+    unit: 16,
+    sector: 512,
+    count: 2,
+};
+
+fn nvs_area<B: Bench>(_bench: &B) -> Area
+    requires { (B.device _bench.now).banks ≡ NVS ∷ [] }
+    ensures { IsStoreArea nvs_role (B.device _bench.now).banks result }
 {
     Area::new(ArrayString::new(), Role::Nvs, 0, 0, 2, 1)
 }
 
-// Two blank sectors but for these bytes.
-fn load<B: Bench>(alloc: Global, bench: &mut B, bytes: &[(usize, u8)]) -> Result<(), Fail>
-    ensures banks { OnOk result ((B.device bench.new).banks ≡ SMALL ∷ []) }
-    ensures on { OnOk result ((B.device bench.new).is_on ≡ true) }
+fn zms_area<B: Bench>(_bench: &B) -> Area
+    requires { (B.device _bench.now).banks ≡ ZMS ∷ [] }
+    ensures { IsStoreArea zms_role (B.device _bench.now).banks result }
 {
-    let mut sectors = [255u8; 1024];
-    for (at, byte) in bytes {
-        if let Some(place) = sectors.get_mut(*at) {
-            *place = *byte;
-        }
-    }
-    let banks = vec![in alloc; SMALL]?;
-    let contents = vec![in alloc; Vec::from_slice(alloc, &sectors)?]?;
-    bench.load(alloc, banks, contents)?;
+    Area::new(ArrayString::new(), Role::Zms, 0, 0, 2, 1)
+}
+
+fn load_nvs<B: Bench>(alloc: Global, bench: &mut B, size: usize) -> Result<(), Fail>
+    requires { size ≡ 1024 }
+    ensures { OnOk result ((B.device bench.new).banks ≡ NVS ∷ []) }
+{
+    let banks = vec![in alloc; NVS]?;
+    let bytes = vec![in alloc; vec![in alloc; 255u8; size]?]?;
+    bench.load(alloc, banks, bytes)?;
     Ok(())
 }
 
-// One item, of id 1: it is listed, read and deleted, and is gone.
-fn exercise_item<B: Bench, R: Abort>(rt: &R, alloc: Global, bench: &mut B) -> Result<(), Fail> {
-    let area = small_area();
-    let one = [
-        (0, 1),
-        (496, 1),
-        (497, 0),
-        (498, 0),
-        (499, 0),
-        (500, 1),
-        (501, 0),
-        (503, 3),
-    ];
-    load(alloc, bench, &one)?;
-    let items = list_items(alloc, bench, &area)?;
-    assert_eq!(rt; items.len(), 1);
-    assert_eq!(rt; items[0].id, 1);
-    assert_eq!(rt; items[0].value.as_slice(), [1].as_slice());
-    let lines = [
-        Line::Get { id: 1 },
-        Line::Delete { id: 1 },
-        Line::Get { id: 1 },
-        Line::Delete { id: 1 },
-    ];
-    let answers = run_lines(alloc, &lines, bench, &area)?;
-    let mut texts = Vec::new(alloc);
-    for answer in answers.as_slice() {
+fn load_zms<B: Bench>(alloc: Global, bench: &mut B, size: usize) -> Result<(), Fail>
+    requires { size ≡ 1024 }
+    ensures { OnOk result ((B.device bench.new).banks ≡ ZMS ∷ []) }
+{
+    let banks = vec![in alloc; ZMS]?;
+    let bytes = vec![in alloc; vec![in alloc; 255u8; size]?]?;
+    bench.load(alloc, banks, bytes)?;
+    Ok(())
+}
+
+// ---- runs
+
+fn told(alloc: Global, answers: &[Answer]) -> Result<String, Fail> {
+    let mut all = Vec::new(alloc);
+    for answer in answers {
         let text = answer_text(alloc, answer).map_err(|_| "no memory")?;
-        texts.extend_from_slice(text.as_slice())?;
+        all.extend_from_slice(text.as_slice())?;
     }
-    assert_eq!(rt;
-        texts.as_slice(),
-        b"ok 0\nvalue 01\nok 2\nnone\nok 0\n".as_slice()
-    );
+    Ok(String::from_utf8_lossy(alloc, all.as_slice())?)
+}
+
+// The texts of all answers to a script on an area.
+fn transcript<T: SlotSectors, B: Bench, L: Ledger>(
+    alloc: Global,
+    bench: &mut B,
+    area: &Area,
+    ids: Ids,
+    script: &str,
+    steps: &mut Steps<L>,
+) -> Result<String, Fail>
+    requires area { IsStoreArea T.role (B.device bench.old).banks area.now }
+    requires values { TakesValues T.kind (B.device bench.old) area.now }
+    requires ids { ids_end ids ≡ (T.kind (unit_of (B.device bench.old) area.now)).ids }
+{
+    let limit = area.value_limit() as usize;
+    let lines = match read_script(alloc, script.as_bytes(), ids, limit) {
+        Ok(lines) => lines,
+        Err(_) => return Err("refused")?,
+    };
+    match run_lines::<T, B, L>(alloc, lines.as_slice(), bench, area, steps) {
+        Ok(answers) => told(alloc, answers.as_slice()),
+        Err(SessionFault::Damaged(_)) => Err("damaged")?,
+        Err(SessionFault::NoMemory) => Err("no memory")?,
+    }
+}
+
+fn nvs_transcript<B: Bench, L: Ledger>(
+    alloc: Global,
+    bench: &mut B,
+    script: &str,
+    steps: &mut Steps<L>,
+) -> Result<String, Fail> {
+    load_nvs(alloc, bench, 1024)?;
+    let area = nvs_area(bench);
+    areas_take_values();
+    transcript::<NvsOpen, B, L>(alloc, bench, &area, Ids::Short, script, steps)
+}
+
+fn zms_transcript<B: Bench, L: Ledger>(
+    alloc: Global,
+    bench: &mut B,
+    script: &str,
+    steps: &mut Steps<L>,
+) -> Result<String, Fail> {
+    load_zms(alloc, bench, 1024)?;
+    let area = zms_area(bench);
+    areas_take_values();
+    transcript::<ZmsOpen, B, L>(alloc, bench, &area, Ids::Long, script, steps)
+}
+
+// ---- the rows
+
+// What a script on NVS says of one id; losses in a set and in a delete.
+const ON_NVS: [(&str, &str); 3] = [
+    (
+        "set 1 01\nset 1 02\ndel 1\nolder 1 0\nolder 1 1\nolder 1 2\nolder 1 3\nspace\n",
+        "ok 0\nok 3\nok 3\nok 2\ndeleted\nvalue 02\nvalue 01\ngone\nspace 0 32 480\n",
+    ),
+    (
+        "set 1 01\ncut 2\nset 1 02\nget 1\nolder 1 0\nspace\ndel 1\nset 1 02\nmount\nget 1\nolder 1 0\nolder 1 1\nset 1 02\nset 1 02\ndel 2\nget 2\nolder 1 0\nolder 1 1\nolder 2 0\nspace\n",
+        "ok 0\nok 3\nok 0\nlost 2\noff\noff\noff\noff\noff\nok 0\nvalue 01\nvalue 01\ngone\nok 3\nok 0\nok 0\nnone\nvalue 02\nvalue 01\ngone\nspace 12 12 468\n",
+    ),
+    (
+        "cut 0\nuncut\nset 1 01\ncut 1\ndel 1\nmount\nget 1\nolder 1 0\ncut 2\ndel 1\nget 1\nolder 1 0\nmount\n",
+        "ok 0\nok 0\nok 0\nok 3\nok 0\nlost 1\nok 0\nvalue 01\nvalue 01\nok 0\nok 2\nnone\ndeleted\nok 0\n",
+    ),
+];
+
+const ON_ZMS: (&str, &str) = (
+    "set 1 01\nspace\nset 1 01\nset 1 02\nset 4294967294 0102030405060708090a\nolder 1 1\ndel 1\nolder 1 0\nolder 1 2\nspace\nget 4294967294\ncut 1\nset 2 0102030405060708090a\nmount\nget 2\nspace\n",
+    "ok 0\nok 2\nspace 16 0 416\nok 0\nok 1\nok 2\nvalue 01\nok 1\ndeleted\nvalue 01\nspace 32 48 400\nvalue 0102030405060708090a\nok 0\nlost 1\nok 0\nnone\nspace 32 48 400\n",
+);
+
+// A value of so many times two digits, behind these words, and LF.
+fn add_value(text: &mut String, words: &str, digits: &str, count: u32) -> Result<(), Fail> {
+    text.push_str(words)?;
+    for _ in 0..count {
+        text.push_str(digits)?;
+    }
+    text.push_str("\n")?;
     Ok(())
 }
 
-// Both sectors are closed.
-fn exercise_damage<B: Bench, R: Abort>(rt: &R, alloc: Global, bench: &mut B) -> Result<(), Fail> {
-    let area = small_area();
-    load(alloc, bench, &[(511, 0), (1023, 0)])?;
-    let damaged = SessionFault::Damaged(Damaged {
-        sector: 0,
-        why: Why::AllClosed,
-    });
-    assert_eq!(rt; list_items(alloc, bench, &area).err(), Some(damaged));
-    assert_eq!(rt; run_lines(alloc, &[], bench, &area).err(), Some(damaged));
+// Values of one id that take a collection, and what is kept of them.
+fn collects<B: Bench, L: Ledger, R: Abort>(
+    rt: &R,
+    alloc: Global,
+    bench: &mut B,
+    steps: &mut Steps<L>,
+) -> Result<(), Fail> {
+    let mut script = String::new(alloc);
+    for digits in ["11", "22", "33", "44", "55"] {
+        add_value(&mut script, "set 1 ", digits, 100)?;
+    }
+    script.push_str("older 1 1\nolder 1 2\nspace\n")?;
+    let mut expected = String::from_str(alloc, "ok 0\nok 27\nok 27\nok 27\nok 27\nok 59\n")?;
+    add_value(&mut expected, "value ", "44", 100)?;
+    expected.push_str("gone\nspace 108 108 372\n")?;
+    let text = nvs_transcript(alloc, bench, script.as_str(), steps)?;
+    assert_eq!(rt; text.as_str(), expected.as_str());
     Ok(())
+}
+
+// A value for which another one leaves no room, until that is deleted.
+fn finds_no_room<B: Bench, L: Ledger, R: Abort>(
+    rt: &R,
+    alloc: Global,
+    bench: &mut B,
+    steps: &mut Steps<L>,
+) -> Result<(), Fail> {
+    let mut script = String::new(alloc);
+    add_value(&mut script, "set 1 ", "11", 256)?;
+    add_value(&mut script, "set 2 ", "22", 256)?;
+    script.push_str("del 1\n")?;
+    add_value(&mut script, "set 2 ", "22", 256)?;
+    script.push_str("get 1\nolder 1 0\nspace\n")?;
+    let text = nvs_transcript(alloc, bench, script.as_str(), steps)?;
+    let expected = "ok 0\nok 66\nnospace 71\nok 2\nok 71\nnone\ngone\nspace 264 0 216\n";
+    assert_eq!(rt; text.as_str(), expected);
+    Ok(())
+}
+
+// With a counter of steps.
+fn sessions<B: Bench, L: Ledger, R: Abort>(
+    rt: &R,
+    alloc: Global,
+    bench: &mut B,
+    blank: Blank,
+) -> Result<(), Fail>
+    requires name { blank.name ≡ L.name }
+    requires parts { blank.parts ≡ L.parts }
+    requires some { 0 < L.parts }
+{
+    let mut steps = Steps::<L>::new(blank);
+    for (script, expected) in ON_NVS {
+        let text = nvs_transcript(alloc, bench, script, &mut steps)?;
+        assert_eq!(rt; text.as_str(), expected);
+    }
+    let text = zms_transcript(alloc, bench, ON_ZMS.0, &mut steps)?;
+    assert_eq!(rt; text.as_str(), ON_ZMS.1);
+    collects(rt, alloc, bench, &mut steps)?;
+    finds_no_room(rt, alloc, bench, &mut steps)
 }
 
 #[test]
-fn items_and_damage(rt: HostRuntime) -> Result<(), Fail> {
+fn scripts_on_items(rt: HostRuntime) -> Result<(), Fail> {
     let alloc = rt.alloc();
     let mut sim = FlatSim::new(alloc);
-    exercise_item(&rt, alloc, &mut sim)?;
-    exercise_damage(&rt, alloc, &mut sim)
+    sessions::<FlatSim, Brand, HostRuntime>(&rt, alloc, &mut sim, Blank::new(1))
 }

@@ -17,3 +17,4 @@ pub mod SpendingBounds
 pub mod SpendingLemmas
 pub mod Touches
 pub mod WholeUnits
+pub mod WrittenEnds

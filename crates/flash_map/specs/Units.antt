@@ -1,6 +1,6 @@
 -- Whole units, and erased bytes.
-use Rattle.std.specs.Prelude.{◌≡◌, ℕ, ◌+◌, ◌-◌, ◌*◌, ◌/◌, ◌⊎◌, Bool, not, List, ◌++◌, length, replicate, ◌==◌}
-use Rattle.std.specs.List.{list_all}
+use Rattle.std.specs.Prelude.{◌≡◌, ℕ, ◌+◌, ◌-◌, ◌*◌, ◌/◌, ◌⊎◌, Bool, not, List, ◌++◌, length, replicate, take, ◌==◌}
+use Rattle.std.specs.List.{list_all, suffix_len}
 
 -- the units that a bank may have, in bytes
 abbrev pub IsUnit : ℕ → Type 0
@@ -21,3 +21,7 @@ is_erased bytes = list_all (λ byte. byte == 0xFF) bytes
 -- a byte is not FF
 abbrev pub is_written : List ℕ → Bool
 is_written bytes = not (is_erased bytes)
+
+-- the end of the last unit under this place of a sector that is not erased
+unfoldable pub written_end : ℕ → ℕ → List ℕ → ℕ
+written_end unit place sector = padded unit (place - suffix_len (λ byte. byte == 0xFF) (take place sector))

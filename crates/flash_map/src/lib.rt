@@ -17,4 +17,4 @@ pub use faults::{Damaged, MountFault, Why, WriteFault};
 pub use formatting::{area_format, erase_if};
 pub use map::{AddFault, FlashMap};
 pub use pieces::{PIECE, program_all, program_padded};
-pub use units::{is_erased, padded};
+pub use units::{is_erased, padded, trimmed_len};

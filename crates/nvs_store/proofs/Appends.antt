@@ -12,7 +12,8 @@ use Rattle.nvs_store.specs.Geometry.{slot_size}
 use Rattle.nvs_store.specs.Entries.{encoded}
 use Rattle.flash_sim.specs.Device.{overwritten}
 use Rattle.ring_laws.specs.Slots.{Slot}
-use Rattle.nvs_store.specs.Sector.{slot_at, is_used, used_slots, counting_entry, entries, is_gc_done, is_closed, low, data_end, entry_end, written_end, pair_of, pairs, KeepsList, AddsPair, counts}
+use Rattle.flash_map.specs.Units.{written_end}
+use Rattle.nvs_store.specs.Sector.{slot_at, is_used, used_slots, counting_entry, entries, is_gc_done, is_closed, low, data_end, entry_end, pair_of, pairs, KeepsList, AddsPair, counts}
 use Rattle.flash_map.proofs.Rounding.{IsPadding, padding}
 use Rattle.ring_laws.proofs.SlotChanges.{SameFrom, slot_at-from, used_slots-kept, used_slots-more}
 use Rattle.ring_laws.proofs.SlotCosts.{fold_max-ge}
@@ -22,7 +23,8 @@ use Rattle.nvs_store.proofs.SlotReads.{slot_widths, slot_at-parts}
 use Rattle.flash_map.proofs.Sectors.{length-overwritten}
 use Rattle.flash_map.proofs.Ranges.{range_above, range_below, range_at, drop_at_put, get_or_above, get_or_below}
 use Rattle.nvs_store.proofs.EntryBytes.{IsEntry, length-encoded, cut_entry, counting_entry-cut, is_gc_done-cut, is_used-encoded, is_used-cut, length-cut, take-cut, counts-ordinary, counting_entry-encoded, is_gc_done-encoded}
-use Rattle.nvs_store.proofs.Room.{erased_above, written_end-le, erased_range, erased_from_range, data_end-aligned, data_end-above, data_end-grown, data_end-bounded, used_kept, HasRoom, IsNext}
+use Rattle.flash_map.proofs.WrittenEnds.{erased_above, written_end-le, erased_range, erased_from_range}
+use Rattle.nvs_store.proofs.Room.{data_end-aligned, data_end-above, data_end-grown, data_end-bounded, used_kept, HasRoom, IsNext}
 use Rattle.nvs_store.specs.Images.{data_image, entry_image, with_slot}
 
 -- ---- pairs whose data stays

@@ -11,7 +11,8 @@ use Rattle.nvs_store.specs.declared.scan.Redo.TheVariants.{Nothing, EraseNext, C
 use Rattle.nvs_store.specs.Geometry.{slot_size}
 use Rattle.nvs_store.specs.Entries.{encoded, decoded}
 use Rattle.nvs_store.specs.Images.{after_append, after_gc_done, after_close}
-use Rattle.nvs_store.specs.Sector.{counting_entry, is_gc_done, written_end, data_end}
+use Rattle.flash_map.specs.Units.{written_end}
+use Rattle.nvs_store.specs.Sector.{counting_entry, is_gc_done, data_end}
 use Rattle.nvs_store.specs.Scans.{all_found, damage_of, list_of, scan_of}
 
 -- what is read of an area

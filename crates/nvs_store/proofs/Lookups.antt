@@ -13,7 +13,8 @@ use Rattle.flash_map.specs.Units.{padded, is_erased}
 use Rattle.nvs_store.specs.Geometry.{slot_size, capacity}
 use Rattle.nvs_store.specs.Entries.{decoded}
 use Rattle.ring_laws.specs.Slots.{Slot}
-use Rattle.nvs_store.specs.Sector.{slot_at, slots, is_used, used_slots, counts, counting_entry, entries, entry_end, written_end, data_end, low, entries_within, has_fence, is_overfull, placed_cost}
+use Rattle.flash_map.specs.Units.{written_end}
+use Rattle.nvs_store.specs.Sector.{slot_at, slots, is_used, used_slots, counts, counting_entry, entries, entry_end, data_end, low, entries_within, has_fence, is_overfull, placed_cost}
 use Rattle.ring_laws.specs.Slots as shared
 use Rattle.ring_laws.proofs.SlotCounts as counting
 use Rattle.ring_laws.proofs.SlotWalks as walk

@@ -25,7 +25,8 @@ use Rattle.nvs_store.proofs.Cuts.{sizes}
 use Rattle.nvs_store.proofs.EntryBytes.{length-encoded}
 use Rattle.nvs_store.proofs.Marks.{put_done, put_cut_done, put_close_units}
 use Rattle.nvs_store.proofs.Putting.{erased-is, entry_image-is, changed_to, can_entry, inside}
-use Rattle.nvs_store.proofs.Room.{erased_from_range, HasRoom}
+use Rattle.flash_map.proofs.WrittenEnds.{erased_from_range}
+use Rattle.nvs_store.proofs.Room.{HasRoom}
 use Rattle.nvs_store.proofs.SlotReads.{slot_widths, slot_at-parts}
 use Rattle.nvs_store.specs.Images.{entry_image, with_mark, with_close, after_gc_done, after_close}
 

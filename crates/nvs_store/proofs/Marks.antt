@@ -14,7 +14,8 @@ use Rattle.nvs_store.specs.Geometry.{slot_size}
 use Rattle.nvs_store.specs.Entries.{encoded, decoded, entry_of}
 use Rattle.flash_sim.specs.Device.{overwritten}
 use Rattle.ring_laws.specs.Slots.{Slot}
-use Rattle.nvs_store.specs.Sector.{slot_at, is_used, used_slots, counting_entry, entries, is_gc_done, low, data_end, entry_end, written_end, pair_of, KeepsList, special_entry, MarksDone, Closes, counts}
+use Rattle.flash_map.specs.Units.{written_end}
+use Rattle.nvs_store.specs.Sector.{slot_at, is_used, used_slots, counting_entry, entries, is_gc_done, low, data_end, entry_end, pair_of, KeepsList, special_entry, MarksDone, Closes, counts}
 use Rattle.flash_map.proofs.Rounding.{padding, by_unit}
 use Rattle.nvs_store.proofs.SlotReads.{slot_widths, slot_at-parts}
 use Rattle.std.proofs.Math.Nat.{zero-mod}
@@ -23,7 +24,8 @@ use Rattle.ring_laws.proofs.SlotCounts.{slots_to_used}
 use Rattle.flash_map.proofs.Sectors.{length-overwritten, overwritten_nil}
 use Rattle.flash_map.proofs.Ranges.{get_or_below, range_below, range_at}
 use Rattle.nvs_store.proofs.EntryBytes.{cut_entry, decoded_cases, decoded-encoded, counting_entry-is, is_gc_done-is}
-use Rattle.nvs_store.proofs.Room.{erased_above, written_end-le, data_end-above, HasRoom}
+use Rattle.flash_map.proofs.WrittenEnds.{erased_above, written_end-le}
+use Rattle.nvs_store.proofs.Room.{data_end-above, HasRoom}
 use Rattle.nvs_store.proofs.Appends.{put_cut, has_slot_more, new_slot, kept, length-entry_image}
 use Rattle.nvs_store.specs.Images.{entry_image, with_mark, with_slot, with_close}
 

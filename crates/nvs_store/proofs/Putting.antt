@@ -30,7 +30,8 @@ use Rattle.nvs_store.specs.Scans.{AddsPairAt, StopsAddingAt}
 use Rattle.nvs_store.proofs.Appends.{fence_of, put_entry, length-entry_image}
 use Rattle.nvs_store.proofs.Cuts.{put_units, data-stops}
 use Rattle.nvs_store.proofs.EntryBytes.{length-encoded}
-use Rattle.nvs_store.proofs.Room.{data_end-above, data_end-aligned, erased_above, erased_from_range, HasRoom, IsNext}
+use Rattle.flash_map.proofs.WrittenEnds.{erased_above, erased_from_range}
+use Rattle.nvs_store.proofs.Room.{data_end-above, data_end-aligned, HasRoom, IsNext}
 use Rattle.nvs_store.proofs.SlotReads.{slot_widths, slot_at-parts}
 use Rattle.nvs_store.specs.Images.{data_image, entry_image, with_slot, after_append}
 

@@ -12,9 +12,10 @@ use Rattle.nvs_store.specs.declared.scan.Placed.{Placed}
 use Rattle.nvs_store.specs.declared.scan.Redo.TheVariants.{Nothing}
 use Rattle.nvs_store.specs.declared.scan.Scan.{Scan}
 use Rattle.nvs_store.specs.Geometry.{slot_size}
-use Rattle.nvs_store.specs.Sector.{counting_entry, entries, entry_end, written_end, low, data_end, has_gc_done, AddsPair}
+use Rattle.flash_map.specs.Units.{written_end}
+use Rattle.nvs_store.specs.Sector.{counting_entry, entries, entry_end, low, data_end, has_gc_done, AddsPair}
 use Rattle.nvs_store.specs.Scans.{sector_scan}
-use Rattle.nvs_store.proofs.Room.{written_end-le}
+use Rattle.flash_map.proofs.WrittenEnds.{written_end-le}
 use Rattle.nvs_store.proofs.Blank.{blank-used}
 
 pub scan_is : (unit place : ℕ) (b : List ℕ) (lowest end : ℕ) (gc_done : Bool) → lowest ≡ low unit b → end ≡ data_end unit b → gc_done ≡ has_gc_done unit b

@@ -1,8 +1,8 @@
 -- How one sector reads. Data grows upward from the sector's start, and slots of entries grow downward from its end.
 use Rattle.std.specs.Prelude.{◌≡◌, ◌⊎◌, ℕ, ◌+◌, ◌-◌, ◌%◌, ◌≤◌, max, Bool, true, false, not, ◌&&◌, ◌||◌, List, [], ◌∷◌, ◌++◌, length, take, map, fold, sum_by, slice_range, Option, Some, None, ◌==◌, nat_le, nat_lt, if◌then◌else◌}
-use Rattle.std.specs.List.{suffix_len, filter_map, list_any}
+use Rattle.std.specs.List.{filter_map, list_any}
 use Rattle.std.specs.Option.{option_and_then, option_map_or}
-use Rattle.flash_map.specs.Units.{padded, is_erased}
+use Rattle.flash_map.specs.Units.{padded, is_erased, written_end}
 use Rattle.ring_laws.specs.Slots as shared
 use Rattle.ring_laws.specs.Slots.{Slot}
 use Rattle.nvs_store.specs.declared.entry.Entry.{Entry}
@@ -62,10 +62,6 @@ low unit sector = shared.low is_used 1 (slot_size unit) sector
 
 abbrev pub entry_end : ℕ → Placed → ℕ
 entry_end unit f = f.entry.offset + padded unit f.entry.len
-
--- the end of the last unit under the fence that is not erased
-unfoldable pub written_end : ℕ → ℕ → List ℕ → ℕ
-written_end unit fence sector = padded unit (fence - suffix_len (λ byte. byte == 0xFF) (take fence sector))
 
 -- where the next data goes: above the written units, the data of the entries that count, and the sum of their lengths
 unfoldable pub data_end : ℕ → List ℕ → ℕ

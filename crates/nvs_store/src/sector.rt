@@ -10,10 +10,8 @@ ghost use Rattle.nvs_store.specs.Scans.{sector_scan, found_at};
 
 use crate::geometry::{capacity, cost, slot_size};
 use crate::scan::{Found, Placed, Redo, Scan};
-use crate::slots::{
-    counting_entry, end_of, is_gc_done, len_of, slot_of, slot_start, trimmed_len, used_count,
-};
-use flash_map::{is_erased, padded};
+use crate::slots::{counting_entry, end_of, is_gc_done, len_of, slot_of, slot_start, used_count};
+use flash_map::{is_erased, padded, trimmed_len};
 
 /// Reads how far a sector is filled.
 pub fn scan_sector(bytes: &[u8], unit: u32, place: u32) -> Scan

@@ -1,6 +1,5 @@
 // The slots of one sector, over its bytes. Slot k starts k + 1 slots before the sector's end.
 ghost use Rattle.std.specs.Prelude.{◌≡◌, ◌+◌, ◌-◌, ◌*◌, ◌%◌, ◌^◌, ◌≤◌, ◌<◌, length, ◌==◌};
-ghost use Rattle.std.specs.List.{suffix_len};
 ghost use Rattle.std.specs.Option.{option_map_or};
 ghost use Rattle.flash_map.specs.Units.{IsUnit, padded};
 ghost use Rattle.nvs_store.specs.Geometry.{slot_size};
@@ -138,15 +137,4 @@ pub fn len_of(placed: &Option<Placed>, unit: u32) -> u32
         Some(placed) => padded(unit, u32::from(placed.entry.len)),
         None => 0,
     }
-}
-
-/// The length without the erased bytes at the end.
-pub fn trimmed_len(bytes: &[u8]) -> usize
-    ensures { result ≡ length bytes.now - suffix_len (λ byte. byte == 0xFF) bytes.now }
-{
-    let mut len = bytes.len();
-    while len > 0 && bytes[len - 1] == 0xFF {
-        len -= 1;
-    }
-    len
 }

@@ -4,8 +4,9 @@ use Rattle.std.specs.Prelude.{ℕ, List}
 use Rattle.flash_sim.specs.Device.{Device}
 use Rattle.flash_sim.specs.declared.flash.Bank.{Bank}
 use Rattle.flash_map.specs.declared.area.Area.{Area}
+use Rattle.flash_map.specs.declared.area.Geometry.{Geometry}
 use Rattle.flash_map.specs.declared.area.Role.TheVariants.{Nvs as NvsRole}
-use Rattle.flash_map.specs.Area.{unit_of, sectors_of}
+use Rattle.flash_map.specs.Area.{geometry_of, unit_of, sectors_of}
 use Rattle.pair_laws.specs.Items.{Items}
 use Rattle.pair_laws.specs.Rounds.{live_cost}
 use Rattle.nvs_store.specs.Geometry.{cost}
@@ -20,11 +21,11 @@ use Rattle.nvs_gc.specs.declared.nvs.Nvs.{Nvs}
 
 -- how its sectors read
 abbrev pub kind_on : Device → Area → Kind
-kind_on d area = kind (unit_of d area)
+kind_on d area = kind (geometry_of d area)
 
 -- what is kept of the open sector, by its bytes
-abbrev pub kept : ℕ → List ℕ → NvsOpen
-kept unit b = record { low = low unit b; data_end = data_end unit b; gc_done = has_gc_done unit b }
+abbrev pub kept : Geometry → List ℕ → NvsOpen
+kept geometry b = record { low = low geometry.unit b; data_end = data_end geometry.unit b; gc_done = has_gc_done geometry.unit b }
 
 -- an area on which a store may stand
 abbrev pub IsNvsArea : List Bank → Area → Type 0

@@ -23,17 +23,17 @@ use Rattle.nvs_store.proofs.FoundLemmas.{few_slots}
 use Rattle.nvs_store.proofs.EntryBytes.{decoded_cases, counting_entry-is}
 use Rattle.nvs_store.proofs.NvsEntries.{are_nvs}
 use Rattle.nvs_store.proofs.SlotReads.{slot_widths, slot_at-parts}
-use Rattle.nvs_kind.specs.Kinds.{entry_of, placed_of, placed_bytes, kind}
+use Rattle.nvs_kind.specs.Kinds.{entry_of, placed_of, placed_bytes, kind_in}
 use Rattle.nvs_kind.proofs.KindLemmas.{slot_is}
 
 pub last_same : (unit : ℕ) (b : List ℕ) (place id n : ℕ) → length b ≤ n
-    → option_map placed_of (option_map (found_at place) (last_placed (Some id) (entries_within unit b n))) ≡ option_map (placed_at place) (last_in (slots (kind unit)) place id (kind_entries (kind unit) b))
+    → option_map placed_of (option_map (found_at place) (last_placed (Some id) (entries_within unit b n))) ≡ option_map (placed_at place) (last_in (slots (kind_in unit)) place id (kind_entries (kind_in unit) b))
 last_same unit b place id n enough =
     let few = few_slots unit b in
     ap (λ (ss : List Slot). option_map placed_of (option_map (found_at place) (last_placed (Some id) (filter_map (counting_entry unit) ss)))) (take_all n (used_slots unit b) (omega arith))
     ∙ both_ways (last_placed (Some id) (entries unit b))
     ∙ ap (option_map (placed_at place)) (sym (own.last_read (λ n. counting_entry unit (slot_at unit b n)) entry_of (placed_bytes b) (slot_is unit b) id (entries unit b) None)
-    ∙ ap (λ es. last_in (slots (kind unit)) place id es) (ap (map entry_of) ((are_nvs unit).listed b) ∙ sym (own.entries_read (λ n. counting_entry unit (slot_at unit b n)) entry_of (placed_bytes b) (slot_is unit b) (range_with_len 1 (length (used_slots unit b))))))
+    ∙ ap (λ es. last_in (slots (kind_in unit)) place id es) (ap (map entry_of) ((are_nvs unit).listed b) ∙ sym (own.entries_read (λ n. counting_entry unit (slot_at unit b n)) entry_of (placed_bytes b) (slot_is unit b) (range_with_len 1 (length (used_slots unit b))))))
   where
     both_ways : (o : Option NvsPlaced) → option_map placed_of (option_map (found_at place) o) ≡ option_map (placed_at place) (option_map entry_of o)
     both_ways None = refl
@@ -79,7 +79,7 @@ module _ (unit : ℕ) (b : List ℕ) (is-unit : IsUnit unit) (small : (k : ℕ) 
       some_same x y e = cc
 
   module _ (place id : ℕ) (large : 2 ^ 16 ≤ id) where
-    none_among : (ns : List ℕ) → last_in (slots (kind unit)) place id (filter_map (λ n. option_map entry_of (counting_entry unit (slot_at unit b n))) ns) ≡ None
+    none_among : (ns : List ℕ) → last_in (slots (kind_in unit)) place id (filter_map (λ n. option_map entry_of (counting_entry unit (slot_at unit b n))) ns) ≡ None
     none_among [] = refl
     none_among (n ∷ ns) =
         elim (option_cases (counting_entry unit (slot_at unit b n))) [
@@ -91,5 +91,5 @@ module _ (unit : ℕ) (b : List ℕ) (is-unit : IsUnit unit) (small : (k : ℕ) 
         ]
 
     -- no entry has an id of more than two bytes
-    pub none-large : last_in (slots (kind unit)) place id (kind_entries (kind unit) b) ≡ None
+    pub none-large : last_in (slots (kind_in unit)) place id (kind_entries (kind_in unit) b) ≡ None
     none-large = none_among (range_with_len 1 (length (used_slots unit b)))

@@ -1,10 +1,10 @@
 -- The kind of NVS is one.
-use Rattle.std.proofs.Common.{◌≡◌, ℕ, ◌+◌, ◌*◌, ◌/◌, ◌%◌, ◌≤◌, max, List, [], ◌∷◌, length, map, Some, refl, sym, ap, ◌∙◌, arith}
+use Rattle.std.proofs.Common.{◌≡◌, ℕ, ◌+◌, ◌*◌, ◌/◌, ◌%◌, ◌≤◌, max, Bool, cond, List, [], ◌∷◌, length, map, Some, refl, sym, ap, ◌∙◌, arith}
 use Rattle.std.specs.Prelude.{fold}
 use Rattle.std.specs.List.{range_with_len}
 use Rattle.std.proofs.Math.Nat.{mod-add-div, mul_comm, add-mul}
 use Rattle.std.proofs.lemmas.Nat.{le-div}
-use Rattle.flash_map.specs.Units.{IsUnit, padded}
+use Rattle.flash_map.specs.Units.{IsUnit, padded, is_erased}
 use Rattle.flash_map.proofs.Rounding.{padding, by_unit}
 use Rattle.pair_laws.specs.Rounds.{copies_cost}
 use Rattle.ring_store.specs.declared.entry.Entry.{Entry}
@@ -19,7 +19,7 @@ use Rattle.nvs_store.proofs.NvsEntries.{bytes_len, are_nvs}
 use Rattle.nvs_store.proofs.ScanLemmas.{blank-low, blank-data_end}
 use Rattle.nvs_store.proofs.SlotReads.{slot_widths}
 use Rattle.nvs_store.proofs.Sound.{sound-costs}
-use Rattle.nvs_kind.specs.Kinds.{entry_of, placed_bytes, just, units_of, kind}
+use Rattle.nvs_kind.specs.Kinds.{entry_of, placed_bytes, just, units_of, kind_in}
 
 pub slot_is : (unit : ℕ) (b : List ℕ) (n : ℕ) (p : Placed) → counting_entry unit (slot_at unit b n) ≡ Some p → (entry_of p).slot ≡ n
 slot_is unit b n p some = (are_nvs unit).slot b 0 n p some
@@ -96,10 +96,10 @@ units_are unit = record {
   clear_in = λ b. inside 1;
 }
 
-pub nvs_is_kind : (unit : ℕ) → IsUnit unit → IsKind (kind unit)
+pub nvs_is_kind : (unit : ℕ) → IsUnit unit → IsKind (kind_in unit)
 nvs_is_kind unit is-unit = record {
   reads = reads-blank unit;
-  pairs = λ b. ap (map (pair_of b)) ((are_nvs unit).listed b) ∙ own.pairs_read (λ n. counting_entry unit (slot_at unit b n)) entry_of (placed_bytes b) (slot_is unit b) (range_with_len 1 ((kind unit).count b));
+  pairs = λ b. ap (map (pair_of b)) ((are_nvs unit).listed b) ∙ own.pairs_read (λ n. counting_entry unit (slot_at unit b n)) entry_of (placed_bytes b) (slot_is unit b) (range_with_len 1 ((kind_in unit).count b));
   reserved = λ b n e is id.
       let t = own.read_there (λ n. counting_entry unit (slot_at unit b n)) entry_of (placed_bytes b) (slot_is unit b) n e is in
       (slot-in unit b n 1 (length b) 0 t.0 (sym t.1) refl (omega arith)).ordinary (ap (λ (x : Entry). x.id) t.2 ∙ id);
@@ -107,6 +107,8 @@ nvs_is_kind unit is-unit = record {
   long = λ b n e within from listed is. own.long_own (λ n. counting_entry unit (slot_at unit b n)) entry_of (placed_bytes b) (slot_is unit b) n e (λ p some. bytes_len unit b n p some) is;
   sound = λ b long sound. refl;
   costs = λ b long sound. sound-costs unit b sound;
+  clean = λ b clean. clean;
+  blank = λ none b blank. blank;
   room = λ b long blank.
       let top = blank-low unit b blank in
       let bottom = blank-data_end unit b is-unit blank in
@@ -117,7 +119,10 @@ nvs_is_kind unit is-unit = record {
   units = units_are unit;
   least = λ len. let rounded = (padding unit is-unit).no_less len in omega arith;
   most = λ size. omega arith;
-  round = λ size closed opened pairs large long room. round_most unit is-unit size pairs large room;
+  round = λ size closed opened pairs large long blank room.
+      let none : (cond (is_erased opened) (just 0) (just 1)).lost ≡ 0 = ap (λ (t : Bool). (cond t (just 0) (just 1)).lost) blank in
+      let most = round_most unit is-unit size pairs large room in
+      omega arith;
   mount = λ size opened pairs large room. mount_most unit is-unit size pairs large room;
   entry = λ before begun len. omega arith;
   damaged = λ sectors none. none;

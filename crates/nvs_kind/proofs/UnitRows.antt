@@ -9,12 +9,12 @@ use Rattle.pair_laws.specs.Rounds.{copies_cost}
 use Rattle.ring_laws.specs.Area.{next, is_blank_at}
 use Rattle.ring_laws.specs.Forms.{to_copy}
 use Rattle.ring_store.specs.Kind.{Range}
-use Rattle.ring_store.specs.Spending.{none, both, collect_units, again_units, round_units}
+use Rattle.ring_store.specs.Spending.{none, both, collect_units, again_units, has_victim, round_units}
 use Rattle.ring_store.specs.Standing.{SpendsIn}
 use Rattle.nvs_store.specs.Geometry.{slot_size, cost}
 use Rattle.nvs_store.specs.Scans.{reading}
 use Rattle.nvs_store.proofs.SlotReads.{slot_widths}
-use Rattle.nvs_kind.specs.Kinds.{just, kind}
+use Rattle.nvs_kind.specs.Kinds.{just, kind_in}
 use Rattle.nvs_kind.proofs.KindLemmas.{whole, copies_whole}
 
 -- just so many
@@ -47,13 +47,13 @@ module _ (unit : ℕ) (is-unit : IsUnit unit) where
     abbrev copied : ℕ
     copied = copies_cost (cost unit) (to_copy (reading unit) sectors place)
 
-    collect-sum : collect_units (kind unit) sectors place ≡ just (copies_cost (λ len. cost unit len / unit) (to_copy (reading unit) sectors place) + (slot_size unit / unit + 1))
+    collect-sum : collect_units (kind_in unit) sectors place ≡ just (copies_cost (λ len. cost unit len / unit) (to_copy (reading unit) sectors place) + (slot_size unit / unit + 1))
     collect-sum =
         let n : ℕ = copies_cost (λ len. cost unit len / unit) (to_copy (reading unit) sectors place) in
         ap (λ (r : Range). both (just n) r) (both-just (slot_size unit / unit) 1) ∙ both-just n (slot_size unit / unit + 1)
 
     -- the copies, gc-done and an erase
-    pub collect-exact : collect_units (kind unit) sectors place ≡ just ((copies_cost (cost unit) (to_copy (reading unit) sectors place) + slot_size unit) / unit + 1)
+    pub collect-exact : collect_units (kind_in unit) sectors place ≡ just ((copies_cost (cost unit) (to_copy (reading unit) sectors place) + slot_size unit) / unit + 1)
     collect-exact = collect-sum ∙ (let row = copies_in (to_copy (reading unit) sectors place) in ap just (omega arith))
 
     first_erase : (t : Bool) (n : ℕ) → both (cond t (just 0) (just 1)) (just n) ≡ just (n + cond t 0 1)
@@ -61,14 +61,14 @@ module _ (unit : ℕ) (is-unit : IsUnit unit) where
     first_erase false n = both-just 1 n ∙ ap just (omega arith)
 
     -- the open sector is erased before, unless it is blank
-    pub again-exact : again_units (kind unit) sectors place ≡ just ((copies_cost (cost unit) (to_copy (reading unit) sectors place) + slot_size unit) / unit + 1 + cond (is_blank_at (reading unit) sectors place) 0 1)
+    pub again-exact : again_units (kind_in unit) sectors place ≡ just ((copies_cost (cost unit) (to_copy (reading unit) sectors place) + slot_size unit) / unit + 1 + cond (is_blank_at (reading unit) sectors place) 0 1)
     again-exact =
         ap (both (cond (is_blank_at (reading unit) sectors place) (just 0) (just 1))) collect-exact
         ∙ first_erase (is_blank_at (reading unit) sectors place) ((copied + slot_size unit) / unit + 1)
 
-  close_first : (t : Bool) (close all : ℕ) → both (just close) (cond t none (both (just 0) (just all))) ≡ just (cond t close (close + all))
-  close_first true close all = both-just close 0 ∙ ap just (omega arith)
-  close_first false close all = ap (both (just close)) (both-just 0 all) ∙ both-just close (0 + all) ∙ ap just (omega arith)
+  close_first : (t : Bool) (close all : ℕ) → both (just close) (cond t (just all) none) ≡ just (cond t (close + all) close)
+  close_first true close all = both-just close all
+  close_first false close all = both-just close 0 ∙ ap just (omega arith)
 
   two_slots : (copied : ℕ) → (rest : ℕ) → rest * unit ≡ copied + slot_size unit → slot_size unit / unit + (rest + 1) ≡ (2 * slot_size unit + copied) / unit + 1
   two_slots copied rest same =
@@ -76,17 +76,18 @@ module _ (unit : ℕ) (is-unit : IsUnit unit) where
       let turned : (2 * slot_size unit + copied) / unit ≡ (slot_size unit + (copied + slot_size unit)) / unit = ap (λ (n : ℕ). n / unit) (omega arith) in
       omega arith
 
-  -- the close alone where the victim is blank
-  pub round-exact : (sectors : List (List ℕ)) (place : ℕ) → round_units (kind unit) sectors place
-      ≡ just (cond (is_blank_at (reading unit) sectors (next sectors (next sectors place))) (slot_size unit / unit) ((2 * slot_size unit + copies_cost (cost unit) (to_copy (reading unit) sectors (next sectors place))) / unit + 1))
+  -- the close alone where there is no victim; the sector that becomes the open one is erased before, unless it is blank
+  pub round-exact : (sectors : List (List ℕ)) (place : ℕ) → round_units (kind_in unit) sectors place
+      ≡ just (cond (has_victim (kind_in unit) sectors place) ((2 * slot_size unit + copies_cost (cost unit) (to_copy (reading unit) sectors (next sectors place))) / unit + 1 + cond (is_blank_at (reading unit) sectors (next sectors place)) 0 1) (slot_size unit / unit))
   round-exact sectors place =
-      let opened = next sectors place in
-      let blank = is_blank_at (reading unit) sectors (next sectors (next sectors place)) in
+      let victim = has_victim (kind_in unit) sectors place in
       let pairs = to_copy (reading unit) sectors (next sectors place) in
       let copies : ℕ = copies_cost (λ len. cost unit len / unit) pairs in
       let rest : ℕ = copies + slot_size unit / unit in
       let split = add-mul copies (slot_size unit / unit) unit in
       let row = two_slots (copies_cost (cost unit) pairs) rest (let c = copies_whole unit is-unit pairs in let s = slots_whole in omega arith) in
-      ap (λ (r : Range). both (just (slot_size unit / unit)) (cond blank none (both (just 0) r))) (collect-sum sectors (next sectors place))
-      ∙ close_first blank (slot_size unit / unit) (copies + (slot_size unit / unit + 1))
-      ∙ ap (λ (n : ℕ). just (cond blank (slot_size unit / unit) n)) (omega arith)
+      let one = copies_in pairs in
+      let erase : ℕ = cond (is_blank_at (reading unit) sectors (next sectors place)) 0 1 in
+      ap (λ (r : Range). both (just (slot_size unit / unit)) (cond victim r none)) (again-exact sectors (next sectors place))
+      ∙ close_first victim (slot_size unit / unit) ((copies_cost (cost unit) pairs + slot_size unit) / unit + 1 + erase)
+      ∙ ap (λ (n : ℕ). just (cond victim n (slot_size unit / unit))) (omega arith)

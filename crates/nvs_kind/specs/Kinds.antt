@@ -1,6 +1,7 @@
 -- How the sectors of NVS hold entries, and what steps in them spend.
-use Rattle.std.specs.Prelude.{◌≡◌, ℕ, ◌+◌, ◌-◌, ◌/◌, true, List, [], length, slice_range, Some}
+use Rattle.std.specs.Prelude.{◌≡◌, ℕ, ◌+◌, ◌-◌, ◌/◌, true, false, List, [], length, slice_range, Some}
 use Rattle.std.specs.Option.{option_map, option_map_or}
+use Rattle.flash_map.specs.declared.area.Geometry.{Geometry}
 use Rattle.flash_map.specs.Area.{sector_at}
 use Rattle.ring_store.specs.declared.entry.Entry.{Entry}
 use Rattle.ring_store.specs.declared.entry.Placed.{Placed}
@@ -50,8 +51,9 @@ units_of unit = record {
   entry = λ len. cost unit len / unit;
 }
 
-abbrev pub kind : ℕ → Kind
-kind unit = record {
+-- in units of so many bytes
+abbrev pub kind_in : ℕ → Kind
+kind_in unit = record {
   reading = reading unit;
   first = 1;
   count = λ b. length (used_slots unit b);
@@ -62,8 +64,14 @@ kind unit = record {
   slot = slot_size unit;
   cap = capacity unit;
   free = λ b. low unit b - data_end unit b;
+  is_clean = (reading unit).is_blank;
   is_ready = λ b. true;
+  opens_ready = false;
   damage = damage_of unit;
   ids = 0xFFFF;
   units = units_of unit;
 }
+
+-- in an area of this geometry
+abbrev pub kind : Geometry → Kind
+kind geometry = kind_in geometry.unit

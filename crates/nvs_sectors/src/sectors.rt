@@ -1,19 +1,20 @@
 // What is kept of the open sector, and the calls on sectors.
-ghost use Rattle.std.specs.Prelude.{◌≡◌, ℕ, ◌+◌, ◌*◌, ◌^◌, ◌<◌, ◌≤◌, Some, List, length};
+ghost use Rattle.std.specs.Prelude.{◌≡◌, ℕ, ◌+◌, ◌*◌, ◌^◌, ◌<◌, ◌≤◌, IfSome, Some, List, length};
 ghost use Rattle.std.specs.Option.{option_map};
 ghost use Rattle.flash_map.specs.declared.area.Role.TheVariants.{Nvs as nvs_role};
-ghost use Rattle.flash_map.specs.Area.{unit_of, sector_size, sectors_of, sector_bytes};
+ghost use Rattle.flash_map.specs.Area.{geometry_of, unit_of, sector_size, sectors_of, sector_bytes};
 ghost use Rattle.flash_map.specs.Units.{IsUnit};
 ghost use Rattle.ring_laws.specs.Live.{last_in};
+ghost use Rattle.nvs_store.specs.Entries.{entry_of as fields_of};
 ghost use Rattle.nvs_store.specs.Geometry.{slot_size};
 ghost use Rattle.nvs_store.specs.Sector.{low, data_end, has_gc_done};
 ghost use Rattle.nvs_store.specs.Scans.{IsInArea};
-ghost use Rattle.nvs_kind.specs.Kinds.{placed_of, ReadsAs, kind};
+ghost use Rattle.nvs_kind.specs.Kinds.{placed_of, ReadsAs, kind_in, kind};
 ghost use Rattle.nvs_kind.proofs.KindLemmas.{nvs_is_kind};
 ghost use Rattle.ring_store.specs.Kind.{placed_at, slots};
 ghost use Rattle.ring_store.specs.Standing.{IsStoreArea};
 
-use flash_map::{Area, Damaged, area_erase, geometry, sector_view};
+use flash_map::{Area, Damaged, Geometry, area_erase, geometry, sector_view};
 use flash_sim::{Flash, PowerLost, Steps};
 use nvs_store::{
     Found, Redo, Scan, append, capacity, copy_entry, cost, counting_entry, find_in, is_blank,
@@ -57,9 +58,9 @@ fn read_again<F: Flash, L: Ledger>(
     requires area { IsStoreArea nvs_role (F.device flash.now).banks area.now }
     requires inside { at.now.sector < area.now.sectors }
     requires listed { let d = F.device flash.now in
-        (1 ≤ at.now.slot) × (at.now.slot < 1 + (kind (unit_of d area.now)).count (sector_bytes d area.now at.now.sector)) }
+        (1 ≤ at.now.slot) × (at.now.slot < 1 + (kind (geometry_of d area.now)).count (sector_bytes d area.now at.now.sector)) }
     requires there { let d = F.device flash.now in
-        option_map (placed_at at.now.sector) ((kind (unit_of d area.now)).in_slot (sector_bytes d area.now at.now.sector) at.now.slot) ≡ Some at.now }
+        option_map (placed_at at.now.sector) ((kind (geometry_of d area.now)).in_slot (sector_bytes d area.now at.now.sector) at.now.slot) ≡ Some at.now }
     ensures own { let d = F.device flash.now in ReadsAs (unit_of d area.now) (sectors_of d area.now) at.now result }
     ensures in_area { IsInArea area.now.sectors (sector_size (F.device flash.now) area.now) result }
     ensures small { result.entry.id < 2 ^ 16 }
@@ -76,7 +77,7 @@ fn last_of(bytes: &[u8], unit: u32, place: u32, id: u32) -> Option<Placed>
     requires unit { IsUnit unit }
     requires long { 16 ≤ length bytes.now }
     requires short { length bytes.now ≤ 2 ^ 15 }
-    ensures { let s = slots (kind unit) in result ≡ option_map (placed_at place) (last_in s place id (s.entries bytes.now)) }
+    ensures { let s = slots (kind_in unit) in result ≡ option_map (placed_at place) (last_in s place id (s.entries bytes.now)) }
 {
     if id > 0xFFFF {
         return None;
@@ -92,7 +93,7 @@ fn bytes_in(bytes: &[u8], unit: u32, slot: u32) -> &[u8]
     requires unit { IsUnit unit }
     requires short { length bytes.now ≤ 2 ^ 15 }
     requires inside { (slot + 1) * slot_size unit ≤ length bytes.now }
-    ensures { result.now ≡ (kind unit).bytes bytes.now slot }
+    ensures { result.now ≡ (kind_in unit).bytes bytes.now slot }
 {
     match counting_entry(bytes, unit, slot) {
         Some(found) => {
@@ -103,12 +104,34 @@ fn bytes_in(bytes: &[u8], unit: u32, slot: u32) -> &[u8]
     }
 }
 
+// The id that a slot's bytes have where an entry has its own. Their CRC is not looked at.
+fn id_of(slot: &[u8]) -> u16
+    requires { 8 ≤ length slot.now }
+    ensures { result ≡ (fields_of slot.now).id }
+{
+    u16::from_le_bytes([slot[0], slot[1]])
+}
+
+// The same of a slot of a sector with these bytes.
+fn named_id(bytes: &[u8], unit: u32, slot: u32) -> u32
+    requires unit { IsUnit unit }
+    requires short { length bytes.now ≤ 2 ^ 15 }
+    requires inside { (slot + 1) * slot_size unit ≤ length bytes.now }
+    ensures named { IfSome ((kind_in unit).in_slot bytes.now slot) (λ e. e.id ≡ result) }
+    ensures small { result < 2 ^ 16 }
+{
+    let size = slot_size(unit);
+    let start = bytes.len() - ((slot + 1) * size) as usize;
+    let id = id_of(&bytes[start..start + size as usize]);
+    id as u32
+}
+
 impl SlotSectors for NvsOpen {
     ghost role = { nvs_role };
 
     ghost kind = { kind };
 
-    ghost kept = { λ unit b. record { low = low unit b; data_end = data_end unit b; gc_done = has_gc_done unit b } };
+    ghost kept = { λ geometry b. record { low = low geometry.unit b; data_end = data_end geometry.unit b; gc_done = has_gc_done geometry.unit b } };
 
     fn first_slot() -> u32 {
         1
@@ -118,19 +141,23 @@ impl SlotSectors for NvsOpen {
         true
     }
 
-    fn cost(unit: u32, len: u32) -> u64 {
-        cost(unit, len)
+    fn cost(geometry: &Geometry, len: u32) -> u64 {
+        cost(geometry.unit, len)
     }
 
-    fn capacity(unit: u32, size: u32) -> u32 {
-        capacity(unit, size)
+    fn capacity(geometry: &Geometry) -> u32 {
+        capacity(geometry.unit, geometry.sector)
     }
 
-    fn slot_size(unit: u32) -> u32 {
-        slot_size(unit)
+    fn slot_size(geometry: &Geometry) -> u32 {
+        slot_size(geometry.unit)
     }
 
-    fn is_blank<F: Flash, L: Ledger>(
+    fn opens_ready(_geometry: &Geometry) -> bool {
+        false
+    }
+
+    fn is_clean<F: Flash, L: Ledger>(
         flash: &F,
         area: &Area,
         place: u32,
@@ -194,6 +221,17 @@ impl SlotSectors for NvsOpen {
             Some(found) => Some(placed(found.at(place))),
             None => None,
         }
+    }
+
+    fn id_in<F: Flash, L: Ledger>(
+        flash: &F,
+        area: &Area,
+        place: u32,
+        slot: u32,
+        steps: &mut Steps<L>,
+    ) -> u32 {
+        let unit = geometry(flash, area).unit;
+        named_id(sector_view(flash, area, place, steps), unit, slot)
     }
 
     fn value<'a, F: Flash, L: Ledger>(
@@ -332,5 +370,5 @@ impl SlotSectors for NvsOpen {
         }
     }
 
-    ghost lawful = { nvs_is_kind };
+    ghost lawful = { λ geometry unit. nvs_is_kind geometry.unit unit };
 }

@@ -9,7 +9,7 @@ use Rattle.flash_sim.specs.declared.flash.Bank.{Bank}
 use Rattle.flash_sim.specs.Bank.{bank_at}
 use Rattle.flash_map.specs.declared.area.Area.{Area}
 use Rattle.flash_map.specs.declared.area.Role.{Role}
-use Rattle.flash_map.specs.Area.{unit_of, sector_at, sector_size, sectors_of, ChangesOnly}
+use Rattle.flash_map.specs.Area.{unit_of, geometry_of, sector_at, sector_size, sectors_of, ChangesOnly}
 use Rattle.flash_map.specs.Lawful.{IsLawfulFor}
 use Rattle.flash_map.proofs.Places.{length-sector}
 use Rattle.pair_laws.specs.Items.{items_of}
@@ -41,8 +41,8 @@ use Rattle.ring_store.proofs.VersionSteps.{marked-versions, collects-versions}
 
 -- An area of a role on two devices with the same banks.
 
-pub same_unit : (a d : Device) (area : Area) → d.banks ≡ a.banks → unit_of d area ≡ unit_of a area
-same_unit a d area banks = ap (λ (l : List Bank). (bank_at l area.bank).unit) banks
+pub same_geometry : (a d : Device) (area : Area) → d.banks ≡ a.banks → geometry_of d area ≡ geometry_of a area
+same_geometry a d area banks = ap (λ (l : List Bank). record { unit = (bank_at l area.bank).unit; sector = (bank_at l area.bank).sector; sectors = area.sectors; kind = (bank_at l area.bank).kind }) banks
 
 pub same_size : (a d : Device) (area : Area) → d.banks ≡ a.banks → sector_size d area ≡ sector_size a area
 same_size a d area banks = ap (λ (l : List Bank). (bank_at l area.bank).sector) banks
@@ -77,12 +77,19 @@ only_none a b place same = same ∙ sym (set-get_or a place []) ∙ ap (λ (s : 
 pub only_length : (a b : List (List ℕ)) (place : ℕ) → ChangesOnly a b place → length b ≡ length a
 only_length a b place only = ap length only ∙ length-set a place (sector_at b place)
 
+pub only_same : (a b : List (List ℕ)) (place : ℕ) → ChangesOnly a b place → sector_at b place ≡ sector_at a place → b ≡ a
+only_same a b place only same = only ∙ ap (set a place) same ∙ set-get_or a place []
+
 pub only_else : (a b : List (List ℕ)) (place j : ℕ) → ChangesOnly a b place → (j ≡ place → ⊥) → sector_at b j ≡ sector_at a j
 only_else a b place j only apart = ap (λ (s : List (List ℕ)). sector_at s j) only ∙ elsewhere a place (sector_at b place) j apart
 
 -- nothing changed
 pub keeps_none : (k : Kind) (sectors : List (List ℕ)) → k.damage sectors ≡ None → KeepsItems k sectors sectors
 keeps_none k sectors undamaged = record { items = refl; versions = keeps_all (list_of k sectors) (list_of k sectors) refl; undamaged = undamaged }
+
+-- the list stays
+pub keeps_list : (k : Kind) (old new : List (List ℕ)) → list_of k new ≡ list_of k old → k.damage new ≡ None → KeepsItems k old new
+keeps_list k old new same undamaged = record { items = ap items_of same; versions = keeps_all (list_of k old) (list_of k new) same; undamaged = undamaged }
 
 module _ (k : Kind) (law : IsKind k) where
   abbrev R : Reading
@@ -113,9 +120,10 @@ module _ (k : Kind) (law : IsKind k) where
   -- Copying.
 
   -- none is copied yet
-  pub none_copied : (old : List (List ℕ)) (place : ℕ) → k.reading.is_blank (sector_at old place) ≡ true → k.is_ready (sector_at old place) ≡ true → 512 ≤ length (sector_at old place) → HasCopied k old old place []
-  none_copied old place blank ready long =
-      let room = law.room (sector_at old place) long blank in
+  pub none_copied : (old : List (List ℕ)) (place : ℕ) → k.is_clean (sector_at old place) ≡ true → k.is_ready (sector_at old place) ≡ true → 512 ≤ length (sector_at old place) → HasCopied k old old place []
+  none_copied old place clean ready long =
+      let blank = law.clean (sector_at old place) clean in
+      let room = law.room (sector_at old place) long clean in
       record {
         only = only_none old old place refl;
         ready = ready;

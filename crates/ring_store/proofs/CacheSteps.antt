@@ -6,7 +6,8 @@ use Rattle.std.proofs.lemmas.List.{length-map, length-set}
 use Rattle.std.proofs.lemmas.List.Sums.{fold_push}
 use Rattle.flash_sim.specs.Device.{Device}
 use Rattle.flash_map.specs.declared.area.Area.{Area}
-use Rattle.flash_map.specs.Area.{unit_of, sector_at, sectors_of}
+use Rattle.flash_map.specs.declared.area.Geometry.{Geometry}
+use Rattle.flash_map.specs.Area.{geometry_of, sector_at, sectors_of}
 use Rattle.lookup_cache.specs.Places.{place_of, with_note, cleared, nowhere}
 use Rattle.lookup_cache.proofs.HistoryLemmas.{note_at, clear_at}
 use Rattle.ring_laws.specs.Area.{open_sector}
@@ -18,7 +19,7 @@ use Rattle.ring_store.specs.Kind.{Kind, IsKind, placed_at, slots}
 use Rattle.ring_store.specs.Latest.{last_of_id}
 use Rattle.ring_store.specs.Listed.{IsPlaced}
 use Rattle.ring_store.specs.Steps.{new_entry}
-use Rattle.ring_store.proofs.CallFacts.{to_unit, from_unit}
+use Rattle.ring_store.proofs.CallFacts.{to_geometry, from_geometry}
 use Rattle.ring_store.proofs.LastIds.{Decides, decides_from}
 use Rattle.ring_store.proofs.Placings.{last-placed_by}
 
@@ -41,21 +42,21 @@ cache-noted cache before p is = record {
     here id false = is.latest id
 
 -- the slot behind an entry that was put
-pub entry-behind : (kind : ℕ → Kind) (a d : Device) (area : Area) (place id len : ℕ) → d.banks ≡ a.banks → (adds : AddsEntry (kind (unit_of a area)) (sectors_of a area) (sectors_of d area) place id len)
-    → (behind : ℕ) → behind ≡ (kind (unit_of d area)).first + (kind (unit_of d area)).count (sector_at (sectors_of d area) place) → adds.slot + 1 ≡ behind
+pub entry-behind : (kind : Geometry → Kind) (a d : Device) (area : Area) (place id len : ℕ) → d.banks ≡ a.banks → (adds : AddsEntry (kind (geometry_of a area)) (sectors_of a area) (sectors_of d area) place id len)
+    → (behind : ℕ) → behind ≡ (kind (geometry_of d area)).first + (kind (geometry_of d area)).count (sector_at (sectors_of d area) place) → adds.slot + 1 ≡ behind
 entry-behind kind a d area place id len banks adds behind at =
-    adds.last ∙ sym (to_unit (λ u. behind ≡ (kind u).first + (kind u).count (sector_at (sectors_of d area) place)) a d area banks at)
+    adds.last ∙ sym (to_geometry (λ u. behind ≡ (kind u).first + (kind u).count (sector_at (sectors_of d area) place)) a d area banks at)
 
 -- an entry that was put, and noted where it stands
-pub cache-put : (kind : ℕ → Kind) (a d : Device) (area : Area) (place id len : ℕ) → d.banks ≡ a.banks → AddsEntry (kind (unit_of a area)) (sectors_of a area) (sectors_of d area) place id len
-    → (cache : List (Option (ℕ × ℕ))) → IsCacheOn kind a area cache → (noted : List (Option (ℕ × ℕ))) (behind : ℕ) → behind ≡ (kind (unit_of d area)).first + (kind (unit_of d area)).count (sector_at (sectors_of d area) place)
+pub cache-put : (kind : Geometry → Kind) (a d : Device) (area : Area) (place id len : ℕ) → d.banks ≡ a.banks → AddsEntry (kind (geometry_of a area)) (sectors_of a area) (sectors_of d area) place id len
+    → (cache : List (Option (ℕ × ℕ))) → IsCacheOn kind a area cache → (noted : List (Option (ℕ × ℕ))) (behind : ℕ) → behind ≡ (kind (geometry_of d area)).first + (kind (geometry_of d area)).count (sector_at (sectors_of d area) place)
     → noted ≡ with_note cache id place (behind - 1) → IsCacheOn kind d area noted
 cache-put kind a d area place id len banks adds cache is noted behind at noted_is =
-    let k : Kind = kind (unit_of a area) in
+    let k : Kind = kind (geometry_of a area) in
     let p : Placed = placed_at place (new_entry adds.slot id len) in
     let there = entry-behind kind a d area place id len banks adds behind at in
     let same : adds.slot ≡ behind - 1 = omega arith in
-    from_unit (λ u. IsCacheOf noted (all_placed (slots (kind u)) (sectors_of d area))) a d area banks
+    from_geometry (λ u. IsCacheOf noted (all_placed (slots (kind u)) (sectors_of d area))) a d area banks
     (subst (λ (c : List (Option (ℕ × ℕ))). IsCacheOf c (all_placed (slots k) (sectors_of d area))) (ap (λ (n : ℕ). with_note cache id place n) same ∙ sym noted_is)
     (subst (λ (placed : List Placed). IsCacheOf (with_note cache id place adds.slot) placed) (sym adds.list) (cache-noted cache (all_placed (slots k) (sectors_of a area)) p is)))
 

@@ -1,5 +1,5 @@
 -- A collection, step by step: the start, the copies, gc-done, the emptying of the victim; and what a mount has to do.
-use Rattle.std.proofs.Common.{◌≡◌, ℕ, ◌*◌, ◌≤◌, Bool, true, false, cond, List, [], length, refl, sym, ap, subst, ◌∙◌, inl, inr, arith}
+use Rattle.std.proofs.Common.{◌≡◌, ◌⊎◌, ℕ, ◌*◌, ◌≤◌, Bool, true, false, cond, List, [], length, refl, sym, ap, subst, ◌∙◌, inl, inr, arith}
 use Rattle.flash_map.specs.Area.{sector_at, ChangesOnly}
 use Rattle.std.proofs.lemmas.Bool.{le-ltb}
 use Rattle.ring_laws.specs.Area.{next, area_pairs, is_closed_at}
@@ -14,7 +14,7 @@ use Rattle.ring_laws.proofs.Parts.{to_copy-kept}
 use Rattle.ring_laws.proofs.Places.{after}
 use Rattle.ring_store.specs.declared.entry.Redo.TheVariants.{Nothing, ClearNext, CollectAgain}
 use Rattle.ring_store.specs.Kind.{Kind, IsKind}
-use Rattle.ring_store.specs.Steps.{Keeps, KeepsMarks, Begins, Clears}
+use Rattle.ring_store.specs.Steps.{Keeps, KeepsMarks, Begins, Clears, StopsClearing}
 use Rattle.ring_store.specs.Standing.{KeepsItems}
 use Rattle.ring_store.specs.Collecting.{HasBegun, HasCopied, StopsCopying, CollectsAt, redo_of}
 use Rattle.ring_store.proofs.VersionLemmas.{keeps_all}
@@ -22,11 +22,11 @@ use Rattle.ring_store.proofs.Areas.{keeps-by, stopped, has_stopped, none_copied,
 
 -- An open sector that has no entry and is ready for one.
 
-pub has_begun : (k : Kind) (old start : List (List ℕ)) (place : ℕ) → ChangesOnly old start place → k.reading.is_blank (sector_at old place) ≡ true → Begins k (sector_at old place) (sector_at start place) → HasBegun k old start place
-has_begun k old start place only blank begins = record { only = only; blank = begins.blank blank; ready = begins.ready; long = begins.long }
+pub has_begun : (k : Kind) (old start : List (List ℕ)) (place : ℕ) → ChangesOnly old start place → k.is_clean (sector_at old place) ≡ true → Begins k (sector_at old place) (sector_at start place) → HasBegun k old start place
+has_begun k old start place only clean begins = record { only = only; clean = begins.clean clean; ready = begins.ready; long = begins.long }
 
 pub has_cleared : (k : Kind) (old start : List (List ℕ)) (place : ℕ) → ChangesOnly old start place → Clears k (sector_at old place) (sector_at start place) → HasBegun k old start place
-has_cleared k old start place only clears = record { only = only; blank = clears.blank; ready = clears.ready; long = clears.long }
+has_cleared k old start place only clears = record { only = only; clean = clears.clean; ready = clears.ready; long = clears.long }
 
 module _ (k : Kind) (law : IsKind k) where
   abbrev R : Reading
@@ -43,9 +43,29 @@ module _ (k : Kind) (law : IsKind k) where
   pub marks_of : (old new : List ℕ) → Keeps k old new → KeepsMarks k old new
   marks_of old new keeps = record { closed = keeps.list.closed; gc_done = keeps.list.gc_done }
 
+  -- one that may leave it clean
+  pub clean_cut : (old new : List (List ℕ)) (place : ℕ) → ChangesOnly old new place → k.is_clean (sector_at new place) ≡ true → StopsCopying k old new place
+  clean_cut old new place only clean =
+      let blank = law.clean (sector_at new place) clean in
+      record { only = only; closed = law.reads.closed (sector_at new place) blank; gc_done = law.reads.gc_done (sector_at new place) blank }
+
+  pub prepare_cut : (old new : List (List ℕ)) (place : ℕ) → Collecting k.reading old place → ChangesOnly old new place → Keeps k (sector_at old place) (sector_at new place) ⊎ StopsClearing k (sector_at old place) (sector_at new place) → StopsCopying k old new place
+  prepare_cut old new place form only lost =
+      elim lost [
+        | inl keeps ↦ begin_cut old new place form only (marks_of (sector_at old place) (sector_at new place) keeps)
+        | inr stops ↦
+            elim stops.either [
+              | inl keeps ↦ begin_cut old new place form only keeps
+              | inr clean ↦ clean_cut old new place only clean
+            ]
+      ]
+
   module _ (old start : List (List ℕ)) (place : ℕ) (form : Collecting k.reading old place) (begun : HasBegun k old start place) where
     pub start_stops : StopsCopying k old start place
-    start_stops = record { only = begun.only; closed = law.reads.closed (sector_at start place) begun.blank; gc_done = law.reads.gc_done (sector_at start place) begun.blank }
+    start_stops = clean_cut old start place begun.only begun.clean
+
+    start_blank : k.reading.is_blank (sector_at start place) ≡ true
+    start_blank = law.clean (sector_at start place) begun.clean
 
     pub start_form : Collecting k.reading start place
     start_form = (stopped k law old start place form start_stops).0
@@ -57,7 +77,7 @@ module _ (k : Kind) (law : IsKind k) where
     start_copies = ap (λ (s : List (List ℕ)). to_copy R s place) begun.only ∙ to_copy-kept R old place (sector_at start place) form.ring.within form.ring.several
 
     pub start_none : 512 ≤ length (sector_at old place) → HasCopied k start start place []
-    start_none long = let size = begun.long in none_copied k law start place begun.blank begun.ready (omega arith)
+    start_none long = let size = begun.long in none_copied k law start place begun.clean begun.ready (omega arith)
 
     -- a cut copy
     pub copy_cut : (new : List (List ℕ)) → StopsCopying k start new place → StopsCopying k old new place
@@ -65,7 +85,7 @@ module _ (k : Kind) (law : IsKind k) where
 
     pub again_collects : (new : List (List ℕ)) → CollectsAt k start new place → CollectsAt k old new place
     again_collects new at =
-        let all = collects_from R old place (sector_at start place) new form (law.reads.closed (sector_at start place) begun.blank) (law.reads.gc_done (sector_at start place) begun.blank) (subst (λ (s : List (List ℕ)). Collects R s place new) begun.only at.collects) in
+        let all = collects_from R old place (sector_at start place) new form (law.reads.closed (sector_at start place) start_blank) (law.reads.gc_done (sector_at start place) start_blank) (subst (λ (s : List (List ℕ)). Collects R s place new) begun.only at.collects) in
         let total = ap (copies_cost k.cost) start_copies in
         let cap : k.cap (length (sector_at start place)) ≡ k.cap (length (sector_at old place)) = ap k.cap begun.long in
         let room = at.room in
@@ -153,9 +173,9 @@ module _ (k : Kind) (law : IsKind k) where
   -- The emptying of the victim alone.
 
   module _ (old new : List (List ℕ)) (place : ℕ) (form : Collected k.reading old place) (only : ChangesOnly old new (next old place)) where
-    pub victim_emptied : Clears k (sector_at old (next old place)) (sector_at new (next old place)) → AtRest k.reading new place × KeepsItems k old new
-    victim_emptied clears =
-        let step = erase_victim R law.reads old place (sector_at new (next old place)) form clears.blank in
+    pub victim_emptied : k.is_clean (sector_at new (next old place)) ≡ true → AtRest k.reading new place × KeepsItems k old new
+    victim_emptied clean =
+        let step = erase_victim R law.reads old place (sector_at new (next old place)) form (law.clean (sector_at new (next old place)) clean) in
         let rest = subst (λ (s : List (List ℕ)). AtRest R s place) (sym only) step.0 in
         (rest, keeps-by k law old new place place (inr (inr form)) (inl rest) (keeps_all (area_pairs R old place) (area_pairs R new place) (ap (λ (s : List (List ℕ)). area_pairs R s place) only ∙ step.1)))
 
@@ -164,6 +184,10 @@ module _ (k : Kind) (law : IsKind k) where
         let shut : R.is_closed (sector_at new (next old place)) ≡ true = keeps.closed ∙ next-closed R old place 0 form.ring ∙ refl in
         let step = put_victim R old place (sector_at new (next old place)) form shut in
         keeps-by k law old new place place (inr (inr form)) (inr (inr (subst (λ (s : List (List ℕ)). Collected R s place) (sym only) step.0))) (keeps_all (area_pairs R old place) (area_pairs R new place) (ap (λ (s : List (List ℕ)). area_pairs R s place) only ∙ step.1))
+
+    -- cut
+    pub victim_cut_keeps : StopsClearing k (sector_at old (next old place)) (sector_at new (next old place)) → KeepsItems k old new
+    victim_cut_keeps stops = elim stops.either [ inl keeps ↦ victim_stays keeps | inr clean ↦ (victim_emptied clean).1 ]
 
 pub not_again : Nothing ≡ CollectAgain → ⊥
 not_again e = cc

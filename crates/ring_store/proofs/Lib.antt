@@ -14,6 +14,7 @@ pub mod LiveSteps
 pub mod MountSteps
 pub mod NextSteps
 pub mod OlderSteps
+pub mod OpenFacts
 pub mod Placings
 pub mod PutFacts
 pub mod PutSteps
@@ -37,3 +38,4 @@ pub mod VersionWrites
 pub mod WriteSteps
 pub mod WrittenFacts
 pub mod WrittenSteps
+pub mod TellSteps

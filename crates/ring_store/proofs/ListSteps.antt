@@ -1,5 +1,5 @@
 -- What a collection, a round and a mount make of the list, whole or cut.
-use Rattle.std.proofs.Common.{◌≡◌, ℕ, ◌≤◌, true, false, List, [], ◌∷◌, ◌++◌, length, map, set, refl, sym, ap, subst, ◌∙◌, inl, inr}
+use Rattle.std.proofs.Common.{◌≡◌, ℕ, ◌≤◌, true, List, [], ◌∷◌, ◌++◌, length, map, set, refl, sym, ap, subst, ◌∙◌, inl, inr}
 use Rattle.std.specs.List.{flat_map}
 use Rattle.std.proofs.lemmas.List.{append-nil, length-set}
 use Rattle.std.proofs.lemmas.List.Concat.{flat_map-append}
@@ -11,14 +11,14 @@ use Rattle.ring_laws.specs.Area.{next, area_pairs}
 use Rattle.ring_laws.specs.Forms.{AtRest, Collecting, Collected, IsForm, pairs_at, rest, to_copy}
 use Rattle.ring_laws.specs.Reading.{Reading}
 use Rattle.ring_laws.specs.Rounds.{parts}
-use Rattle.ring_laws.proofs.Collects.{put_nothing, put_victim, erase_victim}
+use Rattle.ring_laws.proofs.Collects.{put_victim, erase_victim}
 use Rattle.ring_laws.proofs.Lists.{rest-kept}
 use Rattle.ring_laws.proofs.Places.{after}
 use Rattle.ring_laws.proofs.Parts.{close_parts}
 use Rattle.ring_laws.proofs.Rings.{next-closed}
 use Rattle.ring_laws.proofs.RingSteps.{reads}
 use Rattle.ring_store.specs.Kind.{Kind, IsKind}
-use Rattle.ring_store.specs.Steps.{Keeps, KeepsMarks, Marks, Closes, Clears}
+use Rattle.ring_store.specs.Steps.{KeepsMarks, Marks, Closes, StopsClearing}
 use Rattle.ring_store.specs.Standing.{list_of}
 use Rattle.ring_store.specs.Collecting.{HasBegun, HasCopied, StopsCopying, CollectsAt, collected_list, KeepsOrCollects, KeepsOrTurns, KeepsOrRedoes, redo_list}
 use Rattle.ring_store.proofs.Areas.{stopped, one_marked, cut_stands}
@@ -83,9 +83,9 @@ module _ (k : Kind) (law : IsKind k) where
   -- ---- the emptying of the victim alone
 
   module _ (old new : List (List ℕ)) (place : ℕ) (form : Collected k.reading old place) (only : ChangesOnly old new (next old place)) where
-    pub emptied-list : Clears k (sector_at old (next old place)) (sector_at new (next old place)) → list_of k new ≡ list_of k old
-    emptied-list clears =
-        let step = erase_victim R law.reads old place (sector_at new (next old place)) form clears.blank in
+    pub emptied-list : k.is_clean (sector_at new (next old place)) ≡ true → list_of k new ≡ list_of k old
+    emptied-list clean =
+        let step = erase_victim R law.reads old place (sector_at new (next old place)) form (law.clean (sector_at new (next old place)) clean) in
         same-list old new place place (inr (inr form)) (inl (subst (λ (s : List (List ℕ)). AtRest R s place) (sym only) step.0)) (ap (λ (s : List (List ℕ)). area_pairs R s place) only ∙ step.1)
 
     pub stays-list : KeepsMarks k (sector_at old (next old place)) (sector_at new (next old place)) → list_of k new ≡ list_of k old
@@ -94,16 +94,13 @@ module _ (k : Kind) (law : IsKind k) where
         let step = put_victim R old place (sector_at new (next old place)) form shut in
         same-list old new place place (inr (inr form)) (inr (inr (subst (λ (s : List (List ℕ)). Collected R s place) (sym only) step.0))) (ap (λ (s : List (List ℕ)). area_pairs R s place) only ∙ step.1)
 
+    -- cut
+    pub victim_cut-list : StopsClearing k (sector_at old (next old place)) (sector_at new (next old place)) → list_of k new ≡ list_of k old
+    victim_cut-list stops = elim stops.either [ inl keeps ↦ stays-list keeps | inr clean ↦ emptied-list clean ]
+
   -- ---- a round
 
   module _ (old mid : List (List ℕ)) (place : ℕ) (form : AtRest k.reading old place) (only : ChangesOnly old mid place) where
-    -- the close was cut
-    pub kept-list : k.reading.is_blank (sector_at old place) ≡ false → Keeps k (sector_at old place) (sector_at mid place) → list_of k mid ≡ list_of k old
-    kept-list used keeps =
-        let sound = keeps.sound (form.sound place form.ring.within) in
-        let step = put_nothing R old place (sector_at mid place) form keeps.list (record { used = keeps.used; sound = sound }) in
-        same-list old mid place place (inl form) (inl (subst (λ (s : List (List ℕ)). AtRest R s place) (sym only) step.0)) (ap (λ (s : List (List ℕ)). area_pairs R s place) only ∙ step.1)
-
     module _ (closes : Closes k (sector_at old place) (sector_at mid place)) where
       pub shut-list : list_of k mid ≡ list_of k old
       shut-list = same-list old mid place (next old place) (inl form) (closed-is k law old mid place form only closes) (closed-list k law old mid place form only closes)

@@ -29,11 +29,11 @@ use Rattle.ring_store.proofs.CopyLoop.{are}
 
 -- ---- ids of a key
 
-key_below : (id : ℕ) → key_of id < 2 ^ 17
+pub key_below : (id : ℕ) → key_of id < 2 ^ 17
 unfolding key_of
 key_below id = omega arith
 
-key_short : (id : ℕ) → id < 2 ^ 16 → key_of id ≡ id
+pub key_short : (id : ℕ) → id < 2 ^ 16 → key_of id ≡ id
 unfolding key_of
 key_short id short = omega arith
 
@@ -49,7 +49,7 @@ or-right false b e = e
 abbrev last_from : ℕ → Option Placed → List Placed → Option Placed
 last_from id o placed = fold (λ last p. cond (eqb p.id id) (Some p) last) o placed
 
-none_from : (id : ℕ) (placed : List Placed) (o : Option Placed) → list_any (λ q. eqb (key_of q.id) (key_of id)) placed ≡ false → last_from id o placed ≡ o
+pub none_from : (id : ℕ) (placed : List Placed) (o : Option Placed) → list_any (λ q. eqb (key_of q.id) (key_of id)) placed ≡ false → last_from id o placed ≡ o
 none_from id [] o none = refl
 none_from id (q ∷ qs) o none =
     let apart : q.id ≡ id → ⊥ = λ (same : q.id ≡ id). false≢true (sym (or-left (eqb (key_of q.id) (key_of id)) (list_any (λ q. eqb (key_of q.id) (key_of id)) qs) none) ∙ eq-eqb (key_of q.id) (key_of id) (ap key_of same)) in
@@ -65,7 +65,7 @@ stays_some id (q ∷ qs) o some = stays_some id qs (cond (eqb q.id id) (Some q) 
     by_test false = some
 
 -- where those that have its key are the id itself
-some_from : (id : ℕ) (placed : List Placed) (o : Option Placed) → All (λ q. key_of q.id ≡ key_of id → q.id ≡ id) placed → list_any (λ q. eqb (key_of q.id) (key_of id)) placed ≡ true → is_some (last_from id o placed) ≡ true
+pub some_from : (id : ℕ) (placed : List Placed) (o : Option Placed) → All (λ q. key_of q.id ≡ key_of id → q.id ≡ id) placed → list_any (λ q. eqb (key_of q.id) (key_of id)) placed ≡ true → is_some (last_from id o placed) ≡ true
 some_from id [] o all seen = absurd (false≢true seen)
 some_from id (q ∷ qs) o all seen =
     elim (cases_Bool (eqb (key_of q.id) (key_of id))) [
@@ -82,7 +82,7 @@ not-false true e = refl
 not-false false e = absurd (false≢true (sym e))
 
 -- usual ids
-usual_all : (id : ℕ) → id ≡ usual_id (key_of id) → (placed : List Placed) → list_any is_other placed ≡ false → All (λ q. key_of q.id ≡ key_of id → q.id ≡ id) placed
+pub usual_all : (id : ℕ) → id ≡ usual_id (key_of id) → (placed : List Placed) → list_any is_other placed ≡ false → All (λ q. key_of q.id ≡ key_of id → q.id ≡ id) placed
 usual_all id own [] plain = All-nil (λ (q : Placed). key_of q.id ≡ key_of id → q.id ≡ id)
 usual_all id own (q ∷ qs) plain =
     let here : q.id ≡ usual_id (key_of q.id) = eqb-true q.id (usual_id (key_of q.id)) (not-false (eqb q.id (usual_id (key_of q.id))) (or-left (is_other q) (list_any is_other qs) plain)) in
@@ -117,6 +117,42 @@ module _ (k : Kind) (sectors : List (List ℕ)) (p : Placed) (later : List Place
             | inl same ↦ ap (λ (t : Bool). t && eqb q.slot p.slot && ltb 0 p.len) (eq-eqb q.sector p.sector same) ∙ ap (λ (t : Bool). true && t && ltb 0 p.len) (ne_eqb q.slot p.slot (here same))
             | inr apart ↦ ap (λ (t : Bool). t && eqb q.slot p.slot && ltb 0 p.len) (ne_eqb q.sector p.sector apart)
           ]
+
+  one_entry : (x y : Placed) → Some x ≡ Some y → x ≡ y
+  one_entry x y e = cc
+
+  -- the last entry of its id is another one exactly where one behind it has the id
+  pub later_by : (last : Placed) → last_placed (slots k) sectors p.id ≡ Some last → not (eqb last.sector p.sector && eqb last.slot p.slot) ≡ is_some (last_of (slots k) p.id later)
+  later_by last found =
+      elim (option_cases (last_of (slots k) p.id later)) [
+        | inl none ↦
+            let same : p ≡ last = one_entry p last (sym (own-last ∙ ap (λ (o : Option Placed). option_or (option_or o (Some p)) (last_of (slots k) p.id at.front)) none) ∙ found) in
+            ap (λ (t : Bool). not (t && eqb last.slot p.slot)) (eq-eqb last.sector p.sector (sym (ap (λ (x : Placed). x.sector) same)))
+            ∙ ap (λ (t : Bool). not (true && t)) (eq-eqb last.slot p.slot (sym (ap (λ (x : Placed). x.slot) same)))
+            ∙ sym (ap (λ (o : Option Placed). is_some o) none)
+        | inr (q, some) ↦
+            let same : q ≡ last = one_entry q last (sym (own-last ∙ ap (λ (o : Option Placed). option_or (option_or o (Some p)) (last_of (slots k) p.id at.front)) some) ∙ found) in
+            let apart : IfSome (last_of (slots k) p.id later) (λ q. q.sector ≡ p.sector → q.slot ≡ p.slot → ⊥) = last-all (λ (q : Placed). eqb q.id p.id) (λ q. q.sector ≡ p.sector → q.slot ≡ p.slot → ⊥) later None tt at.apart in
+            let here : q.sector ≡ p.sector → q.slot ≡ p.slot → ⊥ = subst (λ (o : Option Placed). IfSome o (λ q. q.sector ≡ p.sector → q.slot ≡ p.slot → ⊥)) some apart in
+            subst (λ (x : Placed). not (eqb x.sector p.sector && eqb x.slot p.slot) ≡ true) same (elsewhere_is q here) ∙ sym (ap (λ (o : Option Placed). is_some o) some)
+      ]
+    where
+      elsewhere_is : (q : Placed) → (q.sector ≡ p.sector → q.slot ≡ p.slot → ⊥) → not (eqb q.sector p.sector && eqb q.slot p.slot) ≡ true
+      elsewhere_is q here =
+          elim (cases_eq q.sector p.sector) [
+            | inl same ↦
+                ap (λ (t : Bool). not (t && eqb q.slot p.slot)) (eq-eqb q.sector p.sector same)
+                ∙ ap (λ (t : Bool). not (true && t)) (ne_eqb q.slot p.slot (here same))
+            | inr apart ↦ ap (λ (t : Bool). not (t && eqb q.slot p.slot)) (ne_eqb q.sector p.sector apart)
+          ]
+
+  -- it has a last entry, since it is one itself
+  pub never_none : last_placed (slots k) sectors p.id ≡ None → ⊥
+  never_none none =
+      elim (option_cases (last_of (slots k) p.id later)) [
+        | inl empty ↦ some_none p (sym (own-last ∙ ap (λ (o : Option Placed). option_or (option_or o (Some p)) (last_of (slots k) p.id at.front)) empty) ∙ none)
+        | inr (q, some) ↦ some_none q (sym (own-last ∙ ap (λ (o : Option Placed). option_or (option_or o (Some p)) (last_of (slots k) p.id at.front)) some) ∙ none)
+      ]
 
   -- a delete
   pub live_empty : p.len ≡ 0 → false ≡ is_live (slots k) sectors p

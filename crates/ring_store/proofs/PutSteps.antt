@@ -41,13 +41,21 @@ module _ (k : Kind) (law : IsKind k) where
 
   pub begun_still : (old new : List ℕ) → 512 ≤ length old → is_sound k.reading old ≡ true → Begins k old new → StillHas old new
   begun_still old new large sound begins =
-      elim (cases_Bool (R.is_blank old)) [
-        | inr used ↦ subst (λ (b : List ℕ). StillHas old b) (sym (begins.used used)) (record { list = refl; closed = refl; gc_done = refl; free = refl; sound = sound; blank = λ h. h })
-        | inl blank ↦
-            let after : R.is_blank new ≡ true = begins.blank blank in
+      elim (cases_Bool (k.is_clean old)) [
+        | inr used ↦
+            let same : new ≡ old =
+            elim (cases_Bool (R.is_blank old)) [
+              | inr full ↦ begins.used full
+              | inl blank ↦ begins.idle (law.used old large sound used (law.reads.closed old blank))
+            ] in
+            subst (λ (b : List ℕ). StillHas old b) (sym same) (record { list = refl; closed = refl; gc_done = refl; free = refl; sound = sound; blank = λ h. h })
+        | inl clean ↦
+            let blank = law.clean old clean in
+            let clean_after = begins.clean clean in
+            let after : R.is_blank new ≡ true = law.clean new clean_after in
             let long = begins.long in
-            let room = law.room old large blank in
-            let room_after = law.room new (omega arith) after in
+            let room = law.room old large clean in
+            let room_after = law.room new (omega arith) clean_after in
             let cap : k.cap (length new) ≡ k.cap (length old) = ap k.cap begins.long in
             record {
               list = law.reads.pairs new after ∙ sym (law.reads.pairs old blank);

@@ -4,14 +4,14 @@ use Rattle.std.proofs.lemmas.List.Sums.{sum_by-cons}
 use Rattle.flash_sim.specs.Device.{Device}
 use Rattle.flash_map.proofs.SpendingBounds.{between_then, between_within}
 use Rattle.pair_laws.specs.Rounds.{copies_cost}
-use Rattle.ring_laws.specs.Area.{next, is_blank_at}
+use Rattle.ring_laws.specs.Area.{next}
 use Rattle.ring_laws.specs.Forms.{to_copy}
 use Rattle.flash_map.specs.Area.{sector_at}
 use Rattle.ring_store.specs.declared.entry.Redo.{Redo}
 use Rattle.ring_store.specs.declared.entry.Redo.TheVariants.{Nothing, ClearNext, CollectAgain}
 use Rattle.ring_store.specs.Collecting.{redo_units}
-use Rattle.ring_store.specs.Kind.{Range, LiesIn, CoversWhole, Kind, IsKind}
-use Rattle.ring_store.specs.Spending.{none, both, copies, collect_units, ready_units, again_units, round_units}
+use Rattle.ring_store.specs.Kind.{Range, LiesIn, CoversWhole, Kind, IsKind, is_clean_at, making_ready}
+use Rattle.ring_store.specs.Spending.{none, both, copies, collect_units, ready_units, again_units, has_victim, round_units}
 use Rattle.ring_store.specs.Standing.{SpendsIn, SpendsUpTo}
 
 pub both-in : (a b c : Device) (one other : Range) → SpendsIn a b one → SpendsIn b c other → SpendsIn a c (both one other)
@@ -93,13 +93,13 @@ module _ (k : Kind) (law : IsKind k) where
 
   ready-covers : (sectors : List (List ℕ)) (place : ℕ) → CoversWhole (ready_units k sectors place)
   ready-covers sectors place =
-      one-covers (is_blank_at k.reading sectors place) (k.units.begin (sector_at sectors place)) (k.units.clear (sector_at sectors place)) (law.units.begins (sector_at sectors place)) (law.units.clears (sector_at sectors place))
+      one-covers (is_clean_at k sectors place) (k.units.begin (sector_at sectors place)) (k.units.clear (sector_at sectors place)) (law.units.begins (sector_at sectors place)) (law.units.clears (sector_at sectors place))
 
   pub again-lost : (sectors : List (List ℕ)) (place : ℕ) → (again_units k sectors place).lost
       ≤ max (k.units.begin (sector_at sectors place)).lost k.units.any_clear.lost + (copies_cost (λ len. (k.units.any_copy len).lost) (to_copy k.reading sectors place) + (k.units.any_done.lost + k.units.any_clear.lost))
   again-lost sectors place =
       let outer = both-lost (ready_units k sectors place) (collect_units k sectors place) (ready-covers sectors place) in
-      let first = one-lost (is_blank_at k.reading sectors place) (k.units.begin (sector_at sectors place)) (k.units.clear (sector_at sectors place)) k.units.any_clear.lost (law.units.clear_in (sector_at sectors place)).lost in
+      let first = one-lost (is_clean_at k sectors place) (k.units.begin (sector_at sectors place)) (k.units.clear (sector_at sectors place)) k.units.any_clear.lost (law.units.clear_in (sector_at sectors place)).lost in
       let later = collect-lost sectors place in
       omega arith
 
@@ -114,31 +114,39 @@ module _ (k : Kind) (law : IsKind k) where
     abbrev opened : ℕ
     opened = next sectors place
 
-    abbrev collecting : Range
-    collecting = both (k.units.begin (sector_at sectors opened)) (collect_units k sectors opened)
-
-    collecting-covers : CoversWhole collecting
-    collecting-covers = both-covers (k.units.begin (sector_at sectors opened)) (collect_units k sectors opened) (law.units.begins (sector_at sectors opened)) (collect-covers sectors opened)
-
     none-covers : CoversWhole none
     none-covers = omega arith
 
+    -- with no victim
+    abbrev opening : Range
+    opening = cond k.opens_ready (ready_units k sectors opened) none
+
+    opening-covers : CoversWhole opening
+    opening-covers = one-covers k.opens_ready (ready_units k sectors opened) none (ready-covers sectors opened) none-covers
+
+    again-covers : CoversWhole (again_units k sectors opened)
+    again-covers = both-covers (ready_units k sectors opened) (collect_units k sectors opened) (ready-covers sectors opened) (collect-covers sectors opened)
+
     pub round-covers : CoversWhole (round_units k sectors place)
     round-covers =
-        both-covers (k.units.close (sector_at sectors place)) (cond (is_blank_at k.reading sectors (next sectors opened)) none collecting) (law.units.closes (sector_at sectors place))
-        (one-covers (is_blank_at k.reading sectors (next sectors opened)) none collecting none-covers collecting-covers)
+        both-covers (k.units.close (sector_at sectors place)) (cond (has_victim k sectors place) (again_units k sectors opened) opening) (law.units.closes (sector_at sectors place))
+        (one-covers (has_victim k sectors place) (again_units k sectors opened) opening again-covers opening-covers)
 
-    rest-lost : (t : Bool) → (cond t none collecting).lost
-        ≤ (k.units.begin (sector_at sectors opened)).lost + (copies_cost (λ len. (k.units.any_copy len).lost) (to_copy k.reading sectors opened) + (k.units.any_done.lost + k.units.any_clear.lost))
-    rest-lost true = omega arith
-    rest-lost false =
-        let inner = both-lost (k.units.begin (sector_at sectors opened)) (collect_units k sectors opened) (law.units.begins (sector_at sectors opened)) in
+    opening-lost : (t : Bool) → (cond t (ready_units k sectors opened) none).lost ≤ (ready_units k sectors opened).lost
+    opening-lost true = omega arith
+    opening-lost false = omega arith
+
+    rest-lost : (t : Bool) → (cond t (again_units k sectors opened) opening).lost
+        ≤ (ready_units k sectors opened).lost + (copies_cost (λ len. (k.units.any_copy len).lost) (to_copy k.reading sectors opened) + (k.units.any_done.lost + k.units.any_clear.lost))
+    rest-lost false = let le = opening-lost k.opens_ready in omega arith
+    rest-lost true =
+        let inner = both-lost (ready_units k sectors opened) (collect_units k sectors opened) (ready-covers sectors opened) in
         let later = collect-lost sectors opened in
         omega arith
 
     pub round-lost : (round_units k sectors place).lost ≤ (k.units.close (sector_at sectors place)).lost
-        + ((k.units.begin (sector_at sectors (next sectors place))).lost + (copies_cost (λ len. (k.units.any_copy len).lost) (to_copy k.reading sectors (next sectors place)) + (k.units.any_done.lost + k.units.any_clear.lost)))
+        + ((making_ready k (sector_at sectors (next sectors place))).lost + (copies_cost (λ len. (k.units.any_copy len).lost) (to_copy k.reading sectors (next sectors place)) + (k.units.any_done.lost + k.units.any_clear.lost)))
     round-lost =
-        let outer = both-lost (k.units.close (sector_at sectors place)) (cond (is_blank_at k.reading sectors (next sectors opened)) none collecting) (law.units.closes (sector_at sectors place)) in
-        let later = rest-lost (is_blank_at k.reading sectors (next sectors opened)) in
+        let outer = both-lost (k.units.close (sector_at sectors place)) (cond (has_victim k sectors place) (again_units k sectors opened) opening) (law.units.closes (sector_at sectors place)) in
+        let later = rest-lost (has_victim k sectors place) in
         omega arith

@@ -11,6 +11,7 @@ use Rattle.ring_laws.specs.Area.{next, open_sector, area_pairs}
 use Rattle.ring_laws.specs.Forms.{AtRest, pairs_at, rest, to_copy}
 use Rattle.ring_laws.specs.Reading.{Reading}
 use Rattle.ring_laws.specs.Rounds.{parts}
+use Rattle.ring_laws.proofs.Collects.{next_blank}
 use Rattle.ring_laws.proofs.LiveCost.{live-le}
 use Rattle.ring_laws.proofs.Places.{after-within}
 use Rattle.ring_laws.proofs.RingSteps.{reads}
@@ -128,13 +129,13 @@ module _ (k : Kind) (law : IsKind k) (size len : ℕ) where
       subst (λ (n : ℕ). FindsNoRoom k.cost (k.cost len) (k.cap size) (parts_of k old) (parts_of k new) n) count
       (subst (λ (ps : List (List (ℕ × List ℕ))). FindsNoRoom k.cost (k.cost len) (k.cap size) (parts_of k old) ps (length before + 1)) are finds)
 
-  -- where something does not fit that a sector may hold, or a delete, the sector is in use
-  pub used_by : (b : List ℕ) → 512 ≤ size → length b ≡ size → (0 < len → k.cost len ≤ k.cap size) → fits k b len ≡ false → k.reading.is_blank b ≡ false
+  -- where something does not fit that a sector may hold, or a delete, the sector is not clean
+  pub used_by : (b : List ℕ) → 512 ≤ size → length b ≡ size → (0 < len → k.cost len ≤ k.cap size) → fits k b len ≡ false → k.is_clean b ≡ false
   used_by b large long short no_room =
-      elim (cases_Bool (k.reading.is_blank b)) [
+      elim (cases_Bool (k.is_clean b)) [
         | inr used ↦ used
-        | inl blank ↦
-            let any = unused-room k law b size large long blank in
+        | inl clean ↦
+            let any = unused-room k law b size large long clean in
             elim (cases_eq len 0) [
               | inl none ↦ absurd (false≢true (sym no_room ∙ ap (fits k b) none ∙ any.delete))
               | inr some ↦
@@ -158,6 +159,6 @@ module _ (k : Kind) (law : IsKind k) (size len : ℕ) where
       let costs = law.costs (sector_at sectors (next sectors (next sectors place))) (omega arith) (form.sound victim v_in) in
       let cap : k.cap (length (sector_at sectors (next sectors (next sectors place)))) ≡ k.cap size = ap k.cap long in
       let small : copies_cost k.cost (to_copy R sectors (next sectors place)) ≤ k.cap size = omega arith in
-      let all = law.round size (sector_at sectors place) (sector_at sectors (next sectors place)) (to_copy R sectors (next sectors place)) large (widths place ring.within) small in
+      let all = law.round size (sector_at sectors place) (sector_at sectors (next sectors place)) (to_copy R sectors (next sectors place)) large (widths place ring.within) (next_blank R sectors place form) small in
       let parts = round-lost k law sectors place in
       omega arith

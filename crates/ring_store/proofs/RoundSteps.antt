@@ -1,26 +1,30 @@
 -- A whole round of close and collect, and the room that it leaves.
-use Rattle.std.proofs.Common.{◌≡◌, ℕ, ◌+◌, ◌*◌, ◌<◌, ◌≤◌, Bool, true, false, cond, eqb, leb, List, [], ◌∷◌, length, refl, sym, ap, subst, ◌∙◌, inl, inr, ◌⊎◌, arith}
+use Rattle.std.proofs.Common.{◌≡◌, ℕ, ◌+◌, ◌*◌, ◌<◌, ◌≤◌, Bool, true, false, not, ◌||◌, cond, eqb, leb, List, [], ◌∷◌, ◌++◌, length, map, sym, ap, subst, ◌∙◌, inl, inr, ◌⊎◌, arith}
 use Rattle.std.specs.List.{flat_map, All}
-use Rattle.std.proofs.lemmas.Bool.{false≢true, cases_Bool, cases_eq, cond-true, cond-false, ne_eqb, leb-true, le-leb}
+use Rattle.std.proofs.lemmas.Bool.{false≢true, cases_Bool, cases_eq, cond-false, eq-eqb, ne_eqb, leb-true, le-leb, ltb-false, not_from_true, not_from_false}
 use Rattle.std.proofs.lemmas.List.Elements.{All-nil, All-cons}
 use Rattle.flash_map.specs.Area.{sector_at, ChangesOnly}
+use Rattle.pair_laws.specs.Items.{last}
 use Rattle.pair_laws.specs.Live.{live_pairs}
-use Rattle.ring_laws.specs.Area.{next, area_pairs, is_blank_at}
-use Rattle.ring_laws.specs.Forms.{AtRest, Collecting, IsForm, pairs_at, rest, to_copy}
+use Rattle.ring_laws.specs.Area.{next, area_pairs, is_blank_at, is_closed_at}
+use Rattle.ring_laws.specs.Forms.{distance, AtRest, Collecting, IsForm, pairs_at, rest, to_copy}
 use Rattle.ring_laws.specs.Reading.{Reading, is_sound}
 use Rattle.pair_laws.specs.Rounds.{copies_cost}
-use Rattle.ring_laws.specs.Rounds.{Collects, IsRound}
-use Rattle.ring_laws.proofs.Collects.{close, next_blank, put_nothing}
-use Rattle.ring_laws.proofs.Rings.{next-closed}
+use Rattle.ring_laws.specs.Rounds.{parts, Collects, IsRound}
+use Rattle.ring_laws.proofs.Collects.{close, next_blank, blank-sound}
+use Rattle.ring_laws.proofs.Parts.{map_agree}
+use Rattle.ring_laws.proofs.RingSteps.{reads}
 use Rattle.ring_laws.proofs.Places.{after, after-within, after-apart, flat_map-agree}
 use Rattle.ring_laws.proofs.Rounding.{round_blank, round_collected}
-use Rattle.ring_store.specs.Kind.{Range, Kind, IsKind, fits}
-use Rattle.ring_store.specs.Steps.{Keeps, Closes}
-use Rattle.ring_store.specs.Spending.{none, both, copies, collect_units, again_units}
+use Rattle.ring_store.specs.Kind.{Kind, IsKind, making_ready, fits}
+use Rattle.ring_store.specs.Steps.{Keeps, Closes, StopsClearing}
+use Rattle.ring_store.specs.Spending.{none, both, copies, collect_units, ready_units, again_units, open_units, has_victim}
 use Rattle.ring_store.specs.Standing.{KeepsItems}
-use Rattle.ring_store.specs.Collecting.{CollectsAt, TurnsAt}
+use Rattle.ring_store.specs.Collecting.{HasOpened, CollectsAt, TurnsAt}
 use Rattle.ring_store.proofs.VersionLemmas.{keeps_all}
-use Rattle.ring_store.proofs.Areas.{keeps-by, only_length, only_else, copied-le}
+use Rattle.ring_store.proofs.Areas.{keeps-by, keeps_list, only_length, only_else, copied-le}
+use Rattle.ring_store.proofs.PutSteps.{HasNotPut, has_not_put}
+use Rattle.ring_store.proofs.WrittenSteps.{closed-used}
 
 -- two comparisons that come to the same
 leb-same : (a b c d : ℕ) → (a ≤ b → c ≤ d) → (c ≤ d → a ≤ b) → leb a b ≡ leb c d
@@ -50,10 +54,11 @@ module _ (k : Kind) (law : IsKind k) where
     pub room : (len : ℕ) → 0 < len → fits k b len ≡ leb (used + k.cost len) (k.cap size)
     pub delete : fits k b 0 ≡ true
 
-  -- in a sector with no entry all fits that costs no more than the capacity
-  pub unused-room : (b : List ℕ) (size : ℕ) → 512 ≤ size → length b ≡ size → k.reading.is_blank b ≡ true → HasRoomBy b size 0
-  unused-room b size large long blank =
-      let free = law.room b (omega arith) blank in
+  -- in a clean sector all fits that costs no more than the capacity
+  pub unused-room : (b : List ℕ) (size : ℕ) → 512 ≤ size → length b ≡ size → k.is_clean b ≡ true → HasRoomBy b size 0
+  unused-room b size large long clean =
+      let blank = law.clean b clean in
+      let free = law.room b (omega arith) clean in
       let cap : k.cap (length b) ≡ k.cap size = ap k.cap long in
       let unmarked : k.reading.has_gc_done b ≡ false = law.reads.gc_done b blank in
       let three : cond (k.reading.has_gc_done b) 2 3 * k.slot ≡ 3 * k.slot = ap (λ (t : Bool). cond t 2 3 * k.slot) unmarked in
@@ -72,12 +77,54 @@ module _ (k : Kind) (law : IsKind k) where
       }
 
   -- A step at rest that keeps the list.
-  pub rest-keeps : (old new : List (List ℕ)) (place : ℕ) → AtRest k.reading old place → k.reading.is_blank (sector_at old place) ≡ false → ChangesOnly old new place → Keeps k (sector_at old place) (sector_at new place) → AtRest k.reading new place × KeepsItems k old new
-  rest-keeps old new place form used only keeps =
-      let sound = keeps.sound (form.sound place form.ring.within) in
-      let step = put_nothing R old place (sector_at new place) form keeps.list (record { used = keeps.used; sound = sound }) in
-      let rests = subst (λ (s : List (List ℕ)). AtRest R s place) (sym only) step.0 in
-      (rests, keeps-by k law old new place place (inl form) (inl rests) (keeps_all (area_pairs R old place) (area_pairs R new place) (ap (λ (s : List (List ℕ)). area_pairs R s place) only ∙ step.1)))
+  pub rest-keeps : (old new : List (List ℕ)) (place : ℕ) → AtRest k.reading old place → ChangesOnly old new place → Keeps k (sector_at old place) (sector_at new place) → HasNotPut k old new place
+  rest-keeps old new place form only keeps = has_not_put k law old new place form only keeps.list keeps.used (keeps.sound (form.sound place form.ring.within))
+
+  -- one that leaves no entry in an open sector with none
+  pub rest-blank : (old new : List (List ℕ)) (place : ℕ) → AtRest k.reading old place → k.reading.is_blank (sector_at old place) ≡ true → ChangesOnly old new place → k.reading.is_blank (sector_at new place) ≡ true → HasNotPut k old new place
+  rest-blank old new place form before only after =
+      has_not_put k law old new place form only
+      (record {
+        list = law.reads.pairs (sector_at new place) after ∙ sym (law.reads.pairs (sector_at old place) before);
+        gc_done = law.reads.gc_done (sector_at new place) after ∙ sym (law.reads.gc_done (sector_at old place) before);
+        closed = law.reads.closed (sector_at new place) after ∙ sym (law.reads.closed (sector_at old place) before);
+      })
+      (λ used. absurd (false≢true (sym used ∙ before))) (blank-sound R (sector_at new place) after)
+
+  -- An open sector with no entry was made ready, as where sectors are as soon as they open, and that was cut.
+  pub ready_cut : (old new : List (List ℕ)) (place : ℕ) → AtRest k.reading old place → k.opens_ready ≡ true → k.reading.is_blank (sector_at old place) ≡ true → ChangesOnly old new place
+      → Keeps k (sector_at old place) (sector_at new place) ⊎ StopsClearing k (sector_at old place) (sector_at new place) → HasNotPut k old new place
+  ready_cut old new place form opens before only lost =
+      elim lost [
+        | inl keeps ↦ rest-keeps old new place form only keeps
+        | inr stops ↦
+            elim (stops.opens opens) [
+              | inl same ↦ rest-blank old new place form before only (ap R.is_blank same ∙ before)
+              | inr clean ↦ rest-blank old new place form before only (law.clean (sector_at new place) clean)
+            ]
+      ]
+
+  pub not_put-keeps : (old new : List (List ℕ)) (place : ℕ) → HasNotPut k old new place → KeepsItems k old new
+  not_put-keeps old new place has = keeps_list k old new has.list has.undamaged
+
+  -- At rest, with an open sector in use, a round has a victim where the sector after the next one is not blank.
+  pub victim-blank : (sectors : List (List ℕ)) (place : ℕ) → AtRest k.reading sectors place → is_blank_at k.reading sectors place ≡ false → has_victim k sectors place ≡ not (is_blank_at k.reading sectors (next sectors (next sectors place)))
+  victim-blank sectors place form used =
+      let ring = form.ring in
+      let inside = after-within (length sectors) (next sectors place) (after-within (length sectors) place ring.within) in
+      elim (cases_eq (next sectors (next sectors place)) place) [
+        | inl e ↦
+            ap (λ (t : Bool). t || is_closed_at R sectors (next sectors (next sectors place))) (eq-eqb (next sectors (next sectors place)) place e)
+            ∙ sym (not_from_false (is_blank_at R sectors (next sectors (next sectors place))) (ap (is_blank_at R sectors) e ∙ used))
+        | inr apart ↦
+            ap (λ (t : Bool). t || is_closed_at R sectors (next sectors (next sectors place))) (ne_eqb (next sectors (next sectors place)) place apart)
+            ∙ elim (cases_Bool (is_closed_at R sectors (next sectors (next sectors place)))) [
+              | inl shut ↦ shut ∙ sym (not_from_false (is_blank_at R sectors (next sectors (next sectors place))) (closed-used k law (sector_at sectors (next sectors (next sectors place))) shut))
+              | inr free ↦
+                  let near = ltb-false form.blanks (distance (length sectors) place (next sectors (next sectors place))) (sym (ring.closed (next sectors (next sectors place)) inside) ∙ free) in
+                  free ∙ sym (not_from_true (is_blank_at R sectors (next sectors (next sectors place))) (ring.blank (next sectors (next sectors place)) inside apart near))
+            ]
+      ]
 
   -- Closing.
 
@@ -119,43 +166,72 @@ module _ (k : Kind) (law : IsKind k) where
     same_next : next mid (next old place) ≡ next old (next old place)
     same_next = ap (λ (n : ℕ). after n (next old place)) long
 
-    -- where the victim has no entry, nothing is left to collect
-    pub victim-used : k.reading.is_blank (sector_at old place) ≡ false → Collecting k.reading mid (next old place) → is_blank_at k.reading old (next old (next old place)) ≡ false
-    victim-used used collecting =
-        elim (cases_eq (next old (next old place)) place) [
-          | inl e ↦ ap (λ (j : ℕ). R.is_blank (sector_at old j)) e ∙ used
-          | inr apart ↦
-              let closed_there : R.is_closed (sector_at old (next old (next old place))) ≡ true =
-              ap R.is_closed (sym (only_else old mid place (next old (next old place)) only apart)) ∙ ap (λ (j : ℕ). R.is_closed (sector_at mid j)) (sym same_next) ∙ next-closed R mid (next old place) 0 collecting.ring ∙ refl in
-              elim (cases_Bool (R.is_blank (sector_at old (next old (next old place))))) [
-                | inl blank ↦ absurd (false≢true (sym (law.reads.closed (sector_at old (next old (next old place))) blank) ∙ closed_there))
-                | inr full ↦ full
-              ]
-        ]
-
-    pub victim-blank : AtRest k.reading mid (next old place) → is_blank_at k.reading old (next old (next old place)) ≡ true
-    victim-blank rested =
-        let blank : R.is_blank (sector_at mid (next old (next old place))) ≡ true = ap (λ (j : ℕ). R.is_blank (sector_at mid j)) (sym same_next) ∙ next_blank R mid (next old place) rested in
+    -- whether there is a victim shows once the open sector is closed
+    pub victim-is : has_victim k old place ≡ is_closed_at k.reading mid (next mid (next old place))
+    victim-is =
+        let there : is_closed_at R mid (next mid (next old place)) ≡ is_closed_at R mid (next old (next old place)) = ap (is_closed_at R mid) same_next in
         elim (cases_eq (next old (next old place)) place) [
           | inl e ↦
-              let open_there : R.is_closed (sector_at mid (next old (next old place))) ≡ false = law.reads.closed (sector_at mid (next old (next old place))) blank in
-              absurd (false≢true (sym open_there ∙ ap (λ (j : ℕ). R.is_closed (sector_at mid j)) e ∙ closes.list.closed))
-          | inr apart ↦ ap R.is_blank (sym (only_else old mid place (next old (next old place)) only apart)) ∙ blank
+              ap (λ (t : Bool). t || is_closed_at R old (next old (next old place))) (eq-eqb (next old (next old place)) place e)
+              ∙ sym (there ∙ ap (is_closed_at R mid) e ∙ closes.list.closed)
+          | inr apart ↦
+              ap (λ (t : Bool). t || is_closed_at R old (next old (next old place))) (ne_eqb (next old (next old place)) place apart)
+              ∙ ap R.is_closed (sym (only_else old mid place (next old (next old place)) only apart)) ∙ sym there
         ]
 
     -- the round
 
-    pub turns-blank : (size : ℕ) → 512 ≤ size → length (sector_at old (next old place)) ≡ size → AtRest k.reading mid (next old place) → TurnsAt k size old mid place
-    turns-blank size large width rested =
-        let here = ap length opened-same ∙ width in
-        let room = unused-room (sector_at mid (next old place)) size large here opened-unused in
-        let no_copies : copies_cost k.cost (pairs_at R mid (next old place)) ≡ 0 = ap (copies_cost k.cost) (law.reads.pairs (sector_at mid (next old place)) opened-unused) in
-        let turned = round_blank R law.reads old place (sector_at mid place) form closes.list sound (subst (λ (s : List (List ℕ)). AtRest R s (next old place)) only rested) in
-        record {
-          round = subst (IsRound R old place) (sym only) turned;
-          room = λ len some. room.room len some ∙ ap (λ (n : ℕ). leb (n + k.cost len) (k.cap size)) (sym no_copies);
-          delete = room.delete;
-        }
+    -- with no victim
+    module _ (new : List (List ℕ)) (rested : AtRest k.reading mid (next old place)) (opened : HasOpened k mid new (next old place)) where
+      new_blank : k.reading.is_blank (sector_at new (next old place)) ≡ true
+      new_blank = law.clean (sector_at new (next old place)) opened.clean
+
+      opened-put : HasNotPut k mid new (next old place)
+      opened-put = rest-blank mid new (next old place) rested opened-unused opened.only new_blank
+
+      pairs-opened : (j : ℕ) → pairs_at k.reading new j ≡ pairs_at k.reading mid j
+      pairs-opened j =
+          elim (cases_eq j (next old place)) [
+            | inl e ↦ ap (pairs_at R new) e ∙ law.reads.pairs (sector_at new (next old place)) new_blank ∙ sym (law.reads.pairs (sector_at mid (next old place)) opened-unused) ∙ ap (pairs_at R mid) (sym e)
+            | inr apart ↦ ap R.pairs (only_else mid new (next old place) j opened.only apart)
+          ]
+
+      all-opened : (js : List ℕ) → All (λ j. pairs_at k.reading new j ≡ pairs_at k.reading mid j) js
+      all-opened [] = All-nil (λ j. pairs_at R new j ≡ pairs_at R mid j)
+      all-opened (j ∷ js) = All-cons (λ j. pairs_at R new j ≡ pairs_at R mid j) j js (pairs-opened j) (all-opened js)
+
+      parts-opened : parts k.reading new (next old place) ≡ parts k.reading mid (next old place)
+      parts-opened =
+          let q = next old place in
+          ap (λ (n : ℕ). map (pairs_at R new) (rest n q) ++ pairs_at R new q ∷ []) (only_length mid new q opened.only)
+          ∙ ap (λ xs. xs ++ pairs_at R new q ∷ []) (map_agree (pairs_at R new) (pairs_at R mid) (rest (length mid) q) (all-opened (rest (length mid) q)))
+          ∙ ap (λ ps. map (pairs_at R mid) (rest (length mid) q) ++ ps ∷ []) (pairs-opened q)
+
+      list-opened : area_pairs k.reading new (next old place) ≡ area_pairs k.reading mid (next old place)
+      list-opened =
+          ap (area_pairs R new) (sym (reads R new (next old place) (inl opened-put.form)).0)
+          ∙ opened-put.list
+          ∙ ap (area_pairs R mid) (reads R mid (next old place) (inl rested)).0
+
+      round-opened : IsRound k.reading old place new
+      round-opened =
+          let turned = subst (IsRound R old place) (sym only) (round_blank R law.reads old place (sector_at mid place) form closes.list sound (subst (λ (s : List (List ℕ)). AtRest R s (next old place)) only rested)) in
+          record {
+            form = opened-put.form;
+            items = λ id. ap (λ ps. last ps id) list-opened ∙ turned.items id;
+            parts = parts-opened ∙ turned.parts;
+          }
+
+      pub turns-opened : (size : ℕ) → 512 ≤ size → length (sector_at old (next old place)) ≡ size → TurnsAt k size old new place
+      turns-opened size large width =
+          let here = opened.long ∙ ap length opened-same ∙ width in
+          let room = unused-room (sector_at new (next old place)) size large here opened.clean in
+          let no_copies : copies_cost k.cost (pairs_at R new (next old place)) ≡ 0 = ap (copies_cost k.cost) (law.reads.pairs (sector_at new (next old place)) new_blank) in
+          record {
+            round = round-opened;
+            room = λ len some. room.room len some ∙ ap (λ (n : ℕ). leb (n + k.cost len) (k.cap size)) (sym no_copies);
+            delete = room.delete;
+          }
 
     pub turns-collected : (size : ℕ) (new : List (List ℕ)) → 512 ≤ size → ((j : ℕ) → j < length old → length (sector_at mid j) ≡ size) → Collecting k.reading mid (next old place) → CollectsAt k mid new (next old place) → TurnsAt k size old new place
     turns-collected size new large widths collecting all =
@@ -197,17 +273,11 @@ module _ (k : Kind) (law : IsKind k) where
         ∙ ap (λ ps. live_pairs ps (flat_map (pairs_at R mid) (rest (length old) q))) (pairs_same (next old q))
         ∙ ap (live_pairs (pairs_at R old (next old q))) (flat_map-agree (pairs_at R mid) (pairs_at R old) (rest (length old) q) (everywhere (rest (length old) q)))
 
-    -- the collection of such a round
-    abbrev pub round_rest : Range
-    round_rest = cond (is_blank_at k.reading old (next old (next old place))) none (both (k.units.begin (sector_at old (next old place))) (collect_units k old (next old place)))
-
-    pub units-rested : AtRest k.reading mid (next old place) → cond (is_blank_at k.reading old (next old (next old place))) none (both (k.units.begin (sector_at old (next old place))) (collect_units k old (next old place))) ≡ none
-    units-rested rested = cond-true (is_blank_at R old (next old (next old place))) none (both (k.units.begin (sector_at old (next old place))) (collect_units k old (next old place))) (victim-blank rested)
-
-    pub units-collecting : k.reading.is_blank (sector_at old place) ≡ false → Collecting k.reading mid (next old place)
-        → cond (is_blank_at k.reading old (next old (next old place))) none (both (k.units.begin (sector_at old (next old place))) (collect_units k old (next old place))) ≡ again_units k mid (next old place)
-    units-collecting used collecting =
-        cond-false (is_blank_at R old (next old (next old place))) none (both (k.units.begin (sector_at old (next old place))) (collect_units k old (next old place))) (victim-used used collecting)
-        ∙ ap (λ ps. both (k.units.begin (sector_at old (next old place))) (both (copies k ps) (both k.units.any_done k.units.any_clear))) (sym copies-same)
-        ∙ ap (λ (b : List ℕ). both (k.units.begin b) (collect_units k mid (next old place))) (sym opened-same)
-        ∙ ap (λ (r : Range). both r (collect_units k mid (next old place))) (sym (cond-true (is_blank_at R mid (next old place)) (k.units.begin (sector_at mid (next old place))) (k.units.clear (sector_at mid (next old place))) opened-unused))
+    -- what is left of them behind the close
+    pub units-opened : open_units k mid (next old place)
+        ≡ cond (has_victim k old place) (again_units k old (next old place)) (cond k.opens_ready (ready_units k old (next old place)) none)
+    units-opened =
+        let q = next old place in
+        ap (λ (t : Bool). cond t (again_units k mid q) (cond k.opens_ready (ready_units k mid q) none)) (sym victim-is)
+        ∙ ap (λ (b : List ℕ). cond (has_victim k old place) (both (making_ready k b) (collect_units k mid q)) (cond k.opens_ready (making_ready k b) none)) opened-same
+        ∙ ap (λ ps. cond (has_victim k old place) (both (ready_units k old q) (both (copies k ps) (both k.units.any_done k.units.any_clear))) (cond k.opens_ready (ready_units k old q) none)) copies-same

@@ -7,7 +7,8 @@ use Rattle.std.proofs.lemmas.Bool.{cases_eq, eq-eqb, ne_eqb}
 use Rattle.flash_sim.specs.Bank.{IsLawful}
 use Rattle.flash_sim.specs.Device.{Device}
 use Rattle.flash_map.specs.declared.area.Role.{Role}
-use Rattle.flash_map.specs.Area.{unit_of, sectors_of}
+use Rattle.flash_map.specs.declared.area.Geometry.{Geometry}
+use Rattle.flash_map.specs.Area.{geometry_of, sectors_of}
 use Rattle.pair_laws.specs.Items.{value_of}
 use Rattle.ring_laws.specs.Live.{last_placed, bytes_of}
 use Rattle.ring_laws.specs.NextIds.{IsNextId}
@@ -24,15 +25,15 @@ use Rattle.ring_store.proofs.LastTables.{told-less}
 use Rattle.ring_store.proofs.ReadFacts.{last_placed_on, value_by, value_none, value_some}
 use Rattle.ring_store.proofs.TablePlaces.{held-entry}
 
-module _ {T : Type 0} (role : Role) (kind : ℕ → Kind) (kept : ℕ → List ℕ → T) (d : Device) (store : Store T) (law : IsKind (kind (unit_of d store.area))) (lawful : IsLawful d.banks d.bytes) (on : StandsOn role kind kept d store) (last : LastSlots) (tells : TellsOn kind d store.area last) where
+module _ {T : Type 0} (role : Role) (kind : Geometry → Kind) (kept : Geometry → List ℕ → T) (d : Device) (store : Store T) (law : IsKind (kind (geometry_of d store.area))) (lawful : IsLawful d.banks d.bytes) (on : StandsOn role kind kept d store) (last : LastSlots) (tells : TellsOn kind d store.area last) where
   abbrev k : Kind
-  k = kind (unit_of d store.area)
+  k = kind (geometry_of d store.area)
 
   abbrev here : List (List ℕ)
   here = sectors_of d store.area
 
   abbrev value : Placed → Option (List ℕ)
-  value p = value_of (bytes_of (slots (kind (unit_of d store.area))) (sectors_of d store.area) p)
+  value p = value_of (bytes_of (slots (kind (geometry_of d store.area))) (sectors_of d store.area) p)
 
   held-value : (o : Option Placed) → IfSome o (IsPlaced k here store.current) → option_and_then value (with_bytes o) ≡ option_and_then value o
   held-value None placed = refl
@@ -44,17 +45,17 @@ module _ {T : Type 0} (role : Role) (kind : ℕ → Kind) (kept : ℕ → List �
 
   -- the item of an id that the table tells of
   pub told-value : (id : ℕ) → IsTold last.bound id
-      → get (items_on kind d store.area) id ≡ option_and_then (λ p. value_of (bytes_of (slots (kind (unit_of d store.area))) (sectors_of d store.area) p)) (last_of_id id last.entries.items)
+      → get (items_on kind d store.area) id ≡ option_and_then (λ p. value_of (bytes_of (slots (kind (geometry_of d store.area))) (sectors_of d store.area) p)) (last_of_id id last.entries.items)
   told-value id told =
       value_by role kind kept d store law lawful on (last_placed (slots k) here id) id refl
       ∙ sym (ap (option_and_then value) (tells.below.told id told) ∙ held-value (last_placed (slots k) here id) (last_placed_on role kind kept d store law lawful on (last_placed (slots k) here id) id refl))
 
   -- an entry of the table is the last one of its id
   module _ (p : Placed) (id : ℕ) (told : IsTold last.bound id) (is : last_of_id id last.entries.items ≡ Some p) where
-    own-last : (last_placed (slots (kind (unit_of d store.area))) (sectors_of d store.area) id ≡ Some p) × (p.len ≡ 0 → ⊥)
+    own-last : (last_placed (slots (kind (geometry_of d store.area))) (sectors_of d store.area) id ≡ Some p) × (p.len ≡ 0 → ⊥)
     own-last = held-entry (last_placed (slots k) here id) p (sym (tells.below.told id told) ∙ is)
 
-    pub told-placed : IsPlaced (kind (unit_of d store.area)) (sectors_of d store.area) store.current p
+    pub told-placed : IsPlaced (kind (geometry_of d store.area)) (sectors_of d store.area) store.current p
     told-placed = last_placed_on role kind kept d store law lawful on (Some p) id (sym own-last.0)
 
     told-some : get (items_on kind d store.area) id ≡ None → ⊥
@@ -62,7 +63,7 @@ module _ {T : Type 0} (role : Role) (kind : ℕ → Kind) (kept : ℕ → List �
         some_none (bytes_of (slots k) here p)
         (sym (value_some role kind kept d store law lawful on p told-placed own-last.1) ∙ sym (told-value id told ∙ ap (option_and_then value) is) ∙ none)
 
-    told-known : p.id < (kind (unit_of d store.area)).ids
+    told-known : p.id < (kind (geometry_of d store.area)).ids
     told-known =
         subst (λ (o : Option Placed). IfSome o (λ q. q.id < k.ids)) own-last.0
         (last-all (λ (q : Placed). eqb q.id id) (λ q. q.id < k.ids) (entries_on kind d store.area) None tt tells.below.known)
@@ -83,7 +84,7 @@ module _ {T : Type 0} (role : Role) (kind : ℕ → Kind) (kept : ℕ → List �
           told-value id (told-less last.bound id p.id (omega arith) (own-told p next.1)) ∙ ap (option_and_then value) (next.2 id behind less),
     )
 
-    pub next-known : (p : Placed) → IsNextIn after last.entries.items (Some p) → p.id < (kind (unit_of d store.area)).ids
+    pub next-known : (p : Placed) → IsNextIn after last.entries.items (Some p) → p.id < (kind (geometry_of d store.area)).ids
     next-known p next = told-known p p.id (own-told p next.1) next.1
 
     pub next-none : last.bound ≡ None → IsNextIn after last.entries.items None → IsNextId (items_on kind d store.area) after None

@@ -1,11 +1,11 @@
 -- The places of a table of last entries: where an id is found in it, and what it is with an entry put at a place.
-use Rattle.std.proofs.Common.{◌≡◌, ℕ, suc, ◌+◌, ◌<◌, ◌≤◌, Bool, true, false, cond, eqb, ltb, List, [], ◌∷◌, ◌++◌, length, get_or, take, drop, Option, Some, None, Ok, Err, refl, sym, ap, subst, ◌∙◌, inl, inr, arith}
-use Rattle.std.specs.Prelude.{IfSome, slice_set}
-use Rattle.std.specs.List.{All, AllWithin, Contains, refill}
+use Rattle.std.proofs.Common.{◌≡◌, ℕ, ◌+◌, ◌<◌, ◌≤◌, Bool, true, false, cond, eqb, ltb, List, [], ◌∷◌, ◌++◌, length, get_or, take, drop, Option, Some, None, Ok, Err, refl, sym, ap, subst, ◌∙◌, inl, inr, arith}
+use Rattle.std.specs.Prelude.{IfSome}
+use Rattle.std.specs.List.{All, AllWithin, Contains}
 use Rattle.std.specs.List.Sorted.{IsNonDecreasingBy}
 use Rattle.std.specs.Option.{option_or}
 use Rattle.std.proofs.lemmas.Bool.{cases_lt, cases_eq, eq-eqb, ne_eqb, ltb-true, ltb-false}
-use Rattle.std.proofs.lemmas.List.{length-append, get_or-take, get_or-drop, length-take-le, length-drop, take-append-drop, take_at, drop_more, get_or_default, get_or_at, get_or_append_left, set_split, length-set}
+use Rattle.std.proofs.lemmas.List.{length-append, get_or-take, get_or-drop, length-take-le, length-drop, take-append-drop, drop_more, get_or_default, get_or_at, get_or_append_left}
 use Rattle.std.proofs.lemmas.List.Elements.{All-nil, All-cons, All-append, All-weaker, All-contains_itself, Contains-append_left, Contains-push}
 use Rattle.ring_laws.specs.NextIds.{IsBehind}
 use Rattle.ring_laws.proofs.LiveLemmas.{some_none}
@@ -150,13 +150,13 @@ abbrev Less : Placed → Placed → Type 0
 Less p q = p.id < q.id
 
 -- a table that is full, and an entry with bytes of the id that is its bound
-now-full : (limit : ℕ) (last : LastSlots) (placed : List Placed) (q : Placed) → TellsBelow limit last placed → length last.entries.items ≡ 1000
+now-full : (limit : ℕ) (last : LastSlots) (placed : List Placed) (q : Placed) → TellsBelow limit last placed → length last.entries.items ≡ 950
     → last.bound ≡ Some q.id → (q.len ≡ 0 → ⊥) → Contains placed q → Tells limit last placed
 now-full limit last placed q below whole is some here =
     let xs : List Placed = last.entries.items in
     let less : All (λ p. p.id < q.id) xs = subst (λ (b : Option ℕ). All (λ p. IsTold b p.id) xs) is below.within in
     let own = own-among limit last placed below in
-    let had : HadBytes 1001 q.id placed = record {
+    let had : HadBytes 951 q.id placed = record {
       entries = xs ++ q ∷ [];
       long = (let both = length-append xs (q ∷ []) in omega arith);
       rises = pairs-append Less xs (q ∷ []) below.rises (λ i j d lt within. absurd (omega arith))
@@ -167,7 +167,7 @@ now-full limit last placed q below whole is some here =
     } in
     record {
       below = below;
-      full = λ bound same. subst (λ (n : ℕ). HadBytes 1001 n placed) (same_some q.id bound (sym is ∙ same)) had;
+      full = λ bound same. subst (λ (n : ℕ). HadBytes 951 n placed) (same_some q.id bound (sym is ∙ same)) had;
     }
   where
     behind : (P : Placed → Type 0) → All P last.entries.items → P q → All P (last.entries.items ++ q ∷ [])
@@ -191,39 +191,13 @@ held-few p = few (eqb p.len 0)
     few true = omega arith
     few false = omega arith
 
--- a table with another element at a place
-pub set-is : (xs whole : List Placed) (at : ℕ) (p : Placed) → whole ≡ xs → at < length xs → (p.len ≡ 0 → ⊥) → refill (length xs) xs (slice_set whole at p) ≡ take at xs ++ (held p ++ drop (at + 1) xs)
-set-is xs whole at p same within some =
-    let next : suc at ≡ at + 1 = omega arith in
-    let split : slice_set xs at p ≡ take at xs ++ ((p ∷ []) ++ drop (at + 1) xs) = set_split xs at p within ∙ ap (λ (n : ℕ). take at xs ++ p ∷ drop n xs) next in
-    ap (λ (l : List Placed). refill (length xs) xs (slice_set l at p)) same
-    ∙ take_at (slice_set xs at p) (drop (length (slice_set xs at p)) xs) (length xs) (length-set xs at p)
-    ∙ split
-    ∙ ap (λ (h : List Placed). take at xs ++ (h ++ drop (at + 1) xs)) (sym (held-some p some))
-
 module _ (limit : ℕ) (old new : LastSlots) (before : List Placed) (p : Placed) (at : ℕ) (small : p.id < limit) (told : IsTold old.bound p.id) (tells : TellsBelow limit old before) where
   abbrev entries : List Placed
   entries = old.entries.items
 
-  -- in place of that of its id
-  pub put-there : at < length old.entries.items → Splits old.entries.items p.id (Ok at) → new.entries.items ≡ take at old.entries.items ++ (held p ++ drop (at + 1) old.entries.items) → new.bound ≡ old.bound → TellsBelow limit new (before ++ p ∷ [])
-  put-there within split is same =
-      let q : Placed = get_or entries at p in
-      let few = held-few p in
-      let most = tells.few in
-      let front = length-take-le at entries (omega arith) in
-      let back = length-drop (at + 1) entries in
-      let inner = length-append (held p) (drop (at + 1) entries) in
-      let whole = length-append (take at entries) (held p ++ drop (at + 1) entries) in
-      let long : length new.entries.items ≡ length (take at entries ++ (held p ++ drop (at + 1) entries)) = ap length is in
-      tells-put limit old new before p (take at entries) (get_or entries at p ∷ []) (drop (at + 1) entries) small told tells (parts entries at p within) is same (omega arith)
-      (all-take (λ (q : Placed). q.id < p.id) entries at (omega arith) split.0)
-      (All-cons (λ (q : Placed). q.id ≡ p.id) (get_or entries at p) [] (split.1 p) (All-nil (λ (q : Placed). q.id ≡ p.id)))
-      (all-drop (λ (q : Placed). p.id < q.id) entries (at + 1) split.2)
-
   module _ (low : AllWithin (λ q. q.id < p.id) old.entries.items 0 at) (high : AllWithin (λ q. p.id < q.id) old.entries.items at (length old.entries.items)) (inside : at ≤ length old.entries.items) where
     -- between lesser and greater ones
-    pub put-between : (p.len ≡ 0 → ⊥) → new.entries.items ≡ take at old.entries.items ++ p ∷ drop at old.entries.items → new.bound ≡ old.bound → length old.entries.items < 1000 → TellsBelow limit new (before ++ p ∷ [])
+    pub put-between : (p.len ≡ 0 → ⊥) → new.entries.items ≡ take at old.entries.items ++ p ∷ drop at old.entries.items → new.bound ≡ old.bound → length old.entries.items < 950 → TellsBelow limit new (before ++ p ∷ [])
     put-between some is same room =
         let front = length-take-le at entries inside in
         let back = length-drop at entries in
@@ -243,7 +217,7 @@ module _ (limit : ℕ) (old new : LastSlots) (before : List Placed) (p : Placed)
         (all-take (λ (q : Placed). q.id < p.id) entries at inside low) (All-nil (λ (q : Placed). q.id ≡ p.id)) (all-drop (λ (q : Placed). p.id < q.id) entries at high)
 
     -- behind all entries of a table, which is full
-    pub put-behind : (p.len ≡ 0 → ⊥) → length old.entries.items ≡ 1000 → at ≡ length old.entries.items → new.entries.items ≡ old.entries.items → new.bound ≡ Some p.id → Tells limit new (before ++ p ∷ [])
+    pub put-behind : (p.len ≡ 0 → ⊥) → length old.entries.items ≡ 950 → at ≡ length old.entries.items → new.entries.items ≡ old.entries.items → new.bound ≡ Some p.id → Tells limit new (before ++ p ∷ [])
     put-behind some whole end is same =
         now-full limit new (before ++ p ∷ []) p (tells-bounded limit old new before p small told tells is same (λ k d lt. low k d (omega arith) (omega arith)))
         (ap length is ∙ whole) same some (Contains-push before p)
@@ -251,7 +225,7 @@ module _ (limit : ℕ) (old new : LastSlots) (before : List Placed) (p : Placed)
 -- into a full table, out of which the greatest id goes before
 pub put-full : (limit : ℕ) (old mid new : LastSlots) (before : List Placed) (p : Placed) (at : ℕ) → p.id < limit → TellsBelow limit old before → DropsGreatest old mid
     → AllWithin (λ q. q.id < p.id) old.entries.items 0 at → AllWithin (λ q. p.id < q.id) old.entries.items at (length old.entries.items) → at < length old.entries.items
-    → length old.entries.items ≡ 1000 → (p.len ≡ 0 → ⊥) → new.entries.items ≡ take at mid.entries.items ++ p ∷ drop at mid.entries.items → new.bound ≡ mid.bound → Tells limit new (before ++ p ∷ [])
+    → length old.entries.items ≡ 950 → (p.len ≡ 0 → ⊥) → new.entries.items ≡ take at mid.entries.items ++ p ∷ drop at mid.entries.items → new.bound ≡ mid.bound → Tells limit new (before ++ p ∷ [])
 put-full limit old mid new before p at small tells drops low high inside whole some is same =
     let g : Placed = drops.greatest in
     let most = tells.few in

@@ -8,7 +8,7 @@ use Rattle.flash_sim.specs.Device.{Device}
 use Rattle.flash_sim.specs.declared.flash.PowerLost.{PowerLost}
 use Rattle.flash_map.specs.declared.area.Area.{Area}
 use Rattle.flash_map.specs.declared.area.Geometry.{Geometry}
-use Rattle.flash_map.specs.Area.{unit_of, sector_size, sectors_of, geometry_of}
+use Rattle.flash_map.specs.Area.{unit_of, geometry_of, sector_size, sectors_of}
 use Rattle.flash_map.specs.Spending.{SpendsBetween}
 use Rattle.flash_map.specs.Units.{IsUnit}
 use Rattle.flash_map.proofs.SpendingBounds.{between_none, between_then, between_within}
@@ -252,16 +252,16 @@ gets_some f (Some x) m is some none = absurd (cc)
 
 -- Too long.
 
-module _ (kind : ℕ → Kind) (a : Device) (area : Area) (g : Geometry) (len : ℕ) (long : Bool) (is : g ≡ geometry_of a area) (test : long ≡ ltb ((kind g.unit).cap g.sector) ((kind g.unit).cost len)) where
-  there : long ≡ ltb ((kind (unit_of a area)).cap (sector_size a area)) ((kind (unit_of a area)).cost len)
-  there = test ∙ ap (λ (x : Geometry). ltb ((kind x.unit).cap x.sector) ((kind x.unit).cost len)) is
+module _ (kind : Geometry → Kind) (a : Device) (area : Area) (g : Geometry) (len : ℕ) (long : Bool) (is : g ≡ geometry_of a area) (test : long ≡ ltb ((kind g).cap g.sector) ((kind g).cost len)) where
+  there : long ≡ ltb ((kind (geometry_of a area)).cap (sector_size a area)) ((kind (geometry_of a area)).cost len)
+  there = test ∙ ap (λ (x : Geometry). ltb ((kind x).cap x.sector) ((kind x).cost len)) is
 
-  pub short-by : long ≡ false → IsShort (kind (unit_of a area)) a area len
-  short-by not_long = ltb-false ((kind (unit_of a area)).cap (sector_size a area)) ((kind (unit_of a area)).cost len) (sym there ∙ not_long)
+  pub short-by : long ≡ false → IsShort (kind (geometry_of a area)) a area len
+  short-by not_long = ltb-false ((kind (geometry_of a area)).cap (sector_size a area)) ((kind (geometry_of a area)).cost len) (sym there ∙ not_long)
 
-  pub long-by : long ≡ true → IsShort (kind (unit_of a area)) a area len → ⊥
+  pub long-by : long ≡ true → IsShort (kind (geometry_of a area)) a area len → ⊥
   long-by too_long short =
-      let lt = ltb-true ((kind (unit_of a area)).cap (sector_size a area)) ((kind (unit_of a area)).cost len) (sym there ∙ too_long) in
+      let lt = ltb-true ((kind (geometry_of a area)).cap (sector_size a area)) ((kind (geometry_of a area)).cost len) (sym there ∙ too_long) in
       absurd (omega arith)
 
 -- what is not too long has a length of 16 bits
@@ -274,5 +274,5 @@ narrow-by k law size len small short =
 pub unit-by : (a : Device) (area : Area) (g : Geometry) → g ≡ geometry_of a area → IsUnit (unit_of a area) → IsUnit g.unit
 unit-by a area g is unit = subst (λ (x : Geometry). IsUnit x.unit) (sym is) unit
 
-pub need-by : (kind : ℕ → Kind) (a : Device) (area : Area) (g : Geometry) (len need : ℕ) → g ≡ geometry_of a area → need ≡ (kind g.unit).cost len → need ≡ (kind (unit_of a area)).cost len
-need-by kind a area g len need is needs = needs ∙ ap (λ (x : Geometry). (kind x.unit).cost len) is
+pub need-by : (kind : Geometry → Kind) (a : Device) (area : Area) (g : Geometry) (len need : ℕ) → g ≡ geometry_of a area → need ≡ (kind g).cost len → need ≡ (kind (geometry_of a area)).cost len
+need-by kind a area g len need is needs = needs ∙ ap (λ (x : Geometry). (kind x).cost len) is

@@ -1,6 +1,6 @@
 -- What leaves an area written: a sector with a mark is not blank, and none is emptied but while another one has a mark.
 use Rattle.std.proofs.Common.{◌≡◌, ℕ, ◌<◌, ◌⊎◌, Bool, true, false, List, [], ◌∷◌, ◌++◌, length, refl, sym, ap, subst, ◌∙◌, inl, inr, arith}
-use Rattle.std.proofs.lemmas.Bool.{cases_eq}
+use Rattle.std.proofs.lemmas.Bool.{cases_Bool, cases_eq}
 use Rattle.flash_map.specs.Area.{sector_at, ChangesOnly}
 use Rattle.ring_laws.specs.Area.{next, is_blank_at}
 use Rattle.ring_laws.specs.Forms.{Collecting, Collected}
@@ -11,7 +11,7 @@ use Rattle.ring_store.specs.Steps.{Keeps, KeepsMarks, Begins, Adds, Closes}
 use Rattle.ring_store.specs.Collecting.{HasCopied, StopsCopying}
 use Rattle.ring_store.specs.Written.{IsWritten}
 use Rattle.ring_laws.specs.Forms.{to_copy}
-use Rattle.ring_store.proofs.Areas.{only_else, only_length, stopped}
+use Rattle.ring_store.proofs.Areas.{only_else, only_length, only_same, stopped}
 use Rattle.ring_store.proofs.CollectSteps.{mark_cut}
 
 not_true : (t : Bool) → (t ≡ true → ⊥) → t ≡ false
@@ -64,16 +64,9 @@ module _ (k : Kind) (law : IsKind k) where
   pub mark-written : (old mid new : List (List ℕ)) (place : ℕ) → Collecting k.reading old place → HasCopied k old mid place (to_copy k.reading old place) → ChangesOnly mid new place → KeepsMarks k (sector_at mid place) (sector_at new place) → IsWritten k new
   mark-written old mid new place form has only keeps = stopped-written old new place form (mark_cut k law old mid new place has only keeps)
 
-  -- a sector in use was closed, or that was cut
+  -- a sector was closed
   pub shut-written : (old new : List (List ℕ)) (place : ℕ) → ChangesOnly old new place → place < length old → Closes k (sector_at old place) (sector_at new place) → IsWritten k new
   shut-written old new place only within closes = own-written old new place only within (closed-used (sector_at new place) closes.list.closed)
-
-  pub close-written : (old new : List (List ℕ)) (place : ℕ) → ChangesOnly old new place → place < length old → is_blank_at k.reading old place ≡ false → Keeps k (sector_at old place) (sector_at new place) ⊎ Closes k (sector_at old place) (sector_at new place) → IsWritten k new
-  close-written old new place only within used either =
-      elim either [
-        | inl keeps ↦ own-written old new place only within (keeps.used used)
-        | inr closes ↦ shut-written old new place only within closes
-      ]
 
   -- a step in one sector that leaves it in use where it was
   pub step-written : (old new : List (List ℕ)) (place : ℕ) → ChangesOnly old new place → (is_blank_at k.reading old place ≡ false → is_blank_at k.reading new place ≡ false) → IsWritten k old → IsWritten k new
@@ -88,6 +81,31 @@ module _ (k : Kind) (law : IsKind k) where
 
   pub keeps-written : (old new : List (List ℕ)) (place : ℕ) → ChangesOnly old new place → Keeps k (sector_at old place) (sector_at new place) → IsWritten k old → IsWritten k new
   keeps-written old new place only keeps = step-written old new place only keeps.used
+
+  -- that was cut
+  pub close-written : (old new : List (List ℕ)) (place : ℕ) → ChangesOnly old new place → place < length old → Keeps k (sector_at old place) (sector_at new place) ⊎ Closes k (sector_at old place) (sector_at new place) → IsWritten k old → IsWritten k new
+  close-written old new place only within either written =
+      elim either [
+        | inl keeps ↦ keeps-written old new place only keeps written
+        | inr closes ↦ shut-written old new place only within closes
+      ]
+
+  -- Then nothing changed, or something is written now.
+  pub close-changed : (old new : List (List ℕ)) (place : ℕ) → ChangesOnly old new place → place < length old → Keeps k (sector_at old place) (sector_at new place) ⊎ Closes k (sector_at old place) (sector_at new place)
+      → (is_blank_at k.reading old place ≡ true → (sector_at new place ≡ sector_at old place) ⊎ Closes k (sector_at old place) (sector_at new place)) → (new ≡ old) ⊎ IsWritten k new
+  close-changed old new place only within either unused =
+      elim (cases_Bool (is_blank_at k.reading old place)) [
+        | inr used ↦ inr (close-written old new place only within either (record { place = place; within = within; used = used }))
+        | inl blank ↦
+            elim (unused blank) [
+              | inl same ↦ inl (only_same old new place only same)
+              | inr closes ↦ inr (shut-written old new place only within closes)
+            ]
+      ]
+
+  -- whatever becomes of a sector with no entry
+  pub blank-written : (old new : List (List ℕ)) (place : ℕ) → ChangesOnly old new place → is_blank_at k.reading old place ≡ true → IsWritten k old → IsWritten k new
+  blank-written old new place only blank = step-written old new place only (λ used. absurd (apart (sym blank ∙ used)))
 
   pub adds-written : (old new : List (List ℕ)) (place id : ℕ) (bytes : List ℕ) → ChangesOnly old new place → Adds k (sector_at old place) (sector_at new place) id bytes → IsWritten k old → IsWritten k new
   adds-written old new place id bytes only adds =

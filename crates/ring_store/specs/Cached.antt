@@ -3,6 +3,7 @@ use Rattle.std.specs.Prelude.{◌≡◌, ℕ, ◌+◌, ◌%◌, List, [], ◌∷
 use Rattle.std.specs.Option.{option_map}
 use Rattle.flash_sim.specs.Device.{Device}
 use Rattle.flash_map.specs.declared.area.Area.{Area}
+use Rattle.flash_map.specs.declared.area.Geometry.{Geometry}
 use Rattle.flash_map.specs.Area.{sector_at}
 use Rattle.lookup_cache.specs.Places.{place_of}
 use Rattle.ring_laws.specs.Live.{all_placed}
@@ -33,9 +34,9 @@ pub record AddsEntry (k : Kind) (old new : List (List ℕ)) (place id len : ℕ)
 -- ---- an area on a device
 
 -- the latest entry of an id's cache slot
-abbrev pub latest_on : (ℕ → Kind) → Device → Area → ℕ → Option Placed
+abbrev pub latest_on : (Geometry → Kind) → Device → Area → ℕ → Option Placed
 latest_on kind d area id = latest_of (id % 64) (entries_on kind d area)
 
 -- the cache is that of the entries of the list
-abbrev pub IsCacheOn : (ℕ → Kind) → Device → Area → List (Option (ℕ × ℕ)) → Type 0
+abbrev pub IsCacheOn : (Geometry → Kind) → Device → Area → List (Option (ℕ × ℕ)) → Type 0
 IsCacheOn kind d area cache = IsCacheOf cache (entries_on kind d area)

@@ -16,11 +16,17 @@ use Rattle.ring_store.specs.Standing.{list_of}
 use Rattle.ring_store.specs.Steps.{Adds}
 use Rattle.std.specs.Prelude.{if◌then◌else◌}
 
--- The open sector has no entry, and is ready for one. No other sector changed.
+-- The open sector has no entry and all its room, and is ready for an entry. No other sector changed.
 pub record HasBegun (k : Kind) (old new : List (List ℕ)) (place : ℕ) : Type 0 where
   pub only : ChangesOnly old new place
-  pub blank : k.reading.is_blank (sector_at new place) ≡ true
+  pub clean : k.is_clean (sector_at new place) ≡ true
   pub ready : k.is_ready (sector_at new place) ≡ true
+  pub long : length (sector_at new place) ≡ length (sector_at old place)
+
+-- The open sector has no entry and all its room. No other sector changed.
+pub record HasOpened (k : Kind) (old new : List (List ℕ)) (place : ℕ) : Type 0 where
+  pub only : ChangesOnly old new place
+  pub clean : k.is_clean (sector_at new place) ≡ true
   pub long : length (sector_at new place) ≡ length (sector_at old place)
 
 -- Into the open sector, which had no entry, these pairs were copied. No other sector changed.

@@ -3,6 +3,7 @@
 use Rattle.std.specs.Prelude.{◌≡◌, ℕ, ◌+◌, ◌*◌, ◌<◌, ◌≤◌, max, Bool, true, false, List, length, map, Option, Some, None, ◌==◌, nat_le, if◌then◌else◌}
 use Rattle.std.specs.List.{filter_map, range_with_len}
 use Rattle.flash_map.specs.declared.faults.Damaged.{Damaged}
+use Rattle.flash_map.specs.Area.{sector_at}
 use Rattle.ring_laws.specs.Area.{first_damage}
 use Rattle.ring_laws.specs.Reading.{Reading, IsReading, is_sound}
 use Rattle.pair_laws.specs.Rounds.{copies_cost, stored_cost}
@@ -77,14 +78,25 @@ pub record Kind : Type 0 where
   pub slot : ℕ
   -- what a sector of this size has for values and entries
   pub cap : ℕ → ℕ
-  -- the bytes between the values of a sector and its slots
+  -- the bytes between what stands of values in a sector, cut ones too, and its slots
   pub free : List ℕ → ℕ
+  -- the sector has no entry, and all that a sector has is free in it
+  pub is_clean : List ℕ → Bool
   -- entries can be put into the sector
   pub is_ready : List ℕ → Bool
+  -- a sector is made clean and ready as soon as it is the open one
+  pub opens_ready : Bool
   pub damage : List (List ℕ) → Option Damaged
   -- an item has an id below this one
   pub ids : ℕ
   pub units : Units
+
+abbrev pub is_clean_at : Kind → List (List ℕ) → ℕ → Bool
+is_clean_at k sectors place = k.is_clean (sector_at sectors place)
+
+-- what it takes to make a sector clean and ready
+abbrev pub making_ready : Kind → List ℕ → Range
+making_ready k b = if k.is_clean b then k.units.begin b else k.units.clear b
 
 abbrev pub placed_at : ℕ → Entry → Placed
 placed_at place e = record { sector = place; slot = e.slot; id = e.id; len = e.len }
@@ -122,18 +134,21 @@ pub record IsKind (k : Kind) : Type 0 where
   pub long : (b : List ℕ) (n : ℕ) (e : Entry) → k.within b ≡ true → k.first ≤ n → n < k.first + k.count b → k.in_slot b n ≡ Some e → length (k.bytes b e.slot) ≡ e.len
   pub sound : (b : List ℕ) → 512 ≤ length b → is_sound k.reading b ≡ true → k.within b ≡ true
   pub costs : (b : List ℕ) → 512 ≤ length b → is_sound k.reading b ≡ true → stored_cost k.cost (k.reading.pairs b) ≤ k.cap (length b)
-  -- a sector with no entry has room for three slots beside what it has for values and entries
-  pub room : (b : List ℕ) → 512 ≤ length b → k.reading.is_blank b ≡ true → k.free b ≡ k.cap (length b) + 3 * k.slot
-  -- an open sector in use takes entries
-  pub used : (b : List ℕ) → 512 ≤ length b → is_sound k.reading b ≡ true → k.reading.is_blank b ≡ false → k.reading.is_closed b ≡ false → k.is_ready b ≡ true
+  -- a clean sector holds nothing, and has room for three slots beside what it has for values and entries
+  pub clean : (b : List ℕ) → k.is_clean b ≡ true → k.reading.is_blank b ≡ true
+  -- so is each sector with no entry, where sectors are not made ready as they open
+  pub blank : k.opens_ready ≡ false → (b : List ℕ) → k.reading.is_blank b ≡ true → k.is_clean b ≡ true
+  pub room : (b : List ℕ) → 512 ≤ length b → k.is_clean b ≡ true → k.free b ≡ k.cap (length b) + 3 * k.slot
+  -- an open sector that is not clean takes entries
+  pub used : (b : List ℕ) → 512 ≤ length b → is_sound k.reading b ≡ true → k.is_clean b ≡ false → k.reading.is_closed b ≡ false → k.is_ready b ≡ true
   pub begun : (b : List ℕ) → k.is_ready b ≡ true → k.units.begin b ≡ record { least = 0; most = 0; lost = 0 }
   pub units : AreUnits k.units
   -- no bytes take up less than they are, and no sector has more than its size
   pub least : (len : ℕ) → len ≤ k.cost len
   pub most : (size : ℕ) → k.cap size ≤ size
-  -- a round's close, and its copies of pairs that a sector has room for
-  pub round : (size : ℕ) (closed opened : List ℕ) (pairs : List (ℕ × List ℕ)) → 512 ≤ size → length closed ≡ size → copies_cost k.cost pairs ≤ k.cap size
-      → (k.units.close closed).lost + ((k.units.begin opened).lost + (copies_cost (λ len. (k.units.any_copy len).lost) pairs + (k.units.any_done.lost + k.units.any_clear.lost))) ≤ k.units.round size
+  -- a round's close, and its copies of pairs that a sector has room for, into a sector that held nothing
+  pub round : (size : ℕ) (closed opened : List ℕ) (pairs : List (ℕ × List ℕ)) → 512 ≤ size → length closed ≡ size → k.reading.is_blank opened ≡ true → copies_cost k.cost pairs ≤ k.cap size
+      → (k.units.close closed).lost + ((making_ready k opened).lost + (copies_cost (λ len. (k.units.any_copy len).lost) pairs + (k.units.any_done.lost + k.units.any_clear.lost))) ≤ k.units.round size
   -- the copies of a mount, which makes their sector ready or empties it first
   pub mount : (size : ℕ) (opened : List ℕ) (pairs : List (ℕ × List ℕ)) → 512 ≤ size → copies_cost k.cost pairs ≤ k.cap size
       → max (k.units.begin opened).lost k.units.any_clear.lost + (copies_cost (λ len. (k.units.any_copy len).lost) pairs + (k.units.any_done.lost + k.units.any_clear.lost)) ≤ k.units.mount size

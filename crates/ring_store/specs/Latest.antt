@@ -4,11 +4,14 @@ use Rattle.std.specs.List.{All, AllPairs, AllWithin, Contains, HoldsAt}
 use Rattle.std.specs.Option.{option_and_then}
 use Rattle.flash_sim.specs.Device.{Device}
 use Rattle.flash_map.specs.declared.area.Area.{Area}
+use Rattle.flash_map.specs.declared.area.Geometry.{Geometry}
 use Rattle.ring_laws.specs.NextIds.{IsBehind}
 use Rattle.ring_store.specs.declared.entry.Placed.{Placed}
 use Rattle.ring_store.specs.declared.latest.LastSlots.{LastSlots}
+use Rattle.ring_store.specs.declared.seen.Seen.{Seen}
 use Rattle.ring_store.specs.Kind.{Kind}
 use Rattle.ring_store.specs.Listed.{kind_on, entries_on}
+use Rattle.ring_store.specs.Seen.{HasSeen}
 
 -- the last of these entries that has the id, a delete too
 abbrev pub last_of_id : ℕ → List Placed → Option Placed
@@ -37,7 +40,7 @@ pub record TellsBelow (limit : ℕ) (last : LastSlots) (placed : List Placed) : 
   pub told : (id : ℕ) → IsTold last.bound id → last_of_id id last.entries.items ≡ with_bytes (last_of_id id placed)
   pub within : All (λ p. IsTold last.bound p.id) last.entries.items
   pub rises : Rises last.entries.items
-  pub few : length last.entries.items ≤ 1000
+  pub few : length last.entries.items ≤ 950
   pub known : All (λ p. p.id < limit) placed
 
 -- Among these entries are some with bytes, of so many different ids, none above the greatest.
@@ -49,15 +52,20 @@ pub record HadBytes (ids greatest : ℕ) (placed : List Placed) : Type 0 where
   pub bytes : All (λ p. ¬ (p.len ≡ 0)) entries
   pub among : All (Contains placed) entries
 
--- So does a table of 1000 places. It has a bound only where there were more ids with bytes than it has places, up to that
--- bound; otherwise it tells of each id.
+-- So does a table of 950 places. It has a bound only where more ids than it has places had bytes, none of them above that bound;
+-- otherwise it tells of each id.
 pub record Tells (limit : ℕ) (last : LastSlots) (placed : List Placed) : Type 0 where
   pub below : TellsBelow limit last placed
-  pub full : (bound : ℕ) → last.bound ≡ Some bound → HadBytes 1001 bound placed
+  pub full : (bound : ℕ) → last.bound ≡ Some bound → HadBytes 951 bound placed
 
 -- the table tells of the entries of an area
-abbrev pub TellsOn : (ℕ → Kind) → Device → Area → LastSlots → Type 0
+abbrev pub TellsOn : (Geometry → Kind) → Device → Area → LastSlots → Type 0
 TellsOn kind d area last = Tells (kind_on kind d area).ids last (entries_on kind d area)
+
+-- a table tells of these entries, and the ids of all of them were seen
+pub record Covers (limit : ℕ) (last : LastSlots) (seen : Seen) (placed : List Placed) : Type 0 where
+  pub told : Tells limit last placed
+  pub ids : HasSeen limit seen.bits seen.mixed placed
 
 -- ---- reading a table
 

@@ -1,12 +1,9 @@
--- When a store stands on the bytes of its area. A kind is that of the area's unit.
-use Rattle.std.specs.Prelude.{◌≡◌, ℕ, Bool, true, false, List, None}
-use Rattle.flash_sim.specs.Bank.{bank_at}
+-- When a store stands on the bytes of its area. A kind is that of the area's geometry.
+use Rattle.std.specs.Prelude.{◌≡◌, ℕ, List, None}
 use Rattle.flash_sim.specs.Device.{Device}
 use Rattle.flash_sim.specs.declared.flash.Bank.{Bank}
-use Rattle.flash_sim.specs.declared.flash.Kind.TheVariants.{Rewritable}
 use Rattle.flash_map.specs.declared.area.Area.{Area}
 use Rattle.flash_map.specs.declared.area.Role.{Role}
-use Rattle.flash_map.specs.declared.area.Role.TheVariants.{Nvs, Zms, Fcb, Sel}
 use Rattle.flash_map.specs.Area.{sectors_of}
 use Rattle.flash_map.specs.Lawful.{IsLawfulFor}
 use Rattle.flash_map.specs.Spending.{SpendsBetween}
@@ -17,18 +14,10 @@ use Rattle.ring_laws.specs.Live as live
 use Rattle.ring_store.specs.Kind.{Range, Kind, slots}
 use Rattle.ring_store.specs.Versions.{KeepsVersions}
 
--- Whether a store in an area of this role stands on a bank that is never erased. Each role decides.
-abbrev pub is_never_erased : Role → Bool
-is_never_erased Nvs = false
-is_never_erased Zms = true
-is_never_erased Fcb = false
-is_never_erased Sel = false
-
 -- an area of this role, lawful on these banks
 pub record IsStoreArea (role : Role) (banks : List Bank) (area : Area) : Type 0 where
   pub lawful : IsLawfulFor banks area
   pub role_is : area.role ≡ role
-  pub rewritable : is_never_erased role ≡ true → (bank_at banks area.bank).kind ≡ Rewritable
 
 -- ids with their bytes, from the oldest to the newest
 abbrev pub list_of : Kind → List (List ℕ) → List (ℕ × List ℕ)

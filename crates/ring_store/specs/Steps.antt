@@ -1,5 +1,5 @@
 -- What a step makes of its sector.
-use Rattle.std.specs.Prelude.{◌≡◌, ℕ, ◌+◌, ◌≤◌, true, false, List, [], ◌∷◌, ◌++◌, length}
+use Rattle.std.specs.Prelude.{◌≡◌, ◌⊎◌, ℕ, ◌+◌, ◌≤◌, true, false, List, [], ◌∷◌, ◌++◌, length}
 use Rattle.ring_laws.specs.Reading.{is_sound}
 use Rattle.pair_laws.specs.Rounds.{stored_cost}
 use Rattle.ring_laws.specs.Steps as ring
@@ -22,9 +22,10 @@ pub record KeepsMarks (k : Kind) (old new : List ℕ) : Type 0 where
   pub closed : k.reading.is_closed new ≡ k.reading.is_closed old
   pub gc_done : k.reading.has_gc_done new ≡ k.reading.has_gc_done old
 
--- A sector with no entry is ready for one, and has none yet; one in use, or ready before, is as it was.
+-- A sector with no entry is ready for one, and has none yet; one in use, or ready before, is as it was. A clean one stays so.
 pub record Begins (k : Kind) (old new : List ℕ) : Type 0 where
   pub blank : k.reading.is_blank old ≡ true → k.reading.is_blank new ≡ true
+  pub clean : k.is_clean old ≡ true → k.is_clean new ≡ true
   pub idle : k.is_ready old ≡ true → new ≡ old
   pub used : k.reading.is_blank old ≡ false → new ≡ old
   pub ready : k.is_ready new ≡ true
@@ -56,8 +57,14 @@ pub record Closes (k : Kind) (old new : List ℕ) : Type 0 where
   pub long : length new ≡ length old
   pub sound : is_sound k.reading old ≡ true → is_sound k.reading new ≡ true
 
--- the sector has no entry, and is ready for one
+-- the sector has no entry and all its room, and is ready for an entry
 pub record Clears (k : Kind) (old new : List ℕ) : Type 0 where
-  pub blank : k.reading.is_blank new ≡ true
+  pub clean : k.is_clean new ≡ true
   pub ready : k.is_ready new ≡ true
   pub long : length new ≡ length old
+
+-- It was cut: the marks stay, or the sector is clean. Where a sector is made ready as soon as it is open, it is as before, or
+-- clean.
+pub record StopsClearing (k : Kind) (old new : List ℕ) : Type 0 where
+  pub either : KeepsMarks k old new ⊎ (k.is_clean new ≡ true)
+  pub opens : k.opens_ready ≡ true → (new ≡ old) ⊎ (k.is_clean new ≡ true)

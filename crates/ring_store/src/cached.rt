@@ -1,6 +1,6 @@
 // The cache of a store: the place of the latest entry of each cache slot's ids.
 ghost use Rattle.std.specs.Prelude.{◌≡◌, length};
-ghost use Rattle.flash_map.specs.Area.{unit_of, sectors_of, sector_at};
+ghost use Rattle.flash_map.specs.Area.{geometry_of, sectors_of, sector_at};
 ghost use Rattle.ring_laws.specs.Area.{open_sector};
 ghost use Rattle.ring_store.specs.Cached.{IsCacheOf, IsCacheOn};
 ghost use Rattle.ring_store.specs.Listed.{kind_on};
@@ -36,7 +36,7 @@ pub fn fill<T: SlotSectors, F: Flash, L: Ledger>(
 )
     requires area { IsStoreArea T.role (F.device flash.now).banks area.now }
     requires kept { let d = F.device flash.now in
-        opened.now ≡ T.kept (unit_of d area.now) (sector_at (sectors_of d area.now) current) }
+        opened.now ≡ T.kept (geometry_of d area.now) (sector_at (sectors_of d area.now) current) }
     requires current { let d = F.device flash.now in
         current ≡ open_sector (kind_on T.kind d area.now).reading (sectors_of d area.now) }
     requires slots { length cache.old ≡ 64 }

@@ -1,24 +1,24 @@
 // Closing, collecting, and what a mount has to do again.
 ghost use Rattle.std.specs.Prelude.{◌≡◌, ℕ, ◌+◌, ◌*◌, ◌<◌, ◌≤◌, ◌∷◌, [], true, false, None, is_err, IfOk, IfSome, OnOk, OnErr, ◌⊎◌};
-ghost use Rattle.flash_map.specs.Area.{unit_of, sector_size, sectors_of, sector_at, ChangesOnly};
+ghost use Rattle.flash_map.specs.Area.{geometry_of, sector_size, sectors_of, sector_at, ChangesOnly};
 ghost use Rattle.flash_map.specs.Touches.{Touches};
 ghost use Rattle.ring_laws.specs.Area.{next, is_blank_at, is_closed_at, open_sector};
 ghost use Rattle.ring_laws.specs.Forms.{AtRest, Collecting, to_copy};
 ghost use Rattle.ring_laws.specs.Reading.{is_sound};
 ghost use Rattle.ring_laws.specs.Live.{live_in, cost_of};
-ghost use Rattle.ring_store.specs.Kind.{slots};
+ghost use Rattle.ring_store.specs.Kind.{is_clean_at, slots};
 ghost use Rattle.ring_store.specs.Listed.{kind_on, HasSlotOn};
 ghost use Rattle.ring_store.specs.Seen.{holds_live};
-ghost use Rattle.ring_store.specs.Collecting.{HasBegun, HasCopied, StopsCopying, CopiesOne, copy_units, CollectsAt, KeepsOrCollects, KeepsOrTurns, KeepsOrRedoes, TurnsAt, redo_of, redo_list, redo_units};
-ghost use Rattle.ring_store.specs.Spending.{copies, collect_units, ready_units, again_units, round_units};
+ghost use Rattle.ring_store.specs.Collecting.{HasBegun, HasOpened, HasCopied, StopsCopying, CopiesOne, copy_units, CollectsAt, KeepsOrCollects, KeepsOrTurns, KeepsOrRedoes, TurnsAt, redo_of, redo_list, redo_units};
+ghost use Rattle.ring_store.specs.Spending.{copies, collect_units, ready_units, again_units, open_units, round_units};
 ghost use Rattle.ring_store.specs.Standing.{IsStoreArea, list_of, KeepsItems, SpendsIn, SpendsUpTo};
-ghost use Rattle.ring_store.specs.Steps.{KeepsMarks};
+ghost use Rattle.ring_store.specs.Steps.{Keeps, KeepsMarks, StopsClearing};
 ghost use Rattle.ring_store.specs.Written.{IsWritten};
 
 use crate::entry::{Placed, Redo};
 use crate::liveness::{live_in, live_slots};
 use crate::sectors::SlotSectors;
-use flash_map::Area;
+use flash_map::{Area, geometry};
 use flash_sim::{Flash, PowerLost, Steps};
 use std::sync::ledger::Ledger;
 
@@ -34,29 +34,29 @@ fn copy_slot<T: SlotSectors, F: Flash, L: Ledger>(
     steps: &mut Steps<L>,
 ) -> Result<(), PowerLost>
     requires area { IsStoreArea T.role (F.device flash.old).banks area.now }
-    requires kept { let d = F.device flash.old in opened.old ≡ T.kept (unit_of d area.now) (sector_at (sectors_of d area.now) current) }
-    requires current { let d = F.device flash.old in current ≡ open_sector (T.kind (unit_of d area.now)).reading (sectors_of d area.now) }
+    requires kept { let d = F.device flash.old in opened.old ≡ T.kept (geometry_of d area.now) (sector_at (sectors_of d area.now) current) }
+    requires current { let d = F.device flash.old in current ≡ open_sector (T.kind (geometry_of d area.now)).reading (sectors_of d area.now) }
     requires place { current < area.now.sectors }
     requires inside { victim < area.now.sectors }
     requires other { victim ≡ current → ⊥ }
-    requires listed { let d = F.device flash.old in let k = T.kind (unit_of d area.now) in
+    requires listed { let d = F.device flash.old in let k = T.kind (geometry_of d area.now) in
         (k.first ≤ slot) × (slot < k.first + k.count (sector_at (sectors_of d area.now) victim)) }
-    requires ready { let d = F.device flash.old in (T.kind (unit_of d area.now)).is_ready (sector_at (sectors_of d area.now) current) ≡ true }
-    requires collecting { let d = F.device flash.old in is_closed_at (T.kind (unit_of d area.now)).reading (sectors_of d area.now) (next (sectors_of d area.now) current) ≡ true }
-    requires not_done { let d = F.device flash.old in (T.kind (unit_of d area.now)).reading.has_gc_done (sector_at (sectors_of d area.now) current) ≡ false }
-    requires source { let d = F.device flash.old in is_sound (T.kind (unit_of d area.now)).reading (sector_at (sectors_of d area.now) victim) ≡ true }
-    requires within { let d = F.device flash.old in (T.kind (unit_of d area.now)).within (sector_at (sectors_of d area.now) victim) ≡ true }
-    requires room { let d = F.device flash.old in let k = T.kind (unit_of d area.now) in
+    requires ready { let d = F.device flash.old in (T.kind (geometry_of d area.now)).is_ready (sector_at (sectors_of d area.now) current) ≡ true }
+    requires collecting { let d = F.device flash.old in is_closed_at (T.kind (geometry_of d area.now)).reading (sectors_of d area.now) (next (sectors_of d area.now) current) ≡ true }
+    requires not_done { let d = F.device flash.old in (T.kind (geometry_of d area.now)).reading.has_gc_done (sector_at (sectors_of d area.now) current) ≡ false }
+    requires source { let d = F.device flash.old in is_sound (T.kind (geometry_of d area.now)).reading (sector_at (sectors_of d area.now) victim) ≡ true }
+    requires within { let d = F.device flash.old in (T.kind (geometry_of d area.now)).within (sector_at (sectors_of d area.now) victim) ≡ true }
+    requires room { let d = F.device flash.old in let k = T.kind (geometry_of d area.now) in
         cost_of (slots k) (live_in (slots k) (sectors_of d area.now) victim slot) + 3 * k.slot ≤ k.free (sector_at (sectors_of d area.now) current) }
     requires live { let d = F.device flash.old in live ≡ holds_live (kind_on T.kind d area.now) (sectors_of d area.now) victim slot }
     ensures touches { Touches (area.now ∷ []) (F.device flash.old) (F.device flash.new) (is_err result) }
-    ensures copies { let d = F.device flash.old in let k = T.kind (unit_of d area.now) in
+    ensures copies { let d = F.device flash.old in let k = T.kind (geometry_of d area.now) in
         OnOk result (CopiesOne k (sectors_of d area.now) (sectors_of (F.device flash.new) area.now) current (live_in (slots k) (sectors_of d area.now) victim slot)) }
-    ensures kept { let d = F.device flash.old in OnOk result (opened.new ≡ T.kept (unit_of d area.now) (sector_at (sectors_of (F.device flash.new) area.now) current)) }
+    ensures kept { let d = F.device flash.old in OnOk result (opened.new ≡ T.kept (geometry_of d area.now) (sector_at (sectors_of (F.device flash.new) area.now) current)) }
     ensures only { OnErr result (ChangesOnly (sectors_of (F.device flash.old) area.now) (sectors_of (F.device flash.new) area.now) current) }
-    ensures lost { let d = F.device flash.old in OnErr result (KeepsMarks (T.kind (unit_of d area.now)) (sector_at (sectors_of d area.now) current) (sector_at (sectors_of (F.device flash.new) area.now) current)) }
-    ensures spends { let d = F.device flash.old in let k = T.kind (unit_of d area.now) in OnOk result (SpendsIn d (F.device flash.new) (copy_units k (live_in (slots k) (sectors_of d area.now) victim slot))) }
-    ensures spends_lost { let d = F.device flash.old in let k = T.kind (unit_of d area.now) in OnErr result (SpendsUpTo d (F.device flash.new) (copy_units k (live_in (slots k) (sectors_of d area.now) victim slot))) }
+    ensures lost { let d = F.device flash.old in OnErr result (KeepsMarks (T.kind (geometry_of d area.now)) (sector_at (sectors_of d area.now) current) (sector_at (sectors_of (F.device flash.new) area.now) current)) }
+    ensures spends { let d = F.device flash.old in let k = T.kind (geometry_of d area.now) in OnOk result (SpendsIn d (F.device flash.new) (copy_units k (live_in (slots k) (sectors_of d area.now) victim slot))) }
+    ensures spends_lost { let d = F.device flash.old in let k = T.kind (geometry_of d area.now) in OnErr result (SpendsUpTo d (F.device flash.new) (copy_units k (live_in (slots k) (sectors_of d area.now) victim slot))) }
 {
     match live_in::<T, F, L>(flash, area, victim, slot, live, steps) {
         Some(placed) => opened.copy(flash, area, current, &placed, steps),
@@ -65,6 +65,7 @@ fn copy_slot<T: SlotSectors, F: Flash, L: Ledger>(
 }
 
 // Copies the live entries of the victim to the open sector.
+#[inline(never)]
 fn copy_live<T: SlotSectors, F: Flash, L: Ledger>(
     flash: &mut F,
     area: &Area,
@@ -74,17 +75,17 @@ fn copy_live<T: SlotSectors, F: Flash, L: Ledger>(
     steps: &mut Steps<L>,
 ) -> Result<(), PowerLost>
     requires area { IsStoreArea T.role (F.device flash.old).banks area.now }
-    requires kept { let d = F.device flash.old in opened.old ≡ T.kept (unit_of d area.now) (sector_at (sectors_of d area.now) current) }
-    requires collecting { let d = F.device flash.old in Collecting (T.kind (unit_of d area.now)).reading (sectors_of d area.now) current }
-    requires begun { let d = F.device flash.old in HasCopied (T.kind (unit_of d area.now)) (sectors_of d area.now) (sectors_of d area.now) current [] }
+    requires kept { let d = F.device flash.old in opened.old ≡ T.kept (geometry_of d area.now) (sector_at (sectors_of d area.now) current) }
+    requires collecting { let d = F.device flash.old in Collecting (T.kind (geometry_of d area.now)).reading (sectors_of d area.now) current }
+    requires begun { let d = F.device flash.old in HasCopied (T.kind (geometry_of d area.now)) (sectors_of d area.now) (sectors_of d area.now) current [] }
     requires victim { victim ≡ next (sectors_of (F.device flash.old) area.now) current }
     ensures touches { Touches (area.now ∷ []) (F.device flash.old) (F.device flash.new) (is_err result) }
-    ensures copies { let d = F.device flash.old in let k = T.kind (unit_of d area.now) in
+    ensures copies { let d = F.device flash.old in let k = T.kind (geometry_of d area.now) in
         OnOk result (HasCopied k (sectors_of d area.now) (sectors_of (F.device flash.new) area.now) current (to_copy k.reading (sectors_of d area.now) current)) }
-    ensures kept { let d = F.device flash.old in OnOk result (opened.new ≡ T.kept (unit_of d area.now) (sector_at (sectors_of (F.device flash.new) area.now) current)) }
-    ensures lost { let d = F.device flash.old in OnErr result (StopsCopying (T.kind (unit_of d area.now)) (sectors_of d area.now) (sectors_of (F.device flash.new) area.now) current) }
-    ensures spends { let d = F.device flash.old in let k = T.kind (unit_of d area.now) in OnOk result (SpendsIn d (F.device flash.new) (copies k (to_copy k.reading (sectors_of d area.now) current))) }
-    ensures spends_lost { let d = F.device flash.old in let k = T.kind (unit_of d area.now) in OnErr result (SpendsUpTo d (F.device flash.new) (copies k (to_copy k.reading (sectors_of d area.now) current))) }
+    ensures kept { let d = F.device flash.old in OnOk result (opened.new ≡ T.kept (geometry_of d area.now) (sector_at (sectors_of (F.device flash.new) area.now) current)) }
+    ensures lost { let d = F.device flash.old in OnErr result (StopsCopying (T.kind (geometry_of d area.now)) (sectors_of d area.now) (sectors_of (F.device flash.new) area.now) current) }
+    ensures spends { let d = F.device flash.old in let k = T.kind (geometry_of d area.now) in OnOk result (SpendsIn d (F.device flash.new) (copies k (to_copy k.reading (sectors_of d area.now) current))) }
+    ensures spends_lost { let d = F.device flash.old in let k = T.kind (geometry_of d area.now) in OnErr result (SpendsUpTo d (F.device flash.new) (copies k (to_copy k.reading (sectors_of d area.now) current))) }
 {
     let live = live_slots(flash, area, opened, current, victim, steps);
     let slots = T::slots(flash, area, victim, steps);
@@ -105,18 +106,18 @@ fn collect<T: SlotSectors, F: Flash, L: Ledger>(
     steps: &mut Steps<L>,
 ) -> Result<(), PowerLost>
     requires area { IsStoreArea T.role (F.device flash.old).banks area.now }
-    requires kept { let d = F.device flash.old in opened.old ≡ T.kept (unit_of d area.now) (sector_at (sectors_of d area.now) current) }
-    requires collecting { let d = F.device flash.old in Collecting (T.kind (unit_of d area.now)).reading (sectors_of d area.now) current }
-    requires begun { let d = F.device flash.old in HasCopied (T.kind (unit_of d area.now)) (sectors_of d area.now) (sectors_of d area.now) current [] }
+    requires kept { let d = F.device flash.old in opened.old ≡ T.kept (geometry_of d area.now) (sector_at (sectors_of d area.now) current) }
+    requires collecting { let d = F.device flash.old in Collecting (T.kind (geometry_of d area.now)).reading (sectors_of d area.now) current }
+    requires begun { let d = F.device flash.old in HasCopied (T.kind (geometry_of d area.now)) (sectors_of d area.now) (sectors_of d area.now) current [] }
     ensures touches { Touches (area.now ∷ []) (F.device flash.old) (F.device flash.new) (is_err result) }
-    ensures collects { let d = F.device flash.old in OnOk result (CollectsAt (T.kind (unit_of d area.now)) (sectors_of d area.now) (sectors_of (F.device flash.new) area.now) current) }
-    ensures items { let d = F.device flash.old in KeepsItems (T.kind (unit_of d area.now)) (sectors_of d area.now) (sectors_of (F.device flash.new) area.now) }
+    ensures collects { let d = F.device flash.old in OnOk result (CollectsAt (T.kind (geometry_of d area.now)) (sectors_of d area.now) (sectors_of (F.device flash.new) area.now) current) }
+    ensures items { let d = F.device flash.old in KeepsItems (T.kind (geometry_of d area.now)) (sectors_of d area.now) (sectors_of (F.device flash.new) area.now) }
     ensures list_lost { let d = F.device flash.old in
-        OnErr result (KeepsOrCollects (T.kind (unit_of d area.now)) (sectors_of d area.now) (sectors_of (F.device flash.new) area.now) current) }
-    ensures written { IsWritten (T.kind (unit_of (F.device flash.old) area.now)) (sectors_of (F.device flash.new) area.now) }
-    ensures kept { let d = F.device flash.old in OnOk result (opened.new ≡ T.kept (unit_of d area.now) (sector_at (sectors_of (F.device flash.new) area.now) current)) }
-    ensures spends { let d = F.device flash.old in OnOk result (SpendsIn d (F.device flash.new) (collect_units (T.kind (unit_of d area.now)) (sectors_of d area.now) current)) }
-    ensures spends_lost { let d = F.device flash.old in OnErr result (SpendsUpTo d (F.device flash.new) (collect_units (T.kind (unit_of d area.now)) (sectors_of d area.now) current)) }
+        OnErr result (KeepsOrCollects (T.kind (geometry_of d area.now)) (sectors_of d area.now) (sectors_of (F.device flash.new) area.now) current) }
+    ensures written { IsWritten (T.kind (geometry_of (F.device flash.old) area.now)) (sectors_of (F.device flash.new) area.now) }
+    ensures kept { let d = F.device flash.old in OnOk result (opened.new ≡ T.kept (geometry_of d area.now) (sector_at (sectors_of (F.device flash.new) area.now) current)) }
+    ensures spends { let d = F.device flash.old in OnOk result (SpendsIn d (F.device flash.new) (collect_units (T.kind (geometry_of d area.now)) (sectors_of d area.now) current)) }
+    ensures spends_lost { let d = F.device flash.old in OnErr result (SpendsUpTo d (F.device flash.new) (collect_units (T.kind (geometry_of d area.now)) (sectors_of d area.now) current)) }
 {
     let victim = area.next(current);
     copy_live(flash, area, opened, current, victim, steps)?;
@@ -124,7 +125,7 @@ fn collect<T: SlotSectors, F: Flash, L: Ledger>(
     T::clear(flash, area, victim, steps)
 }
 
-// Makes the open sector of a collection one with no entry that is ready for one.
+// Makes a sector that is not closed clean and ready for entries.
 fn prepare<T: SlotSectors, F: Flash, L: Ledger>(
     flash: &mut F,
     area: &Area,
@@ -133,19 +134,32 @@ fn prepare<T: SlotSectors, F: Flash, L: Ledger>(
     steps: &mut Steps<L>,
 ) -> Result<(), PowerLost>
     requires area { IsStoreArea T.role (F.device flash.old).banks area.now }
-    requires kept { let d = F.device flash.old in opened.old ≡ T.kept (unit_of d area.now) (sector_at (sectors_of d area.now) current) }
+    requires kept { let d = F.device flash.old in
+        opened.old ≡ T.kept (geometry_of d area.now) (sector_at (sectors_of d area.now) current) }
     requires inside { current < area.now.sectors }
-    requires collecting { let d = F.device flash.old in Collecting (T.kind (unit_of d area.now)).reading (sectors_of d area.now) current }
+    requires not_closed { let d = F.device flash.old in let k = T.kind (geometry_of d area.now) in
+        is_closed_at k.reading (sectors_of d area.now) current ≡ false }
     ensures touches { Touches (area.now ∷ []) (F.device flash.old) (F.device flash.new) (is_err result) }
-    ensures begun { let d = F.device flash.old in OnOk result (HasBegun (T.kind (unit_of d area.now)) (sectors_of d area.now) (sectors_of (F.device flash.new) area.now) current) }
-    ensures kept { let d = F.device flash.old in OnOk result (opened.new ≡ T.kept (unit_of d area.now) (sector_at (sectors_of (F.device flash.new) area.now) current)) }
-    ensures lost { let d = F.device flash.old in OnErr result (StopsCopying (T.kind (unit_of d area.now)) (sectors_of d area.now) (sectors_of (F.device flash.new) area.now) current) }
-    ensures spends { let d = F.device flash.old in let k = T.kind (unit_of d area.now) in
-        OnOk result (SpendsIn d (F.device flash.new) (ready_units k (sectors_of d area.now) current)) }
-    ensures spends_lost { let d = F.device flash.old in let k = T.kind (unit_of d area.now) in
-        OnErr result (SpendsUpTo d (F.device flash.new) (ready_units k (sectors_of d area.now) current)) }
+    ensures begun { let d = F.device flash.old in let k = T.kind (geometry_of d area.now) in
+        let new = sectors_of (F.device flash.new) area.now in
+        OnOk result (HasBegun k (sectors_of d area.now) new current) }
+    ensures kept { let d = F.device flash.old in
+        let new = sectors_of (F.device flash.new) area.now in
+        OnOk result (opened.new ≡ T.kept (geometry_of d area.now) (sector_at new current)) }
+    ensures only { let new = sectors_of (F.device flash.new) area.now in
+        ChangesOnly (sectors_of (F.device flash.old) area.now) new current }
+    ensures lost { let d = F.device flash.old in let k = T.kind (geometry_of d area.now) in
+        let b = sector_at (sectors_of d area.now) current in
+        let e = sector_at (sectors_of (F.device flash.new) area.now) current in
+        OnErr result (Keeps k b e ⊎ StopsClearing k b e) }
+    ensures spends { let d = F.device flash.old in let k = T.kind (geometry_of d area.now) in
+        let range = ready_units k (sectors_of d area.now) current in
+        OnOk result (SpendsIn d (F.device flash.new) range) }
+    ensures spends_lost { let d = F.device flash.old in let k = T.kind (geometry_of d area.now) in
+        let range = ready_units k (sectors_of d area.now) current in
+        OnErr result (SpendsUpTo d (F.device flash.new) range) }
 {
-    if T::is_blank(flash, area, current, steps) {
+    if T::is_clean(flash, area, current, steps) {
         return opened.begin(flash, area, current, steps);
     }
     T::clear(flash, area, current, steps)?;
@@ -162,17 +176,17 @@ fn collect_again<T: SlotSectors, F: Flash, L: Ledger>(
     steps: &mut Steps<L>,
 ) -> Result<(), PowerLost>
     requires area { IsStoreArea T.role (F.device flash.old).banks area.now }
-    requires kept { let d = F.device flash.old in opened.old ≡ T.kept (unit_of d area.now) (sector_at (sectors_of d area.now) current) }
-    requires collecting { let d = F.device flash.old in Collecting (T.kind (unit_of d area.now)).reading (sectors_of d area.now) current }
+    requires kept { let d = F.device flash.old in opened.old ≡ T.kept (geometry_of d area.now) (sector_at (sectors_of d area.now) current) }
+    requires collecting { let d = F.device flash.old in Collecting (T.kind (geometry_of d area.now)).reading (sectors_of d area.now) current }
     ensures touches { Touches (area.now ∷ []) (F.device flash.old) (F.device flash.new) (is_err result) }
-    ensures collects { let d = F.device flash.old in OnOk result (CollectsAt (T.kind (unit_of d area.now)) (sectors_of d area.now) (sectors_of (F.device flash.new) area.now) current) }
-    ensures items { let d = F.device flash.old in KeepsItems (T.kind (unit_of d area.now)) (sectors_of d area.now) (sectors_of (F.device flash.new) area.now) }
+    ensures collects { let d = F.device flash.old in OnOk result (CollectsAt (T.kind (geometry_of d area.now)) (sectors_of d area.now) (sectors_of (F.device flash.new) area.now) current) }
+    ensures items { let d = F.device flash.old in KeepsItems (T.kind (geometry_of d area.now)) (sectors_of d area.now) (sectors_of (F.device flash.new) area.now) }
     ensures list_lost { let d = F.device flash.old in
-        OnErr result (KeepsOrCollects (T.kind (unit_of d area.now)) (sectors_of d area.now) (sectors_of (F.device flash.new) area.now) current) }
-    ensures written { IsWritten (T.kind (unit_of (F.device flash.old) area.now)) (sectors_of (F.device flash.new) area.now) }
-    ensures kept { let d = F.device flash.old in OnOk result (opened.new ≡ T.kept (unit_of d area.now) (sector_at (sectors_of (F.device flash.new) area.now) current)) }
-    ensures spends { let d = F.device flash.old in OnOk result (SpendsIn d (F.device flash.new) (again_units (T.kind (unit_of d area.now)) (sectors_of d area.now) current)) }
-    ensures spends_lost { let d = F.device flash.old in OnErr result (SpendsUpTo d (F.device flash.new) (again_units (T.kind (unit_of d area.now)) (sectors_of d area.now) current)) }
+        OnErr result (KeepsOrCollects (T.kind (geometry_of d area.now)) (sectors_of d area.now) (sectors_of (F.device flash.new) area.now) current) }
+    ensures written { IsWritten (T.kind (geometry_of (F.device flash.old) area.now)) (sectors_of (F.device flash.new) area.now) }
+    ensures kept { let d = F.device flash.old in OnOk result (opened.new ≡ T.kept (geometry_of d area.now) (sector_at (sectors_of (F.device flash.new) area.now) current)) }
+    ensures spends { let d = F.device flash.old in OnOk result (SpendsIn d (F.device flash.new) (again_units (T.kind (geometry_of d area.now)) (sectors_of d area.now) current)) }
+    ensures spends_lost { let d = F.device flash.old in OnErr result (SpendsUpTo d (F.device flash.new) (again_units (T.kind (geometry_of d area.now)) (sectors_of d area.now) current)) }
 {
     prepare(flash, area, opened, current, steps)?;
     collect(flash, area, opened, current, steps)
@@ -187,9 +201,9 @@ fn what_to_redo<T: SlotSectors, F: Flash, L: Ledger>(
     steps: &mut Steps<L>,
 ) -> Redo
     requires area { IsStoreArea T.role (F.device flash.now).banks area.now }
-    requires kept { let d = F.device flash.now in opened.now ≡ T.kept (unit_of d area.now) (sector_at (sectors_of d area.now) current) }
+    requires kept { let d = F.device flash.now in opened.now ≡ T.kept (geometry_of d area.now) (sector_at (sectors_of d area.now) current) }
     requires within { current < area.now.sectors }
-    ensures { let d = F.device flash.now in result ≡ redo_of (T.kind (unit_of d area.now)) (sectors_of d area.now) current }
+    ensures { let d = F.device flash.now in result ≡ redo_of (T.kind (geometry_of d area.now)) (sectors_of d area.now) current }
 {
     if T::is_closed(flash, area, area.next(current), steps) {
         if opened.has_gc_done() {
@@ -211,25 +225,25 @@ pub fn redo<T: SlotSectors, F: Flash, L: Ledger>(
     steps: &mut Steps<L>,
 ) -> Result<(), PowerLost>
     requires area { IsStoreArea T.role (F.device flash.old).banks area.now }
-    requires undamaged { let d = F.device flash.old in (T.kind (unit_of d area.now)).damage (sectors_of d area.now) ≡ None }
-    requires current { let d = F.device flash.old in current ≡ open_sector (T.kind (unit_of d area.now)).reading (sectors_of d area.now) }
-    requires kept { let d = F.device flash.old in opened.old ≡ T.kept (unit_of d area.now) (sector_at (sectors_of d area.now) current) }
+    requires undamaged { let d = F.device flash.old in (T.kind (geometry_of d area.now)).damage (sectors_of d area.now) ≡ None }
+    requires current { let d = F.device flash.old in current ≡ open_sector (T.kind (geometry_of d area.now)).reading (sectors_of d area.now) }
+    requires kept { let d = F.device flash.old in opened.old ≡ T.kept (geometry_of d area.now) (sector_at (sectors_of d area.now) current) }
     ensures touches { Touches (area.now ∷ []) (F.device flash.old) (F.device flash.new) (is_err result) }
-    ensures rested { let d = F.device flash.old in OnOk result (AtRest (T.kind (unit_of d area.now)).reading (sectors_of (F.device flash.new) area.now) current) }
-    ensures items { let d = F.device flash.old in KeepsItems (T.kind (unit_of d area.now)) (sectors_of d area.now) (sectors_of (F.device flash.new) area.now) }
-    ensures list { let d = F.device flash.old in let k = T.kind (unit_of d area.now) in
+    ensures rested { let d = F.device flash.old in OnOk result (AtRest (T.kind (geometry_of d area.now)).reading (sectors_of (F.device flash.new) area.now) current) }
+    ensures items { let d = F.device flash.old in KeepsItems (T.kind (geometry_of d area.now)) (sectors_of d area.now) (sectors_of (F.device flash.new) area.now) }
+    ensures list { let d = F.device flash.old in let k = T.kind (geometry_of d area.now) in
         OnOk result (list_of k (sectors_of (F.device flash.new) area.now) ≡ redo_list k (sectors_of d area.now) current (redo_of k (sectors_of d area.now) current)) }
     ensures list_lost { let d = F.device flash.old in
-        OnErr result (KeepsOrRedoes (T.kind (unit_of d area.now)) (sectors_of d area.now) (sectors_of (F.device flash.new) area.now) current) }
+        OnErr result (KeepsOrRedoes (T.kind (geometry_of d area.now)) (sectors_of d area.now) (sectors_of (F.device flash.new) area.now) current) }
     ensures written { let d = F.device flash.old in
-        (F.device flash.new ≡ d) ⊎ IsWritten (T.kind (unit_of d area.now)) (sectors_of (F.device flash.new) area.now) }
-    ensures same { let d = F.device flash.old in AtRest (T.kind (unit_of d area.now)).reading (sectors_of d area.now) current → F.device flash.new ≡ d }
-    ensures busy { let d = F.device flash.old in OnErr result (AtRest (T.kind (unit_of d area.now)).reading (sectors_of d area.now) current → ⊥) }
-    ensures collects { let d = F.device flash.old in let k = T.kind (unit_of d area.now) in
+        (F.device flash.new ≡ d) ⊎ IsWritten (T.kind (geometry_of d area.now)) (sectors_of (F.device flash.new) area.now) }
+    ensures same { let d = F.device flash.old in AtRest (T.kind (geometry_of d area.now)).reading (sectors_of d area.now) current → F.device flash.new ≡ d }
+    ensures busy { let d = F.device flash.old in OnErr result (AtRest (T.kind (geometry_of d area.now)).reading (sectors_of d area.now) current → ⊥) }
+    ensures collects { let d = F.device flash.old in let k = T.kind (geometry_of d area.now) in
         OnOk result (Collecting k.reading (sectors_of d area.now) current → CollectsAt k (sectors_of d area.now) (sectors_of (F.device flash.new) area.now) current) }
-    ensures kept { let d = F.device flash.old in OnOk result (opened.new ≡ T.kept (unit_of d area.now) (sector_at (sectors_of (F.device flash.new) area.now) current)) }
-    ensures spends { let d = F.device flash.old in let k = T.kind (unit_of d area.now) in OnOk result (SpendsIn d (F.device flash.new) (redo_units k (sectors_of d area.now) current (redo_of k (sectors_of d area.now) current))) }
-    ensures spends_lost { let d = F.device flash.old in let k = T.kind (unit_of d area.now) in OnErr result (SpendsUpTo d (F.device flash.new) (redo_units k (sectors_of d area.now) current (redo_of k (sectors_of d area.now) current))) }
+    ensures kept { let d = F.device flash.old in OnOk result (opened.new ≡ T.kept (geometry_of d area.now) (sector_at (sectors_of (F.device flash.new) area.now) current)) }
+    ensures spends { let d = F.device flash.old in let k = T.kind (geometry_of d area.now) in OnOk result (SpendsIn d (F.device flash.new) (redo_units k (sectors_of d area.now) current (redo_of k (sectors_of d area.now) current))) }
+    ensures spends_lost { let d = F.device flash.old in let k = T.kind (geometry_of d area.now) in OnErr result (SpendsUpTo d (F.device flash.new) (redo_units k (sectors_of d area.now) current (redo_of k (sectors_of d area.now) current))) }
 {
     match what_to_redo(flash, area, opened, current, steps) {
         Redo::Nothing => Ok(()),
@@ -238,7 +252,59 @@ pub fn redo<T: SlotSectors, F: Flash, L: Ledger>(
     }
 }
 
-// Closes the open sector and collects. Gives the sector that is open then.
+// What a round does with the next sector, which has no entry, once it is the open one. Where the sector after it is
+// closed, that is collected into it; else it is made ready for entries, where sectors are so as soon as they open.
+fn open_next<T: SlotSectors, F: Flash, L: Ledger>(
+    flash: &mut F,
+    area: &Area,
+    opened: &mut T,
+    current: u32,
+    steps: &mut Steps<L>,
+) -> Result<(), PowerLost>
+    requires area { IsStoreArea T.role (F.device flash.old).banks area.now }
+    requires kept { let d = F.device flash.old in
+        opened.old ≡ T.kept (geometry_of d area.now) (sector_at (sectors_of d area.now) current) }
+    requires form { let d = F.device flash.old in let k = T.kind (geometry_of d area.now) in
+        let old = sectors_of d area.now in
+        AtRest k.reading old current ⊎ Collecting k.reading old current }
+    requires blank { let d = F.device flash.old in let k = T.kind (geometry_of d area.now) in
+        is_blank_at k.reading (sectors_of d area.now) current ≡ true }
+    ensures touches { Touches (area.now ∷ []) (F.device flash.old) (F.device flash.new) (is_err result) }
+    ensures opens { let d = F.device flash.old in let k = T.kind (geometry_of d area.now) in
+        let old = sectors_of d area.now in let new = sectors_of (F.device flash.new) area.now in
+        OnOk result (AtRest k.reading old current → HasOpened k old new current) }
+    ensures collects { let d = F.device flash.old in let k = T.kind (geometry_of d area.now) in
+        let old = sectors_of d area.now in let new = sectors_of (F.device flash.new) area.now in
+        OnOk result (Collecting k.reading old current → CollectsAt k old new current) }
+    ensures items { let d = F.device flash.old in let k = T.kind (geometry_of d area.now) in
+        KeepsItems k (sectors_of d area.now) (sectors_of (F.device flash.new) area.now) }
+    ensures list_lost { let d = F.device flash.old in let k = T.kind (geometry_of d area.now) in
+        let old = sectors_of d area.now in let new = sectors_of (F.device flash.new) area.now in
+        OnErr result (KeepsOrRedoes k old new current) }
+    ensures written { let d = F.device flash.old in let k = T.kind (geometry_of d area.now) in
+        let new = sectors_of (F.device flash.new) area.now in
+        IsWritten k (sectors_of d area.now) → IsWritten k new }
+    ensures kept { let d = F.device flash.old in
+        let new = sectors_of (F.device flash.new) area.now in
+        OnOk result (opened.new ≡ T.kept (geometry_of d area.now) (sector_at new current)) }
+    ensures spends { let d = F.device flash.old in let k = T.kind (geometry_of d area.now) in
+        let range = open_units k (sectors_of d area.now) current in
+        OnOk result (SpendsIn d (F.device flash.new) range) }
+    ensures spends_lost { let d = F.device flash.old in let k = T.kind (geometry_of d area.now) in
+        let range = open_units k (sectors_of d area.now) current in
+        OnErr result (SpendsUpTo d (F.device flash.new) range) }
+{
+    if T::is_closed(flash, area, area.next(current), steps) {
+        return collect_again(flash, area, opened, current, steps);
+    }
+    if T::opens_ready(&geometry(flash, area)) {
+        return prepare(flash, area, opened, current, steps);
+    }
+    Ok(())
+}
+
+// Closes the open sector, which is not clean, and opens the next one; collects the one behind that, where it is closed then. Gives
+// the sector that is open then.
 pub fn round<T: SlotSectors, F: Flash, L: Ledger>(
     flash: &mut F,
     area: &Area,
@@ -247,26 +313,32 @@ pub fn round<T: SlotSectors, F: Flash, L: Ledger>(
     steps: &mut Steps<L>,
 ) -> Result<u32, PowerLost>
     requires area { IsStoreArea T.role (F.device flash.old).banks area.now }
-    requires undamaged { let d = F.device flash.old in (T.kind (unit_of d area.now)).damage (sectors_of d area.now) ≡ None }
-    requires current { let d = F.device flash.old in current ≡ open_sector (T.kind (unit_of d area.now)).reading (sectors_of d area.now) }
-    requires kept { let d = F.device flash.old in opened.old ≡ T.kept (unit_of d area.now) (sector_at (sectors_of d area.now) current) }
-    requires rested { let d = F.device flash.old in is_closed_at (T.kind (unit_of d area.now)).reading (sectors_of d area.now) (next (sectors_of d area.now) current) ≡ false }
-    requires used { let d = F.device flash.old in is_blank_at (T.kind (unit_of d area.now)).reading (sectors_of d area.now) current ≡ false }
+    requires undamaged { let d = F.device flash.old in (T.kind (geometry_of d area.now)).damage (sectors_of d area.now) ≡ None }
+    requires current { let d = F.device flash.old in current ≡ open_sector (T.kind (geometry_of d area.now)).reading (sectors_of d area.now) }
+    requires kept { let d = F.device flash.old in opened.old ≡ T.kept (geometry_of d area.now) (sector_at (sectors_of d area.now) current) }
+    requires rested { let d = F.device flash.old in is_closed_at (T.kind (geometry_of d area.now)).reading (sectors_of d area.now) (next (sectors_of d area.now) current) ≡ false }
+    requires used { let d = F.device flash.old in
+        is_clean_at (T.kind (geometry_of d area.now)) (sectors_of d area.now) current ≡ false }
     ensures touches { Touches (area.now ∷ []) (F.device flash.old) (F.device flash.new) (is_err result) }
     ensures opened { let d = F.device flash.old in IfOk result (λ place. place ≡ next (sectors_of d area.now) current) }
-    ensures rested { let d = F.device flash.old in OnOk result (AtRest (T.kind (unit_of d area.now)).reading (sectors_of (F.device flash.new) area.now) (next (sectors_of d area.now) current)) }
-    ensures items { let d = F.device flash.old in KeepsItems (T.kind (unit_of d area.now)) (sectors_of d area.now) (sectors_of (F.device flash.new) area.now) }
+    ensures rested { let d = F.device flash.old in OnOk result (AtRest (T.kind (geometry_of d area.now)).reading (sectors_of (F.device flash.new) area.now) (next (sectors_of d area.now) current)) }
+    ensures items { let d = F.device flash.old in KeepsItems (T.kind (geometry_of d area.now)) (sectors_of d area.now) (sectors_of (F.device flash.new) area.now) }
     ensures list_lost { let d = F.device flash.old in
-        OnErr result (KeepsOrTurns (T.kind (unit_of d area.now)) (sectors_of d area.now) (sectors_of (F.device flash.new) area.now) current) }
-    ensures written { IsWritten (T.kind (unit_of (F.device flash.old) area.now)) (sectors_of (F.device flash.new) area.now) }
-    ensures kept { let d = F.device flash.old in OnOk result (opened.new ≡ T.kept (unit_of d area.now) (sector_at (sectors_of (F.device flash.new) area.now) (next (sectors_of d area.now) current))) }
-    ensures turns { let d = F.device flash.old in OnOk result (TurnsAt (T.kind (unit_of d area.now)) (sector_size d area.now) (sectors_of d area.now) (sectors_of (F.device flash.new) area.now) current) }
-    ensures spends { let d = F.device flash.old in OnOk result (SpendsIn d (F.device flash.new) (round_units (T.kind (unit_of d area.now)) (sectors_of d area.now) current)) }
-    ensures spends_lost { let d = F.device flash.old in OnErr result (SpendsUpTo d (F.device flash.new) (round_units (T.kind (unit_of d area.now)) (sectors_of d area.now) current)) }
+        OnErr result (KeepsOrTurns (T.kind (geometry_of d area.now)) (sectors_of d area.now) (sectors_of (F.device flash.new) area.now) current) }
+    ensures written { let d = F.device flash.old in let k = T.kind (geometry_of d area.now) in
+        let new = sectors_of (F.device flash.new) area.now in
+        IsWritten k (sectors_of d area.now) → IsWritten k new }
+    ensures changed { let d = F.device flash.old in let k = T.kind (geometry_of d area.now) in
+        let new = sectors_of (F.device flash.new) area.now in
+        (new ≡ sectors_of d area.now) ⊎ IsWritten k new }
+    ensures kept { let d = F.device flash.old in OnOk result (opened.new ≡ T.kept (geometry_of d area.now) (sector_at (sectors_of (F.device flash.new) area.now) (next (sectors_of d area.now) current))) }
+    ensures turns { let d = F.device flash.old in OnOk result (TurnsAt (T.kind (geometry_of d area.now)) (sector_size d area.now) (sectors_of d area.now) (sectors_of (F.device flash.new) area.now) current) }
+    ensures spends { let d = F.device flash.old in OnOk result (SpendsIn d (F.device flash.new) (round_units (T.kind (geometry_of d area.now)) (sectors_of d area.now) current)) }
+    ensures spends_lost { let d = F.device flash.old in OnErr result (SpendsUpTo d (F.device flash.new) (round_units (T.kind (geometry_of d area.now)) (sectors_of d area.now) current)) }
 {
     opened.close(flash, area, current, steps)?;
     let place = area.next(current);
     *opened = T::keep(flash, area, place, steps);
-    redo(flash, area, opened, place, steps)?;
+    open_next(flash, area, opened, place, steps)?;
     Ok(place)
 }

@@ -34,9 +34,9 @@ fn slot_cost<T: SlotSectors, F: Flash, L: Ledger>(
         result ≡ cost_of (slots k) (live_in (slots k) (sectors_of d area.now) place slot) }
     ensures small { result ≤ 2 ^ 18 }
 {
-    let unit = geometry(flash, area).unit;
+    let geometry = geometry(flash, area);
     match live_in::<T, F, L>(flash, area, place, slot, live, steps) {
-        Some(placed) => T::cost(unit, placed.len),
+        Some(placed) => T::cost(&geometry, placed.len),
         None => 0,
     }
 }
@@ -70,6 +70,7 @@ fn sector_cost<T: SlotSectors, F: Flash, L: Ledger>(
 
 impl<T: SlotSectors> Store<T> {
     // What the items in one sector cost, by what was seen behind it. The ids of its entries are noted.
+    #[inline(never)]
     fn cost_in<F: Flash, L: Ledger>(
         &self,
         flash: &F,
@@ -101,6 +102,7 @@ impl<T: SlotSectors> Store<T> {
 
     /// What all items cost, in bytes: the bytes of each with its entry. The list is walked over once, from its newest sector to
     /// its oldest.
+    #[inline(never)]
     pub fn live_cost<F: Flash, L: Ledger>(&self, flash: &F, steps: &mut Steps<L>) -> u64
         requires { StandsOn T.role T.kind T.kept (F.device flash.now) self.now }
         ensures { let d = F.device flash.now in result ≡ live_cost (kind_on T.kind d self.now.area).cost (list_on T.kind d self.now.area) }

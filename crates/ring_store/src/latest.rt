@@ -1,25 +1,31 @@
-// The last entries of ids, by one walk over the list of an area.
-ghost use Rattle.std.specs.Prelude.{◌≡◌, ◌+◌, ◌<◌, ◌≤◌, ◌++◌, ◌∷◌, ℕ, List, [], true, false, None, take, drop, length};
+// The last entries of ids, by one walk over the list of an area, from its newest entry to its oldest.
+ghost use Rattle.std.specs.Prelude.{◌≡◌, ◌+◌, ◌<◌, ◌≤◌, ◌++◌, ◌∷◌, ◌^◌, ◌&&◌, ◌==◌, ℕ, List, [], true, false, None, Some, is_some, length};
+ghost use Rattle.std.specs.Option.{option_map, option_to_list};
 ghost use Rattle.std.specs.List.Sorted.{IsSearchInRange};
 ghost use Rattle.std.specs.List.{AllWithin};
-ghost use Rattle.flash_map.specs.Area.{unit_of, sectors_of, sector_at};
-ghost use Rattle.ring_laws.specs.Area.{open_sector};
+ghost use Rattle.flash_map.specs.declared.area.Geometry.{Geometry as geometry_type};
+ghost use Rattle.flash_map.specs.Area.{geometry_of, sectors_of, sector_at};
+ghost use Rattle.ring_laws.specs.Area.{counts_at, open_sector};
+ghost use Rattle.ring_laws.specs.Live.{counted_in};
 ghost use Rattle.ring_laws.specs.NextIds.{IsBehind};
 ghost use Rattle.ring_store.specs.declared.entry.Placed.{Placed as PlacedEntry};
-ghost use Rattle.ring_store.specs.Latest.{last_of_id, held, IsTold, Rises, Splits, IsNextIn, DropsGreatest, Tells, TellsOn};
-ghost use Rattle.ring_store.specs.Listed.{kind_on};
+ghost use Rattle.ring_store.specs.Kind.{placed_at, slots};
+ghost use Rattle.ring_store.specs.Latest.{last_of_id, Covers, IsTold, Rises, Splits, IsNextIn, DropsGreatest, Tells, TellsOn};
+ghost use Rattle.ring_store.specs.Listed.{kind_on, HasSlotOn};
+ghost use Rattle.ring_store.specs.Seen.{HasSeen, AreBehind, behind};
 ghost use Rattle.ring_store.specs.Standing.{IsStoreArea};
 
 use crate::entry::Placed;
-use crate::noting::{Notes, note_among};
+use crate::lookup::{counts, find};
 use crate::sectors::SlotSectors;
+use crate::seen::Seen;
 use arrayvec::ArrayVec;
 use flash_map::Area;
 use flash_sim::{Flash, Steps};
 use std::sync::ledger::Ledger;
 
 // A table has so many entries at most, of 16 bytes each.
-const ENTRIES: usize = 1000;
+const ENTRIES: usize = 950;
 
 /// Of each id below a bound the last one of some entries, where that has bytes. There is a bound only where more ids than the
 /// table has places had bytes.
@@ -46,6 +52,7 @@ fn search(entries: &[Placed], id: u32) -> Result<usize, usize>
 
 impl LastSlots {
     // Among no entries.
+    #[inline(never)]
     fn new() -> LastSlots
         ensures { (limit : ℕ) → Tells limit result [] }
     {
@@ -110,19 +117,6 @@ impl LastSlots {
         }
     }
 
-    // Puts an entry in place of the one there, or takes that out where the new one has no bytes.
-    fn replace(&mut self, at: usize, placed: &Placed)
-        requires { at < length self.old.entries.items }
-        ensures entries { self.new.entries.items ≡ take at self.old.entries.items ++ (held placed.now ++ drop (at + 1) self.old.entries.items) }
-        ensures bound { self.new.bound ≡ self.old.bound }
-    {
-        if placed.len == 0 {
-            self.entries.remove(at);
-            return;
-        }
-        self.entries.as_mut_slice()[at] = *placed;
-    }
-
     // Takes out the entry of the greatest id.
     fn drop_greatest(&mut self)
         requires { 0 < length self.old.entries.items }
@@ -154,13 +148,13 @@ impl LastSlots {
         self.entries.insert(at, *placed);
     }
 
-    // Takes an entry as the last one of its id, of which the table tells.
+    // Takes an entry as the last one of its id, of which the table tells and has none.
     fn put(&mut self, placed: &Placed)
-        ensures { (limit : ℕ) (before : List PlacedEntry) → placed.now.id < limit
+        ensures { (limit : ℕ) (before : List PlacedEntry) → placed.now.id < limit → last_of_id placed.now.id before ≡ None
             → IsTold self.old.bound placed.now.id → Tells limit self.old before → Tells limit self.new (before ++ placed.now ∷ []) }
     {
         match search(self.entries.as_slice(), placed.id) {
-            Ok(at) => self.replace(at, placed),
+            Ok(_) => {}
             Err(at) => {
                 if placed.len > 0 {
                     self.put_new(at, placed);
@@ -168,19 +162,232 @@ impl LastSlots {
             }
         }
     }
-}
 
-impl Notes for LastSlots {
-    ghost noted = { λ limit last placed. Tells limit last placed };
-
-    fn note(&mut self, placed: &Placed) {
+    // Takes an entry that stands behind others, none of which has its id.
+    fn note(&mut self, placed: &Placed)
+        ensures { (limit : ℕ) (before : List PlacedEntry) → placed.now.id < limit → last_of_id placed.now.id before ≡ None
+            → Tells limit self.old before → Tells limit self.new (before ++ placed.now ∷ []) }
+    {
         if self.tells_of(placed.id) {
             self.put(placed);
         }
     }
+
+    // Takes an entry that stands in front of others, where none of them has its id.
+    fn take_older(&mut self, placed: &Placed, has_later: bool)
+        ensures { (limit : ℕ) (later : List PlacedEntry) → placed.now.id < limit
+            → has_later ≡ is_some (last_of_id placed.now.id later)
+            → Tells limit self.old later → Tells limit self.new (placed.now ∷ later) }
+    {
+        if !has_later {
+            self.note(placed);
+        }
+    }
+
+    // Whether the table has an entry of the id. Then those that it tells of have one.
+    fn has(&self, id: u32) -> bool
+        ensures { (limit : ℕ) (later : List PlacedEntry) → Tells limit self.now later
+            → result ≡ true → is_some (last_of_id id later) ≡ true }
+    {
+        if !self.tells_of(id) {
+            return false;
+        }
+        self.entry_of(id).is_some()
+    }
+}
+
+// Whether an entry of this very id was told, as far as that is sure.
+fn was_told<T: SlotSectors>(last: &LastSlots, seen: &Seen, id: u32) -> bool
+    ensures { (geometry : geometry_type) (later : List PlacedEntry)
+        → ((T.kind geometry).ids ≤ 2 ^ 16 → id < 2 ^ 16) → Covers (T.kind geometry).ids last.now seen.now later
+        → result ≡ true → is_some (last_of_id id later) ≡ true }
+{
+    if !seen.has(id) {
+        return false;
+    }
+    if T::has_short_ids() {
+        return true;
+    }
+    if seen.is_plain(id) {
+        return true;
+    }
+    last.has(id)
+}
+
+// Whether two entries stand in the same slot.
+fn share_place(one: &Placed, other: &Placed) -> bool
+    ensures { result ≡ ((one.now.sector == other.now.sector) && (one.now.slot == other.now.slot)) }
+{
+    one.sector == other.sector && one.slot == other.slot
+}
+
+// Whether an entry behind this one has its id. The list is searched only where one was seen that may have it.
+fn has_later<T: SlotSectors, F: Flash, L: Ledger>(
+    flash: &F,
+    area: &Area,
+    opened: &T,
+    current: u32,
+    placed: &Placed,
+    seen: &Seen,
+    steps: &mut Steps<L>,
+) -> bool
+    requires area { IsStoreArea T.role (F.device flash.now).banks area.now }
+    requires kept { let d = F.device flash.now in opened.now ≡ T.kept (geometry_of d area.now) (sector_at (sectors_of d area.now) current) }
+    requires current { let d = F.device flash.now in current ≡ open_sector (T.kind (geometry_of d area.now)).reading (sectors_of d area.now) }
+    ensures { let d = F.device flash.now in let k = kind_on T.kind d area.now in
+        (later : List PlacedEntry) → AreBehind k (sectors_of d area.now) placed.now later
+        → HasSeen k.ids seen.now.bits seen.now.mixed later → result ≡ is_some (last_of_id placed.now.id later) }
+{
+    if !seen.has(placed.id) {
+        return false;
+    }
+    match find(flash, area, opened, current, placed.id, steps) {
+        Some(last) => !share_place(&last, placed),
+        None => false,
+    }
+}
+
+// Tells of an entry that was read, in front of those that were told. Its id is noted.
+fn tell_entry<T: SlotSectors, F: Flash, L: Ledger>(
+    flash: &F,
+    area: &Area,
+    opened: &T,
+    current: u32,
+    placed: &Placed,
+    last: &mut LastSlots,
+    seen: &mut Seen,
+    steps: &mut Steps<L>,
+)
+    requires area { IsStoreArea T.role (F.device flash.now).banks area.now }
+    requires kept { let d = F.device flash.now in opened.now ≡ T.kept (geometry_of d area.now) (sector_at (sectors_of d area.now) current) }
+    requires current { let d = F.device flash.now in current ≡ open_sector (T.kind (geometry_of d area.now)).reading (sectors_of d area.now) }
+    requires known { let d = F.device flash.now in placed.now.id < (kind_on T.kind d area.now).ids }
+    ensures { let d = F.device flash.now in let k = kind_on T.kind d area.now in
+        (later : List PlacedEntry) → AreBehind k (sectors_of d area.now) placed.now later
+        → Covers k.ids last.old seen.old later → Covers k.ids last.new seen.new (placed.now ∷ later) }
+{
+    let older = has_later(flash, area, opened, current, placed, seen, steps);
+    last.take_older(placed, older);
+    seen.add(placed.id);
+}
+
+// Tells of the entry in a slot, if there is one, in front of those that were told. The id is read first: where one of this id
+// was told, the slot is passed over, and its CRC is not looked at.
+fn tell_slot<T: SlotSectors, F: Flash, L: Ledger>(
+    flash: &F,
+    area: &Area,
+    opened: &T,
+    current: u32,
+    place: u32,
+    slot: u32,
+    last: &mut LastSlots,
+    seen: &mut Seen,
+    steps: &mut Steps<L>,
+)
+    requires area { IsStoreArea T.role (F.device flash.now).banks area.now }
+    requires kept { let d = F.device flash.now in opened.now ≡ T.kept (geometry_of d area.now) (sector_at (sectors_of d area.now) current) }
+    requires current { let d = F.device flash.now in current ≡ open_sector (T.kind (geometry_of d area.now)).reading (sectors_of d area.now) }
+    requires inside { place < area.now.sectors }
+    requires listed { HasSlotOn T.kind (F.device flash.now) area.now place slot }
+    ensures { let d = F.device flash.now in let k = kind_on T.kind d area.now in
+        (later : List PlacedEntry)
+        → ((p : PlacedEntry) → option_map (placed_at place) (k.in_slot (sector_at (sectors_of d area.now) place) slot) ≡ Some p → AreBehind k (sectors_of d area.now) p later)
+        → Covers k.ids last.old seen.old later
+        → Covers k.ids last.new seen.new (option_to_list (option_map (placed_at place) (k.in_slot (sector_at (sectors_of d area.now) place) slot)) ++ later) }
+{
+    let id = T::id_in(flash, area, place, slot, steps);
+    if was_told::<T>(last, seen, id) {
+        return;
+    }
+    match T::entry_in(flash, area, place, slot, steps) {
+        Some(placed) => tell_entry(flash, area, opened, current, &placed, last, seen, steps),
+        None => {}
+    }
+}
+
+// Tells of the entries of a sector that counts, in front of those behind it.
+fn tell_sector<T: SlotSectors, F: Flash, L: Ledger>(
+    flash: &F,
+    area: &Area,
+    opened: &T,
+    current: u32,
+    place: u32,
+    last: &mut LastSlots,
+    seen: &mut Seen,
+    steps: &mut Steps<L>,
+)
+    requires area { IsStoreArea T.role (F.device flash.now).banks area.now }
+    requires kept { let d = F.device flash.now in opened.now ≡ T.kept (geometry_of d area.now) (sector_at (sectors_of d area.now) current) }
+    requires current { let d = F.device flash.now in current ≡ open_sector (T.kind (geometry_of d area.now)).reading (sectors_of d area.now) }
+    requires inside { place < area.now.sectors }
+    requires counts { let d = F.device flash.now in counts_at (kind_on T.kind d area.now).reading (sectors_of d area.now) current place ≡ true }
+    requires covers { let d = F.device flash.now in let k = kind_on T.kind d area.now in
+        Covers k.ids last.old seen.old (behind k (sectors_of d area.now) current place) }
+    ensures { let d = F.device flash.now in let k = kind_on T.kind d area.now in
+        Covers k.ids last.new seen.new (counted_in (slots k) (sectors_of d area.now) current place ++ behind k (sectors_of d area.now) current place) }
+{
+    let first = T::first_slot();
+    let mut left = T::slots(flash, area, place, steps);
+    while left > 0 {
+        let slot = first + (left - 1);
+        tell_slot(flash, area, opened, current, place, slot, last, seen, steps);
+        left -= 1;
+    }
+}
+
+// The same, where the sector counts.
+fn tell_counting<T: SlotSectors, F: Flash, L: Ledger>(
+    flash: &F,
+    area: &Area,
+    opened: &T,
+    current: u32,
+    place: u32,
+    last: &mut LastSlots,
+    seen: &mut Seen,
+    steps: &mut Steps<L>,
+)
+    requires area { IsStoreArea T.role (F.device flash.now).banks area.now }
+    requires kept { let d = F.device flash.now in opened.now ≡ T.kept (geometry_of d area.now) (sector_at (sectors_of d area.now) current) }
+    requires current { let d = F.device flash.now in current ≡ open_sector (T.kind (geometry_of d area.now)).reading (sectors_of d area.now) }
+    requires inside { place < area.now.sectors }
+    requires covers { let d = F.device flash.now in let k = kind_on T.kind d area.now in
+        Covers k.ids last.old seen.old (behind k (sectors_of d area.now) current place) }
+    ensures { let d = F.device flash.now in let k = kind_on T.kind d area.now in
+        Covers k.ids last.new seen.new (counted_in (slots k) (sectors_of d area.now) current place ++ behind k (sectors_of d area.now) current place) }
+{
+    if counts(flash, area, opened, current, place, steps) {
+        tell_sector(flash, area, opened, current, place, last, seen, steps);
+    }
+}
+
+// Tells a table of none of all entries of the list, from the newest sector to the oldest.
+#[inline(never)]
+fn tell_all<T: SlotSectors, F: Flash, L: Ledger>(
+    flash: &F,
+    area: &Area,
+    opened: &T,
+    current: u32,
+    last: &mut LastSlots,
+    steps: &mut Steps<L>,
+)
+    requires area { IsStoreArea T.role (F.device flash.now).banks area.now }
+    requires kept { let d = F.device flash.now in opened.now ≡ T.kept (geometry_of d area.now) (sector_at (sectors_of d area.now) current) }
+    requires current { let d = F.device flash.now in current ≡ open_sector (kind_on T.kind d area.now).reading (sectors_of d area.now) }
+    requires none { let d = F.device flash.now in Tells (kind_on T.kind d area.now).ids last.old [] }
+    ensures { TellsOn T.kind (F.device flash.now) area.now last.new }
+{
+    let oldest = area.next(current);
+    let mut seen = Seen::new();
+    let mut place = current;
+    while place != oldest {
+        tell_counting(flash, area, opened, current, place, last, &mut seen, steps);
+        place = area.previous(place);
+    }
+    tell_counting(flash, area, opened, current, oldest, last, &mut seen, steps);
 }
 
 /// The last entry of each id in the list, as far as a table tells of it. Each sector that counts is looked at once.
+#[inline(never)]
 pub fn last_slots<T: SlotSectors, F: Flash, L: Ledger>(
     flash: &F,
     area: &Area,
@@ -189,22 +396,11 @@ pub fn last_slots<T: SlotSectors, F: Flash, L: Ledger>(
     steps: &mut Steps<L>,
 ) -> LastSlots
     requires area { IsStoreArea T.role (F.device flash.now).banks area.now }
-    requires kept { let d = F.device flash.now in opened.now ≡ T.kept (unit_of d area.now) (sector_at (sectors_of d area.now) current) }
+    requires kept { let d = F.device flash.now in opened.now ≡ T.kept (geometry_of d area.now) (sector_at (sectors_of d area.now) current) }
     requires current { let d = F.device flash.now in current ≡ open_sector (kind_on T.kind d area.now).reading (sectors_of d area.now) }
     ensures { TellsOn T.kind (F.device flash.now) area.now result }
 {
     let mut last = LastSlots::new();
-    let older = current + 1;
-    note_among(
-        flash,
-        area,
-        opened,
-        current,
-        older,
-        area.sectors,
-        &mut last,
-        steps,
-    );
-    note_among(flash, area, opened, current, 0, older, &mut last, steps);
+    tell_all(flash, area, opened, current, &mut last, steps);
     last
 }

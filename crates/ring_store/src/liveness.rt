@@ -1,7 +1,7 @@
 // Which entries of a sector are live, by one look at those behind it and one at its own.
 ghost use Rattle.std.specs.Prelude.{◌≡◌, ◌≢◌, ◌+◌, ◌-◌, ◌^◌, ◌<◌, ◌≤◌, ◌||◌, ◌==◌, ℕ, List, ◌++◌, true, false, IfSome};
 ghost use Rattle.std.specs.Option.{option_map, option_to_list};
-ghost use Rattle.flash_map.specs.Area.{unit_of, sectors_of, sector_at};
+ghost use Rattle.flash_map.specs.Area.{geometry_of, sectors_of, sector_at};
 ghost use Rattle.ring_laws.specs.Area.{counts_at, open_sector};
 ghost use Rattle.ring_laws.specs.Live.{is_live, live_in, counted_in};
 ghost use Rattle.ring_store.specs.declared.entry.Placed.{Placed as PlacedEntry};
@@ -64,9 +64,9 @@ pub fn is_live<T: SlotSectors, F: Flash, L: Ledger>(
     steps: &mut Steps<L>,
 ) -> bool
     requires area { IsStoreArea T.role (F.device flash.now).banks area.now }
-    requires kept { let d = F.device flash.now in opened.now ≡ T.kept (unit_of d area.now) (sector_at (sectors_of d area.now) current) }
-    requires current { let d = F.device flash.now in current ≡ open_sector (T.kind (unit_of d area.now)).reading (sectors_of d area.now) }
-    ensures { let d = F.device flash.now in result ≡ is_live (slots (T.kind (unit_of d area.now))) (sectors_of d area.now) placed.now }
+    requires kept { let d = F.device flash.now in opened.now ≡ T.kept (geometry_of d area.now) (sector_at (sectors_of d area.now) current) }
+    requires current { let d = F.device flash.now in current ≡ open_sector (T.kind (geometry_of d area.now)).reading (sectors_of d area.now) }
+    ensures { let d = F.device flash.now in result ≡ is_live (slots (T.kind (geometry_of d area.now))) (sectors_of d area.now) placed.now }
 {
     match find(flash, area, opened, current, placed.id, steps) {
         Some(last) => last.sector == placed.sector && last.slot == placed.slot && placed.len > 0,
@@ -85,8 +85,8 @@ fn is_live_by<T: SlotSectors, F: Flash, L: Ledger>(
     steps: &mut Steps<L>,
 ) -> bool
     requires area { IsStoreArea T.role (F.device flash.now).banks area.now }
-    requires kept { let d = F.device flash.now in opened.now ≡ T.kept (unit_of d area.now) (sector_at (sectors_of d area.now) current) }
-    requires current { let d = F.device flash.now in current ≡ open_sector (T.kind (unit_of d area.now)).reading (sectors_of d area.now) }
+    requires kept { let d = F.device flash.now in opened.now ≡ T.kept (geometry_of d area.now) (sector_at (sectors_of d area.now) current) }
+    requires current { let d = F.device flash.now in current ≡ open_sector (T.kind (geometry_of d area.now)).reading (sectors_of d area.now) }
     requires known { let d = F.device flash.now in placed.now.id < (kind_on T.kind d area.now).ids }
     ensures { let d = F.device flash.now in let k = kind_on T.kind d area.now in
         (later : List PlacedEntry) → AreBehind k (sectors_of d area.now) placed.now later → HasSeen k.ids seen.now.bits seen.now.mixed later
@@ -119,8 +119,8 @@ fn look_at<T: SlotSectors, F: Flash, L: Ledger>(
     steps: &mut Steps<L>,
 ) -> bool
     requires area { IsStoreArea T.role (F.device flash.now).banks area.now }
-    requires kept { let d = F.device flash.now in opened.now ≡ T.kept (unit_of d area.now) (sector_at (sectors_of d area.now) current) }
-    requires current { let d = F.device flash.now in current ≡ open_sector (T.kind (unit_of d area.now)).reading (sectors_of d area.now) }
+    requires kept { let d = F.device flash.now in opened.now ≡ T.kept (geometry_of d area.now) (sector_at (sectors_of d area.now) current) }
+    requires current { let d = F.device flash.now in current ≡ open_sector (T.kind (geometry_of d area.now)).reading (sectors_of d area.now) }
     requires inside { place < area.now.sectors }
     requires listed { HasSlotOn T.kind (F.device flash.now) area.now place slot }
     ensures live { let d = F.device flash.now in let k = kind_on T.kind d area.now in
@@ -142,6 +142,7 @@ fn look_at<T: SlotSectors, F: Flash, L: Ledger>(
 }
 
 /// The live entries of a sector that counts, by what was seen behind it. The ids of its own entries are noted.
+#[inline(never)]
 pub fn live_by<T: SlotSectors, F: Flash, L: Ledger>(
     flash: &F,
     area: &Area,
@@ -152,8 +153,8 @@ pub fn live_by<T: SlotSectors, F: Flash, L: Ledger>(
     steps: &mut Steps<L>,
 ) -> LiveSlots
     requires area { IsStoreArea T.role (F.device flash.now).banks area.now }
-    requires kept { let d = F.device flash.now in opened.now ≡ T.kept (unit_of d area.now) (sector_at (sectors_of d area.now) current) }
-    requires current { let d = F.device flash.now in current ≡ open_sector (T.kind (unit_of d area.now)).reading (sectors_of d area.now) }
+    requires kept { let d = F.device flash.now in opened.now ≡ T.kept (geometry_of d area.now) (sector_at (sectors_of d area.now) current) }
+    requires current { let d = F.device flash.now in current ≡ open_sector (T.kind (geometry_of d area.now)).reading (sectors_of d area.now) }
     requires inside { place < area.now.sectors }
     requires counts { let d = F.device flash.now in counts_at (kind_on T.kind d area.now).reading (sectors_of d area.now) current place ≡ true }
     requires seen { let d = F.device flash.now in let k = kind_on T.kind d area.now in HasSeen k.ids seen.old.bits seen.old.mixed (behind k (sectors_of d area.now) current place) }
@@ -175,6 +176,7 @@ pub fn live_by<T: SlotSectors, F: Flash, L: Ledger>(
 }
 
 /// The live entries of a sector that counts.
+#[inline(never)]
 pub fn live_slots<T: SlotSectors, F: Flash, L: Ledger>(
     flash: &F,
     area: &Area,
@@ -184,8 +186,8 @@ pub fn live_slots<T: SlotSectors, F: Flash, L: Ledger>(
     steps: &mut Steps<L>,
 ) -> LiveSlots
     requires area { IsStoreArea T.role (F.device flash.now).banks area.now }
-    requires kept { let d = F.device flash.now in opened.now ≡ T.kept (unit_of d area.now) (sector_at (sectors_of d area.now) current) }
-    requires current { let d = F.device flash.now in current ≡ open_sector (T.kind (unit_of d area.now)).reading (sectors_of d area.now) }
+    requires kept { let d = F.device flash.now in opened.now ≡ T.kept (geometry_of d area.now) (sector_at (sectors_of d area.now) current) }
+    requires current { let d = F.device flash.now in current ≡ open_sector (T.kind (geometry_of d area.now)).reading (sectors_of d area.now) }
     requires inside { place < area.now.sectors }
     requires counts { let d = F.device flash.now in counts_at (kind_on T.kind d area.now).reading (sectors_of d area.now) current place ≡ true }
     ensures { let d = F.device flash.now in let k = kind_on T.kind d area.now in
@@ -209,7 +211,7 @@ pub fn live_in<T: SlotSectors, F: Flash, L: Ledger>(
     requires inside { place < area.now.sectors }
     requires listed { HasSlotOn T.kind (F.device flash.now) area.now place slot }
     requires live { let d = F.device flash.now in live ≡ holds_live (kind_on T.kind d area.now) (sectors_of d area.now) place slot }
-    ensures entry { let d = F.device flash.now in result ≡ live_in (slots (T.kind (unit_of d area.now))) (sectors_of d area.now) place slot }
+    ensures entry { let d = F.device flash.now in result ≡ live_in (slots (T.kind (geometry_of d area.now))) (sectors_of d area.now) place slot }
     ensures short { IfSome result (λ p. p.len < 2 ^ 16) }
 {
     if live {

@@ -2,7 +2,7 @@
 ghost use Rattle.std.specs.Prelude.{◌≡◌, ◌-◌, ◌<◌, ◌≤◌, ℕ, List, [], ◌∷◌, ◌++◌, length, map};
 ghost use Rattle.std.specs.List.{flat_map, range_with_len};
 ghost use Rattle.std.specs.Option.{option_map, option_to_list};
-ghost use Rattle.flash_map.specs.Area.{unit_of, sectors_of, sector_at};
+ghost use Rattle.flash_map.specs.Area.{geometry_of, sectors_of, sector_at};
 ghost use Rattle.ring_laws.specs.Live.{counted_in};
 ghost use Rattle.ring_store.specs.declared.entry.Placed.{Placed as PlacedEntry};
 ghost use Rattle.ring_store.specs.Kind.{placed_at, slots};
@@ -79,7 +79,7 @@ fn note_counting<T: SlotSectors, N: Notes, F: Flash, L: Ledger>(
     steps: &mut Steps<L>,
 )
     requires area { IsStoreArea T.role (F.device flash.now).banks area.now }
-    requires kept { let d = F.device flash.now in opened.now ≡ T.kept (unit_of d area.now) (sector_at (sectors_of d area.now) current) }
+    requires kept { let d = F.device flash.now in opened.now ≡ T.kept (geometry_of d area.now) (sector_at (sectors_of d area.now) current) }
     requires current { current < area.now.sectors }
     requires inside { place < area.now.sectors }
     ensures { let d = F.device flash.now in let k = kind_on T.kind d area.now in
@@ -103,7 +103,7 @@ pub fn note_among<T: SlotSectors, N: Notes, F: Flash, L: Ledger>(
     steps: &mut Steps<L>,
 )
     requires area { IsStoreArea T.role (F.device flash.now).banks area.now }
-    requires kept { let d = F.device flash.now in opened.now ≡ T.kept (unit_of d area.now) (sector_at (sectors_of d area.now) current) }
+    requires kept { let d = F.device flash.now in opened.now ≡ T.kept (geometry_of d area.now) (sector_at (sectors_of d area.now) current) }
     requires current { current < area.now.sectors }
     requires order { first ≤ end }
     requires inside { end ≤ area.now.sectors }

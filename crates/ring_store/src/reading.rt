@@ -3,7 +3,7 @@ ghost use Rattle.std.specs.Prelude.{◌≡◌, ◌+◌, ◌<◌, ◌≤◌, ℕ,
 ghost use Rattle.std.specs.FinMap as map;
 ghost use Rattle.flash_sim.specs.Bank.{IsLawful};
 ghost use Rattle.flash_sim.specs.Device.{Device};
-ghost use Rattle.flash_map.specs.Area.{unit_of, sectors_of, sector_at};
+ghost use Rattle.flash_map.specs.Area.{sectors_of, sector_at};
 ghost use Rattle.pair_laws.specs.Items.{value_of};
 ghost use Rattle.ring_laws.specs.Live.{bytes_of};
 ghost use Rattle.ring_laws.specs.NextIds.{is_between, Follows, IsAtMost, IsLeastOf, IsNextId};

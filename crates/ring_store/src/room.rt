@@ -1,6 +1,6 @@
 // Room for a value in the open sector.
 ghost use Rattle.std.specs.Prelude.{◌≡◌, ◌^◌, ◌<◌, ◌≤◌, ◌∷◌, [], true, false, nat_lt, is_err, IfOk, OnOk, OnErr};
-ghost use Rattle.flash_map.specs.Area.{unit_of, sectors_of, sector_at};
+ghost use Rattle.flash_map.specs.Area.{geometry_of, sectors_of, sector_at};
 ghost use Rattle.flash_map.specs.Touches.{Touches};
 ghost use Rattle.flash_map.specs.Units.{IsUnit};
 ghost use Rattle.ring_store.specs.Kind.{fits};
@@ -11,17 +11,17 @@ ghost use Rattle.ring_store.specs.Written.{IsWritten};
 
 use crate::collecting::round;
 use crate::sectors::SlotSectors;
-use flash_map::{Area, geometry};
+use flash_map::{Area, Geometry, geometry};
 use flash_sim::{Flash, PowerLost, Steps};
 use std::sync::ledger::Ledger;
 
-/// Whether a value of this length and its entry cost more than a sector of this size has for them.
-pub fn is_too_long<T: SlotSectors>(unit: u32, size: u32, len: usize) -> bool
-    requires unit { IsUnit unit }
-    requires size { size ≤ 32768 }
-    ensures { result ≡ nat_lt ((T.kind unit).cap size) ((T.kind unit).cost len) }
+/// Whether a value of this length and its entry cost more than a sector of this geometry has for them.
+pub fn is_too_long<T: SlotSectors>(geometry: &Geometry, len: usize) -> bool
+    requires unit { IsUnit geometry.now.unit }
+    requires size { geometry.now.sector ≤ 32768 }
+    ensures { result ≡ nat_lt ((T.kind geometry.now).cap geometry.now.sector) ((T.kind geometry.now).cost len) }
 {
-    len > 0xFFFF || u64::from(T::capacity(unit, size)) < T::cost(unit, len as u32)
+    len > 0xFFFF || u64::from(T::capacity(geometry)) < T::cost(geometry, len as u32)
 }
 
 /// Whether a value of this length fits a sector. A length of 0 is a delete.
@@ -36,19 +36,19 @@ pub fn fits<T: SlotSectors, F: Flash, L: Ledger>(
     requires area { IsStoreArea T.role (F.device flash.now).banks area.now }
     requires inside { place < area.now.sectors }
     requires kept { let d = F.device flash.now in
-        opened.now ≡ T.kept (unit_of d area.now) (sector_at (sectors_of d area.now) place) }
+        opened.now ≡ T.kept (geometry_of d area.now) (sector_at (sectors_of d area.now) place) }
     requires narrow { len < 2 ^ 16 }
     ensures { let d = F.device flash.now in
-        result ≡ fits (T.kind (unit_of d area.now)) (sector_at (sectors_of d area.now) place) len }
+        result ≡ fits (T.kind (geometry_of d area.now)) (sector_at (sectors_of d area.now) place) len }
 {
-    let unit = geometry(flash, area).unit;
-    let slot = u64::from(T::slot_size(unit));
+    let geometry = geometry(flash, area);
+    let slot = u64::from(T::slot_size(&geometry));
     let free = u64::from(opened.free(flash, area, place, steps));
     if len == 0 {
         return 2 * slot <= free;
     }
     let spare = if opened.has_gc_done() { 2 } else { 3 };
-    T::cost(unit, len) + spare * slot <= free
+    T::cost(&geometry, len) + spare * slot <= free
 }
 
 /// Closes and collects, round after round, until a value of this length fits the open sector. Says whether it does. The
@@ -67,22 +67,22 @@ pub fn make_room<T: SlotSectors, F: Flash, L: Ledger>(
     requires stands { StandsAt T.role T.kind T.kept (F.device flash.old) area.now current.old opened.old }
     requires narrow { len < 2 ^ 16 }
     requires short { let d = F.device flash.old in
-        0 < len → IsShort (T.kind (unit_of d area.now)) d area.now len }
+        0 < len → IsShort (T.kind (geometry_of d area.now)) d area.now len }
 
     ensures touches { Touches (area.now ∷ []) (F.device flash.old) (F.device flash.new) (is_err result) }
-    ensures written { let d = F.device flash.old in let k = T.kind (unit_of d area.now) in
+    ensures written { let d = F.device flash.old in let k = T.kind (geometry_of d area.now) in
         IsWritten k (sectors_of d area.now) → IsWritten k (sectors_of (F.device flash.new) area.now) }
 
     ensures stands { OnOk result (StandsAt T.role T.kind T.kept (F.device flash.new) area.now current.new opened.new) }
     ensures makes { let d = F.device flash.old in
-        OnOk result (MakesRoom (T.kind (unit_of d area.now)) d (F.device flash.new) area.now len) }
-    ensures room { let k = T.kind (unit_of (F.device flash.old) area.now) in
+        OnOk result (MakesRoom (T.kind (geometry_of d area.now)) d (F.device flash.new) area.now len) }
+    ensures room { let k = T.kind (geometry_of (F.device flash.old) area.now) in
         IfOk result (λ room. room ≡ has_room k (sectors_of (F.device flash.new) area.now) len) }
     ensures full { let d = F.device flash.old in
-        IfOk result (λ room. room ≡ false → IsFull (T.kind (unit_of d area.now)) d (F.device flash.new) area.now len) }
+        IfOk result (λ room. room ≡ false → IsFull (T.kind (geometry_of d area.now)) d (F.device flash.new) area.now len) }
 
     ensures stops { let d = F.device flash.old in
-        OnErr result (StopsMakingRoom (T.kind (unit_of d area.now)) d (F.device flash.new) area.now len) }
+        OnErr result (StopsMakingRoom (T.kind (geometry_of d area.now)) d (F.device flash.new) area.now len) }
 {
     for _round in 1..area.sectors {
         if fits(flash, area, opened, *current, len, steps) {

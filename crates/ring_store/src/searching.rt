@@ -1,7 +1,7 @@
 // A search that goes from a sector back to the oldest one.
 ghost use Rattle.std.specs.Prelude.{◌≡◌, ◌<◌, [], ◌∷◌, ◌++◌, length};
 ghost use Rattle.std.specs.List.{flat_map};
-ghost use Rattle.flash_map.specs.Area.{unit_of, sectors_of, sector_at};
+ghost use Rattle.flash_map.specs.Area.{geometry_of, sectors_of, sector_at};
 ghost use Rattle.ring_laws.specs.Live.{last_of, counted_in};
 ghost use Rattle.ring_laws.specs.RoundParts.{places_before};
 ghost use Rattle.ring_store.specs.Kind.{slots};
@@ -26,10 +26,10 @@ pub fn find_up_to<T: SlotSectors, F: Flash, L: Ledger>(
     steps: &mut Steps<L>,
 ) -> Option<Placed>
     requires area { IsStoreArea T.role (F.device flash.now).banks area.now }
-    requires kept { let d = F.device flash.now in opened.now ≡ T.kept (unit_of d area.now) (sector_at (sectors_of d area.now) current) }
+    requires kept { let d = F.device flash.now in opened.now ≡ T.kept (geometry_of d area.now) (sector_at (sectors_of d area.now) current) }
     requires current { current < area.now.sectors }
     requires inside { place < area.now.sectors }
-    ensures { let d = F.device flash.now in let k = T.kind (unit_of d area.now) in
+    ensures { let d = F.device flash.now in let k = T.kind (geometry_of d area.now) in
         result ≡ last_of (slots k) id (flat_map (counted_in (slots k) (sectors_of d area.now) current)
         (places_before (length (sectors_of d area.now)) current place ++ place ∷ [])) }
 {

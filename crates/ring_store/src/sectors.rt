@@ -1,20 +1,21 @@
 // The trait of a store's sectors.
 ghost use Rattle.std.specs.Prelude.{◌≡◌, ◌⊎◌, ℕ, ◌+◌, ◌*◌, ◌^◌, ◌<◌, ◌≤◌, ◌∷◌, [], true, false, List, length, Some, None, is_err, Option, IfOk, IfErr, IfSome, IsTrue, OnOk, OnErr};
 ghost use Rattle.std.specs.Option.{option_map};
+ghost use Rattle.flash_map.specs.declared.area.Geometry.{Geometry as geometry_type};
 ghost use Rattle.flash_map.specs.declared.area.Role.{Role as role_type};
-ghost use Rattle.flash_map.specs.Area.{unit_of, sector_size, sectors_of, sector_at, ChangesOnly};
+ghost use Rattle.flash_map.specs.Area.{geometry_of, sector_size, sectors_of, sector_at, ChangesOnly};
 ghost use Rattle.flash_map.specs.Touches.{Touches};
 ghost use Rattle.flash_map.specs.Units.{IsUnit};
-ghost use Rattle.ring_laws.specs.Area.{is_blank_at, is_closed_at, next, open_sector};
+ghost use Rattle.ring_laws.specs.Area.{is_closed_at, next, open_sector};
 ghost use Rattle.ring_laws.specs.Reading.{is_sound};
 ghost use Rattle.ring_laws.specs.Live.{last_in, bytes_of};
 ghost use Rattle.ring_store.specs.Kind.{Kind, IsKind, placed_at, slots, fits};
 ghost use Rattle.ring_store.specs.Listed.{IsListedOn, IsWithinOn};
 ghost use Rattle.ring_store.specs.Standing.{IsStoreArea, SpendsIn, SpendsUpTo};
-ghost use Rattle.ring_store.specs.Steps.{Keeps, KeepsMarks, LeavesRoom, Begins, Adds, Marks, Closes, Clears};
+ghost use Rattle.ring_store.specs.Steps.{Keeps, KeepsMarks, LeavesRoom, Begins, Adds, Marks, Closes, Clears, StopsClearing};
 
 use crate::entry::Placed;
-use flash_map::{Area, Damaged};
+use flash_map::{Area, Damaged, Geometry};
 use flash_sim::{Flash, PowerLost, Steps};
 use std::sync::ledger::Ledger;
 
@@ -23,45 +24,50 @@ pub trait SlotSectors: Copy {
     /// The role of the areas that it serves.
     ghost role: { role_type };
 
-    /// How sectors read and what steps in them spend, in an area of this unit.
-    ghost kind: { ℕ → Kind };
+    /// How sectors read and what steps in them spend, in an area of this geometry.
+    ghost kind: { geometry_type → Kind };
 
     /// What is kept of a sector with these bytes.
-    ghost kept: { ℕ → List ℕ → Self };
+    ghost kept: { geometry_type → List ℕ → Self };
 
     // ---- numbers
 
     /// The number of the first slot of an entry.
     fn first_slot() -> u32
-        ensures value { (unit : ℕ) → result ≡ (kind unit).first }
+        ensures value { (geometry : geometry_type) → result ≡ (kind geometry).first }
         ensures small { result < 2 ^ 8 };
 
     /// Whether the ids of items have 16 bits.
     fn has_short_ids() -> bool
-        ensures short { (unit : ℕ) → IsTrue result → (kind unit).ids ≤ 2 ^ 16 }
-        ensures wide { (unit : ℕ) → (kind unit).ids ≤ 2 ^ 16 → IsTrue result };
+        ensures short { (geometry : geometry_type) → IsTrue result → (kind geometry).ids ≤ 2 ^ 16 }
+        ensures wide { (geometry : geometry_type) → (kind geometry).ids ≤ 2 ^ 16 → IsTrue result };
 
     /// What bytes of this length and their entry take up, in bytes.
-    fn cost(unit: u32, len: u32) -> u64
-        requires unit { IsUnit unit }
+    fn cost(geometry: &Geometry, len: u32) -> u64
+        requires unit { IsUnit geometry.now.unit }
         requires short { len < 2 ^ 16 }
-        ensures value { result ≡ (kind unit).cost len }
+        ensures value { result ≡ (kind geometry.now).cost len }
         ensures small { result < 2 ^ 18 };
 
-    /// What a sector of this size has for values and entries, in bytes.
-    fn capacity(unit: u32, size: u32) -> u32
-        requires unit { IsUnit unit }
-        ensures { result ≡ (kind unit).cap size };
+    /// What a sector has for values and entries, in bytes.
+    fn capacity(geometry: &Geometry) -> u32
+        requires unit { IsUnit geometry.now.unit }
+        ensures { result ≡ (kind geometry.now).cap geometry.now.sector };
 
     /// The bytes of a slot.
-    fn slot_size(unit: u32) -> u32
-        requires unit { IsUnit unit }
-        ensures value { result ≡ (kind unit).slot }
+    fn slot_size(geometry: &Geometry) -> u32
+        requires unit { IsUnit geometry.now.unit }
+        ensures value { result ≡ (kind geometry.now).slot }
         ensures small { result < 2 ^ 8 };
+
+    /// Whether a sector is made clean and ready as soon as it is the open one.
+    fn opens_ready(geometry: &Geometry) -> bool
+        ensures { result ≡ (kind geometry.now).opens_ready };
 
     // ---- reading
 
-    fn is_blank<F: Flash, L: Ledger>(
+    /// Whether a sector has no entry, and all that a sector has is free in it.
+    fn is_clean<F: Flash, L: Ledger>(
         flash: &F,
         area: &Area,
         place: u32,
@@ -69,8 +75,10 @@ pub trait SlotSectors: Copy {
     ) -> bool
         requires area { IsStoreArea role (F.device flash.now).banks area.now }
         requires inside { place < area.now.sectors }
-        ensures { let d = F.device flash.now in result ≡ is_blank_at (kind (unit_of d area.now)).reading (sectors_of d area.now) place };
+        ensures { let d = F.device flash.now in
+            result ≡ (kind (geometry_of d area.now)).is_clean (sector_at (sectors_of d area.now) place) };
 
+    /// Whether a sector is closed.
     fn is_closed<F: Flash, L: Ledger>(
         flash: &F,
         area: &Area,
@@ -79,18 +87,19 @@ pub trait SlotSectors: Copy {
     ) -> bool
         requires area { IsStoreArea role (F.device flash.now).banks area.now }
         requires inside { place < area.now.sectors }
-        ensures { let d = F.device flash.now in result ≡ is_closed_at (kind (unit_of d area.now)).reading (sectors_of d area.now) place };
+        ensures { let d = F.device flash.now in result ≡ is_closed_at (kind (geometry_of d area.now)).reading (sectors_of d area.now) place };
 
     /// What is kept of a sector, read from it.
     fn keep<F: Flash, L: Ledger>(flash: &F, area: &Area, place: u32, steps: &mut Steps<L>) -> Self
         requires area { IsStoreArea role (F.device flash.now).banks area.now }
         requires inside { place < area.now.sectors }
-        ensures { let d = F.device flash.now in result ≡ kept (unit_of d area.now) (sector_at (sectors_of d area.now) place) };
+        ensures { let d = F.device flash.now in result ≡ kept (geometry_of d area.now) (sector_at (sectors_of d area.now) place) };
 
+    /// Whether gc-done stands in the sector.
     fn has_gc_done(&self) -> bool
-        ensures { (unit : ℕ) (b : List ℕ) → self.now ≡ kept unit b → result ≡ (kind unit).reading.has_gc_done b };
+        ensures { (geometry : geometry_type) (b : List ℕ) → self.now ≡ kept geometry b → result ≡ (kind geometry).reading.has_gc_done b };
 
-    /// The bytes between the values of the sector and its slots.
+    /// The bytes between what stands of values in the sector, cut ones too, and its slots.
     fn free<F: Flash, L: Ledger>(
         &self,
         flash: &F,
@@ -100,14 +109,14 @@ pub trait SlotSectors: Copy {
     ) -> u32
         requires area { IsStoreArea role (F.device flash.now).banks area.now }
         requires inside { place < area.now.sectors }
-        requires kept { let d = F.device flash.now in self.now ≡ kept (unit_of d area.now) (sector_at (sectors_of d area.now) place) }
-        ensures { let d = F.device flash.now in result ≡ (kind (unit_of d area.now)).free (sector_at (sectors_of d area.now) place) };
+        requires kept { let d = F.device flash.now in self.now ≡ kept (geometry_of d area.now) (sector_at (sectors_of d area.now) place) }
+        ensures { let d = F.device flash.now in result ≡ (kind (geometry_of d area.now)).free (sector_at (sectors_of d area.now) place) };
 
     /// How many slots the list of a sector has.
     fn slots<F: Flash, L: Ledger>(flash: &F, area: &Area, place: u32, steps: &mut Steps<L>) -> u32
         requires area { IsStoreArea role (F.device flash.now).banks area.now }
         requires inside { place < area.now.sectors }
-        ensures value { let d = F.device flash.now in result ≡ (kind (unit_of d area.now)).count (sector_at (sectors_of d area.now) place) }
+        ensures value { let d = F.device flash.now in result ≡ (kind (geometry_of d area.now)).count (sector_at (sectors_of d area.now) place) }
         ensures few { result ≤ 2 ^ 15 };
 
     /// The entry in a slot of a sector's list. It is one step at most.
@@ -120,12 +129,30 @@ pub trait SlotSectors: Copy {
     ) -> Option<Placed>
         requires area { IsStoreArea role (F.device flash.now).banks area.now }
         requires inside { place < area.now.sectors }
-        requires listed { let d = F.device flash.now in let k = kind (unit_of d area.now) in
+        requires listed { let d = F.device flash.now in let k = kind (geometry_of d area.now) in
             (k.first ≤ slot) × (slot < k.first + k.count (sector_at (sectors_of d area.now) place)) }
-        ensures entry { let d = F.device flash.now in let k = kind (unit_of d area.now) in
+        ensures entry { let d = F.device flash.now in let k = kind (geometry_of d area.now) in
             result ≡ option_map (placed_at place) (k.in_slot (sector_at (sectors_of d area.now) place) slot) }
-        ensures small { let d = F.device flash.now in IfSome result (λ p. p.id < (kind (unit_of d area.now)).ids) }
+        ensures small { let d = F.device flash.now in IfSome result (λ p. p.id < (kind (geometry_of d area.now)).ids) }
         ensures short { IfSome result (λ p. p.len < 2 ^ 16) }
+        ensures step { steps.new ≤ steps.old + 1 };
+
+    /// The id that a slot of a sector's list has where an entry has its own, whether it has an entry or not. It is one step at
+    /// most.
+    fn id_in<F: Flash, L: Ledger>(
+        flash: &F,
+        area: &Area,
+        place: u32,
+        slot: u32,
+        steps: &mut Steps<L>,
+    ) -> u32
+        requires area { IsStoreArea role (F.device flash.now).banks area.now }
+        requires inside { place < area.now.sectors }
+        requires listed { let d = F.device flash.now in let k = kind (geometry_of d area.now) in
+            (k.first ≤ slot) × (slot < k.first + k.count (sector_at (sectors_of d area.now) place)) }
+        ensures id { let d = F.device flash.now in let k = kind (geometry_of d area.now) in
+            IfSome (k.in_slot (sector_at (sectors_of d area.now) place) slot) (λ e. e.id ≡ result) }
+        ensures small { let d = F.device flash.now in (kind (geometry_of d area.now)).ids ≤ 2 ^ 16 → result < 2 ^ 16 }
         ensures step { steps.new ≤ steps.old + 1 };
 
     /// The bytes of an entry of a sector's list. It is one step at most.
@@ -138,7 +165,7 @@ pub trait SlotSectors: Copy {
         requires area { IsStoreArea role (F.device flash.now).banks area.now }
         requires listed { IsListedOn kind (F.device flash.now) area.now placed.now }
         requires within { IsWithinOn kind (F.device flash.now) area.now placed.now.sector }
-        ensures bytes { let d = F.device flash.now in result.now ≡ bytes_of (slots (kind (unit_of d area.now))) (sectors_of d area.now) placed.now }
+        ensures bytes { let d = F.device flash.now in result.now ≡ bytes_of (slots (kind (geometry_of d area.now))) (sectors_of d area.now) placed.now }
         ensures step { steps.new ≤ steps.old + 1 };
 
     /// The last entry of an id in a sector.
@@ -151,7 +178,7 @@ pub trait SlotSectors: Copy {
     ) -> Option<Placed>
         requires area { IsStoreArea role (F.device flash.now).banks area.now }
         requires inside { place < area.now.sectors }
-        ensures { let d = F.device flash.now in let k = kind (unit_of d area.now) in
+        ensures { let d = F.device flash.now in let k = kind (geometry_of d area.now) in
             result ≡ option_map (placed_at place) (last_in (slots k) place id ((slots k).entries (sector_at (sectors_of d area.now) place))) };
 
     // ---- steps in the open sector
@@ -169,18 +196,18 @@ pub trait SlotSectors: Copy {
     ) -> Result<(), PowerLost>
         requires area { IsStoreArea role (F.device flash.old).banks area.now }
         requires inside { place < area.now.sectors }
-        requires kept { let d = F.device flash.old in self.old ≡ kept (unit_of d area.now) (sector_at (sectors_of d area.now) place) }
-        requires sound { let d = F.device flash.old in is_sound (kind (unit_of d area.now)).reading (sector_at (sectors_of d area.now) place) ≡ true }
-        requires opened { let d = F.device flash.old in is_closed_at (kind (unit_of d area.now)).reading (sectors_of d area.now) place ≡ false }
+        requires kept { let d = F.device flash.old in self.old ≡ kept (geometry_of d area.now) (sector_at (sectors_of d area.now) place) }
+        requires sound { let d = F.device flash.old in is_sound (kind (geometry_of d area.now)).reading (sector_at (sectors_of d area.now) place) ≡ true }
+        requires opened { let d = F.device flash.old in is_closed_at (kind (geometry_of d area.now)).reading (sectors_of d area.now) place ≡ false }
         ensures touches { Touches (area.now ∷ []) (F.device flash.old) (F.device flash.new) (is_err result) }
         ensures only { ChangesOnly (sectors_of (F.device flash.old) area.now) (sectors_of (F.device flash.new) area.now) place }
-        ensures begins { let d = F.device flash.old in OnOk result (Begins (kind (unit_of d area.now)) (sector_at (sectors_of d area.now) place) (sector_at (sectors_of (F.device flash.new) area.now) place)) }
-        ensures kept { let d = F.device flash.old in OnOk result (self.new ≡ kept (unit_of d area.now) (sector_at (sectors_of (F.device flash.new) area.now) place)) }
-        ensures lost { let d = F.device flash.old in OnErr result (Keeps (kind (unit_of d area.now)) (sector_at (sectors_of d area.now) place) (sector_at (sectors_of (F.device flash.new) area.now) place)) }
-        ensures room_lost { let d = F.device flash.old in let k = kind (unit_of d area.now) in
+        ensures begins { let d = F.device flash.old in OnOk result (Begins (kind (geometry_of d area.now)) (sector_at (sectors_of d area.now) place) (sector_at (sectors_of (F.device flash.new) area.now) place)) }
+        ensures kept { let d = F.device flash.old in OnOk result (self.new ≡ kept (geometry_of d area.now) (sector_at (sectors_of (F.device flash.new) area.now) place)) }
+        ensures lost { let d = F.device flash.old in OnErr result (Keeps (kind (geometry_of d area.now)) (sector_at (sectors_of d area.now) place) (sector_at (sectors_of (F.device flash.new) area.now) place)) }
+        ensures room_lost { let d = F.device flash.old in let k = kind (geometry_of d area.now) in
             OnErr result (LeavesRoom k (sector_at (sectors_of d area.now) place) (sector_at (sectors_of (F.device flash.new) area.now) place) 0) }
-        ensures spends { let d = F.device flash.old in OnOk result (SpendsIn d (F.device flash.new) ((kind (unit_of d area.now)).units.begin (sector_at (sectors_of d area.now) place))) }
-        ensures spends_lost { let d = F.device flash.old in OnErr result (SpendsUpTo d (F.device flash.new) ((kind (unit_of d area.now)).units.begin (sector_at (sectors_of d area.now) place))) };
+        ensures spends { let d = F.device flash.old in OnOk result (SpendsIn d (F.device flash.new) ((kind (geometry_of d area.now)).units.begin (sector_at (sectors_of d area.now) place))) }
+        ensures spends_lost { let d = F.device flash.old in OnErr result (SpendsUpTo d (F.device flash.new) ((kind (geometry_of d area.now)).units.begin (sector_at (sectors_of d area.now) place))) };
 
     /// Puts an item's bytes and their entry. No bytes are a delete.
     ///
@@ -197,23 +224,23 @@ pub trait SlotSectors: Copy {
     ) -> Result<(), PowerLost>
         requires area { IsStoreArea role (F.device flash.old).banks area.now }
         requires inside { place < area.now.sectors }
-        requires kept { let d = F.device flash.old in self.old ≡ kept (unit_of d area.now) (sector_at (sectors_of d area.now) place) }
-        requires ready { let d = F.device flash.old in (kind (unit_of d area.now)).is_ready (sector_at (sectors_of d area.now) place) ≡ true }
-        requires opened { let d = F.device flash.old in place ≡ open_sector (kind (unit_of d area.now)).reading (sectors_of d area.now) }
-        requires rested { let d = F.device flash.old in is_closed_at (kind (unit_of d area.now)).reading (sectors_of d area.now) (next (sectors_of d area.now) place) ≡ false }
-        requires ordinary { id < (kind (unit_of (F.device flash.old) area.now)).ids }
-        requires fits { let d = F.device flash.old in IsTrue (fits (kind (unit_of d area.now)) (sector_at (sectors_of d area.now) place) (length bytes.now)) }
+        requires kept { let d = F.device flash.old in self.old ≡ kept (geometry_of d area.now) (sector_at (sectors_of d area.now) place) }
+        requires ready { let d = F.device flash.old in (kind (geometry_of d area.now)).is_ready (sector_at (sectors_of d area.now) place) ≡ true }
+        requires opened { let d = F.device flash.old in place ≡ open_sector (kind (geometry_of d area.now)).reading (sectors_of d area.now) }
+        requires rested { let d = F.device flash.old in is_closed_at (kind (geometry_of d area.now)).reading (sectors_of d area.now) (next (sectors_of d area.now) place) ≡ false }
+        requires ordinary { id < (kind (geometry_of (F.device flash.old) area.now)).ids }
+        requires fits { let d = F.device flash.old in IsTrue (fits (kind (geometry_of d area.now)) (sector_at (sectors_of d area.now) place) (length bytes.now)) }
         ensures touches { Touches (area.now ∷ []) (F.device flash.old) (F.device flash.new) (is_err result) }
         ensures only { ChangesOnly (sectors_of (F.device flash.old) area.now) (sectors_of (F.device flash.new) area.now) place }
-        ensures adds { let d = F.device flash.old in OnOk result (Adds (kind (unit_of d area.now)) (sector_at (sectors_of d area.now) place) (sector_at (sectors_of (F.device flash.new) area.now) place) id bytes.now) }
-        ensures kept { let d = F.device flash.old in OnOk result (self.new ≡ kept (unit_of d area.now) (sector_at (sectors_of (F.device flash.new) area.now) place)) }
-        ensures lost { let d = F.device flash.old in let k = kind (unit_of d area.now) in let b = sector_at (sectors_of d area.now) place in let e = sector_at (sectors_of (F.device flash.new) area.now) place in
+        ensures adds { let d = F.device flash.old in OnOk result (Adds (kind (geometry_of d area.now)) (sector_at (sectors_of d area.now) place) (sector_at (sectors_of (F.device flash.new) area.now) place) id bytes.now) }
+        ensures kept { let d = F.device flash.old in OnOk result (self.new ≡ kept (geometry_of d area.now) (sector_at (sectors_of (F.device flash.new) area.now) place)) }
+        ensures lost { let d = F.device flash.old in let k = kind (geometry_of d area.now) in let b = sector_at (sectors_of d area.now) place in let e = sector_at (sectors_of (F.device flash.new) area.now) place in
             OnErr result (Keeps k b e ⊎ Adds k b e id bytes.now) }
-        ensures room_lost { let d = F.device flash.old in let k = kind (unit_of d area.now) in
+        ensures room_lost { let d = F.device flash.old in let k = kind (geometry_of d area.now) in
             OnErr result (LeavesRoom k (sector_at (sectors_of d area.now) place) (sector_at (sectors_of (F.device flash.new) area.now) place) (k.cost (length bytes.now))) }
-        ensures sound { let d = F.device flash.old in let k = kind (unit_of d area.now) in is_sound k.reading (sector_at (sectors_of d area.now) place) ≡ true → is_sound k.reading (sector_at (sectors_of (F.device flash.new) area.now) place) ≡ true }
-        ensures spends { let d = F.device flash.old in OnOk result (SpendsIn d (F.device flash.new) ((kind (unit_of d area.now)).units.put (sector_at (sectors_of d area.now) place) (length bytes.now))) }
-        ensures spends_lost { let d = F.device flash.old in OnErr result (SpendsUpTo d (F.device flash.new) ((kind (unit_of d area.now)).units.put (sector_at (sectors_of d area.now) place) (length bytes.now))) };
+        ensures sound { let d = F.device flash.old in let k = kind (geometry_of d area.now) in is_sound k.reading (sector_at (sectors_of d area.now) place) ≡ true → is_sound k.reading (sector_at (sectors_of (F.device flash.new) area.now) place) ≡ true }
+        ensures spends { let d = F.device flash.old in OnOk result (SpendsIn d (F.device flash.new) ((kind (geometry_of d area.now)).units.put (sector_at (sectors_of d area.now) place) (length bytes.now))) }
+        ensures spends_lost { let d = F.device flash.old in OnErr result (SpendsUpTo d (F.device flash.new) ((kind (geometry_of d area.now)).units.put (sector_at (sectors_of d area.now) place) (length bytes.now))) };
 
     /// Copies an entry with bytes from another sector.
     ///
@@ -229,29 +256,29 @@ pub trait SlotSectors: Copy {
     ) -> Result<(), PowerLost>
         requires area { IsStoreArea role (F.device flash.old).banks area.now }
         requires inside { place < area.now.sectors }
-        requires kept { let d = F.device flash.old in self.old ≡ kept (unit_of d area.now) (sector_at (sectors_of d area.now) place) }
-        requires ready { let d = F.device flash.old in (kind (unit_of d area.now)).is_ready (sector_at (sectors_of d area.now) place) ≡ true }
-        requires opened { let d = F.device flash.old in place ≡ open_sector (kind (unit_of d area.now)).reading (sectors_of d area.now) }
-        requires collecting { let d = F.device flash.old in is_closed_at (kind (unit_of d area.now)).reading (sectors_of d area.now) (next (sectors_of d area.now) place) ≡ true }
-        requires not_done { let d = F.device flash.old in (kind (unit_of d area.now)).reading.has_gc_done (sector_at (sectors_of d area.now) place) ≡ false }
+        requires kept { let d = F.device flash.old in self.old ≡ kept (geometry_of d area.now) (sector_at (sectors_of d area.now) place) }
+        requires ready { let d = F.device flash.old in (kind (geometry_of d area.now)).is_ready (sector_at (sectors_of d area.now) place) ≡ true }
+        requires opened { let d = F.device flash.old in place ≡ open_sector (kind (geometry_of d area.now)).reading (sectors_of d area.now) }
+        requires collecting { let d = F.device flash.old in is_closed_at (kind (geometry_of d area.now)).reading (sectors_of d area.now) (next (sectors_of d area.now) place) ≡ true }
+        requires not_done { let d = F.device flash.old in (kind (geometry_of d area.now)).reading.has_gc_done (sector_at (sectors_of d area.now) place) ≡ false }
         requires has_source { from.now.sector < area.now.sectors }
         requires other { from.now.sector ≡ place → ⊥ }
-        requires source { let d = F.device flash.old in let k = kind (unit_of d area.now) in is_sound k.reading (sector_at (sectors_of d area.now) from.now.sector) ≡ true }
-        requires listed { let d = F.device flash.old in let k = kind (unit_of d area.now) in
+        requires source { let d = F.device flash.old in let k = kind (geometry_of d area.now) in is_sound k.reading (sector_at (sectors_of d area.now) from.now.sector) ≡ true }
+        requires listed { let d = F.device flash.old in let k = kind (geometry_of d area.now) in
             (k.first ≤ from.now.slot) × (from.now.slot < k.first + k.count (sector_at (sectors_of d area.now) from.now.sector)) }
-        requires there { let d = F.device flash.old in let k = kind (unit_of d area.now) in
+        requires there { let d = F.device flash.old in let k = kind (geometry_of d area.now) in
             option_map (placed_at from.now.sector) (k.in_slot (sector_at (sectors_of d area.now) from.now.sector) from.now.slot) ≡ Some from.now }
         requires some { 0 < from.now.len }
-        requires room { let d = F.device flash.old in let k = kind (unit_of d area.now) in k.cost from.now.len + 3 * k.slot ≤ k.free (sector_at (sectors_of d area.now) place) }
+        requires room { let d = F.device flash.old in let k = kind (geometry_of d area.now) in k.cost from.now.len + 3 * k.slot ≤ k.free (sector_at (sectors_of d area.now) place) }
         ensures touches { Touches (area.now ∷ []) (F.device flash.old) (F.device flash.new) (is_err result) }
         ensures only { ChangesOnly (sectors_of (F.device flash.old) area.now) (sectors_of (F.device flash.new) area.now) place }
-        ensures adds { let d = F.device flash.old in OnOk result (Adds (kind (unit_of d area.now)) (sector_at (sectors_of d area.now) place) (sector_at (sectors_of (F.device flash.new) area.now) place) from.now.id (bytes_of (slots (kind (unit_of d area.now))) (sectors_of d area.now) from.now)) }
-        ensures kept { let d = F.device flash.old in OnOk result (self.new ≡ kept (unit_of d area.now) (sector_at (sectors_of (F.device flash.new) area.now) place)) }
-        ensures lost { let d = F.device flash.old in OnErr result (KeepsMarks (kind (unit_of d area.now)) (sector_at (sectors_of d area.now) place) (sector_at (sectors_of (F.device flash.new) area.now) place)) }
+        ensures adds { let d = F.device flash.old in OnOk result (Adds (kind (geometry_of d area.now)) (sector_at (sectors_of d area.now) place) (sector_at (sectors_of (F.device flash.new) area.now) place) from.now.id (bytes_of (slots (kind (geometry_of d area.now))) (sectors_of d area.now) from.now)) }
+        ensures kept { let d = F.device flash.old in OnOk result (self.new ≡ kept (geometry_of d area.now) (sector_at (sectors_of (F.device flash.new) area.now) place)) }
+        ensures lost { let d = F.device flash.old in OnErr result (KeepsMarks (kind (geometry_of d area.now)) (sector_at (sectors_of d area.now) place) (sector_at (sectors_of (F.device flash.new) area.now) place)) }
         ensures spends { let d = F.device flash.old in
-            OnOk result (SpendsIn d (F.device flash.new) ((kind (unit_of d area.now)).units.copy (sector_at (sectors_of d area.now) place) from.now.len)) }
+            OnOk result (SpendsIn d (F.device flash.new) ((kind (geometry_of d area.now)).units.copy (sector_at (sectors_of d area.now) place) from.now.len)) }
         ensures spends_lost { let d = F.device flash.old in
-            OnErr result (SpendsUpTo d (F.device flash.new) ((kind (unit_of d area.now)).units.copy (sector_at (sectors_of d area.now) place) from.now.len)) };
+            OnErr result (SpendsUpTo d (F.device flash.new) ((kind (geometry_of d area.now)).units.copy (sector_at (sectors_of d area.now) place) from.now.len)) };
 
     /// Marks the sector as one that has all copies.
     ///
@@ -266,24 +293,25 @@ pub trait SlotSectors: Copy {
     ) -> Result<(), PowerLost>
         requires area { IsStoreArea role (F.device flash.old).banks area.now }
         requires inside { place < area.now.sectors }
-        requires kept { let d = F.device flash.old in self.old ≡ kept (unit_of d area.now) (sector_at (sectors_of d area.now) place) }
-        requires ready { let d = F.device flash.old in (kind (unit_of d area.now)).is_ready (sector_at (sectors_of d area.now) place) ≡ true }
-        requires opened { let d = F.device flash.old in place ≡ open_sector (kind (unit_of d area.now)).reading (sectors_of d area.now) }
-        requires collecting { let d = F.device flash.old in is_closed_at (kind (unit_of d area.now)).reading (sectors_of d area.now) (next (sectors_of d area.now) place) ≡ true }
-        requires not_done { let d = F.device flash.old in (kind (unit_of d area.now)).reading.has_gc_done (sector_at (sectors_of d area.now) place) ≡ false }
-        requires room { let d = F.device flash.old in let k = kind (unit_of d area.now) in 2 * k.slot ≤ k.free (sector_at (sectors_of d area.now) place) }
+        requires kept { let d = F.device flash.old in self.old ≡ kept (geometry_of d area.now) (sector_at (sectors_of d area.now) place) }
+        requires ready { let d = F.device flash.old in (kind (geometry_of d area.now)).is_ready (sector_at (sectors_of d area.now) place) ≡ true }
+        requires opened { let d = F.device flash.old in place ≡ open_sector (kind (geometry_of d area.now)).reading (sectors_of d area.now) }
+        requires collecting { let d = F.device flash.old in is_closed_at (kind (geometry_of d area.now)).reading (sectors_of d area.now) (next (sectors_of d area.now) place) ≡ true }
+        requires not_done { let d = F.device flash.old in (kind (geometry_of d area.now)).reading.has_gc_done (sector_at (sectors_of d area.now) place) ≡ false }
+        requires room { let d = F.device flash.old in let k = kind (geometry_of d area.now) in 2 * k.slot ≤ k.free (sector_at (sectors_of d area.now) place) }
         ensures touches { Touches (area.now ∷ []) (F.device flash.old) (F.device flash.new) (is_err result) }
         ensures only { ChangesOnly (sectors_of (F.device flash.old) area.now) (sectors_of (F.device flash.new) area.now) place }
-        ensures marks { let d = F.device flash.old in OnOk result (Marks (kind (unit_of d area.now)) (sector_at (sectors_of d area.now) place) (sector_at (sectors_of (F.device flash.new) area.now) place)) }
-        ensures kept { let d = F.device flash.old in OnOk result (self.new ≡ kept (unit_of d area.now) (sector_at (sectors_of (F.device flash.new) area.now) place)) }
-        ensures lost { let d = F.device flash.old in OnErr result (KeepsMarks (kind (unit_of d area.now)) (sector_at (sectors_of d area.now) place) (sector_at (sectors_of (F.device flash.new) area.now) place)) }
-        ensures spends { let d = F.device flash.old in OnOk result (SpendsIn d (F.device flash.new) ((kind (unit_of d area.now)).units.done (sector_at (sectors_of d area.now) place))) }
-        ensures spends_lost { let d = F.device flash.old in OnErr result (SpendsUpTo d (F.device flash.new) ((kind (unit_of d area.now)).units.done (sector_at (sectors_of d area.now) place))) };
+        ensures marks { let d = F.device flash.old in OnOk result (Marks (kind (geometry_of d area.now)) (sector_at (sectors_of d area.now) place) (sector_at (sectors_of (F.device flash.new) area.now) place)) }
+        ensures kept { let d = F.device flash.old in OnOk result (self.new ≡ kept (geometry_of d area.now) (sector_at (sectors_of (F.device flash.new) area.now) place)) }
+        ensures lost { let d = F.device flash.old in OnErr result (KeepsMarks (kind (geometry_of d area.now)) (sector_at (sectors_of d area.now) place) (sector_at (sectors_of (F.device flash.new) area.now) place)) }
+        ensures spends { let d = F.device flash.old in OnOk result (SpendsIn d (F.device flash.new) ((kind (geometry_of d area.now)).units.done (sector_at (sectors_of d area.now) place))) }
+        ensures spends_lost { let d = F.device flash.old in OnErr result (SpendsUpTo d (F.device flash.new) ((kind (geometry_of d area.now)).units.done (sector_at (sectors_of d area.now) place))) };
 
-    /// Closes the open sector, which is in use.
+    /// Closes the open sector, which is not clean.
     ///
     /// # Errors
-    /// `PowerLost`: the sector is as before, or closed.
+    /// `PowerLost`: the sector's list is as before, or the sector is closed. One with no entry is itself as before, or
+    /// closed.
     fn close<F: Flash, L: Ledger>(
         &self,
         flash: &mut F,
@@ -293,26 +321,30 @@ pub trait SlotSectors: Copy {
     ) -> Result<(), PowerLost>
         requires area { IsStoreArea role (F.device flash.old).banks area.now }
         requires inside { place < area.now.sectors }
-        requires kept { let d = F.device flash.old in self.now ≡ kept (unit_of d area.now) (sector_at (sectors_of d area.now) place) }
-        requires opened { let d = F.device flash.old in place ≡ open_sector (kind (unit_of d area.now)).reading (sectors_of d area.now) }
-        requires rested { let d = F.device flash.old in is_closed_at (kind (unit_of d area.now)).reading (sectors_of d area.now) (next (sectors_of d area.now) place) ≡ false }
-        requires sound { let d = F.device flash.old in is_sound (kind (unit_of d area.now)).reading (sector_at (sectors_of d area.now) place) ≡ true }
-        requires not_closed { let d = F.device flash.old in is_closed_at (kind (unit_of d area.now)).reading (sectors_of d area.now) place ≡ false }
-        requires used { let d = F.device flash.old in is_blank_at (kind (unit_of d area.now)).reading (sectors_of d area.now) place ≡ false }
+        requires kept { let d = F.device flash.old in self.now ≡ kept (geometry_of d area.now) (sector_at (sectors_of d area.now) place) }
+        requires opened { let d = F.device flash.old in place ≡ open_sector (kind (geometry_of d area.now)).reading (sectors_of d area.now) }
+        requires rested { let d = F.device flash.old in is_closed_at (kind (geometry_of d area.now)).reading (sectors_of d area.now) (next (sectors_of d area.now) place) ≡ false }
+        requires sound { let d = F.device flash.old in is_sound (kind (geometry_of d area.now)).reading (sector_at (sectors_of d area.now) place) ≡ true }
+        requires not_closed { let d = F.device flash.old in is_closed_at (kind (geometry_of d area.now)).reading (sectors_of d area.now) place ≡ false }
+        requires used { let d = F.device flash.old in (kind (geometry_of d area.now)).is_clean (sector_at (sectors_of d area.now) place) ≡ false }
         ensures touches { Touches (area.now ∷ []) (F.device flash.old) (F.device flash.new) (is_err result) }
         ensures only { ChangesOnly (sectors_of (F.device flash.old) area.now) (sectors_of (F.device flash.new) area.now) place }
-        ensures closes { let d = F.device flash.old in OnOk result (Closes (kind (unit_of d area.now)) (sector_at (sectors_of d area.now) place) (sector_at (sectors_of (F.device flash.new) area.now) place)) }
-        ensures lost { let d = F.device flash.old in let k = kind (unit_of d area.now) in let b = sector_at (sectors_of d area.now) place in let e = sector_at (sectors_of (F.device flash.new) area.now) place in
+        ensures closes { let d = F.device flash.old in OnOk result (Closes (kind (geometry_of d area.now)) (sector_at (sectors_of d area.now) place) (sector_at (sectors_of (F.device flash.new) area.now) place)) }
+        ensures lost { let d = F.device flash.old in let k = kind (geometry_of d area.now) in let b = sector_at (sectors_of d area.now) place in let e = sector_at (sectors_of (F.device flash.new) area.now) place in
             OnErr result (Keeps k b e ⊎ Closes k b e) }
-        ensures spends { let d = F.device flash.old in OnOk result (SpendsIn d (F.device flash.new) ((kind (unit_of d area.now)).units.close (sector_at (sectors_of d area.now) place))) }
-        ensures spends_lost { let d = F.device flash.old in OnErr result (SpendsUpTo d (F.device flash.new) ((kind (unit_of d area.now)).units.close (sector_at (sectors_of d area.now) place))) };
+        ensures blank_lost { let d = F.device flash.old in let k = kind (geometry_of d area.now) in
+            let b = sector_at (sectors_of d area.now) place in
+            let e = sector_at (sectors_of (F.device flash.new) area.now) place in
+            OnErr result (k.reading.is_blank b ≡ true → (e ≡ b) ⊎ Closes k b e) }
+        ensures spends { let d = F.device flash.old in OnOk result (SpendsIn d (F.device flash.new) ((kind (geometry_of d area.now)).units.close (sector_at (sectors_of d area.now) place))) }
+        ensures spends_lost { let d = F.device flash.old in OnErr result (SpendsUpTo d (F.device flash.new) ((kind (geometry_of d area.now)).units.close (sector_at (sectors_of d area.now) place))) };
 
     // ---- a step in any sector
 
     /// Empties a sector.
     ///
     /// # Errors
-    /// `PowerLost`: its marks are as before.
+    /// `PowerLost`: its marks are as before, or it is clean.
     fn clear<F: Flash, L: Ledger>(
         flash: &mut F,
         area: &Area,
@@ -323,10 +355,10 @@ pub trait SlotSectors: Copy {
         requires inside { place < area.now.sectors }
         ensures touches { Touches (area.now ∷ []) (F.device flash.old) (F.device flash.new) (is_err result) }
         ensures only { ChangesOnly (sectors_of (F.device flash.old) area.now) (sectors_of (F.device flash.new) area.now) place }
-        ensures clears { let d = F.device flash.old in OnOk result (Clears (kind (unit_of d area.now)) (sector_at (sectors_of d area.now) place) (sector_at (sectors_of (F.device flash.new) area.now) place)) }
-        ensures lost { let d = F.device flash.old in OnErr result (KeepsMarks (kind (unit_of d area.now)) (sector_at (sectors_of d area.now) place) (sector_at (sectors_of (F.device flash.new) area.now) place)) }
-        ensures spends { let d = F.device flash.old in OnOk result (SpendsIn d (F.device flash.new) ((kind (unit_of d area.now)).units.clear (sector_at (sectors_of d area.now) place))) }
-        ensures spends_lost { let d = F.device flash.old in OnErr result (SpendsUpTo d (F.device flash.new) ((kind (unit_of d area.now)).units.clear (sector_at (sectors_of d area.now) place))) };
+        ensures clears { let d = F.device flash.old in OnOk result (Clears (kind (geometry_of d area.now)) (sector_at (sectors_of d area.now) place) (sector_at (sectors_of (F.device flash.new) area.now) place)) }
+        ensures lost { let d = F.device flash.old in OnErr result (StopsClearing (kind (geometry_of d area.now)) (sector_at (sectors_of d area.now) place) (sector_at (sectors_of (F.device flash.new) area.now) place)) }
+        ensures spends { let d = F.device flash.old in OnOk result (SpendsIn d (F.device flash.new) ((kind (geometry_of d area.now)).units.clear (sector_at (sectors_of d area.now) place))) }
+        ensures spends_lost { let d = F.device flash.old in OnErr result (SpendsUpTo d (F.device flash.new) ((kind (geometry_of d area.now)).units.clear (sector_at (sectors_of d area.now) place))) };
 
     // ---- reading an area
 
@@ -337,11 +369,11 @@ pub trait SlotSectors: Copy {
         steps: &mut Steps<L>,
     ) -> Result<u32, Damaged>
         requires area { IsStoreArea role (F.device flash.now).banks area.now }
-        ensures opened { let d = F.device flash.now in IfOk result (λ place. place ≡ open_sector (kind (unit_of d area.now)).reading (sectors_of d area.now)) }
+        ensures opened { let d = F.device flash.now in IfOk result (λ place. place ≡ open_sector (kind (geometry_of d area.now)).reading (sectors_of d area.now)) }
         ensures within { IfOk result (λ place. place < area.now.sectors) }
-        ensures undamaged { let d = F.device flash.now in OnOk result ((kind (unit_of d area.now)).damage (sectors_of d area.now) ≡ None) }
-        ensures damaged { let d = F.device flash.now in IfErr result (λ damaged. (kind (unit_of d area.now)).damage (sectors_of d area.now) ≡ Some damaged) };
+        ensures undamaged { let d = F.device flash.now in OnOk result ((kind (geometry_of d area.now)).damage (sectors_of d area.now) ≡ None) }
+        ensures damaged { let d = F.device flash.now in IfErr result (λ damaged. (kind (geometry_of d area.now)).damage (sectors_of d area.now) ≡ Some damaged) };
 
     /// The kind is one.
-    ghost lawful: { (unit : ℕ) → IsUnit unit → IsKind (kind unit) };
+    ghost lawful: { (geometry : geometry_type) → IsUnit geometry.unit → IsKind (kind geometry) };
 }

@@ -1,6 +1,6 @@
 // Which ids the entries behind a place of the list have.
 ghost use Rattle.std.specs.Prelude.{◌≡◌, ◌^◌, ◌<◌, ◌||◌, ◌==◌, ℕ, [], false, not, IsTrue};
-ghost use Rattle.flash_map.specs.Area.{unit_of, sectors_of, sector_at};
+ghost use Rattle.flash_map.specs.Area.{geometry_of, sectors_of, sector_at};
 ghost use Rattle.ring_store.specs.Listed.{kind_on};
 ghost use Rattle.ring_store.specs.Seen.{key_of, usual_id, has_bit, HasSeen, behind};
 ghost use Rattle.ring_store.specs.Standing.{IsStoreArea};
@@ -99,7 +99,7 @@ pub fn note_behind<T: SlotSectors, F: Flash, L: Ledger>(
     steps: &mut Steps<L>,
 )
     requires area { IsStoreArea T.role (F.device flash.now).banks area.now }
-    requires kept { let d = F.device flash.now in opened.now ≡ T.kept (unit_of d area.now) (sector_at (sectors_of d area.now) current) }
+    requires kept { let d = F.device flash.now in opened.now ≡ T.kept (geometry_of d area.now) (sector_at (sectors_of d area.now) current) }
     requires current { current < area.now.sectors }
     requires inside { place < area.now.sectors }
     ensures { let d = F.device flash.now in let k = kind_on T.kind d area.now in

@@ -1,11 +1,11 @@
 // Mounting, and closing with a collection.
 ghost use Rattle.std.specs.Prelude.{◌≡◌, ◌∷◌, [], true, false, is_err, length, OnOk, OnErr, ◌⊎◌};
-ghost use Rattle.flash_map.specs.Area.{unit_of, sector_size, sectors_of};
+ghost use Rattle.flash_map.specs.Area.{geometry_of, sector_size, sectors_of};
 ghost use Rattle.flash_map.specs.Faults.{mount_lost};
 ghost use Rattle.flash_map.specs.Spending.{SpendsBetween};
 ghost use Rattle.flash_map.specs.Touches.{Touches};
-ghost use Rattle.ring_laws.specs.Area.{is_blank_at};
 ghost use Rattle.ring_store.specs.Collecting.{KeepsOrTurns, TurnsAt};
+ghost use Rattle.ring_store.specs.Kind.{is_clean_at};
 ghost use Rattle.ring_store.specs.Spending.{none, round_units};
 ghost use Rattle.ring_store.specs.Standing.{IsStoreArea, KeepsItems, SpendsIn, SpendsUpTo};
 ghost use Rattle.ring_store.specs.Stands.{StandsOn, MountEnds};
@@ -36,11 +36,11 @@ impl<T: SlotSectors> Store<T> {
         requires { IsStoreArea T.role (F.device flash.old).banks area }
         ensures touches { Touches (area ∷ []) (F.device flash.old) (F.device flash.new) (mount_lost result) }
         ensures ends { MountEnds T.role T.kind T.kept (F.device flash.old) (F.device flash.new) area result }
-        ensures at_most { let d = F.device flash.old in SpendsBetween d (F.device flash.new) 0 ((T.kind (unit_of d area)).units.mount (sector_size d area)) }
-        ensures written { let d = F.device flash.old in let k = T.kind (unit_of d area) in
+        ensures at_most { let d = F.device flash.old in SpendsBetween d (F.device flash.new) 0 ((T.kind (geometry_of d area)).units.mount (sector_size d area)) }
+        ensures written { let d = F.device flash.old in let k = T.kind (geometry_of d area) in
             IsWritten k (sectors_of d area) → IsWritten k (sectors_of (F.device flash.new) area) }
         ensures changed { let d = F.device flash.old in
-            (F.device flash.new ≡ d) ⊎ IsWritten (T.kind (unit_of d area)) (sectors_of (F.device flash.new) area) }
+            (F.device flash.new ≡ d) ⊎ IsWritten (T.kind (geometry_of d area)) (sectors_of (F.device flash.new) area) }
     {
         match Cache::with_slots(alloc, CACHE_SLOTS) {
             Err(_) => Err(MountFault::NoMemory),
@@ -59,11 +59,11 @@ impl<T: SlotSectors> Store<T> {
         requires slots { length cache ≡ 64 }
         ensures touches { Touches (area ∷ []) (F.device flash.old) (F.device flash.new) (mount_lost result) }
         ensures ends { MountEnds T.role T.kind T.kept (F.device flash.old) (F.device flash.new) area result }
-        ensures at_most { let d = F.device flash.old in SpendsBetween d (F.device flash.new) 0 ((T.kind (unit_of d area)).units.mount (sector_size d area)) }
-        ensures written { let d = F.device flash.old in let k = T.kind (unit_of d area) in
+        ensures at_most { let d = F.device flash.old in SpendsBetween d (F.device flash.new) 0 ((T.kind (geometry_of d area)).units.mount (sector_size d area)) }
+        ensures written { let d = F.device flash.old in let k = T.kind (geometry_of d area) in
             IsWritten k (sectors_of d area) → IsWritten k (sectors_of (F.device flash.new) area) }
         ensures changed { let d = F.device flash.old in
-            (F.device flash.new ≡ d) ⊎ IsWritten (T.kind (unit_of d area)) (sectors_of (F.device flash.new) area) }
+            (F.device flash.new ≡ d) ⊎ IsWritten (T.kind (geometry_of d area)) (sectors_of (F.device flash.new) area) }
     {
         match T::scan(flash, &area, steps) {
             Err(damaged) => Err(MountFault::Damaged(damaged)),
@@ -107,11 +107,11 @@ impl<T: SlotSectors> Store<T> {
         self.current
     }
 
-    /// Closes the open sector and collects the oldest one, where the open one is in use. The items stay, also where power
+    /// Closes the open sector and collects the oldest one, unless the open one is clean. The items stay, also where power
     /// is lost. What does not fit then is kept out by the copied items alone, and a delete fits.
     ///
     /// # Errors
-    /// `PowerLost`, only where the open sector is in use. The list is as before or as after the collection, and the store is
+    /// `PowerLost`, only where the open sector is not clean. The list is as before or as after the collection, and the store is
     /// down.
     pub fn close_and_collect<F: Flash, L: Ledger>(
         &mut self,
@@ -122,56 +122,61 @@ impl<T: SlotSectors> Store<T> {
 
         ensures touches { Touches (self.old.area ∷ []) (F.device flash.old) (F.device flash.new) (is_err result) }
         ensures area { self.new.area ≡ self.old.area }
-        ensures items { let d = F.device flash.old in KeepsItems (T.kind (unit_of d self.old.area)) (sectors_of d self.old.area) (sectors_of (F.device flash.new) self.old.area) }
-        ensures written { let d = F.device flash.old in let k = T.kind (unit_of d self.old.area) in
+        ensures items { let d = F.device flash.old in KeepsItems (T.kind (geometry_of d self.old.area)) (sectors_of d self.old.area) (sectors_of (F.device flash.new) self.old.area) }
+        ensures written { let d = F.device flash.old in let k = T.kind (geometry_of d self.old.area) in
             IsWritten k (sectors_of d self.old.area) → IsWritten k (sectors_of (F.device flash.new) self.old.area) }
         ensures changed { let d = F.device flash.old in
-            (F.device flash.new ≡ d) ⊎ IsWritten (T.kind (unit_of d self.old.area)) (sectors_of (F.device flash.new) self.old.area) }
+            (sectors_of (F.device flash.new) self.old.area ≡ sectors_of d self.old.area)
+            ⊎ IsWritten (T.kind (geometry_of d self.old.area)) (sectors_of (F.device flash.new) self.old.area) }
 
         ensures stands { OnOk result (StandsOn T.role T.kind T.kept (F.device flash.new) self.new) }
-        ensures turns { let d = F.device flash.old in let k = T.kind (unit_of d self.old.area) in is_blank_at k.reading (sectors_of d self.old.area) self.old.current ≡ false
+        ensures turns { let d = F.device flash.old in let k = T.kind (geometry_of d self.old.area) in is_clean_at k (sectors_of d self.old.area) self.old.current ≡ false
             → OnOk result (TurnsAt k (sector_size d self.old.area) (sectors_of d self.old.area) (sectors_of (F.device flash.new) self.old.area) self.old.current) }
-        ensures blank { let d = F.device flash.old in is_blank_at (T.kind (unit_of d self.old.area)).reading (sectors_of d self.old.area) self.old.current ≡ true → F.device flash.new ≡ d }
-        ensures units { let d = F.device flash.old in let k = T.kind (unit_of d self.old.area) in is_blank_at k.reading (sectors_of d self.old.area) self.old.current ≡ false
+        ensures clean { let d = F.device flash.old in is_clean_at (T.kind (geometry_of d self.old.area)) (sectors_of d self.old.area) self.old.current ≡ true → F.device flash.new ≡ d }
+        ensures units { let d = F.device flash.old in let k = T.kind (geometry_of d self.old.area) in is_clean_at k (sectors_of d self.old.area) self.old.current ≡ false
             → OnOk result (SpendsIn d (F.device flash.new) (round_units k (sectors_of d self.old.area) self.old.current)) }
 
         ensures down { OnErr result (self.new.up ≡ false) }
         ensures used { let d = F.device flash.old in
-            OnErr result (is_blank_at (T.kind (unit_of d self.old.area)).reading (sectors_of d self.old.area) self.old.current ≡ false) }
+            OnErr result (is_clean_at (T.kind (geometry_of d self.old.area)) (sectors_of d self.old.area) self.old.current ≡ false) }
         ensures list_lost { let d = F.device flash.old in
-            OnErr result (KeepsOrTurns (T.kind (unit_of d self.old.area)) (sectors_of d self.old.area) (sectors_of (F.device flash.new) self.old.area) self.old.current) }
-        ensures bound { let d = F.device flash.old in OnErr result (SpendsUpTo d (F.device flash.new) (round_units (T.kind (unit_of d self.old.area)) (sectors_of d self.old.area) self.old.current)) }
+            OnErr result (KeepsOrTurns (T.kind (geometry_of d self.old.area)) (sectors_of d self.old.area) (sectors_of (F.device flash.new) self.old.area) self.old.current) }
+        ensures bound { let d = F.device flash.old in OnErr result (SpendsUpTo d (F.device flash.new) (round_units (T.kind (geometry_of d self.old.area)) (sectors_of d self.old.area) self.old.current)) }
     {
-        if T::is_blank(flash, &self.area, self.current, steps) {
+        if T::is_clean(flash, &self.area, self.current, steps) {
             return Ok(());
         }
         self.turn(flash, steps)
     }
 
-    // Closes the open sector, which is in use, and collects.
+    // Closes the open sector, which is not clean, and collects.
     pub(crate) fn turn<F: Flash, L: Ledger>(
         &mut self,
         flash: &mut F,
         steps: &mut Steps<L>,
     ) -> Result<(), PowerLost>
         requires stands { StandsOn T.role T.kind T.kept (F.device flash.old) self.old }
-        requires used { let d = F.device flash.old in is_blank_at (T.kind (unit_of d self.old.area)).reading (sectors_of d self.old.area) self.old.current ≡ false }
+        requires used { let d = F.device flash.old in is_clean_at (T.kind (geometry_of d self.old.area)) (sectors_of d self.old.area) self.old.current ≡ false }
 
         ensures touches { Touches (self.old.area ∷ []) (F.device flash.old) (F.device flash.new) (is_err result) }
         ensures area { self.new.area ≡ self.old.area }
-        ensures items { let d = F.device flash.old in KeepsItems (T.kind (unit_of d self.old.area)) (sectors_of d self.old.area) (sectors_of (F.device flash.new) self.old.area) }
-        ensures written { IsWritten (T.kind (unit_of (F.device flash.old) self.old.area)) (sectors_of (F.device flash.new) self.old.area) }
+        ensures items { let d = F.device flash.old in KeepsItems (T.kind (geometry_of d self.old.area)) (sectors_of d self.old.area) (sectors_of (F.device flash.new) self.old.area) }
+        ensures written { let d = F.device flash.old in let k = T.kind (geometry_of d self.old.area) in
+            IsWritten k (sectors_of d self.old.area) → IsWritten k (sectors_of (F.device flash.new) self.old.area) }
+        ensures changed { let d = F.device flash.old in
+            (sectors_of (F.device flash.new) self.old.area ≡ sectors_of d self.old.area)
+            ⊎ IsWritten (T.kind (geometry_of d self.old.area)) (sectors_of (F.device flash.new) self.old.area) }
 
         ensures stands { OnOk result (StandsOn T.role T.kind T.kept (F.device flash.new) self.new) }
-        ensures turns { let d = F.device flash.old in let k = T.kind (unit_of d self.old.area) in
+        ensures turns { let d = F.device flash.old in let k = T.kind (geometry_of d self.old.area) in
             OnOk result (TurnsAt k (sector_size d self.old.area) (sectors_of d self.old.area) (sectors_of (F.device flash.new) self.old.area) self.old.current) }
-        ensures units { let d = F.device flash.old in let k = T.kind (unit_of d self.old.area) in
+        ensures units { let d = F.device flash.old in let k = T.kind (geometry_of d self.old.area) in
             OnOk result (SpendsIn d (F.device flash.new) (round_units k (sectors_of d self.old.area) self.old.current)) }
 
         ensures down { OnErr result (self.new.up ≡ false) }
         ensures list_lost { let d = F.device flash.old in
-            OnErr result (KeepsOrTurns (T.kind (unit_of d self.old.area)) (sectors_of d self.old.area) (sectors_of (F.device flash.new) self.old.area) self.old.current) }
-        ensures bound { let d = F.device flash.old in OnErr result (SpendsUpTo d (F.device flash.new) (round_units (T.kind (unit_of d self.old.area)) (sectors_of d self.old.area) self.old.current)) }
+            OnErr result (KeepsOrTurns (T.kind (geometry_of d self.old.area)) (sectors_of d self.old.area) (sectors_of (F.device flash.new) self.old.area) self.old.current) }
+        ensures bound { let d = F.device flash.old in OnErr result (SpendsUpTo d (F.device flash.new) (round_units (T.kind (geometry_of d self.old.area)) (sectors_of d self.old.area) self.old.current)) }
     {
         self.up = false;
         self.current = round(flash, &self.area, &mut self.opened, self.current, steps)?;

@@ -1,7 +1,7 @@
 // Writing and deleting items.
 ghost use Rattle.std.specs.Prelude.{◌≡◌, ◌^◌, ◌<◌, ◌≤◌, ◌∷◌, [], true, false, None, length, is_err, IfOk, OnOk, OnErr};
 ghost use Rattle.std.specs.Bool.{MatchBool};
-ghost use Rattle.flash_map.specs.Area.{unit_of, sectors_of};
+ghost use Rattle.flash_map.specs.Area.{geometry_of, sectors_of};
 ghost use Rattle.flash_map.specs.Faults.{write_lost};
 ghost use Rattle.flash_map.specs.Touches.{Touches};
 ghost use Rattle.ring_store.specs.Cached.{AddsEntry, IsCacheOn};
@@ -31,22 +31,22 @@ fn put<T: SlotSectors, F: Flash, L: Ledger>(
     steps: &mut Steps<L>,
 ) -> Result<(), PowerLost>
     requires stands { StandsAt T.role T.kind T.kept (F.device flash.old) area.now current opened.old }
-    requires ordinary { id < (T.kind (unit_of (F.device flash.old) area.now)).ids }
+    requires ordinary { id < (T.kind (geometry_of (F.device flash.old) area.now)).ids }
     requires room { let d = F.device flash.old in
-        has_room (T.kind (unit_of d area.now)) (sectors_of d area.now) (length bytes.now) ≡ true }
+        has_room (T.kind (geometry_of d area.now)) (sectors_of d area.now) (length bytes.now) ≡ true }
 
     ensures touches { Touches (area.now ∷ []) (F.device flash.old) (F.device flash.new) (is_err result) }
-    ensures written { let d = F.device flash.old in let k = T.kind (unit_of d area.now) in
+    ensures written { let d = F.device flash.old in let k = T.kind (geometry_of d area.now) in
         IsWritten k (sectors_of d area.now) → IsWritten k (sectors_of (F.device flash.new) area.now) }
 
     ensures stands { OnOk result (StandsAt T.role T.kind T.kept (F.device flash.new) area.now current opened.new) }
     ensures puts { let d = F.device flash.old in
-        OnOk result (PutsPair (T.kind (unit_of d area.now)) d (F.device flash.new) area.now id bytes.now) }
-    ensures entry { let d = F.device flash.old in let k = T.kind (unit_of d area.now) in
+        OnOk result (PutsPair (T.kind (geometry_of d area.now)) d (F.device flash.new) area.now id bytes.now) }
+    ensures entry { let d = F.device flash.old in let k = T.kind (geometry_of d area.now) in
         OnOk result (AddsEntry k (sectors_of d area.now) (sectors_of (F.device flash.new) area.now) current id (length bytes.now)) }
 
     ensures stops { let d = F.device flash.old in
-        OnErr result (StopsPutting (T.kind (unit_of d area.now)) d (F.device flash.new) area.now id bytes.now) }
+        OnErr result (StopsPutting (T.kind (geometry_of d area.now)) d (F.device flash.new) area.now id bytes.now) }
 {
     opened.begin(flash, area, current, steps)?;
     opened.put(flash, area, current, id, bytes, steps)
@@ -65,21 +65,21 @@ fn put_noted<T: SlotSectors, F: Flash, L: Ledger>(
 ) -> Result<(), PowerLost>
     requires stands { StandsAt T.role T.kind T.kept (F.device flash.old) area.now current opened.old }
     requires cached { IsCacheOn T.kind (F.device flash.old) area.now cache.old }
-    requires ordinary { id < (T.kind (unit_of (F.device flash.old) area.now)).ids }
+    requires ordinary { id < (T.kind (geometry_of (F.device flash.old) area.now)).ids }
     requires room { let d = F.device flash.old in
-        has_room (T.kind (unit_of d area.now)) (sectors_of d area.now) (length bytes.now) ≡ true }
+        has_room (T.kind (geometry_of d area.now)) (sectors_of d area.now) (length bytes.now) ≡ true }
 
     ensures touches { Touches (area.now ∷ []) (F.device flash.old) (F.device flash.new) (is_err result) }
-    ensures written { let d = F.device flash.old in let k = T.kind (unit_of d area.now) in
+    ensures written { let d = F.device flash.old in let k = T.kind (geometry_of d area.now) in
         IsWritten k (sectors_of d area.now) → IsWritten k (sectors_of (F.device flash.new) area.now) }
 
     ensures stands { OnOk result (StandsAt T.role T.kind T.kept (F.device flash.new) area.now current opened.new) }
     ensures cached { OnOk result (IsCacheOn T.kind (F.device flash.new) area.now cache.new) }
     ensures puts { let d = F.device flash.old in
-        OnOk result (PutsPair (T.kind (unit_of d area.now)) d (F.device flash.new) area.now id bytes.now) }
+        OnOk result (PutsPair (T.kind (geometry_of d area.now)) d (F.device flash.new) area.now id bytes.now) }
 
     ensures stops { let d = F.device flash.old in
-        OnErr result (StopsPutting (T.kind (unit_of d area.now)) d (F.device flash.new) area.now id bytes.now) }
+        OnErr result (StopsPutting (T.kind (geometry_of d area.now)) d (F.device flash.new) area.now id bytes.now) }
 {
     put(flash, area, opened, current, id, bytes, steps)?;
     let first = T::first_slot();
@@ -103,23 +103,23 @@ fn make_room_noted<T: SlotSectors, F: Flash, L: Ledger>(
     requires cached { IsCacheOn T.kind (F.device flash.old) area.now cache.old }
     requires narrow { len < 2 ^ 16 }
     requires short { let d = F.device flash.old in
-        0 < len → IsShort (T.kind (unit_of d area.now)) d area.now len }
+        0 < len → IsShort (T.kind (geometry_of d area.now)) d area.now len }
 
     ensures touches { Touches (area.now ∷ []) (F.device flash.old) (F.device flash.new) (is_err result) }
-    ensures written { let d = F.device flash.old in let k = T.kind (unit_of d area.now) in
+    ensures written { let d = F.device flash.old in let k = T.kind (geometry_of d area.now) in
         IsWritten k (sectors_of d area.now) → IsWritten k (sectors_of (F.device flash.new) area.now) }
 
     ensures stands { OnOk result (StandsAt T.role T.kind T.kept (F.device flash.new) area.now current.new opened.new) }
     ensures cached { OnOk result (IsCacheOn T.kind (F.device flash.new) area.now cache.new) }
     ensures makes { let d = F.device flash.old in
-        OnOk result (MakesRoom (T.kind (unit_of d area.now)) d (F.device flash.new) area.now len) }
-    ensures room { let k = T.kind (unit_of (F.device flash.old) area.now) in
+        OnOk result (MakesRoom (T.kind (geometry_of d area.now)) d (F.device flash.new) area.now len) }
+    ensures room { let k = T.kind (geometry_of (F.device flash.old) area.now) in
         IfOk result (λ room. room ≡ has_room k (sectors_of (F.device flash.new) area.now) len) }
     ensures full { let d = F.device flash.old in
-        IfOk result (λ room. room ≡ false → IsFull (T.kind (unit_of d area.now)) d (F.device flash.new) area.now len) }
+        IfOk result (λ room. room ≡ false → IsFull (T.kind (geometry_of d area.now)) d (F.device flash.new) area.now len) }
 
     ensures stops { let d = F.device flash.old in
-        OnErr result (StopsMakingRoom (T.kind (unit_of d area.now)) d (F.device flash.new) area.now len) }
+        OnErr result (StopsMakingRoom (T.kind (geometry_of d area.now)) d (F.device flash.new) area.now len) }
 {
     if fits(flash, area, opened, *current, len, steps) {
         return Ok(true);
@@ -142,19 +142,19 @@ fn append<T: SlotSectors, F: Flash, L: Ledger>(
 ) -> Result<bool, PowerLost>
     requires stands { StandsAt T.role T.kind T.kept (F.device flash.old) area.now current.old opened.old }
     requires cached { IsCacheOn T.kind (F.device flash.old) area.now cache.old }
-    requires ordinary { id < (T.kind (unit_of (F.device flash.old) area.now)).ids }
+    requires ordinary { id < (T.kind (geometry_of (F.device flash.old) area.now)).ids }
     requires narrow { length bytes.now < 2 ^ 16 }
     requires short { let d = F.device flash.old in
-        0 < length bytes.now → IsShort (T.kind (unit_of d area.now)) d area.now (length bytes.now) }
+        0 < length bytes.now → IsShort (T.kind (geometry_of d area.now)) d area.now (length bytes.now) }
 
     ensures touches { Touches (area.now ∷ []) (F.device flash.old) (F.device flash.new) (is_err result) }
-    ensures written { let d = F.device flash.old in let k = T.kind (unit_of d area.now) in
+    ensures written { let d = F.device flash.old in let k = T.kind (geometry_of d area.now) in
         IsWritten k (sectors_of d area.now) → IsWritten k (sectors_of (F.device flash.new) area.now) }
     ensures stands { OnOk result (StandsAt T.role T.kind T.kept (F.device flash.new) area.now current.new opened.new) }
     ensures cached { OnOk result (IsCacheOn T.kind (F.device flash.new) area.now cache.new) }
     ensures ends { let d = F.device flash.old in
-        AppendEnds (T.kind (unit_of d area.now)) d (F.device flash.new) area.now id bytes.now result }
-    ensures undamaged { (T.kind (unit_of (F.device flash.old) area.now)).damage (sectors_of (F.device flash.new) area.now) ≡ None }
+        AppendEnds (T.kind (geometry_of d area.now)) d (F.device flash.new) area.now id bytes.now result }
+    ensures undamaged { (T.kind (geometry_of (F.device flash.old) area.now)).damage (sectors_of (F.device flash.new) area.now) ≡ None }
 {
     let len = bytes.len() as u32;
     let room = make_room_noted(flash, area, opened, current, cache, len, steps)?;
@@ -215,7 +215,7 @@ impl<T: SlotSectors> Store<T> {
         ensures down { write_lost result ≡ true → self.new.up ≡ false }
     {
         let g = geometry(flash, &self.area);
-        if is_too_long::<T>(g.unit, g.sector, bytes.len()) {
+        if is_too_long::<T>(&g, bytes.len()) {
             return Err(WriteFault::TooLong);
         }
         if self.holds(flash, id, bytes, steps) {
@@ -239,7 +239,7 @@ impl<T: SlotSectors> Store<T> {
             }
             Ok(false) => {
                 self.up = true;
-                let need = T::cost(g.unit, bytes.len() as u32);
+                let need = T::cost(&g, bytes.len() as u32);
                 let live = self.live_cost(flash, steps);
                 Err(WriteFault::NoSpace { need, live })
             }

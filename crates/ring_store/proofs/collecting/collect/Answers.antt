@@ -2,7 +2,7 @@ use Rattle.std.proofs.Common.{◌≡◌, ℕ, ◌∙◌, inl}
 use Rattle.std.proofs.lemmas.Result.{on_ok_weaker, on_err_weaker}
 use Rattle.flash_sim.specs.Device.{Device}
 use Rattle.flash_map.specs.declared.area.Area.{Area}
-use Rattle.flash_map.specs.Area.{unit_of, sectors_of}
+use Rattle.flash_map.specs.Area.{geometry_of, sectors_of}
 use Rattle.flash_map.proofs.PieceLemmas.{on_err}
 use Rattle.flash_map.proofs.Touches.{then}
 use Rattle.ring_laws.specs.Area.{next}
@@ -25,7 +25,7 @@ next-victim-requires g c =
     let a : Device = g.F.Flash.device c.args.flash.now in
     let area : Area = c.args.area.now in
     let place : ℕ = c.args.current in
-    let law : IsKind (g.T.SlotSectors.kind (unit_of a area)) = g.met.T.SlotSectors.lawful (unit_of a area) (unit_is a area (g.met.F.Flash.is_lawful c.args.flash.now) c.requires.area.lawful) in
+    let law : IsKind (g.T.SlotSectors.kind (geometry_of a area)) = g.met.T.SlotSectors.lawful (geometry_of a area) (unit_is a area (g.met.F.Flash.is_lawful c.args.flash.now) c.requires.area.lawful) in
     current_within a area place c.requires.collecting.ring.within
 
 pub copy_live-requires-clause-victim : goal.copy_live-requires-clause-victim
@@ -33,7 +33,7 @@ copy_live-requires-clause-victim g c =
     let a : Device = g.F.Flash.device c.args.flash.now in
     let area : Area = c.args.area.now in
     let place : ℕ = c.args.current in
-    let law : IsKind (g.T.SlotSectors.kind (unit_of a area)) = g.met.T.SlotSectors.lawful (unit_of a area) (unit_is a area (g.met.F.Flash.is_lawful c.args.flash.now) c.requires.area.lawful) in
+    let law : IsKind (g.T.SlotSectors.kind (geometry_of a area)) = g.met.T.SlotSectors.lawful (geometry_of a area) (unit_is a area (g.met.F.Flash.is_lawful c.args.flash.now) c.requires.area.lawful) in
     c.next-victim.ensures.value ∙ next_there a area place
 
 pub returns-in_err-copy_live-clause-items : goal.returns-in_err-copy_live-clause-items
@@ -41,15 +41,15 @@ returns-in_err-copy_live-clause-items g c =
     let a : Device = g.F.Flash.device c.args.flash.now in
     let area : Area = c.args.area.now in
     let place : ℕ = c.args.current in
-    let law : IsKind (g.T.SlotSectors.kind (unit_of a area)) = g.met.T.SlotSectors.lawful (unit_of a area) (unit_is a area (g.met.F.Flash.is_lawful c.args.flash.now) c.requires.area.lawful) in
-    stopped-keeps (g.T.SlotSectors.kind (unit_of a area)) law (sectors_of a area) (sectors_of (g.F.Flash.device c.copy_live.new.flash) area) place c.requires.collecting c.in_err-copy_live.ensures.lost
+    let law : IsKind (g.T.SlotSectors.kind (geometry_of a area)) = g.met.T.SlotSectors.lawful (geometry_of a area) (unit_is a area (g.met.F.Flash.is_lawful c.args.flash.now) c.requires.area.lawful) in
+    stopped-keeps (g.T.SlotSectors.kind (geometry_of a area)) law (sectors_of a area) (sectors_of (g.F.Flash.device c.copy_live.new.flash) area) place c.requires.collecting c.in_err-copy_live.ensures.lost
 
 pub mark_done-requires-clause-opened : goal.mark_done-requires-clause-opened
 mark_done-requires-clause-opened g c =
     let a : Device = g.F.Flash.device c.args.flash.now in
     let area : Area = c.args.area.now in
     let place : ℕ = c.args.current in
-    let law : IsKind (g.T.SlotSectors.kind (unit_of a area)) = g.met.T.SlotSectors.lawful (unit_of a area) (unit_is a area (g.met.F.Flash.is_lawful c.args.flash.now) c.requires.area.lawful) in
+    let law : IsKind (g.T.SlotSectors.kind (geometry_of a area)) = g.met.T.SlotSectors.lawful (geometry_of a area) (unit_is a area (g.met.F.Flash.is_lawful c.args.flash.now) c.requires.area.lawful) in
     let d : Device = g.F.Flash.device c.copy_live.new.flash in
     let did = c.in_ok-copy_live.ensures in
     mark_opened g.T.SlotSectors.kind g.T.SlotSectors.role a area place law (g.met.F.Flash.is_lawful c.args.flash.now) c.requires.area c.requires.collecting d did.touches.banks did.copies
@@ -59,7 +59,7 @@ mark_done-requires-clause-room g c =
     let a : Device = g.F.Flash.device c.args.flash.now in
     let area : Area = c.args.area.now in
     let place : ℕ = c.args.current in
-    let law : IsKind (g.T.SlotSectors.kind (unit_of a area)) = g.met.T.SlotSectors.lawful (unit_of a area) (unit_is a area (g.met.F.Flash.is_lawful c.args.flash.now) c.requires.area.lawful) in
+    let law : IsKind (g.T.SlotSectors.kind (geometry_of a area)) = g.met.T.SlotSectors.lawful (geometry_of a area) (unit_is a area (g.met.F.Flash.is_lawful c.args.flash.now) c.requires.area.lawful) in
     let d : Device = g.F.Flash.device c.copy_live.new.flash in
     let did = c.in_ok-copy_live.ensures in
     mark_has_room g.T.SlotSectors.kind g.T.SlotSectors.role a area place law (g.met.F.Flash.is_lawful c.args.flash.now) c.requires.area c.requires.collecting d did.touches.banks did.copies
@@ -69,7 +69,7 @@ returns-in_err-mark_done-clause-items g c =
     let a : Device = g.F.Flash.device c.args.flash.now in
     let area : Area = c.args.area.now in
     let place : ℕ = c.args.current in
-    let law : IsKind (g.T.SlotSectors.kind (unit_of a area)) = g.met.T.SlotSectors.lawful (unit_of a area) (unit_is a area (g.met.F.Flash.is_lawful c.args.flash.now) c.requires.area.lawful) in
+    let law : IsKind (g.T.SlotSectors.kind (geometry_of a area)) = g.met.T.SlotSectors.lawful (geometry_of a area) (unit_is a area (g.met.F.Flash.is_lawful c.args.flash.now) c.requires.area.lawful) in
     let d : Device = g.F.Flash.device c.copy_live.new.flash in
     let did = c.in_ok-copy_live.ensures in
     let e : Device = g.F.Flash.device c.mark_done.new.flash in
@@ -78,7 +78,7 @@ returns-in_err-mark_done-clause-items g c =
 pub returns-in_err-copy_live-clause-spends_lost : goal.returns-in_err-copy_live-clause-spends_lost
 returns-in_err-copy_live-clause-spends_lost g c =
     let a : Device = g.F.Flash.device c.args.flash.now in
-    let k : Kind = g.T.SlotSectors.kind (unit_of a c.args.area.now) in
+    let k : Kind = g.T.SlotSectors.kind (geometry_of a c.args.area.now) in
     on_err c.from_residual.result
     (first-lost a (g.F.Flash.device c.copy_live.new.flash) (copies k (to_copy k.reading (sectors_of a c.args.area.now) c.args.current)) (both k.units.any_done k.units.any_clear) c.in_err-copy_live.ensures.spends_lost)
 
@@ -87,7 +87,7 @@ returns-in_err-mark_done-clause-spends_lost g c =
     let a : Device = g.F.Flash.device c.args.flash.now in
     let area : Area = c.args.area.now in
     let place : ℕ = c.args.current in
-    let law : IsKind (g.T.SlotSectors.kind (unit_of a area)) = g.met.T.SlotSectors.lawful (unit_of a area) (unit_is a area (g.met.F.Flash.is_lawful c.args.flash.now) c.requires.area.lawful) in
+    let law : IsKind (g.T.SlotSectors.kind (geometry_of a area)) = g.met.T.SlotSectors.lawful (geometry_of a area) (unit_is a area (g.met.F.Flash.is_lawful c.args.flash.now) c.requires.area.lawful) in
     let d : Device = g.F.Flash.device c.copy_live.new.flash in
     let did = c.in_ok-copy_live.ensures in
     let e : Device = g.F.Flash.device c.mark_done.new.flash in
@@ -102,7 +102,7 @@ returns-clause-collects g c =
     let a : Device = g.F.Flash.device c.args.flash.now in
     let area : Area = c.args.area.now in
     let place : ℕ = c.args.current in
-    let law : IsKind (g.T.SlotSectors.kind (unit_of a area)) = g.met.T.SlotSectors.lawful (unit_of a area) (unit_is a area (g.met.F.Flash.is_lawful c.args.flash.now) c.requires.area.lawful) in
+    let law : IsKind (g.T.SlotSectors.kind (geometry_of a area)) = g.met.T.SlotSectors.lawful (geometry_of a area) (unit_is a area (g.met.F.Flash.is_lawful c.args.flash.now) c.requires.area.lawful) in
     let d : Device = g.F.Flash.device c.copy_live.new.flash in
     let did = c.in_ok-copy_live.ensures in
     let e : Device = g.F.Flash.device c.mark_done.new.flash in
@@ -110,14 +110,14 @@ returns-clause-collects g c =
     let marked = c.in_ok-mark_done.ensures in
     let z : Device = g.F.Flash.device c.clear.new.flash in
     let at : c.next-victim.result ≡ next (sectors_of a area) place = c.next-victim.ensures.value ∙ next_there a area place in
-    on_ok_weaker c.clear.result (λ clears. cleared g.T.SlotSectors.kind g.T.SlotSectors.role a area place law (g.met.F.Flash.is_lawful c.args.flash.now) c.requires.area c.requires.collecting d did.touches.banks did.copies e both.banks marked.only marked.marks c.next-victim.result at z c.clear.ensures.only clears) c.clear.ensures.clears
+    on_ok_weaker c.clear.result (λ clears. cleared g.T.SlotSectors.kind g.T.SlotSectors.role a area place law (g.met.F.Flash.is_lawful c.args.flash.now) c.requires.area c.requires.collecting d did.touches.banks did.copies e both.banks marked.only marked.marks c.next-victim.result at z c.clear.ensures.only clears.clean) c.clear.ensures.clears
 
 pub returns-clause-items : goal.returns-clause-items
 returns-clause-items g c =
     let a : Device = g.F.Flash.device c.args.flash.now in
     let area : Area = c.args.area.now in
     let place : ℕ = c.args.current in
-    let law : IsKind (g.T.SlotSectors.kind (unit_of a area)) = g.met.T.SlotSectors.lawful (unit_of a area) (unit_is a area (g.met.F.Flash.is_lawful c.args.flash.now) c.requires.area.lawful) in
+    let law : IsKind (g.T.SlotSectors.kind (geometry_of a area)) = g.met.T.SlotSectors.lawful (geometry_of a area) (unit_is a area (g.met.F.Flash.is_lawful c.args.flash.now) c.requires.area.lawful) in
     let d : Device = g.F.Flash.device c.copy_live.new.flash in
     let did = c.in_ok-copy_live.ensures in
     let e : Device = g.F.Flash.device c.mark_done.new.flash in
@@ -126,7 +126,7 @@ returns-clause-items g c =
     let z : Device = g.F.Flash.device c.clear.new.flash in
     let at : c.next-victim.result ≡ next (sectors_of a area) place = c.next-victim.ensures.value ∙ next_there a area place in
     either c.clear.result
-    (on_ok_weaker c.clear.result (λ clears. cleared_keeps g.T.SlotSectors.kind g.T.SlotSectors.role a area place law (g.met.F.Flash.is_lawful c.args.flash.now) c.requires.area c.requires.collecting d did.touches.banks did.copies e both.banks marked.only marked.marks c.next-victim.result at z c.clear.ensures.only clears) c.clear.ensures.clears)
+    (on_ok_weaker c.clear.result (λ clears. cleared_keeps g.T.SlotSectors.kind g.T.SlotSectors.role a area place law (g.met.F.Flash.is_lawful c.args.flash.now) c.requires.area c.requires.collecting d did.touches.banks did.copies e both.banks marked.only marked.marks c.next-victim.result at z c.clear.ensures.only clears.clean) c.clear.ensures.clears)
     (on_err_weaker c.clear.result (λ keeps. clear_lost g.T.SlotSectors.kind g.T.SlotSectors.role a area place law (g.met.F.Flash.is_lawful c.args.flash.now) c.requires.area c.requires.collecting d did.touches.banks did.copies e both.banks marked.only marked.marks c.next-victim.result at z c.clear.ensures.only keeps) c.clear.ensures.lost)
 
 pub returns-clause-spends : goal.returns-clause-spends
@@ -134,7 +134,7 @@ returns-clause-spends g c =
     let a : Device = g.F.Flash.device c.args.flash.now in
     let area : Area = c.args.area.now in
     let place : ℕ = c.args.current in
-    let law : IsKind (g.T.SlotSectors.kind (unit_of a area)) = g.met.T.SlotSectors.lawful (unit_of a area) (unit_is a area (g.met.F.Flash.is_lawful c.args.flash.now) c.requires.area.lawful) in
+    let law : IsKind (g.T.SlotSectors.kind (geometry_of a area)) = g.met.T.SlotSectors.lawful (geometry_of a area) (unit_is a area (g.met.F.Flash.is_lawful c.args.flash.now) c.requires.area.lawful) in
     let d : Device = g.F.Flash.device c.copy_live.new.flash in
     let did = c.in_ok-copy_live.ensures in
     let e : Device = g.F.Flash.device c.mark_done.new.flash in
@@ -149,7 +149,7 @@ returns-clause-spends_lost g c =
     let a : Device = g.F.Flash.device c.args.flash.now in
     let area : Area = c.args.area.now in
     let place : ℕ = c.args.current in
-    let law : IsKind (g.T.SlotSectors.kind (unit_of a area)) = g.met.T.SlotSectors.lawful (unit_of a area) (unit_is a area (g.met.F.Flash.is_lawful c.args.flash.now) c.requires.area.lawful) in
+    let law : IsKind (g.T.SlotSectors.kind (geometry_of a area)) = g.met.T.SlotSectors.lawful (geometry_of a area) (unit_is a area (g.met.F.Flash.is_lawful c.args.flash.now) c.requires.area.lawful) in
     let d : Device = g.F.Flash.device c.copy_live.new.flash in
     let did = c.in_ok-copy_live.ensures in
     let e : Device = g.F.Flash.device c.mark_done.new.flash in
@@ -164,15 +164,15 @@ returns-in_err-copy_live-clause-written g c =
     let a : Device = g.F.Flash.device c.args.flash.now in
     let area : Area = c.args.area.now in
     let place : ℕ = c.args.current in
-    let law : IsKind (g.T.SlotSectors.kind (unit_of a area)) = g.met.T.SlotSectors.lawful (unit_of a area) (unit_is a area (g.met.F.Flash.is_lawful c.args.flash.now) c.requires.area.lawful) in
-    stopped-written (g.T.SlotSectors.kind (unit_of a area)) law (sectors_of a area) (sectors_of (g.F.Flash.device c.copy_live.new.flash) area) place c.requires.collecting c.in_err-copy_live.ensures.lost
+    let law : IsKind (g.T.SlotSectors.kind (geometry_of a area)) = g.met.T.SlotSectors.lawful (geometry_of a area) (unit_is a area (g.met.F.Flash.is_lawful c.args.flash.now) c.requires.area.lawful) in
+    stopped-written (g.T.SlotSectors.kind (geometry_of a area)) law (sectors_of a area) (sectors_of (g.F.Flash.device c.copy_live.new.flash) area) place c.requires.collecting c.in_err-copy_live.ensures.lost
 
 pub returns-in_err-mark_done-clause-written : goal.returns-in_err-mark_done-clause-written
 returns-in_err-mark_done-clause-written g c =
     let a : Device = g.F.Flash.device c.args.flash.now in
     let area : Area = c.args.area.now in
     let place : ℕ = c.args.current in
-    let law : IsKind (g.T.SlotSectors.kind (unit_of a area)) = g.met.T.SlotSectors.lawful (unit_of a area) (unit_is a area (g.met.F.Flash.is_lawful c.args.flash.now) c.requires.area.lawful) in
+    let law : IsKind (g.T.SlotSectors.kind (geometry_of a area)) = g.met.T.SlotSectors.lawful (geometry_of a area) (unit_is a area (g.met.F.Flash.is_lawful c.args.flash.now) c.requires.area.lawful) in
     let d : Device = g.F.Flash.device c.copy_live.new.flash in
     let did = c.in_ok-copy_live.ensures in
     let e : Device = g.F.Flash.device c.mark_done.new.flash in
@@ -183,7 +183,7 @@ returns-clause-written g c =
     let a : Device = g.F.Flash.device c.args.flash.now in
     let area : Area = c.args.area.now in
     let place : ℕ = c.args.current in
-    let law : IsKind (g.T.SlotSectors.kind (unit_of a area)) = g.met.T.SlotSectors.lawful (unit_of a area) (unit_is a area (g.met.F.Flash.is_lawful c.args.flash.now) c.requires.area.lawful) in
+    let law : IsKind (g.T.SlotSectors.kind (geometry_of a area)) = g.met.T.SlotSectors.lawful (geometry_of a area) (unit_is a area (g.met.F.Flash.is_lawful c.args.flash.now) c.requires.area.lawful) in
     let d : Device = g.F.Flash.device c.copy_live.new.flash in
     let did = c.in_ok-copy_live.ensures in
     let e : Device = g.F.Flash.device c.mark_done.new.flash in
@@ -197,15 +197,15 @@ returns-in_err-copy_live-clause-list_lost g c =
     let a : Device = g.F.Flash.device c.args.flash.now in
     let area : Area = c.args.area.now in
     let place : ℕ = c.args.current in
-    let law : IsKind (g.T.SlotSectors.kind (unit_of a area)) = g.met.T.SlotSectors.lawful (unit_of a area) (unit_is a area (g.met.F.Flash.is_lawful c.args.flash.now) c.requires.area.lawful) in
-    on_err c.from_residual.result (inl (stopped-list (g.T.SlotSectors.kind (unit_of a area)) law (sectors_of a area) place c.requires.collecting (sectors_of (g.F.Flash.device c.copy_live.new.flash) area) c.in_err-copy_live.ensures.lost))
+    let law : IsKind (g.T.SlotSectors.kind (geometry_of a area)) = g.met.T.SlotSectors.lawful (geometry_of a area) (unit_is a area (g.met.F.Flash.is_lawful c.args.flash.now) c.requires.area.lawful) in
+    on_err c.from_residual.result (inl (stopped-list (g.T.SlotSectors.kind (geometry_of a area)) law (sectors_of a area) place c.requires.collecting (sectors_of (g.F.Flash.device c.copy_live.new.flash) area) c.in_err-copy_live.ensures.lost))
 
 pub returns-in_err-mark_done-clause-list_lost : goal.returns-in_err-mark_done-clause-list_lost
 returns-in_err-mark_done-clause-list_lost g c =
     let a : Device = g.F.Flash.device c.args.flash.now in
     let area : Area = c.args.area.now in
     let place : ℕ = c.args.current in
-    let law : IsKind (g.T.SlotSectors.kind (unit_of a area)) = g.met.T.SlotSectors.lawful (unit_of a area) (unit_is a area (g.met.F.Flash.is_lawful c.args.flash.now) c.requires.area.lawful) in
+    let law : IsKind (g.T.SlotSectors.kind (geometry_of a area)) = g.met.T.SlotSectors.lawful (geometry_of a area) (unit_is a area (g.met.F.Flash.is_lawful c.args.flash.now) c.requires.area.lawful) in
     let d : Device = g.F.Flash.device c.copy_live.new.flash in
     let did = c.in_ok-copy_live.ensures in
     let e : Device = g.F.Flash.device c.mark_done.new.flash in
@@ -216,7 +216,7 @@ returns-clause-list_lost g c =
     let a : Device = g.F.Flash.device c.args.flash.now in
     let area : Area = c.args.area.now in
     let place : ℕ = c.args.current in
-    let law : IsKind (g.T.SlotSectors.kind (unit_of a area)) = g.met.T.SlotSectors.lawful (unit_of a area) (unit_is a area (g.met.F.Flash.is_lawful c.args.flash.now) c.requires.area.lawful) in
+    let law : IsKind (g.T.SlotSectors.kind (geometry_of a area)) = g.met.T.SlotSectors.lawful (geometry_of a area) (unit_is a area (g.met.F.Flash.is_lawful c.args.flash.now) c.requires.area.lawful) in
     let d : Device = g.F.Flash.device c.copy_live.new.flash in
     let did = c.in_ok-copy_live.ensures in
     let e : Device = g.F.Flash.device c.mark_done.new.flash in

@@ -1,7 +1,7 @@
 use Rattle.std.proofs.Common.{◌≡◌, ◌+◌, ◌-◌, ◌<◌, ℕ, inl, inr, sym, ap, subst, ◌∙◌, arith}
 use Rattle.flash_sim.specs.Device.{Device}
 use Rattle.flash_map.specs.declared.area.Area.{Area}
-use Rattle.flash_map.specs.Area.{unit_of, sectors_of, sector_at}
+use Rattle.flash_map.specs.Area.{geometry_of, sectors_of, sector_at}
 use Rattle.flash_map.proofs.PieceLemmas.{on_err}
 use Rattle.ring_laws.specs.Area.{next}
 use Rattle.ring_store.specs.Kind.{IsKind}
@@ -18,7 +18,7 @@ slots-slots-requires-clause-inside g c =
     let a : Device = g.F.Flash.device c.args.flash.now in
     let area : Area = c.args.area.now in
     let place : ℕ = c.args.current in
-    let law : IsKind (g.T.SlotSectors.kind (unit_of a area)) = g.met.T.SlotSectors.lawful (unit_of a area) (unit_is a area (g.met.F.Flash.is_lawful c.args.flash.now) c.requires.area.lawful) in
+    let law : IsKind (g.T.SlotSectors.kind (geometry_of a area)) = g.met.T.SlotSectors.lawful (geometry_of a area) (unit_is a area (g.met.F.Flash.is_lawful c.args.flash.now) c.requires.area.lawful) in
     let within = next_within a area place c.requires.collecting.ring.within in omega (arith, c.requires.victim)
 
 pub loop-slot-init : goal.loop-slot-init
@@ -26,10 +26,10 @@ loop-slot-init g c =
     let a : Device = g.F.Flash.device c.args.flash.now in
     let area : Area = c.args.area.now in
     let place : ℕ = c.args.current in
-    let law : IsKind (g.T.SlotSectors.kind (unit_of a area)) = g.met.T.SlotSectors.lawful (unit_of a area) (unit_is a area (g.met.F.Flash.is_lawful c.args.flash.now) c.requires.area.lawful) in
+    let law : IsKind (g.T.SlotSectors.kind (geometry_of a area)) = g.met.T.SlotSectors.lawful (geometry_of a area) (unit_is a area (g.met.F.Flash.is_lawful c.args.flash.now) c.requires.area.lawful) in
     let none : c.first_slot-first.result - c.first_slot-first.result ≡ 0 = omega arith in
     record {
-      copying = subst (λ (n : ℕ). IsCopying (g.T.SlotSectors.kind (unit_of a area)) a a area place n) (sym none) (copying_start (g.T.SlotSectors.kind (unit_of a area)) law a area place c.requires.begun);
+      copying = subst (λ (n : ℕ). IsCopying (g.T.SlotSectors.kind (geometry_of a area)) a a area place n) (sym none) (copying_start (g.T.SlotSectors.kind (geometry_of a area)) law a area place c.requires.begun);
       kept = c.requires.kept;
     }
 
@@ -38,12 +38,12 @@ copy_slot-requires-clause-current g c =
     let a : Device = g.F.Flash.device c.args.flash.now in
     let area : Area = c.args.area.now in
     let place : ℕ = c.args.current in
-    let law : IsKind (g.T.SlotSectors.kind (unit_of a area)) = g.met.T.SlotSectors.lawful (unit_of a area) (unit_is a area (g.met.F.Flash.is_lawful c.args.flash.now) c.requires.area.lawful) in
+    let law : IsKind (g.T.SlotSectors.kind (geometry_of a area)) = g.met.T.SlotSectors.lawful (geometry_of a area) (unit_is a area (g.met.F.Flash.is_lawful c.args.flash.now) c.requires.area.lawful) in
     let d : Device = g.F.Flash.device c.loop-slot.flash in
-    let first_is = c.first_slot-first.ensures.value (unit_of a area) in
+    let first_is = c.first_slot-first.ensures.value (geometry_of a area) in
     let kept = c.loop-slot.invariant in
-    let more : c.loop-slot.slot < c.first_slot-first.result + (g.T.SlotSectors.kind (unit_of a area)).count (sector_at (sectors_of a area) (next (sectors_of a area) place)) =
-    (let count : c.slots-slots.result ≡ (g.T.SlotSectors.kind (unit_of a area)).count (sector_at (sectors_of a area) (next (sectors_of a area) place)) = c.slots-slots.ensures.value ∙ ap (λ (v : ℕ). (g.T.SlotSectors.kind (unit_of a area)).count (sector_at (sectors_of a area) v)) c.requires.victim in omega arith) in
+    let more : c.loop-slot.slot < c.first_slot-first.result + (g.T.SlotSectors.kind (geometry_of a area)).count (sector_at (sectors_of a area) (next (sectors_of a area) place)) =
+    (let count : c.slots-slots.result ≡ (g.T.SlotSectors.kind (geometry_of a area)).count (sector_at (sectors_of a area) (next (sectors_of a area) place)) = c.slots-slots.ensures.value ∙ ap (λ (v : ℕ). (g.T.SlotSectors.kind (geometry_of a area)).count (sector_at (sectors_of a area) v)) c.requires.victim in omega arith) in
     opens g.T.SlotSectors.kind g.T.SlotSectors.role a d area place c.args.victim c.first_slot-first.result c.loop-slot.slot law (g.met.F.Flash.is_lawful c.args.flash.now) c.requires.area c.requires.collecting c.requires.victim first_is (omega arith) kept.copying
 
 pub copy_slot-requires-clause-place : goal.copy_slot-requires-clause-place
@@ -51,7 +51,7 @@ copy_slot-requires-clause-place g c =
     let a : Device = g.F.Flash.device c.args.flash.now in
     let area : Area = c.args.area.now in
     let place : ℕ = c.args.current in
-    let law : IsKind (g.T.SlotSectors.kind (unit_of a area)) = g.met.T.SlotSectors.lawful (unit_of a area) (unit_is a area (g.met.F.Flash.is_lawful c.args.flash.now) c.requires.area.lawful) in
+    let law : IsKind (g.T.SlotSectors.kind (geometry_of a area)) = g.met.T.SlotSectors.lawful (geometry_of a area) (unit_is a area (g.met.F.Flash.is_lawful c.args.flash.now) c.requires.area.lawful) in
     current_within a area place c.requires.collecting.ring.within
 
 pub copy_slot-requires-clause-inside : goal.copy_slot-requires-clause-inside
@@ -59,12 +59,12 @@ copy_slot-requires-clause-inside g c =
     let a : Device = g.F.Flash.device c.args.flash.now in
     let area : Area = c.args.area.now in
     let place : ℕ = c.args.current in
-    let law : IsKind (g.T.SlotSectors.kind (unit_of a area)) = g.met.T.SlotSectors.lawful (unit_of a area) (unit_is a area (g.met.F.Flash.is_lawful c.args.flash.now) c.requires.area.lawful) in
+    let law : IsKind (g.T.SlotSectors.kind (geometry_of a area)) = g.met.T.SlotSectors.lawful (geometry_of a area) (unit_is a area (g.met.F.Flash.is_lawful c.args.flash.now) c.requires.area.lawful) in
     let d : Device = g.F.Flash.device c.loop-slot.flash in
-    let first_is = c.first_slot-first.ensures.value (unit_of a area) in
+    let first_is = c.first_slot-first.ensures.value (geometry_of a area) in
     let kept = c.loop-slot.invariant in
-    let more : c.loop-slot.slot < c.first_slot-first.result + (g.T.SlotSectors.kind (unit_of a area)).count (sector_at (sectors_of a area) (next (sectors_of a area) place)) =
-    (let count : c.slots-slots.result ≡ (g.T.SlotSectors.kind (unit_of a area)).count (sector_at (sectors_of a area) (next (sectors_of a area) place)) = c.slots-slots.ensures.value ∙ ap (λ (v : ℕ). (g.T.SlotSectors.kind (unit_of a area)).count (sector_at (sectors_of a area) v)) c.requires.victim in omega arith) in
+    let more : c.loop-slot.slot < c.first_slot-first.result + (g.T.SlotSectors.kind (geometry_of a area)).count (sector_at (sectors_of a area) (next (sectors_of a area) place)) =
+    (let count : c.slots-slots.result ≡ (g.T.SlotSectors.kind (geometry_of a area)).count (sector_at (sectors_of a area) (next (sectors_of a area) place)) = c.slots-slots.ensures.value ∙ ap (λ (v : ℕ). (g.T.SlotSectors.kind (geometry_of a area)).count (sector_at (sectors_of a area) v)) c.requires.victim in omega arith) in
     inside g.T.SlotSectors.kind g.T.SlotSectors.role a d area place c.args.victim c.first_slot-first.result c.loop-slot.slot law (g.met.F.Flash.is_lawful c.args.flash.now) c.requires.area c.requires.collecting c.requires.victim first_is (omega arith) kept.copying
 
 pub copy_slot-requires-clause-within : goal.copy_slot-requires-clause-within
@@ -72,12 +72,12 @@ copy_slot-requires-clause-within g c =
     let a : Device = g.F.Flash.device c.args.flash.now in
     let area : Area = c.args.area.now in
     let place : ℕ = c.args.current in
-    let law : IsKind (g.T.SlotSectors.kind (unit_of a area)) = g.met.T.SlotSectors.lawful (unit_of a area) (unit_is a area (g.met.F.Flash.is_lawful c.args.flash.now) c.requires.area.lawful) in
+    let law : IsKind (g.T.SlotSectors.kind (geometry_of a area)) = g.met.T.SlotSectors.lawful (geometry_of a area) (unit_is a area (g.met.F.Flash.is_lawful c.args.flash.now) c.requires.area.lawful) in
     let d : Device = g.F.Flash.device c.loop-slot.flash in
-    let first_is = c.first_slot-first.ensures.value (unit_of a area) in
+    let first_is = c.first_slot-first.ensures.value (geometry_of a area) in
     let kept = c.loop-slot.invariant in
-    let more : c.loop-slot.slot < c.first_slot-first.result + (g.T.SlotSectors.kind (unit_of a area)).count (sector_at (sectors_of a area) (next (sectors_of a area) place)) =
-    (let count : c.slots-slots.result ≡ (g.T.SlotSectors.kind (unit_of a area)).count (sector_at (sectors_of a area) (next (sectors_of a area) place)) = c.slots-slots.ensures.value ∙ ap (λ (v : ℕ). (g.T.SlotSectors.kind (unit_of a area)).count (sector_at (sectors_of a area) v)) c.requires.victim in omega arith) in
+    let more : c.loop-slot.slot < c.first_slot-first.result + (g.T.SlotSectors.kind (geometry_of a area)).count (sector_at (sectors_of a area) (next (sectors_of a area) place)) =
+    (let count : c.slots-slots.result ≡ (g.T.SlotSectors.kind (geometry_of a area)).count (sector_at (sectors_of a area) (next (sectors_of a area) place)) = c.slots-slots.ensures.value ∙ ap (λ (v : ℕ). (g.T.SlotSectors.kind (geometry_of a area)).count (sector_at (sectors_of a area) v)) c.requires.victim in omega arith) in
     within g.T.SlotSectors.kind g.T.SlotSectors.role a d area place c.args.victim c.first_slot-first.result c.loop-slot.slot law (g.met.F.Flash.is_lawful c.args.flash.now) c.requires.area c.requires.collecting c.requires.victim first_is (omega arith) kept.copying
 
 pub copy_slot-requires-clause-room : goal.copy_slot-requires-clause-room
@@ -85,12 +85,12 @@ copy_slot-requires-clause-room g c =
     let a : Device = g.F.Flash.device c.args.flash.now in
     let area : Area = c.args.area.now in
     let place : ℕ = c.args.current in
-    let law : IsKind (g.T.SlotSectors.kind (unit_of a area)) = g.met.T.SlotSectors.lawful (unit_of a area) (unit_is a area (g.met.F.Flash.is_lawful c.args.flash.now) c.requires.area.lawful) in
+    let law : IsKind (g.T.SlotSectors.kind (geometry_of a area)) = g.met.T.SlotSectors.lawful (geometry_of a area) (unit_is a area (g.met.F.Flash.is_lawful c.args.flash.now) c.requires.area.lawful) in
     let d : Device = g.F.Flash.device c.loop-slot.flash in
-    let first_is = c.first_slot-first.ensures.value (unit_of a area) in
+    let first_is = c.first_slot-first.ensures.value (geometry_of a area) in
     let kept = c.loop-slot.invariant in
-    let more : c.loop-slot.slot < c.first_slot-first.result + (g.T.SlotSectors.kind (unit_of a area)).count (sector_at (sectors_of a area) (next (sectors_of a area) place)) =
-    (let count : c.slots-slots.result ≡ (g.T.SlotSectors.kind (unit_of a area)).count (sector_at (sectors_of a area) (next (sectors_of a area) place)) = c.slots-slots.ensures.value ∙ ap (λ (v : ℕ). (g.T.SlotSectors.kind (unit_of a area)).count (sector_at (sectors_of a area) v)) c.requires.victim in omega arith) in
+    let more : c.loop-slot.slot < c.first_slot-first.result + (g.T.SlotSectors.kind (geometry_of a area)).count (sector_at (sectors_of a area) (next (sectors_of a area) place)) =
+    (let count : c.slots-slots.result ≡ (g.T.SlotSectors.kind (geometry_of a area)).count (sector_at (sectors_of a area) (next (sectors_of a area) place)) = c.slots-slots.ensures.value ∙ ap (λ (v : ℕ). (g.T.SlotSectors.kind (geometry_of a area)).count (sector_at (sectors_of a area) v)) c.requires.victim in omega arith) in
     room g.T.SlotSectors.kind g.T.SlotSectors.role a d area place c.args.victim c.first_slot-first.result c.loop-slot.slot law (g.met.F.Flash.is_lawful c.args.flash.now) c.requires.area c.requires.collecting c.requires.victim first_is (omega arith) kept.copying more
 
 pub returns-in_err-copy_slot-clause-lost : goal.returns-in_err-copy_slot-clause-lost
@@ -98,12 +98,12 @@ returns-in_err-copy_slot-clause-lost g c =
     let a : Device = g.F.Flash.device c.args.flash.now in
     let area : Area = c.args.area.now in
     let place : ℕ = c.args.current in
-    let law : IsKind (g.T.SlotSectors.kind (unit_of a area)) = g.met.T.SlotSectors.lawful (unit_of a area) (unit_is a area (g.met.F.Flash.is_lawful c.args.flash.now) c.requires.area.lawful) in
+    let law : IsKind (g.T.SlotSectors.kind (geometry_of a area)) = g.met.T.SlotSectors.lawful (geometry_of a area) (unit_is a area (g.met.F.Flash.is_lawful c.args.flash.now) c.requires.area.lawful) in
     let d : Device = g.F.Flash.device c.loop-slot.flash in
-    let first_is = c.first_slot-first.ensures.value (unit_of a area) in
+    let first_is = c.first_slot-first.ensures.value (geometry_of a area) in
     let kept = c.loop-slot.invariant in
-    let more : c.loop-slot.slot < c.first_slot-first.result + (g.T.SlotSectors.kind (unit_of a area)).count (sector_at (sectors_of a area) (next (sectors_of a area) place)) =
-    (let count : c.slots-slots.result ≡ (g.T.SlotSectors.kind (unit_of a area)).count (sector_at (sectors_of a area) (next (sectors_of a area) place)) = c.slots-slots.ensures.value ∙ ap (λ (v : ℕ). (g.T.SlotSectors.kind (unit_of a area)).count (sector_at (sectors_of a area) v)) c.requires.victim in omega arith) in
+    let more : c.loop-slot.slot < c.first_slot-first.result + (g.T.SlotSectors.kind (geometry_of a area)).count (sector_at (sectors_of a area) (next (sectors_of a area) place)) =
+    (let count : c.slots-slots.result ≡ (g.T.SlotSectors.kind (geometry_of a area)).count (sector_at (sectors_of a area) (next (sectors_of a area) place)) = c.slots-slots.ensures.value ∙ ap (λ (v : ℕ). (g.T.SlotSectors.kind (geometry_of a area)).count (sector_at (sectors_of a area) v)) c.requires.victim in omega arith) in
     let e : Device = g.F.Flash.device c.copy_slot.new.flash in
     on_err c.from_residual.result (one_lost g.T.SlotSectors.kind g.T.SlotSectors.role a d area place c.args.victim c.first_slot-first.result c.loop-slot.slot law (g.met.F.Flash.is_lawful c.args.flash.now) c.requires.area c.requires.collecting c.requires.victim first_is (omega arith) kept.copying e c.in_err-copy_slot.ensures.only c.in_err-copy_slot.ensures.lost)
 
@@ -112,12 +112,12 @@ returns-in_err-copy_slot-clause-spends_lost g c =
     let a : Device = g.F.Flash.device c.args.flash.now in
     let area : Area = c.args.area.now in
     let place : ℕ = c.args.current in
-    let law : IsKind (g.T.SlotSectors.kind (unit_of a area)) = g.met.T.SlotSectors.lawful (unit_of a area) (unit_is a area (g.met.F.Flash.is_lawful c.args.flash.now) c.requires.area.lawful) in
+    let law : IsKind (g.T.SlotSectors.kind (geometry_of a area)) = g.met.T.SlotSectors.lawful (geometry_of a area) (unit_is a area (g.met.F.Flash.is_lawful c.args.flash.now) c.requires.area.lawful) in
     let d : Device = g.F.Flash.device c.loop-slot.flash in
-    let first_is = c.first_slot-first.ensures.value (unit_of a area) in
+    let first_is = c.first_slot-first.ensures.value (geometry_of a area) in
     let kept = c.loop-slot.invariant in
-    let more : c.loop-slot.slot < c.first_slot-first.result + (g.T.SlotSectors.kind (unit_of a area)).count (sector_at (sectors_of a area) (next (sectors_of a area) place)) =
-    (let count : c.slots-slots.result ≡ (g.T.SlotSectors.kind (unit_of a area)).count (sector_at (sectors_of a area) (next (sectors_of a area) place)) = c.slots-slots.ensures.value ∙ ap (λ (v : ℕ). (g.T.SlotSectors.kind (unit_of a area)).count (sector_at (sectors_of a area) v)) c.requires.victim in omega arith) in
+    let more : c.loop-slot.slot < c.first_slot-first.result + (g.T.SlotSectors.kind (geometry_of a area)).count (sector_at (sectors_of a area) (next (sectors_of a area) place)) =
+    (let count : c.slots-slots.result ≡ (g.T.SlotSectors.kind (geometry_of a area)).count (sector_at (sectors_of a area) (next (sectors_of a area) place)) = c.slots-slots.ensures.value ∙ ap (λ (v : ℕ). (g.T.SlotSectors.kind (geometry_of a area)).count (sector_at (sectors_of a area) v)) c.requires.victim in omega arith) in
     let e : Device = g.F.Flash.device c.copy_slot.new.flash in
     on_err c.from_residual.result (one_most g.T.SlotSectors.kind g.T.SlotSectors.role a d area place c.args.victim c.first_slot-first.result c.loop-slot.slot law (g.met.F.Flash.is_lawful c.args.flash.now) c.requires.area c.requires.collecting c.requires.victim first_is (omega arith) kept.copying e more c.in_err-copy_slot.ensures.spends_lost)
 
@@ -126,12 +126,12 @@ loop-slot-preserved g c =
     let a : Device = g.F.Flash.device c.args.flash.now in
     let area : Area = c.args.area.now in
     let place : ℕ = c.args.current in
-    let law : IsKind (g.T.SlotSectors.kind (unit_of a area)) = g.met.T.SlotSectors.lawful (unit_of a area) (unit_is a area (g.met.F.Flash.is_lawful c.args.flash.now) c.requires.area.lawful) in
+    let law : IsKind (g.T.SlotSectors.kind (geometry_of a area)) = g.met.T.SlotSectors.lawful (geometry_of a area) (unit_is a area (g.met.F.Flash.is_lawful c.args.flash.now) c.requires.area.lawful) in
     let d : Device = g.F.Flash.device c.loop-slot.flash in
-    let first_is = c.first_slot-first.ensures.value (unit_of a area) in
+    let first_is = c.first_slot-first.ensures.value (geometry_of a area) in
     let kept = c.loop-slot.invariant in
-    let more : c.loop-slot.slot < c.first_slot-first.result + (g.T.SlotSectors.kind (unit_of a area)).count (sector_at (sectors_of a area) (next (sectors_of a area) place)) =
-    (let count : c.slots-slots.result ≡ (g.T.SlotSectors.kind (unit_of a area)).count (sector_at (sectors_of a area) (next (sectors_of a area) place)) = c.slots-slots.ensures.value ∙ ap (λ (v : ℕ). (g.T.SlotSectors.kind (unit_of a area)).count (sector_at (sectors_of a area) v)) c.requires.victim in omega arith) in
+    let more : c.loop-slot.slot < c.first_slot-first.result + (g.T.SlotSectors.kind (geometry_of a area)).count (sector_at (sectors_of a area) (next (sectors_of a area) place)) =
+    (let count : c.slots-slots.result ≡ (g.T.SlotSectors.kind (geometry_of a area)).count (sector_at (sectors_of a area) (next (sectors_of a area) place)) = c.slots-slots.ensures.value ∙ ap (λ (v : ℕ). (g.T.SlotSectors.kind (geometry_of a area)).count (sector_at (sectors_of a area) v)) c.requires.victim in omega arith) in
     let e : Device = g.F.Flash.device c.copy_slot.new.flash in
     record {
       copying = one_more g.T.SlotSectors.kind g.T.SlotSectors.role a d area place c.args.victim c.first_slot-first.result c.loop-slot.slot law (g.met.F.Flash.is_lawful c.args.flash.now) c.requires.area c.requires.collecting c.requires.victim first_is (omega arith) kept.copying e more c.in_ok-copy_slot.ensures.touches c.in_ok-copy_slot.ensures.copies c.in_ok-copy_slot.ensures.spends;
@@ -143,13 +143,13 @@ returns-clause-copies g c =
     let a : Device = g.F.Flash.device c.args.flash.now in
     let area : Area = c.args.area.now in
     let place : ℕ = c.args.current in
-    let law : IsKind (g.T.SlotSectors.kind (unit_of a area)) = g.met.T.SlotSectors.lawful (unit_of a area) (unit_is a area (g.met.F.Flash.is_lawful c.args.flash.now) c.requires.area.lawful) in
+    let law : IsKind (g.T.SlotSectors.kind (geometry_of a area)) = g.met.T.SlotSectors.lawful (geometry_of a area) (unit_is a area (g.met.F.Flash.is_lawful c.args.flash.now) c.requires.area.lawful) in
     let d : Device = g.F.Flash.device c.loop-slot.flash in
     let nw = next_within a area place c.requires.collecting.ring.within in
     let large = large_there g.T.SlotSectors.role a area (g.met.F.Flash.is_lawful c.args.flash.now) c.requires.area (next (sectors_of a area) place) nw in
-    let count : c.slots-slots.result ≡ (g.T.SlotSectors.kind (unit_of a area)).count (sector_at (sectors_of a area) (next (sectors_of a area) place)) = c.slots-slots.ensures.value ∙ ap (λ (v : ℕ). (g.T.SlotSectors.kind (unit_of a area)).count (sector_at (sectors_of a area) v)) c.requires.victim in
-    let all : c.loop-slot.slot - c.first_slot-first.result ≡ (g.T.SlotSectors.kind (unit_of a area)).count (sector_at (sectors_of a area) (next (sectors_of a area) place)) = omega arith in
-    let done = copying_end (g.T.SlotSectors.kind (unit_of a area)) law a d area place (c.loop-slot.slot - c.first_slot-first.result) c.requires.collecting large all c.loop-slot.invariant.copying in
+    let count : c.slots-slots.result ≡ (g.T.SlotSectors.kind (geometry_of a area)).count (sector_at (sectors_of a area) (next (sectors_of a area) place)) = c.slots-slots.ensures.value ∙ ap (λ (v : ℕ). (g.T.SlotSectors.kind (geometry_of a area)).count (sector_at (sectors_of a area) v)) c.requires.victim in
+    let all : c.loop-slot.slot - c.first_slot-first.result ≡ (g.T.SlotSectors.kind (geometry_of a area)).count (sector_at (sectors_of a area) (next (sectors_of a area) place)) = omega arith in
+    let done = copying_end (g.T.SlotSectors.kind (geometry_of a area)) law a d area place (c.loop-slot.slot - c.first_slot-first.result) c.requires.collecting large all c.loop-slot.invariant.copying in
     done.0
 
 pub returns-clause-spends : goal.returns-clause-spends
@@ -157,13 +157,13 @@ returns-clause-spends g c =
     let a : Device = g.F.Flash.device c.args.flash.now in
     let area : Area = c.args.area.now in
     let place : ℕ = c.args.current in
-    let law : IsKind (g.T.SlotSectors.kind (unit_of a area)) = g.met.T.SlotSectors.lawful (unit_of a area) (unit_is a area (g.met.F.Flash.is_lawful c.args.flash.now) c.requires.area.lawful) in
+    let law : IsKind (g.T.SlotSectors.kind (geometry_of a area)) = g.met.T.SlotSectors.lawful (geometry_of a area) (unit_is a area (g.met.F.Flash.is_lawful c.args.flash.now) c.requires.area.lawful) in
     let d : Device = g.F.Flash.device c.loop-slot.flash in
     let nw = next_within a area place c.requires.collecting.ring.within in
     let large = large_there g.T.SlotSectors.role a area (g.met.F.Flash.is_lawful c.args.flash.now) c.requires.area (next (sectors_of a area) place) nw in
-    let count : c.slots-slots.result ≡ (g.T.SlotSectors.kind (unit_of a area)).count (sector_at (sectors_of a area) (next (sectors_of a area) place)) = c.slots-slots.ensures.value ∙ ap (λ (v : ℕ). (g.T.SlotSectors.kind (unit_of a area)).count (sector_at (sectors_of a area) v)) c.requires.victim in
-    let all : c.loop-slot.slot - c.first_slot-first.result ≡ (g.T.SlotSectors.kind (unit_of a area)).count (sector_at (sectors_of a area) (next (sectors_of a area) place)) = omega arith in
-    let done = copying_end (g.T.SlotSectors.kind (unit_of a area)) law a d area place (c.loop-slot.slot - c.first_slot-first.result) c.requires.collecting large all c.loop-slot.invariant.copying in
+    let count : c.slots-slots.result ≡ (g.T.SlotSectors.kind (geometry_of a area)).count (sector_at (sectors_of a area) (next (sectors_of a area) place)) = c.slots-slots.ensures.value ∙ ap (λ (v : ℕ). (g.T.SlotSectors.kind (geometry_of a area)).count (sector_at (sectors_of a area) v)) c.requires.victim in
+    let all : c.loop-slot.slot - c.first_slot-first.result ≡ (g.T.SlotSectors.kind (geometry_of a area)).count (sector_at (sectors_of a area) (next (sectors_of a area) place)) = omega arith in
+    let done = copying_end (g.T.SlotSectors.kind (geometry_of a area)) law a d area place (c.loop-slot.slot - c.first_slot-first.result) c.requires.collecting large all c.loop-slot.invariant.copying in
     done.1
 
 pub live_slots-live-requires-clause-current : goal.live_slots-live-requires-clause-current
@@ -171,15 +171,15 @@ live_slots-live-requires-clause-current g c =
     let a : Device = g.F.Flash.device c.args.flash.now in
     let area : Area = c.args.area.now in
     let place : ℕ = c.args.current in
-    let law : IsKind (g.T.SlotSectors.kind (unit_of a area)) = g.met.T.SlotSectors.lawful (unit_of a area) (unit_is a area (g.met.F.Flash.is_lawful c.args.flash.now) c.requires.area.lawful) in
-    sym (reads (g.T.SlotSectors.kind (unit_of a area)).reading (sectors_of a area) place (inr (inl c.requires.collecting))).0
+    let law : IsKind (g.T.SlotSectors.kind (geometry_of a area)) = g.met.T.SlotSectors.lawful (geometry_of a area) (unit_is a area (g.met.F.Flash.is_lawful c.args.flash.now) c.requires.area.lawful) in
+    sym (reads (g.T.SlotSectors.kind (geometry_of a area)).reading (sectors_of a area) place (inr (inl c.requires.collecting))).0
 
 pub live_slots-live-requires-clause-inside : goal.live_slots-live-requires-clause-inside
 live_slots-live-requires-clause-inside g c =
     let a : Device = g.F.Flash.device c.args.flash.now in
     let area : Area = c.args.area.now in
     let place : ℕ = c.args.current in
-    let law : IsKind (g.T.SlotSectors.kind (unit_of a area)) = g.met.T.SlotSectors.lawful (unit_of a area) (unit_is a area (g.met.F.Flash.is_lawful c.args.flash.now) c.requires.area.lawful) in
+    let law : IsKind (g.T.SlotSectors.kind (geometry_of a area)) = g.met.T.SlotSectors.lawful (geometry_of a area) (unit_is a area (g.met.F.Flash.is_lawful c.args.flash.now) c.requires.area.lawful) in
     let within = next_within a area place c.requires.collecting.ring.within in omega (arith, c.requires.victim)
 
 pub live_slots-live-requires-clause-counts : goal.live_slots-live-requires-clause-counts
@@ -187,8 +187,8 @@ live_slots-live-requires-clause-counts g c =
     let a : Device = g.F.Flash.device c.args.flash.now in
     let area : Area = c.args.area.now in
     let place : ℕ = c.args.current in
-    let law : IsKind (g.T.SlotSectors.kind (unit_of a area)) = g.met.T.SlotSectors.lawful (unit_of a area) (unit_is a area (g.met.F.Flash.is_lawful c.args.flash.now) c.requires.area.lawful) in
-    victim_counts (g.T.SlotSectors.kind (unit_of a area)) (sectors_of a area) place c.args.victim c.requires.collecting c.requires.victim
+    let law : IsKind (g.T.SlotSectors.kind (geometry_of a area)) = g.met.T.SlotSectors.lawful (geometry_of a area) (unit_is a area (g.met.F.Flash.is_lawful c.args.flash.now) c.requires.area.lawful) in
+    victim_counts (g.T.SlotSectors.kind (geometry_of a area)) (sectors_of a area) place c.args.victim c.requires.collecting c.requires.victim
 
 pub has-is-requires : goal.has-is-requires
 has-is-requires g c =
@@ -199,13 +199,13 @@ copy_slot-requires-clause-live g c =
     let a : Device = g.F.Flash.device c.args.flash.now in
     let area : Area = c.args.area.now in
     let place : ℕ = c.args.current in
-    let law : IsKind (g.T.SlotSectors.kind (unit_of a area)) = g.met.T.SlotSectors.lawful (unit_of a area) (unit_is a area (g.met.F.Flash.is_lawful c.args.flash.now) c.requires.area.lawful) in
+    let law : IsKind (g.T.SlotSectors.kind (geometry_of a area)) = g.met.T.SlotSectors.lawful (geometry_of a area) (unit_is a area (g.met.F.Flash.is_lawful c.args.flash.now) c.requires.area.lawful) in
     let d : Device = g.F.Flash.device c.loop-slot.flash in
-    let first_is = c.first_slot-first.ensures.value (unit_of a area) in
+    let first_is = c.first_slot-first.ensures.value (geometry_of a area) in
     let kept = c.loop-slot.invariant in
-    let more : c.loop-slot.slot < c.first_slot-first.result + (g.T.SlotSectors.kind (unit_of a area)).count (sector_at (sectors_of a area) (next (sectors_of a area) place)) =
-    (let count : c.slots-slots.result ≡ (g.T.SlotSectors.kind (unit_of a area)).count (sector_at (sectors_of a area) (next (sectors_of a area) place)) = c.slots-slots.ensures.value ∙ ap (λ (v : ℕ). (g.T.SlotSectors.kind (unit_of a area)).count (sector_at (sectors_of a area) v)) c.requires.victim in omega arith) in
-    let count : c.slots-slots.result ≡ (g.T.SlotSectors.kind (unit_of a area)).count (sector_at (sectors_of a area) c.args.victim) = c.slots-slots.ensures.value in
-    let back : (g.T.SlotSectors.kind (unit_of a area)).first + (c.loop-slot.slot - c.first_slot-first.result) ≡ c.loop-slot.slot = omega arith in
+    let more : c.loop-slot.slot < c.first_slot-first.result + (g.T.SlotSectors.kind (geometry_of a area)).count (sector_at (sectors_of a area) (next (sectors_of a area) place)) =
+    (let count : c.slots-slots.result ≡ (g.T.SlotSectors.kind (geometry_of a area)).count (sector_at (sectors_of a area) (next (sectors_of a area) place)) = c.slots-slots.ensures.value ∙ ap (λ (v : ℕ). (g.T.SlotSectors.kind (geometry_of a area)).count (sector_at (sectors_of a area) v)) c.requires.victim in omega arith) in
+    let count : c.slots-slots.result ≡ (g.T.SlotSectors.kind (geometry_of a area)).count (sector_at (sectors_of a area) c.args.victim) = c.slots-slots.ensures.value in
+    let back : (g.T.SlotSectors.kind (geometry_of a area)).first + (c.loop-slot.slot - c.first_slot-first.result) ≡ c.loop-slot.slot = omega arith in
     live_flag g.T.SlotSectors.kind g.T.SlotSectors.role a d area place c.args.victim c.first_slot-first.result c.loop-slot.slot law (g.met.F.Flash.is_lawful c.args.flash.now) c.requires.area c.requires.collecting c.requires.victim first_is (omega arith) kept.copying c.has-is.result
-    (c.has-is.ensures ∙ c.live_slots-live.ensures (c.loop-slot.slot - c.first_slot-first.result) (omega arith) ∙ ap (holds_live (g.T.SlotSectors.kind (unit_of a area)) (sectors_of a area) c.args.victim) back)
+    (c.has-is.ensures ∙ c.live_slots-live.ensures (c.loop-slot.slot - c.first_slot-first.result) (omega arith) ∙ ap (holds_live (g.T.SlotSectors.kind (geometry_of a area)) (sectors_of a area) c.args.victim) back)

@@ -7,7 +7,7 @@ use Rattle.ring_store.specs.Seen.{has_bit, HasSeen, holds_live}
 use Rattle.ring_store.proofs.LiveSteps.{later_at, later_step, later_none, later_all, stand_behind}
 use Rattle.flash_sim.specs.Device.{Device}
 use Rattle.flash_map.specs.declared.area.Area.{Area}
-use Rattle.flash_map.specs.Area.{unit_of, sectors_of, sector_at}
+use Rattle.flash_map.specs.Area.{geometry_of, sectors_of, sector_at}
 use Rattle.ring_store.specs.Kind.{Kind, IsKind, placed_at}
 use Rattle.ring_store.proofs.Areas.{unit_is, open_inside}
 use Rattle.ring_store.proofs.liveness.live_by.Goals as goal
@@ -16,11 +16,11 @@ pub loop-left-init : goal.loop-left-init
 loop-left-init g c =
     let d : Device = g.F.Flash.device c.args.flash.now in
     let area : Area = c.args.area.now in
-    let k : Kind = g.T.SlotSectors.kind (unit_of d area) in
+    let k : Kind = g.T.SlotSectors.kind (geometry_of d area) in
     let sectors : List (List ℕ) = sectors_of d area in
-    let law : IsKind (g.T.SlotSectors.kind (unit_of d area)) = g.met.T.SlotSectors.lawful (unit_of d area) (unit_is d area (g.met.F.Flash.is_lawful c.args.flash.now) c.requires.area.lawful) in
+    let law : IsKind (g.T.SlotSectors.kind (geometry_of d area)) = g.met.T.SlotSectors.lawful (geometry_of d area) (unit_is d area (g.met.F.Flash.is_lawful c.args.flash.now) c.requires.area.lawful) in
     let count : c.slots-left.result ≡ k.count (sector_at sectors c.args.place) = c.slots-left.ensures.value in
-    let first : c.first_slot-first.result ≡ k.first = c.first_slot-first.ensures.value (unit_of d area) in
+    let first : c.first_slot-first.result ≡ k.first = c.first_slot-first.ensures.value (geometry_of d area) in
     let low = open_inside k d area c.args.current c.requires.area.lawful c.requires.current in
     let long = length-sectors d area in
     record {
@@ -34,10 +34,10 @@ pub overflow_add-slot : goal.overflow_add-slot
 overflow_add-slot g c =
     let d : Device = g.F.Flash.device c.args.flash.now in
     let area : Area = c.args.area.now in
-    let k : Kind = g.T.SlotSectors.kind (unit_of d area) in
+    let k : Kind = g.T.SlotSectors.kind (geometry_of d area) in
     let sectors : List (List ℕ) = sectors_of d area in
     let count : c.slots-left.result ≡ k.count (sector_at sectors c.args.place) = c.slots-left.ensures.value in
-    let first : c.first_slot-first.result ≡ k.first = c.first_slot-first.ensures.value (unit_of d area) in
+    let first : c.first_slot-first.result ≡ k.first = c.first_slot-first.ensures.value (geometry_of d area) in
     let low = open_inside k d area c.args.current c.requires.area.lawful c.requires.current in
     let long = length-sectors d area in
     omega (arith, c.slots-left.ensures.few, c.first_slot-first.ensures.small, c.loop-left.invariant.within)
@@ -46,10 +46,10 @@ pub look_at-is-requires-clause-listed : goal.look_at-is-requires-clause-listed
 look_at-is-requires-clause-listed g c =
     let d : Device = g.F.Flash.device c.args.flash.now in
     let area : Area = c.args.area.now in
-    let k : Kind = g.T.SlotSectors.kind (unit_of d area) in
+    let k : Kind = g.T.SlotSectors.kind (geometry_of d area) in
     let sectors : List (List ℕ) = sectors_of d area in
     let count : c.slots-left.result ≡ k.count (sector_at sectors c.args.place) = c.slots-left.ensures.value in
-    let first : c.first_slot-first.result ≡ k.first = c.first_slot-first.ensures.value (unit_of d area) in
+    let first : c.first_slot-first.result ≡ k.first = c.first_slot-first.ensures.value (geometry_of d area) in
     let low = open_inside k d area c.args.current c.requires.area.lawful c.requires.current in
     let long = length-sectors d area in
     (omega arith, omega (arith, c.loop-left.invariant.within))
@@ -58,10 +58,10 @@ pub put-requires : goal.put-requires
 put-requires g c =
     let d : Device = g.F.Flash.device c.args.flash.now in
     let area : Area = c.args.area.now in
-    let k : Kind = g.T.SlotSectors.kind (unit_of d area) in
+    let k : Kind = g.T.SlotSectors.kind (geometry_of d area) in
     let sectors : List (List ℕ) = sectors_of d area in
     let count : c.slots-left.result ≡ k.count (sector_at sectors c.args.place) = c.slots-left.ensures.value in
-    let first : c.first_slot-first.result ≡ k.first = c.first_slot-first.ensures.value (unit_of d area) in
+    let first : c.first_slot-first.result ≡ k.first = c.first_slot-first.ensures.value (geometry_of d area) in
     let low = open_inside k d area c.args.current c.requires.area.lawful c.requires.current in
     let long = length-sectors d area in
     omega (arith, c.slots-left.ensures.few, c.loop-left.invariant.within)
@@ -70,11 +70,11 @@ pub loop-left-preserved : goal.loop-left-preserved
 loop-left-preserved g c =
     let d : Device = g.F.Flash.device c.args.flash.now in
     let area : Area = c.args.area.now in
-    let k : Kind = g.T.SlotSectors.kind (unit_of d area) in
+    let k : Kind = g.T.SlotSectors.kind (geometry_of d area) in
     let sectors : List (List ℕ) = sectors_of d area in
-    let law : IsKind (g.T.SlotSectors.kind (unit_of d area)) = g.met.T.SlotSectors.lawful (unit_of d area) (unit_is d area (g.met.F.Flash.is_lawful c.args.flash.now) c.requires.area.lawful) in
+    let law : IsKind (g.T.SlotSectors.kind (geometry_of d area)) = g.met.T.SlotSectors.lawful (geometry_of d area) (unit_is d area (g.met.F.Flash.is_lawful c.args.flash.now) c.requires.area.lawful) in
     let count : c.slots-left.result ≡ k.count (sector_at sectors c.args.place) = c.slots-left.ensures.value in
-    let first : c.first_slot-first.result ≡ k.first = c.first_slot-first.ensures.value (unit_of d area) in
+    let first : c.first_slot-first.result ≡ k.first = c.first_slot-first.ensures.value (geometry_of d area) in
     let low = open_inside k d area c.args.current c.requires.area.lawful c.requires.current in
     let long = length-sectors d area in
     let now = c.loop-left.invariant in
@@ -108,11 +108,11 @@ pub returns-clause-live : goal.returns-clause-live
 returns-clause-live g c =
     let d : Device = g.F.Flash.device c.args.flash.now in
     let area : Area = c.args.area.now in
-    let k : Kind = g.T.SlotSectors.kind (unit_of d area) in
+    let k : Kind = g.T.SlotSectors.kind (geometry_of d area) in
     let sectors : List (List ℕ) = sectors_of d area in
-    let law : IsKind (g.T.SlotSectors.kind (unit_of d area)) = g.met.T.SlotSectors.lawful (unit_of d area) (unit_is d area (g.met.F.Flash.is_lawful c.args.flash.now) c.requires.area.lawful) in
+    let law : IsKind (g.T.SlotSectors.kind (geometry_of d area)) = g.met.T.SlotSectors.lawful (geometry_of d area) (unit_is d area (g.met.F.Flash.is_lawful c.args.flash.now) c.requires.area.lawful) in
     let count : c.slots-left.result ≡ k.count (sector_at sectors c.args.place) = c.slots-left.ensures.value in
-    let first : c.first_slot-first.result ≡ k.first = c.first_slot-first.ensures.value (unit_of d area) in
+    let first : c.first_slot-first.result ≡ k.first = c.first_slot-first.ensures.value (geometry_of d area) in
     let low = open_inside k d area c.args.current c.requires.area.lawful c.requires.current in
     let long = length-sectors d area in
     λ index under. c.loop-left.invariant.live index (omega arith) under
@@ -121,11 +121,11 @@ pub returns-clause-seen : goal.returns-clause-seen
 returns-clause-seen g c =
     let d : Device = g.F.Flash.device c.args.flash.now in
     let area : Area = c.args.area.now in
-    let k : Kind = g.T.SlotSectors.kind (unit_of d area) in
+    let k : Kind = g.T.SlotSectors.kind (geometry_of d area) in
     let sectors : List (List ℕ) = sectors_of d area in
-    let law : IsKind (g.T.SlotSectors.kind (unit_of d area)) = g.met.T.SlotSectors.lawful (unit_of d area) (unit_is d area (g.met.F.Flash.is_lawful c.args.flash.now) c.requires.area.lawful) in
+    let law : IsKind (g.T.SlotSectors.kind (geometry_of d area)) = g.met.T.SlotSectors.lawful (geometry_of d area) (unit_is d area (g.met.F.Flash.is_lawful c.args.flash.now) c.requires.area.lawful) in
     let count : c.slots-left.result ≡ k.count (sector_at sectors c.args.place) = c.slots-left.ensures.value in
-    let first : c.first_slot-first.result ≡ k.first = c.first_slot-first.ensures.value (unit_of d area) in
+    let first : c.first_slot-first.result ≡ k.first = c.first_slot-first.ensures.value (geometry_of d area) in
     let low = open_inside k d area c.args.current c.requires.area.lawful c.requires.current in
     let long = length-sectors d area in
     let none : c.loop-left.left ≡ 0 = omega arith in

@@ -1,7 +1,7 @@
 use Rattle.std.proofs.Common.{ℕ, List}
 use Rattle.flash_sim.specs.Device.{Device}
 use Rattle.flash_map.specs.declared.area.Area.{Area}
-use Rattle.flash_map.specs.Area.{unit_of, sectors_of}
+use Rattle.flash_map.specs.Area.{geometry_of, sectors_of}
 use Rattle.ring_store.specs.Kind.{Kind}
 use Rattle.ring_store.proofs.Areas.{open_inside}
 use Rattle.ring_store.proofs.liveness.live_slots.Goals as goal
@@ -10,7 +10,7 @@ pub note_behind-requires-clause-current : goal.note_behind-requires-clause-curre
 note_behind-requires-clause-current g c =
     let d : Device = g.F.Flash.device c.args.flash.now in
     let area : Area = c.args.area.now in
-    let k : Kind = g.T.SlotSectors.kind (unit_of d area) in
+    let k : Kind = g.T.SlotSectors.kind (geometry_of d area) in
     let sectors : List (List ℕ) = sectors_of d area in
     open_inside k d area c.args.current c.requires.area.lawful c.requires.current
 
@@ -18,7 +18,7 @@ pub live_by-requires-clause-seen : goal.live_by-requires-clause-seen
 live_by-requires-clause-seen g c =
     let d : Device = g.F.Flash.device c.args.flash.now in
     let area : Area = c.args.area.now in
-    let k : Kind = g.T.SlotSectors.kind (unit_of d area) in
+    let k : Kind = g.T.SlotSectors.kind (geometry_of d area) in
     let sectors : List (List ℕ) = sectors_of d area in
     c.note_behind.ensures (c.new-seen.ensures k.ids)
 
@@ -26,6 +26,6 @@ pub returns : goal.returns
 returns g c =
     let d : Device = g.F.Flash.device c.args.flash.now in
     let area : Area = c.args.area.now in
-    let k : Kind = g.T.SlotSectors.kind (unit_of d area) in
+    let k : Kind = g.T.SlotSectors.kind (geometry_of d area) in
     let sectors : List (List ℕ) = sectors_of d area in
     c.live_by.ensures.live

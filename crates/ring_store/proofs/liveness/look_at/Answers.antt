@@ -4,7 +4,7 @@ use Rattle.ring_store.proofs.LiveSteps.{live_none, live_some}
 use Rattle.ring_store.proofs.SeenSteps.{seen_before, seen_still}
 use Rattle.flash_sim.specs.Device.{Device}
 use Rattle.flash_map.specs.declared.area.Area.{Area}
-use Rattle.flash_map.specs.Area.{unit_of, sectors_of, sector_at}
+use Rattle.flash_map.specs.Area.{geometry_of, sectors_of, sector_at}
 use Rattle.ring_store.specs.Kind.{Kind, placed_at}
 use Rattle.ring_store.proofs.liveness.look_at.Goals as goal
 
@@ -16,7 +16,7 @@ pub returns-in-Some-clause-live : goal.returns-in-Some-clause-live
 returns-in-Some-clause-live g c =
     let d : Device = g.F.Flash.device c.args.flash.now in
     let area : Area = c.args.area.now in
-    let k : Kind = g.T.SlotSectors.kind (unit_of d area) in
+    let k : Kind = g.T.SlotSectors.kind (geometry_of d area) in
     let sectors : List (List ℕ) = sectors_of d area in
     λ later stand seen.
     live_some k sectors c.args.place c.args.slot c.in-Some.placed c.is_live_by-live.result (sym c.in-Some.is ∙ c.entry_in.ensures.entry)
@@ -26,7 +26,7 @@ pub returns-in-Some-clause-seen : goal.returns-in-Some-clause-seen
 returns-in-Some-clause-seen g c =
     let d : Device = g.F.Flash.device c.args.flash.now in
     let area : Area = c.args.area.now in
-    let k : Kind = g.T.SlotSectors.kind (unit_of d area) in
+    let k : Kind = g.T.SlotSectors.kind (geometry_of d area) in
     let sectors : List (List ℕ) = sectors_of d area in
     λ later seen. seen_before k.ids c.args.seen.now.bits c.add.new.self.bits c.args.seen.now.mixed c.add.new.self.mixed later c.in-Some.placed (option_map (placed_at c.args.place) (k.in_slot (sector_at sectors c.args.place) c.args.slot)) (sym c.in-Some.is ∙ c.entry_in.ensures.entry) c.in-Some.ensures.small c.add.ensures.bits c.add.ensures.mixed seen
 
@@ -34,7 +34,7 @@ pub returns-in-None-clause-live : goal.returns-in-None-clause-live
 returns-in-None-clause-live g c =
     let d : Device = g.F.Flash.device c.args.flash.now in
     let area : Area = c.args.area.now in
-    let k : Kind = g.T.SlotSectors.kind (unit_of d area) in
+    let k : Kind = g.T.SlotSectors.kind (geometry_of d area) in
     let sectors : List (List ℕ) = sectors_of d area in
     λ later stand seen. live_none k sectors c.args.place c.args.slot (sym c.in-None.is ∙ c.entry_in.ensures.entry)
 
@@ -42,6 +42,6 @@ pub returns-in-None-clause-seen : goal.returns-in-None-clause-seen
 returns-in-None-clause-seen g c =
     let d : Device = g.F.Flash.device c.args.flash.now in
     let area : Area = c.args.area.now in
-    let k : Kind = g.T.SlotSectors.kind (unit_of d area) in
+    let k : Kind = g.T.SlotSectors.kind (geometry_of d area) in
     let sectors : List (List ℕ) = sectors_of d area in
     λ later seen. seen_still k.ids c.args.seen.now.bits c.args.seen.now.mixed later (option_map (placed_at c.args.place) (k.in_slot (sector_at sectors c.args.place) c.args.slot)) (sym c.in-None.is ∙ c.entry_in.ensures.entry) seen

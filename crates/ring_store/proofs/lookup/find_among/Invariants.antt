@@ -1,5 +1,5 @@
 use Rattle.std.proofs.Common.{◌≡◌, ◌-◌, ◌≤◌, None}
-use Rattle.flash_map.specs.Area.{unit_of, sectors_of}
+use Rattle.flash_map.specs.Area.{geometry_of, sectors_of}
 use Rattle.ring_laws.specs.Live.{last_of}
 use Rattle.ring_laws.proofs.LastLemmas.{among}
 use Rattle.ring_store.specs.Kind.{slots}
@@ -9,7 +9,7 @@ abbrev pub invariant-loop-place : goal.invariant-loop-place
 invariant-loop-place g l = record {
   low : l.first ≤ l.place;
   high : l.place ≤ l.end;
-  none : last_of (slots (g.T.SlotSectors.kind (unit_of (g.F.Flash.device l.flash) l.area))) l.id (among (slots (g.T.SlotSectors.kind (unit_of (g.F.Flash.device l.flash) l.area))) (sectors_of (g.F.Flash.device l.flash) l.area) l.current l.place (l.end - l.place)) ≡ None;
+  none : last_of (slots (g.T.SlotSectors.kind (geometry_of (g.F.Flash.device l.flash) l.area))) l.id (among (slots (g.T.SlotSectors.kind (geometry_of (g.F.Flash.device l.flash) l.area))) (sectors_of (g.F.Flash.device l.flash) l.area) l.current l.place (l.end - l.place)) ≡ None;
 }
 
 abbrev pub decreases-loop-place : goal.decreases-loop-place

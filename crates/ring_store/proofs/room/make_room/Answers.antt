@@ -2,14 +2,14 @@ use Rattle.std.proofs.Common.{◌≡◌, ℕ, ◌+◌, ◌-◌, true, false, sym
 use Rattle.flash_sim.specs.Device.{Device}
 use Rattle.flash_map.specs.declared.area.Area.{Area}
 use Rattle.std.proofs.lemmas.Bool.{false≢true}
-use Rattle.flash_map.specs.Area.{unit_of, sectors_of}
+use Rattle.flash_map.specs.Area.{geometry_of, sectors_of}
 use Rattle.flash_map.proofs.PieceLemmas.{on_err}
 use Rattle.ring_store.specs.Kind.{IsKind}
 use Rattle.ring_store.specs.Room.{has_room}
 use Rattle.ring_store.proofs.Areas.{unit_is}
 use Rattle.ring_store.proofs.RoomFacts.{IsSearching, inside, searching_start, room_now, used_now, stops_now, searching_more, delete_room, makes_now, full_or_delete}
 use Rattle.ring_store.specs.Written.{IsWritten}
-use Rattle.ring_store.proofs.CallFacts.{to_unit}
+use Rattle.ring_store.proofs.CallFacts.{to_geometry}
 use Rattle.ring_store.proofs.room.make_room.Goals as goal
 
 pub loop-round-init : goal.loop-round-init
@@ -29,16 +29,16 @@ returns-then-fits-clause-makes g c =
     let a : Device = g.F.Flash.device c.args.flash.now in
     let d : Device = g.F.Flash.device c.loop-round.flash in
     let area : Area = c.args.area.now in
-    let law : IsKind (g.T.SlotSectors.kind (unit_of a area)) = g.met.T.SlotSectors.lawful (unit_of a area) (unit_is a area (g.met.F.Flash.is_lawful c.args.flash.now) c.requires.stands.area.lawful) in
+    let law : IsKind (g.T.SlotSectors.kind (geometry_of a area)) = g.met.T.SlotSectors.lawful (geometry_of a area) (unit_is a area (g.met.F.Flash.is_lawful c.args.flash.now) c.requires.stands.area.lawful) in
     let fitting = room_now g.T.SlotSectors.role g.T.SlotSectors.kind g.T.SlotSectors.kept a d area c.args.current.now c.args.opened.now c.loop-round.current c.loop-round.opened c.args.len (c.loop-round._round - 1) law (g.met.F.Flash.is_lawful c.args.flash.now) c.requires.stands c.loop-round.invariant.searching (g.met.F.Flash.is_lawful c.loop-round.flash) true (sym c.fits.ensures ∙ c.if-fits.true) in
-    makes_now g.T.SlotSectors.role g.T.SlotSectors.kind g.T.SlotSectors.kept a d area c.args.current.now c.args.opened.now c.loop-round.current c.loop-round.opened c.args.len (c.loop-round._round - 1) law (g.met.F.Flash.is_lawful c.args.flash.now) c.requires.stands c.loop-round.invariant.searching (g.met.F.Flash.is_lawful c.loop-round.flash) (omega arith) (λ none. ap (has_room (g.T.SlotSectors.kind (unit_of a area)) (sectors_of d area)) (sym none) ∙ fitting) (λ unfit. absurd (false≢true (sym unfit ∙ fitting)))
+    makes_now g.T.SlotSectors.role g.T.SlotSectors.kind g.T.SlotSectors.kept a d area c.args.current.now c.args.opened.now c.loop-round.current c.loop-round.opened c.args.len (c.loop-round._round - 1) law (g.met.F.Flash.is_lawful c.args.flash.now) c.requires.stands c.loop-round.invariant.searching (g.met.F.Flash.is_lawful c.loop-round.flash) (omega arith) (λ none. ap (has_room (g.T.SlotSectors.kind (geometry_of a area)) (sectors_of d area)) (sym none) ∙ fitting) (λ unfit. absurd (false≢true (sym unfit ∙ fitting)))
 
 pub round-requires-clause-used : goal.round-requires-clause-used
 round-requires-clause-used g c =
     let a : Device = g.F.Flash.device c.args.flash.now in
     let d : Device = g.F.Flash.device c.loop-round.flash in
     let area : Area = c.args.area.now in
-    let law : IsKind (g.T.SlotSectors.kind (unit_of a area)) = g.met.T.SlotSectors.lawful (unit_of a area) (unit_is a area (g.met.F.Flash.is_lawful c.args.flash.now) c.requires.stands.area.lawful) in
+    let law : IsKind (g.T.SlotSectors.kind (geometry_of a area)) = g.met.T.SlotSectors.lawful (geometry_of a area) (unit_is a area (g.met.F.Flash.is_lawful c.args.flash.now) c.requires.stands.area.lawful) in
     used_now g.T.SlotSectors.role g.T.SlotSectors.kind g.T.SlotSectors.kept a d area c.args.current.now c.args.opened.now c.loop-round.current c.loop-round.opened c.args.len (c.loop-round._round - 1) law (g.met.F.Flash.is_lawful c.args.flash.now) c.requires.stands c.loop-round.invariant.searching (g.met.F.Flash.is_lawful c.loop-round.flash) c.requires.short (sym c.fits.ensures ∙ c.if-fits.false)
 
 pub returns-in_err-place-clause-stops : goal.returns-in_err-place-clause-stops
@@ -46,7 +46,7 @@ returns-in_err-place-clause-stops g c =
     let a : Device = g.F.Flash.device c.args.flash.now in
     let d : Device = g.F.Flash.device c.loop-round.flash in
     let area : Area = c.args.area.now in
-    let law : IsKind (g.T.SlotSectors.kind (unit_of a area)) = g.met.T.SlotSectors.lawful (unit_of a area) (unit_is a area (g.met.F.Flash.is_lawful c.args.flash.now) c.requires.stands.area.lawful) in
+    let law : IsKind (g.T.SlotSectors.kind (geometry_of a area)) = g.met.T.SlotSectors.lawful (geometry_of a area) (unit_is a area (g.met.F.Flash.is_lawful c.args.flash.now) c.requires.stands.area.lawful) in
     let did = c.in_err-place.ensures in
     on_err c.from_residual.result (stops_now g.T.SlotSectors.role g.T.SlotSectors.kind g.T.SlotSectors.kept a d area c.args.current.now c.args.opened.now c.loop-round.current c.loop-round.opened c.args.len (c.loop-round._round - 1) law (g.met.F.Flash.is_lawful c.args.flash.now) c.requires.stands c.loop-round.invariant.searching (g.met.F.Flash.is_lawful c.loop-round.flash) (sym c.fits.ensures ∙ c.if-fits.false) (g.F.Flash.device c.round.new.flash) (omega arith) did.items did.list_lost did.spends_lost)
 
@@ -55,14 +55,14 @@ loop-round-preserved g c =
     let a : Device = g.F.Flash.device c.args.flash.now in
     let d : Device = g.F.Flash.device c.loop-round.flash in
     let area : Area = c.args.area.now in
-    let law : IsKind (g.T.SlotSectors.kind (unit_of a area)) = g.met.T.SlotSectors.lawful (unit_of a area) (unit_is a area (g.met.F.Flash.is_lawful c.args.flash.now) c.requires.stands.area.lawful) in
+    let law : IsKind (g.T.SlotSectors.kind (geometry_of a area)) = g.met.T.SlotSectors.lawful (geometry_of a area) (unit_is a area (g.met.F.Flash.is_lawful c.args.flash.now) c.requires.stands.area.lawful) in
     let did = c.in_ok-place.ensures in
     let e : Device = g.F.Flash.device c.round.new.flash in
     let same : c.loop-round._round - 1 + 1 ≡ c.loop-round._round + 1 - 1 = omega arith in
     record {
       searching = subst (λ (n : ℕ). IsSearching g.T.SlotSectors.role g.T.SlotSectors.kind g.T.SlotSectors.kept a e area c.in_ok-place.place c.round.new.opened c.args.len n) same
           (searching_more g.T.SlotSectors.role g.T.SlotSectors.kind g.T.SlotSectors.kept a d area c.args.current.now c.args.opened.now c.loop-round.current c.loop-round.opened c.args.len (c.loop-round._round - 1) law (g.met.F.Flash.is_lawful c.args.flash.now) c.requires.stands c.loop-round.invariant.searching (g.met.F.Flash.is_lawful c.loop-round.flash) (sym c.fits.ensures ∙ c.if-fits.false) e c.in_ok-place.place c.round.new.opened did.touches did.opened did.rested did.kept did.turns did.spends);
-      written = λ _. to_unit (λ u. IsWritten (g.T.SlotSectors.kind u) (sectors_of e area)) a d area c.loop-round.invariant.searching.touches.banks did.written;
+      written = λ written. to_geometry (λ u. IsWritten (g.T.SlotSectors.kind u) (sectors_of d area) → IsWritten (g.T.SlotSectors.kind u) (sectors_of e area)) a d area c.loop-round.invariant.searching.touches.banks did.written (c.loop-round.invariant.written written);
     }
 
 pub fits-room-requires-clause-inside : goal.fits-room-requires-clause-inside
@@ -76,7 +76,7 @@ returns-clause-makes g c =
     let a : Device = g.F.Flash.device c.args.flash.now in
     let d : Device = g.F.Flash.device c.loop-round.flash in
     let area : Area = c.args.area.now in
-    let law : IsKind (g.T.SlotSectors.kind (unit_of a area)) = g.met.T.SlotSectors.lawful (unit_of a area) (unit_is a area (g.met.F.Flash.is_lawful c.args.flash.now) c.requires.stands.area.lawful) in
+    let law : IsKind (g.T.SlotSectors.kind (geometry_of a area)) = g.met.T.SlotSectors.lawful (geometry_of a area) (unit_is a area (g.met.F.Flash.is_lawful c.args.flash.now) c.requires.stands.area.lawful) in
     let several = c.requires.stands.area.lawful.several in
     makes_now g.T.SlotSectors.role g.T.SlotSectors.kind g.T.SlotSectors.kept a d area c.args.current.now c.args.opened.now c.loop-round.current c.loop-round.opened c.args.len (c.loop-round._round - 1) law (g.met.F.Flash.is_lawful c.args.flash.now) c.requires.stands c.loop-round.invariant.searching (g.met.F.Flash.is_lawful c.loop-round.flash) (omega arith) (delete_room g.T.SlotSectors.role g.T.SlotSectors.kind g.T.SlotSectors.kept a d area c.args.current.now c.args.opened.now c.loop-round.current c.loop-round.opened c.args.len (c.loop-round._round - 1) law (g.met.F.Flash.is_lawful c.args.flash.now) c.requires.stands c.loop-round.invariant.searching (g.met.F.Flash.is_lawful c.loop-round.flash) (omega arith)) (λ _. omega arith)
 
@@ -85,7 +85,7 @@ returns-clause-full g c =
     let a : Device = g.F.Flash.device c.args.flash.now in
     let d : Device = g.F.Flash.device c.loop-round.flash in
     let area : Area = c.args.area.now in
-    let law : IsKind (g.T.SlotSectors.kind (unit_of a area)) = g.met.T.SlotSectors.lawful (unit_of a area) (unit_is a area (g.met.F.Flash.is_lawful c.args.flash.now) c.requires.stands.area.lawful) in
+    let law : IsKind (g.T.SlotSectors.kind (geometry_of a area)) = g.met.T.SlotSectors.lawful (geometry_of a area) (unit_is a area (g.met.F.Flash.is_lawful c.args.flash.now) c.requires.stands.area.lawful) in
     let several = c.requires.stands.area.lawful.several in
     λ none. full_or_delete g.T.SlotSectors.role g.T.SlotSectors.kind g.T.SlotSectors.kept a d area c.args.current.now c.args.opened.now c.loop-round.current c.loop-round.opened c.args.len (c.loop-round._round - 1) law (g.met.F.Flash.is_lawful c.args.flash.now) c.requires.stands c.loop-round.invariant.searching (g.met.F.Flash.is_lawful c.loop-round.flash) c.requires.short (omega arith) (omega arith) (room_now g.T.SlotSectors.role g.T.SlotSectors.kind g.T.SlotSectors.kept a d area c.args.current.now c.args.opened.now c.loop-round.current c.loop-round.opened c.args.len (c.loop-round._round - 1) law (g.met.F.Flash.is_lawful c.args.flash.now) c.requires.stands c.loop-round.invariant.searching (g.met.F.Flash.is_lawful c.loop-round.flash) false (sym c.fits-room.ensures ∙ none))
 
@@ -99,7 +99,7 @@ returns-in_err-place-clause-written g c =
     let d : Device = g.F.Flash.device c.loop-round.flash in
     let area : Area = c.args.area.now in
     let e : Device = g.F.Flash.device c.round.new.flash in
-    λ _. to_unit (λ u. IsWritten (g.T.SlotSectors.kind u) (sectors_of e area)) a d area c.loop-round.invariant.searching.touches.banks c.in_err-place.ensures.written
+    λ written. to_geometry (λ u. IsWritten (g.T.SlotSectors.kind u) (sectors_of d area) → IsWritten (g.T.SlotSectors.kind u) (sectors_of e area)) a d area c.loop-round.invariant.searching.touches.banks c.in_err-place.ensures.written (c.loop-round.invariant.written written)
 
 pub returns-clause-written : goal.returns-clause-written
 returns-clause-written g c =

@@ -2,7 +2,7 @@ use Rattle.std.proofs.Common.{◌≡◌, ℕ, ◌+◌, ◌-◌, eqb, List, lengt
 use Rattle.std.specs.List.{flat_map, range_with_len}
 use Rattle.std.proofs.lemmas.List.Concat.{flat_map-append}
 use Rattle.flash_sim.specs.Device.{Device}
-use Rattle.flash_map.specs.Area.{unit_of, sectors_of}
+use Rattle.flash_map.specs.Area.{geometry_of, sectors_of}
 use Rattle.ring_laws.specs.Live.{counted_in, last_of}
 use Rattle.ring_laws.proofs.AreaReads.{length-sectors}
 use Rattle.ring_laws.proofs.Newest.{newest-behind, newest-before}
@@ -14,14 +14,14 @@ use Rattle.ring_store.proofs.searching.find_up_to.Goals as goal
 pub returns-then-current-place : goal.returns-then-current-place
 returns-then-current-place g c =
     let d : Device = g.F.Flash.device c.args.flash.now in
-    let k : Kind = g.T.SlotSectors.kind (unit_of d c.args.area.now) in
+    let k : Kind = g.T.SlotSectors.kind (geometry_of d c.args.area.now) in
     let sectors : List (List ℕ) = sectors_of d c.args.area.now in
     c.find_among.ensures ∙ ap (λ (js : List ℕ). last_of (slots k) c.args.id (flat_map (counted_in (slots k) sectors c.args.current) js)) (up-near (length sectors) c.args.current c.args.place c.if-current-place.true)
 
 pub returns-then-is_some : goal.returns-then-is_some
 returns-then-is_some g c =
     let d : Device = g.F.Flash.device c.args.flash.now in
-    let k : Kind = g.T.SlotSectors.kind (unit_of d c.args.area.now) in
+    let k : Kind = g.T.SlotSectors.kind (geometry_of d c.args.area.now) in
     let sectors : List (List ℕ) = sectors_of d c.args.area.now in
     let row : ℕ → List Placed = counted_in (slots k) sectors c.args.current in
     let older : List ℕ = range_with_len (c.args.current + 1) (length sectors - (c.args.current + 1)) in
@@ -32,7 +32,7 @@ returns-then-is_some g c =
 pub returns : goal.returns
 returns g c =
     let d : Device = g.F.Flash.device c.args.flash.now in
-    let k : Kind = g.T.SlotSectors.kind (unit_of d c.args.area.now) in
+    let k : Kind = g.T.SlotSectors.kind (geometry_of d c.args.area.now) in
     let sectors : List (List ℕ) = sectors_of d c.args.area.now in
     let row : ℕ → List Placed = counted_in (slots k) sectors c.args.current in
     let older : List ℕ = range_with_len (c.args.current + 1) (length sectors - (c.args.current + 1)) in

@@ -1,7 +1,7 @@
 use Rattle.std.proofs.Common.{length}
 use Rattle.flash_sim.specs.Device.{Device}
 use Rattle.flash_map.specs.declared.area.Area.{Area}
-use Rattle.flash_map.specs.Area.{unit_of, sectors_of}
+use Rattle.flash_map.specs.Area.{geometry_of, sectors_of}
 use Rattle.flash_map.proofs.PieceLemmas.{on_err}
 use Rattle.flash_map.proofs.Touches.{then}
 use Rattle.ring_store.specs.Kind.{IsKind}
@@ -22,21 +22,21 @@ pub begin-requires-clause-sound : goal.begin-requires-clause-sound
 begin-requires-clause-sound g c =
     let a : Device = g.F.Flash.device c.args.flash.now in
     let area : Area = c.args.area.now in
-    let law : IsKind (g.T.SlotSectors.kind (unit_of a area)) = g.met.T.SlotSectors.lawful (unit_of a area) (unit_is a area (g.met.F.Flash.is_lawful c.args.flash.now) c.requires.stands.area.lawful) in
+    let law : IsKind (g.T.SlotSectors.kind (geometry_of a area)) = g.met.T.SlotSectors.lawful (geometry_of a area) (unit_is a area (g.met.F.Flash.is_lawful c.args.flash.now) c.requires.stands.area.lawful) in
     open_sound g.T.SlotSectors.role g.T.SlotSectors.kind g.T.SlotSectors.kept a area c.args.current c.args.opened.now law (g.met.F.Flash.is_lawful c.args.flash.now) c.requires.stands
 
 pub begin-requires-clause-opened : goal.begin-requires-clause-opened
 begin-requires-clause-opened g c =
     let a : Device = g.F.Flash.device c.args.flash.now in
     let area : Area = c.args.area.now in
-    let law : IsKind (g.T.SlotSectors.kind (unit_of a area)) = g.met.T.SlotSectors.lawful (unit_of a area) (unit_is a area (g.met.F.Flash.is_lawful c.args.flash.now) c.requires.stands.area.lawful) in
+    let law : IsKind (g.T.SlotSectors.kind (geometry_of a area)) = g.met.T.SlotSectors.lawful (geometry_of a area) (unit_is a area (g.met.F.Flash.is_lawful c.args.flash.now) c.requires.stands.area.lawful) in
     open_not_closed g.T.SlotSectors.role g.T.SlotSectors.kind g.T.SlotSectors.kept a area c.args.current c.args.opened.now law (g.met.F.Flash.is_lawful c.args.flash.now) c.requires.stands
 
 pub returns-in_err-begin-clause-stops : goal.returns-in_err-begin-clause-stops
 returns-in_err-begin-clause-stops g c =
     let a : Device = g.F.Flash.device c.args.flash.now in
     let area : Area = c.args.area.now in
-    let law : IsKind (g.T.SlotSectors.kind (unit_of a area)) = g.met.T.SlotSectors.lawful (unit_of a area) (unit_is a area (g.met.F.Flash.is_lawful c.args.flash.now) c.requires.stands.area.lawful) in
+    let law : IsKind (g.T.SlotSectors.kind (geometry_of a area)) = g.met.T.SlotSectors.lawful (geometry_of a area) (unit_is a area (g.met.F.Flash.is_lawful c.args.flash.now) c.requires.stands.area.lawful) in
     let did = c.in_err-begin.ensures in
     on_err c.from_residual.result (begin_stops g.T.SlotSectors.role g.T.SlotSectors.kind g.T.SlotSectors.kept a area c.args.current c.args.opened.now law (g.met.F.Flash.is_lawful c.args.flash.now) c.requires.stands (g.F.Flash.device c.begin.new.flash) c.args.id c.args.bytes.now did.only did.lost did.room_lost did.spends_lost)
 
@@ -44,7 +44,7 @@ pub put-requires-clause-area : goal.put-requires-clause-area
 put-requires-clause-area g c =
     let a : Device = g.F.Flash.device c.args.flash.now in
     let area : Area = c.args.area.now in
-    let law : IsKind (g.T.SlotSectors.kind (unit_of a area)) = g.met.T.SlotSectors.lawful (unit_of a area) (unit_is a area (g.met.F.Flash.is_lawful c.args.flash.now) c.requires.stands.area.lawful) in
+    let law : IsKind (g.T.SlotSectors.kind (geometry_of a area)) = g.met.T.SlotSectors.lawful (geometry_of a area) (unit_is a area (g.met.F.Flash.is_lawful c.args.flash.now) c.requires.stands.area.lawful) in
     let b : Device = g.F.Flash.device c.begin.new.flash in
     let did = c.in_ok-begin.ensures in
     put_area g.T.SlotSectors.role g.T.SlotSectors.kind g.T.SlotSectors.kept a area c.args.current c.args.opened.now law (g.met.F.Flash.is_lawful c.args.flash.now) c.requires.stands b did.touches.banks did.only did.begins
@@ -59,7 +59,7 @@ pub put-requires-clause-kept : goal.put-requires-clause-kept
 put-requires-clause-kept g c =
     let a : Device = g.F.Flash.device c.args.flash.now in
     let area : Area = c.args.area.now in
-    let law : IsKind (g.T.SlotSectors.kind (unit_of a area)) = g.met.T.SlotSectors.lawful (unit_of a area) (unit_is a area (g.met.F.Flash.is_lawful c.args.flash.now) c.requires.stands.area.lawful) in
+    let law : IsKind (g.T.SlotSectors.kind (geometry_of a area)) = g.met.T.SlotSectors.lawful (geometry_of a area) (unit_is a area (g.met.F.Flash.is_lawful c.args.flash.now) c.requires.stands.area.lawful) in
     let b : Device = g.F.Flash.device c.begin.new.flash in
     let did = c.in_ok-begin.ensures in
     put_kept g.T.SlotSectors.role g.T.SlotSectors.kind g.T.SlotSectors.kept a area c.args.current c.args.opened.now law (g.met.F.Flash.is_lawful c.args.flash.now) c.requires.stands b did.touches.banks did.only did.begins c.begin.new.self did.kept
@@ -68,7 +68,7 @@ pub put-requires-clause-ready : goal.put-requires-clause-ready
 put-requires-clause-ready g c =
     let a : Device = g.F.Flash.device c.args.flash.now in
     let area : Area = c.args.area.now in
-    let law : IsKind (g.T.SlotSectors.kind (unit_of a area)) = g.met.T.SlotSectors.lawful (unit_of a area) (unit_is a area (g.met.F.Flash.is_lawful c.args.flash.now) c.requires.stands.area.lawful) in
+    let law : IsKind (g.T.SlotSectors.kind (geometry_of a area)) = g.met.T.SlotSectors.lawful (geometry_of a area) (unit_is a area (g.met.F.Flash.is_lawful c.args.flash.now) c.requires.stands.area.lawful) in
     let b : Device = g.F.Flash.device c.begin.new.flash in
     let did = c.in_ok-begin.ensures in
     put_ready g.T.SlotSectors.role g.T.SlotSectors.kind g.T.SlotSectors.kept a area c.args.current c.args.opened.now law (g.met.F.Flash.is_lawful c.args.flash.now) c.requires.stands b did.touches.banks did.only did.begins
@@ -77,7 +77,7 @@ pub put-requires-clause-opened : goal.put-requires-clause-opened
 put-requires-clause-opened g c =
     let a : Device = g.F.Flash.device c.args.flash.now in
     let area : Area = c.args.area.now in
-    let law : IsKind (g.T.SlotSectors.kind (unit_of a area)) = g.met.T.SlotSectors.lawful (unit_of a area) (unit_is a area (g.met.F.Flash.is_lawful c.args.flash.now) c.requires.stands.area.lawful) in
+    let law : IsKind (g.T.SlotSectors.kind (geometry_of a area)) = g.met.T.SlotSectors.lawful (geometry_of a area) (unit_is a area (g.met.F.Flash.is_lawful c.args.flash.now) c.requires.stands.area.lawful) in
     let b : Device = g.F.Flash.device c.begin.new.flash in
     let did = c.in_ok-begin.ensures in
     put_opened g.T.SlotSectors.role g.T.SlotSectors.kind g.T.SlotSectors.kept a area c.args.current c.args.opened.now law (g.met.F.Flash.is_lawful c.args.flash.now) c.requires.stands b did.touches.banks did.only did.begins
@@ -86,7 +86,7 @@ pub put-requires-clause-rested : goal.put-requires-clause-rested
 put-requires-clause-rested g c =
     let a : Device = g.F.Flash.device c.args.flash.now in
     let area : Area = c.args.area.now in
-    let law : IsKind (g.T.SlotSectors.kind (unit_of a area)) = g.met.T.SlotSectors.lawful (unit_of a area) (unit_is a area (g.met.F.Flash.is_lawful c.args.flash.now) c.requires.stands.area.lawful) in
+    let law : IsKind (g.T.SlotSectors.kind (geometry_of a area)) = g.met.T.SlotSectors.lawful (geometry_of a area) (unit_is a area (g.met.F.Flash.is_lawful c.args.flash.now) c.requires.stands.area.lawful) in
     let b : Device = g.F.Flash.device c.begin.new.flash in
     let did = c.in_ok-begin.ensures in
     put_rested g.T.SlotSectors.role g.T.SlotSectors.kind g.T.SlotSectors.kept a area c.args.current c.args.opened.now law (g.met.F.Flash.is_lawful c.args.flash.now) c.requires.stands b did.touches.banks did.only did.begins
@@ -95,7 +95,7 @@ pub put-requires-clause-ordinary : goal.put-requires-clause-ordinary
 put-requires-clause-ordinary g c =
     let a : Device = g.F.Flash.device c.args.flash.now in
     let area : Area = c.args.area.now in
-    let law : IsKind (g.T.SlotSectors.kind (unit_of a area)) = g.met.T.SlotSectors.lawful (unit_of a area) (unit_is a area (g.met.F.Flash.is_lawful c.args.flash.now) c.requires.stands.area.lawful) in
+    let law : IsKind (g.T.SlotSectors.kind (geometry_of a area)) = g.met.T.SlotSectors.lawful (geometry_of a area) (unit_is a area (g.met.F.Flash.is_lawful c.args.flash.now) c.requires.stands.area.lawful) in
     let b : Device = g.F.Flash.device c.begin.new.flash in
     let did = c.in_ok-begin.ensures in
     put_ordinary g.T.SlotSectors.role g.T.SlotSectors.kind g.T.SlotSectors.kept a area c.args.current c.args.opened.now law (g.met.F.Flash.is_lawful c.args.flash.now) c.requires.stands b did.touches.banks did.only did.begins c.args.id c.requires.ordinary
@@ -104,7 +104,7 @@ pub put-requires-clause-fits : goal.put-requires-clause-fits
 put-requires-clause-fits g c =
     let a : Device = g.F.Flash.device c.args.flash.now in
     let area : Area = c.args.area.now in
-    let law : IsKind (g.T.SlotSectors.kind (unit_of a area)) = g.met.T.SlotSectors.lawful (unit_of a area) (unit_is a area (g.met.F.Flash.is_lawful c.args.flash.now) c.requires.stands.area.lawful) in
+    let law : IsKind (g.T.SlotSectors.kind (geometry_of a area)) = g.met.T.SlotSectors.lawful (geometry_of a area) (unit_is a area (g.met.F.Flash.is_lawful c.args.flash.now) c.requires.stands.area.lawful) in
     let b : Device = g.F.Flash.device c.begin.new.flash in
     let did = c.in_ok-begin.ensures in
     put_fits g.T.SlotSectors.role g.T.SlotSectors.kind g.T.SlotSectors.kept a area c.args.current c.args.opened.now law (g.met.F.Flash.is_lawful c.args.flash.now) c.requires.stands b did.touches.banks did.only did.begins (length c.args.bytes.now) c.requires.room
@@ -119,7 +119,7 @@ pub returns-clause-stands : goal.returns-clause-stands
 returns-clause-stands g c =
     let a : Device = g.F.Flash.device c.args.flash.now in
     let area : Area = c.args.area.now in
-    let law : IsKind (g.T.SlotSectors.kind (unit_of a area)) = g.met.T.SlotSectors.lawful (unit_of a area) (unit_is a area (g.met.F.Flash.is_lawful c.args.flash.now) c.requires.stands.area.lawful) in
+    let law : IsKind (g.T.SlotSectors.kind (geometry_of a area)) = g.met.T.SlotSectors.lawful (geometry_of a area) (unit_is a area (g.met.F.Flash.is_lawful c.args.flash.now) c.requires.stands.area.lawful) in
     let b : Device = g.F.Flash.device c.begin.new.flash in
     let did = c.in_ok-begin.ensures in
     let e : Device = g.F.Flash.device c.put.new.flash in
@@ -130,7 +130,7 @@ pub returns-clause-puts : goal.returns-clause-puts
 returns-clause-puts g c =
     let a : Device = g.F.Flash.device c.args.flash.now in
     let area : Area = c.args.area.now in
-    let law : IsKind (g.T.SlotSectors.kind (unit_of a area)) = g.met.T.SlotSectors.lawful (unit_of a area) (unit_is a area (g.met.F.Flash.is_lawful c.args.flash.now) c.requires.stands.area.lawful) in
+    let law : IsKind (g.T.SlotSectors.kind (geometry_of a area)) = g.met.T.SlotSectors.lawful (geometry_of a area) (unit_is a area (g.met.F.Flash.is_lawful c.args.flash.now) c.requires.stands.area.lawful) in
     let b : Device = g.F.Flash.device c.begin.new.flash in
     let did = c.in_ok-begin.ensures in
     let e : Device = g.F.Flash.device c.put.new.flash in
@@ -141,7 +141,7 @@ pub returns-clause-stops : goal.returns-clause-stops
 returns-clause-stops g c =
     let a : Device = g.F.Flash.device c.args.flash.now in
     let area : Area = c.args.area.now in
-    let law : IsKind (g.T.SlotSectors.kind (unit_of a area)) = g.met.T.SlotSectors.lawful (unit_of a area) (unit_is a area (g.met.F.Flash.is_lawful c.args.flash.now) c.requires.stands.area.lawful) in
+    let law : IsKind (g.T.SlotSectors.kind (geometry_of a area)) = g.met.T.SlotSectors.lawful (geometry_of a area) (unit_is a area (g.met.F.Flash.is_lawful c.args.flash.now) c.requires.stands.area.lawful) in
     let b : Device = g.F.Flash.device c.begin.new.flash in
     let did = c.in_ok-begin.ensures in
     let e : Device = g.F.Flash.device c.put.new.flash in
@@ -152,15 +152,15 @@ pub returns-in_err-begin-clause-written : goal.returns-in_err-begin-clause-writt
 returns-in_err-begin-clause-written g c =
     let a : Device = g.F.Flash.device c.args.flash.now in
     let area : Area = c.args.area.now in
-    let law : IsKind (g.T.SlotSectors.kind (unit_of a area)) = g.met.T.SlotSectors.lawful (unit_of a area) (unit_is a area (g.met.F.Flash.is_lawful c.args.flash.now) c.requires.stands.area.lawful) in
+    let law : IsKind (g.T.SlotSectors.kind (geometry_of a area)) = g.met.T.SlotSectors.lawful (geometry_of a area) (unit_is a area (g.met.F.Flash.is_lawful c.args.flash.now) c.requires.stands.area.lawful) in
     let did = c.in_err-begin.ensures in
-    keeps-written (g.T.SlotSectors.kind (unit_of a area)) law (sectors_of a area) (sectors_of (g.F.Flash.device c.begin.new.flash) area) c.args.current did.only did.lost
+    keeps-written (g.T.SlotSectors.kind (geometry_of a area)) law (sectors_of a area) (sectors_of (g.F.Flash.device c.begin.new.flash) area) c.args.current did.only did.lost
 
 pub returns-clause-written : goal.returns-clause-written
 returns-clause-written g c =
     let a : Device = g.F.Flash.device c.args.flash.now in
     let area : Area = c.args.area.now in
-    let law : IsKind (g.T.SlotSectors.kind (unit_of a area)) = g.met.T.SlotSectors.lawful (unit_of a area) (unit_is a area (g.met.F.Flash.is_lawful c.args.flash.now) c.requires.stands.area.lawful) in
+    let law : IsKind (g.T.SlotSectors.kind (geometry_of a area)) = g.met.T.SlotSectors.lawful (geometry_of a area) (unit_is a area (g.met.F.Flash.is_lawful c.args.flash.now) c.requires.stands.area.lawful) in
     let b : Device = g.F.Flash.device c.begin.new.flash in
     let did = c.in_ok-begin.ensures in
     let e : Device = g.F.Flash.device c.put.new.flash in
@@ -171,7 +171,7 @@ pub returns-clause-entry : goal.returns-clause-entry
 returns-clause-entry g c =
     let a : Device = g.F.Flash.device c.args.flash.now in
     let area : Area = c.args.area.now in
-    let law : IsKind (g.T.SlotSectors.kind (unit_of a area)) = g.met.T.SlotSectors.lawful (unit_of a area) (unit_is a area (g.met.F.Flash.is_lawful c.args.flash.now) c.requires.stands.area.lawful) in
+    let law : IsKind (g.T.SlotSectors.kind (geometry_of a area)) = g.met.T.SlotSectors.lawful (geometry_of a area) (unit_is a area (g.met.F.Flash.is_lawful c.args.flash.now) c.requires.stands.area.lawful) in
     let b : Device = g.F.Flash.device c.begin.new.flash in
     let did = c.in_ok-begin.ensures in
     let e : Device = g.F.Flash.device c.put.new.flash in

@@ -1,7 +1,7 @@
 use Rattle.std.proofs.Common.{◌≡◌, ◌+◌, length, arith}
 use Rattle.flash_sim.specs.Device.{Device}
 use Rattle.flash_map.specs.declared.area.Area.{Area}
-use Rattle.flash_map.specs.Area.{unit_of, sector_at, sectors_of}
+use Rattle.flash_map.specs.Area.{geometry_of, sector_at, sectors_of}
 use Rattle.ring_store.specs.Kind.{IsKind}
 use Rattle.ring_store.proofs.Areas.{unit_is}
 use Rattle.ring_store.proofs.CacheSteps.{cache-put, entry-behind}
@@ -23,12 +23,12 @@ pub overflow_sub-slot : goal.overflow_sub-slot
 overflow_sub-slot g c =
     let a : Device = g.F.Flash.device c.args.flash.now in
     let area : Area = c.args.area.now in
-    let law : IsKind (g.T.SlotSectors.kind (unit_of a area)) = g.met.T.SlotSectors.lawful (unit_of a area) (unit_is a area (g.met.F.Flash.is_lawful c.args.flash.now) c.requires.stands.area.lawful) in
+    let law : IsKind (g.T.SlotSectors.kind (geometry_of a area)) = g.met.T.SlotSectors.lawful (geometry_of a area) (unit_is a area (g.met.F.Flash.is_lawful c.args.flash.now) c.requires.stands.area.lawful) in
     let d : Device = g.F.Flash.device c.put.new.flash in
     let did = c.in_ok-put.ensures in
-    let first = c.first_slot-first.ensures.value (unit_of d area) in
+    let first = c.first_slot-first.ensures.value (geometry_of d area) in
     let count = c.slots-count.ensures.value in
-    let at : c.first_slot-first.result + c.slots-count.result ≡ (g.T.SlotSectors.kind (unit_of d area)).first + (g.T.SlotSectors.kind (unit_of d area)).count (sector_at (sectors_of d area) c.args.current) = omega arith in
+    let at : c.first_slot-first.result + c.slots-count.result ≡ (g.T.SlotSectors.kind (geometry_of d area)).first + (g.T.SlotSectors.kind (geometry_of d area)).count (sector_at (sectors_of d area) c.args.current) = omega arith in
     let there = entry-behind g.T.SlotSectors.kind a d area c.args.current c.args.id (length c.args.bytes.now) did.touches.banks did.entry (c.first_slot-first.result + c.slots-count.result) at in
     omega arith
 
@@ -36,12 +36,12 @@ pub returns-clause-cached : goal.returns-clause-cached
 returns-clause-cached g c =
     let a : Device = g.F.Flash.device c.args.flash.now in
     let area : Area = c.args.area.now in
-    let law : IsKind (g.T.SlotSectors.kind (unit_of a area)) = g.met.T.SlotSectors.lawful (unit_of a area) (unit_is a area (g.met.F.Flash.is_lawful c.args.flash.now) c.requires.stands.area.lawful) in
+    let law : IsKind (g.T.SlotSectors.kind (geometry_of a area)) = g.met.T.SlotSectors.lawful (geometry_of a area) (unit_is a area (g.met.F.Flash.is_lawful c.args.flash.now) c.requires.stands.area.lawful) in
     let d : Device = g.F.Flash.device c.put.new.flash in
     let did = c.in_ok-put.ensures in
-    let first = c.first_slot-first.ensures.value (unit_of d area) in
+    let first = c.first_slot-first.ensures.value (geometry_of d area) in
     let count = c.slots-count.ensures.value in
-    let at : c.first_slot-first.result + c.slots-count.result ≡ (g.T.SlotSectors.kind (unit_of d area)).first + (g.T.SlotSectors.kind (unit_of d area)).count (sector_at (sectors_of d area) c.args.current) = omega arith in
+    let at : c.first_slot-first.result + c.slots-count.result ≡ (g.T.SlotSectors.kind (geometry_of d area)).first + (g.T.SlotSectors.kind (geometry_of d area)).count (sector_at (sectors_of d area) c.args.current) = omega arith in
     cache-put g.T.SlotSectors.kind a d area c.args.current c.args.id (length c.args.bytes.now) did.touches.banks did.entry c.args.cache.now c.requires.cached c.note.new.self (c.first_slot-first.result + c.slots-count.result) at c.note.ensures
 
 pub returns-in_err-put-clause-written : goal.returns-in_err-put-clause-written

@@ -1,11 +1,11 @@
 use Rattle.std.proofs.Common.{◌≡◌, None}
 use Rattle.flash_map.specs.Area.{sectors_of}
 use Rattle.nvs_kind.specs.Kinds.{kind}
-use Rattle.ring_store.proofs.CallFacts.{from_unit}
+use Rattle.ring_store.proofs.CallFacts.{from_geometry}
 use Rattle.nvs_gc.proofs.nvs.Nvs.write.Goals as goal
 
 pub returns-clause-undamaged : goal.returns-clause-undamaged
 returns-clause-undamaged g c =
     let e = g.F.Flash.device c.write.new.flash in
     let area = c.args.self.now.store.area in
-    from_unit (λ u. (kind u).damage (sectors_of e area) ≡ None) (g.F.Flash.device c.args.flash.now) e area c.write.ensures.touches.banks c.write.ensures.undamaged
+    from_geometry (λ u. (kind u).damage (sectors_of e area) ≡ None) (g.F.Flash.device c.args.flash.now) e area c.write.ensures.touches.banks c.write.ensures.undamaged

@@ -1,12 +1,13 @@
 use Rattle.std.proofs.Common.{◌≡◌, ℕ, ◌+◌, ◌-◌, ◌*◌, ◌<◌, ◌≤◌, List, length, sym, ap, subst, ◌∙◌, arith}
 use Rattle.flash_sim.specs.Device.{Device}
 use Rattle.flash_map.specs.declared.area.Area.{Area}
+use Rattle.flash_map.specs.declared.area.Geometry.{Geometry}
 use Rattle.flash_map.specs.Area.{unit_of, sectors_of, sector_at}
 use Rattle.flash_map.specs.Spending.{Spends, SpendsAtMost}
 use Rattle.flash_map.proofs.PieceLemmas.{on_err}
 use Rattle.flash_map.proofs.SpendingBounds.{between_exact, between_most}
 use Rattle.ring_laws.proofs.AreaReads.{length-sectors}
-use Rattle.ring_store.proofs.Areas.{same_unit}
+use Rattle.ring_store.proofs.Areas.{same_geometry}
 use Rattle.nvs_store.specs.Geometry.{slot_size, cost}
 use Rattle.nvs_store.specs.Sector.{low, data_end}
 use Rattle.nvs_store.specs.Scans.{scan_of}
@@ -60,7 +61,7 @@ returns-clause-kept g c =
     let count = length-sectors a area in
     let within : c.args.place < length (sectors_of a area) = omega (arith, c.requires.inside) in
     let put = c.in_ok-copy_entry.ensures.ok in
-    let scanned : c.copy_entry.new.scan ≡ scan_of u (sectors_of e area) = c.in_ok-copy_entry.ensures.scan ∙ ap (λ (n : ℕ). scan_of n (sectors_of e area)) (same_unit a e area c.in_ok-copy_entry.ensures.touches.banks) in
+    let scanned : c.copy_entry.new.scan ≡ scan_of u (sectors_of e area) = c.in_ok-copy_entry.ensures.scan ∙ ap (λ (s : Geometry). scan_of s.unit (sectors_of e area)) (same_geometry a e area c.in_ok-copy_entry.ensures.touches.banks) in
     let at = scan_added u (sectors_of a area) (sectors_of e area) c.args.place within c.requires.opened c.copy_entry.new.scan scanned c.read_again-found.result.entry.id (bytes_on a area c.read_again-found.result) is-unit (omega arith) put in
     kept_is u (sector_at (sectors_of e area) c.args.place) c.copy_entry.new.scan.low c.copy_entry.new.scan.data_end c.args.self.now.gc_done at.0 at.1
     (ap (λ (o : NvsOpen). o.gc_done) c.requires.kept ∙ sym put.adds.gc_done)

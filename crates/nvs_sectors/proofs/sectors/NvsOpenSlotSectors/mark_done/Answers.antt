@@ -1,10 +1,11 @@
 use Rattle.std.proofs.Common.{◌≡◌, ℕ, ◌<◌, ◌≤◌, true, List, length, sym, ap, subst, ◌∙◌, arith}
 use Rattle.flash_sim.specs.Device.{Device}
 use Rattle.flash_map.specs.declared.area.Area.{Area}
+use Rattle.flash_map.specs.declared.area.Geometry.{Geometry}
 use Rattle.flash_map.specs.declared.area.Role.TheVariants.{Nvs as nvs_role}
 use Rattle.flash_map.specs.Area.{unit_of, sectors_of, sector_at}
 use Rattle.ring_laws.proofs.AreaReads.{length-sectors}
-use Rattle.ring_store.proofs.Areas.{same_unit, size_there}
+use Rattle.ring_store.proofs.Areas.{same_geometry, size_there}
 use Rattle.nvs_store.specs.Geometry.{capacity}
 use Rattle.nvs_store.specs.Sector.{pairs, pairs_cost, is_sound}
 use Rattle.nvs_store.specs.Scans.{scan_of}
@@ -34,7 +35,7 @@ returns-clause-kept g c =
     let count = length-sectors a area in
     let within : c.args.place < length (sectors_of a area) = omega (arith, c.requires.inside) in
     let put = c.in_ok-put_done.ensures.ok in
-    let scanned : c.put_done.new.scan ≡ scan_of u (sectors_of e area) = c.in_ok-put_done.ensures.scan ∙ ap (λ (n : ℕ). scan_of n (sectors_of e area)) (same_unit a e area c.in_ok-put_done.ensures.touches.banks) in
+    let scanned : c.put_done.new.scan ≡ scan_of u (sectors_of e area) = c.in_ok-put_done.ensures.scan ∙ ap (λ (s : Geometry). scan_of s.unit (sectors_of e area)) (same_geometry a e area c.in_ok-put_done.ensures.touches.banks) in
     kept_is u (sector_at (sectors_of e area) c.args.place) c.put_done.new.scan.low c.args.self.now.data_end true
     (scan_marked u (sectors_of a area) (sectors_of e area) c.args.place within c.requires.opened c.put_done.new.scan scanned put)
     (ap (λ (o : NvsOpen). o.data_end) c.requires.kept ∙ sym put.marks.same_end) (sym put.marks.gc_done)

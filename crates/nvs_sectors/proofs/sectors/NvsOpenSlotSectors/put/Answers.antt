@@ -1,11 +1,12 @@
 use Rattle.std.proofs.Common.{◌≡◌, ℕ, ◌<◌, length, sym, ap, ◌∙◌, arith}
 use Rattle.flash_sim.specs.Device.{Device}
 use Rattle.flash_map.specs.declared.area.Area.{Area}
+use Rattle.flash_map.specs.declared.area.Geometry.{Geometry}
 use Rattle.flash_map.specs.Area.{unit_of, sectors_of, sector_at}
 use Rattle.flash_map.proofs.PieceLemmas.{on_err}
 use Rattle.flash_map.proofs.SpendingBounds.{between_exact, between_most}
 use Rattle.ring_laws.proofs.AreaReads.{length-sectors}
-use Rattle.ring_store.proofs.Areas.{same_unit}
+use Rattle.ring_store.proofs.Areas.{same_geometry}
 use Rattle.nvs_store.specs.Scans.{scan_of}
 use Rattle.nvs_store.specs.On.{entry_units}
 use Rattle.nvs_store.proofs.Views.{unit_is}
@@ -38,7 +39,7 @@ returns-clause-kept g c =
     let count = length-sectors a area in
     let within : c.args.place < length (sectors_of a area) = omega (arith, c.requires.inside) in
     let put = c.in_ok-append.ensures.ok in
-    let scanned : c.append.new.scan ≡ scan_of u (sectors_of e area) = c.in_ok-append.ensures.scan ∙ ap (λ (n : ℕ). scan_of n (sectors_of e area)) (same_unit a e area c.in_ok-append.ensures.touches.banks) in
+    let scanned : c.append.new.scan ≡ scan_of u (sectors_of e area) = c.in_ok-append.ensures.scan ∙ ap (λ (s : Geometry). scan_of s.unit (sectors_of e area)) (same_geometry a e area c.in_ok-append.ensures.touches.banks) in
     let at = scan_added u (sectors_of a area) (sectors_of e area) c.args.place within c.requires.opened c.append.new.scan scanned c.args.id c.args.bytes.now is-unit (omega arith) put in
     kept_is u (sector_at (sectors_of e area) c.args.place) c.append.new.scan.low c.append.new.scan.data_end c.args.self.now.gc_done at.0 at.1
     (ap (λ (o : NvsOpen). o.gc_done) c.requires.kept ∙ sym put.adds.gc_done)

@@ -1,26 +1,29 @@
-use Rattle.std.proofs.Common.{◌≡◌, ◌<◌, ◌≤◌, List, Ok, Err, refl, sym, subst, arith}
+use Rattle.std.proofs.Common.{◌≡◌, ℕ, ◌<◌, ◌≤◌, List, get_or, Ok, Err, refl, sym, ap, subst, ◌∙◌, arith}
+use Rattle.ring_laws.proofs.LiveLemmas.{some_none}
 use Rattle.std.specs.Prelude.{length}
 use Rattle.ring_store.specs.declared.entry.Placed.{Placed}
 use Rattle.ring_store.specs.declared.latest.LastSlots.{LastSlots}
-use Rattle.ring_store.specs.Latest.{Rises, Splits}
+use Rattle.ring_store.specs.Latest.{Rises, Splits, with_bytes}
 use Rattle.ring_store.proofs.LastTables.{still-full}
-use Rattle.ring_store.proofs.TablePlaces.{put-there, put-nothing}
+use Rattle.ring_store.proofs.TablePlaces.{found, put-nothing}
 use Rattle.ring_store.proofs.latest.LastSlots.put.Goals as goal
 
 pub returns-in-Ok : goal.returns-in-Ok
 returns-in-Ok c =
-    λ limit before small told tells.
+    λ limit before small new_id told tells.
     let old : LastSlots = c.args.self.now in
-    let new : LastSlots = c.replace.new.self in
     let value = c.as_slice.ensures.value in
-    let split : Splits old.entries.items c.args.placed.now.id (Ok c.in-Ok.at) =
-    subst (λ (l : List Placed). Splits l c.args.placed.now.id (Ok c.in-Ok.at)) value (c.in-Ok.ensures.splits (subst (λ (l : List Placed). Rises l) (sym value) tells.below.rises)) in
-    still-full limit old new before c.args.placed.now tells c.replace.ensures.bound
-    (put-there limit old new before c.args.placed.now c.in-Ok.at small told tells.below (subst (λ (l : List Placed). c.in-Ok.at < length l) value c.in-Ok.ensures.inside) split c.replace.ensures.entries c.replace.ensures.bound)
+    let at : ℕ = c.in-Ok.field-0 in
+    let id : ℕ = c.args.placed.now.id in
+    let p : Placed = c.args.placed.now in
+    let split : Splits old.entries.items id (Ok at) =
+    subst (λ (l : List Placed). Splits l id (Ok at)) value (c.in-Ok.ensures.splits (subst (λ (l : List Placed). Rises l) (sym value) tells.below.rises)) in
+    absurd (some_none (get_or old.entries.items at p)
+    (found old.entries.items id at p (subst (λ (l : List Placed). at < length l) value c.in-Ok.ensures.inside) split ∙ tells.below.told id told ∙ ap with_bytes new_id))
 
 pub returns-then-placed-gt0 : goal.returns-then-placed-gt0
 returns-then-placed-gt0 c =
-    λ limit before small told tells.
+    λ limit before small new_id told tells.
     let old : LastSlots = c.args.self.now in
     let value = c.as_slice.ensures.value in
     let some : c.args.placed.now.len ≡ 0 → ⊥ = λ (none : c.args.placed.now.len ≡ 0). absurd (omega (arith, c.if-placed-gt0.true)) in
@@ -30,7 +33,7 @@ returns-then-placed-gt0 c =
 
 pub returns-else-placed-gt0 : goal.returns-else-placed-gt0
 returns-else-placed-gt0 c =
-    λ limit before small told tells.
+    λ limit before small new_id told tells.
     let old : LastSlots = c.args.self.now in
     let value = c.as_slice.ensures.value in
     let none : c.args.placed.now.len ≡ 0 = omega (arith, c.if-placed-gt0.false) in

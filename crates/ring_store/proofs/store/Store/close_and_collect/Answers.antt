@@ -1,28 +1,28 @@
 use Rattle.std.proofs.Common.{inl, refl, sym, ◌∙◌}
 use Rattle.flash_sim.specs.Device.{Device}
-use Rattle.flash_map.specs.Area.{unit_of, sectors_of}
+use Rattle.flash_map.specs.Area.{geometry_of, sectors_of}
 use Rattle.flash_map.proofs.PieceLemmas.{on_err}
 use Rattle.ring_store.proofs.Areas.{keeps_none, open_inside}
 use Rattle.ring_store.proofs.store.Store.close_and_collect.Goals as goal
 
-pub is_blank-requires-clause-inside : goal.is_blank-requires-clause-inside
-is_blank-requires-clause-inside g c =
+pub is_clean-requires-clause-inside : goal.is_clean-requires-clause-inside
+is_clean-requires-clause-inside g c =
     let a : Device = g.F.Flash.device c.args.flash.now in
-    open_inside (g.T.SlotSectors.kind (unit_of a c.args.self.now.area)) a c.args.self.now.area c.args.self.now.current c.requires.area.lawful c.requires.current
+    open_inside (g.T.SlotSectors.kind (geometry_of a c.args.self.now.area)) a c.args.self.now.area c.args.self.now.current c.requires.area.lawful c.requires.current
 
-pub returns-then-is_blank-clause-items : goal.returns-then-is_blank-clause-items
-returns-then-is_blank-clause-items g c =
+pub returns-then-is_clean-clause-items : goal.returns-then-is_clean-clause-items
+returns-then-is_clean-clause-items g c =
     let a : Device = g.F.Flash.device c.args.flash.now in
-    keeps_none (g.T.SlotSectors.kind (unit_of a c.args.self.now.area)) (sectors_of a c.args.self.now.area) c.requires.undamaged
+    keeps_none (g.T.SlotSectors.kind (geometry_of a c.args.self.now.area)) (sectors_of a c.args.self.now.area) c.requires.undamaged
 
-pub returns-then-is_blank-clause-written : goal.returns-then-is_blank-clause-written
-returns-then-is_blank-clause-written g c =
+pub returns-then-is_clean-clause-written : goal.returns-then-is_clean-clause-written
+returns-then-is_clean-clause-written g c =
     λ written. written
 
-pub returns-then-is_blank-clause-changed : goal.returns-then-is_blank-clause-changed
-returns-then-is_blank-clause-changed g c =
+pub returns-then-is_clean-clause-changed : goal.returns-then-is_clean-clause-changed
+returns-then-is_clean-clause-changed g c =
     inl refl
 
 pub returns-clause-used : goal.returns-clause-used
 returns-clause-used g c =
-    on_err c.turn.result (sym c.is_blank.ensures ∙ c.if-is_blank.false)
+    on_err c.turn.result (sym c.is_clean.ensures ∙ c.if-is_clean.false)

@@ -9,7 +9,7 @@ use Rattle.ring_store.proofs.CostSteps.{sector_costs, cost_behind, start_seen, s
 use Rattle.ring_store.proofs.ReadFacts.{current_on, costs_on}
 use Rattle.flash_sim.specs.Device.{Device}
 use Rattle.flash_map.specs.declared.area.Area.{Area}
-use Rattle.flash_map.specs.Area.{unit_of, sectors_of}
+use Rattle.flash_map.specs.Area.{geometry_of, sectors_of}
 use Rattle.ring_store.specs.Kind.{Kind, IsKind}
 use Rattle.ring_store.proofs.Areas.{unit_is}
 use Rattle.ring_store.proofs.store.Store.live_cost.Goals as goal
@@ -18,18 +18,18 @@ pub next-oldest-requires : goal.next-oldest-requires
 next-oldest-requires g c =
     let d : Device = g.F.Flash.device c.args.flash.now in
     let area : Area = c.args.self.now.area in
-    let k : Kind = g.T.SlotSectors.kind (unit_of d area) in
+    let k : Kind = g.T.SlotSectors.kind (geometry_of d area) in
     let sectors : List (List ℕ) = sectors_of d area in
-    let law : IsKind (g.T.SlotSectors.kind (unit_of d area)) = g.met.T.SlotSectors.lawful (unit_of d area) (unit_is d area (g.met.F.Flash.is_lawful c.args.flash.now) c.requires.area.lawful) in
+    let law : IsKind (g.T.SlotSectors.kind (geometry_of d area)) = g.met.T.SlotSectors.lawful (geometry_of d area) (unit_is d area (g.met.F.Flash.is_lawful c.args.flash.now) c.requires.area.lawful) in
     current_on g.T.SlotSectors.role g.T.SlotSectors.kind g.T.SlotSectors.kept d c.args.self.now law (g.met.F.Flash.is_lawful c.args.flash.now) c.requires
 
 pub loop-place-init : goal.loop-place-init
 loop-place-init g c =
     let d : Device = g.F.Flash.device c.args.flash.now in
     let area : Area = c.args.self.now.area in
-    let k : Kind = g.T.SlotSectors.kind (unit_of d area) in
+    let k : Kind = g.T.SlotSectors.kind (geometry_of d area) in
     let sectors : List (List ℕ) = sectors_of d area in
-    let law : IsKind (g.T.SlotSectors.kind (unit_of d area)) = g.met.T.SlotSectors.lawful (unit_of d area) (unit_is d area (g.met.F.Flash.is_lawful c.args.flash.now) c.requires.area.lawful) in
+    let law : IsKind (g.T.SlotSectors.kind (geometry_of d area)) = g.met.T.SlotSectors.lawful (geometry_of d area) (unit_is d area (g.met.F.Flash.is_lawful c.args.flash.now) c.requires.area.lawful) in
     let long = length-sectors d area in
     let low : c.args.self.now.current < length sectors = (let within = current_on g.T.SlotSectors.role g.T.SlotSectors.kind g.T.SlotSectors.kept d c.args.self.now law (g.met.F.Flash.is_lawful c.args.flash.now) c.requires in omega arith) in
     let old : c.next-oldest.result ≡ after (length sectors) c.args.self.now.current = c.next-oldest.ensures.value ∙ next_there d area c.args.self.now.current in
@@ -56,9 +56,9 @@ pub overflow_add-cost : goal.overflow_add-cost
 overflow_add-cost g c =
     let d : Device = g.F.Flash.device c.args.flash.now in
     let area : Area = c.args.self.now.area in
-    let k : Kind = g.T.SlotSectors.kind (unit_of d area) in
+    let k : Kind = g.T.SlotSectors.kind (geometry_of d area) in
     let sectors : List (List ℕ) = sectors_of d area in
-    let law : IsKind (g.T.SlotSectors.kind (unit_of d area)) = g.met.T.SlotSectors.lawful (unit_of d area) (unit_is d area (g.met.F.Flash.is_lawful c.args.flash.now) c.requires.area.lawful) in
+    let law : IsKind (g.T.SlotSectors.kind (geometry_of d area)) = g.met.T.SlotSectors.lawful (geometry_of d area) (unit_is d area (g.met.F.Flash.is_lawful c.args.flash.now) c.requires.area.lawful) in
     let long = length-sectors d area in
     let low : c.args.self.now.current < length sectors = (let within = current_on g.T.SlotSectors.role g.T.SlotSectors.kind g.T.SlotSectors.kept d c.args.self.now law (g.met.F.Flash.is_lawful c.args.flash.now) c.requires in omega arith) in
     let old : c.next-oldest.result ≡ after (length sectors) c.args.self.now.current = c.next-oldest.ensures.value ∙ next_there d area c.args.self.now.current in
@@ -68,9 +68,9 @@ pub loop-place-preserved : goal.loop-place-preserved
 loop-place-preserved g c =
     let d : Device = g.F.Flash.device c.args.flash.now in
     let area : Area = c.args.self.now.area in
-    let k : Kind = g.T.SlotSectors.kind (unit_of d area) in
+    let k : Kind = g.T.SlotSectors.kind (geometry_of d area) in
     let sectors : List (List ℕ) = sectors_of d area in
-    let law : IsKind (g.T.SlotSectors.kind (unit_of d area)) = g.met.T.SlotSectors.lawful (unit_of d area) (unit_is d area (g.met.F.Flash.is_lawful c.args.flash.now) c.requires.area.lawful) in
+    let law : IsKind (g.T.SlotSectors.kind (geometry_of d area)) = g.met.T.SlotSectors.lawful (geometry_of d area) (unit_is d area (g.met.F.Flash.is_lawful c.args.flash.now) c.requires.area.lawful) in
     let long = length-sectors d area in
     let low : c.args.self.now.current < length sectors = (let within = current_on g.T.SlotSectors.role g.T.SlotSectors.kind g.T.SlotSectors.kept d c.args.self.now law (g.met.F.Flash.is_lawful c.args.flash.now) c.requires in omega arith) in
     let old : c.next-oldest.result ≡ after (length sectors) c.args.self.now.current = c.next-oldest.ensures.value ∙ next_there d area c.args.self.now.current in
@@ -91,9 +91,9 @@ pub loop-place-smaller : goal.loop-place-smaller
 loop-place-smaller g c =
     let d : Device = g.F.Flash.device c.args.flash.now in
     let area : Area = c.args.self.now.area in
-    let k : Kind = g.T.SlotSectors.kind (unit_of d area) in
+    let k : Kind = g.T.SlotSectors.kind (geometry_of d area) in
     let sectors : List (List ℕ) = sectors_of d area in
-    let law : IsKind (g.T.SlotSectors.kind (unit_of d area)) = g.met.T.SlotSectors.lawful (unit_of d area) (unit_is d area (g.met.F.Flash.is_lawful c.args.flash.now) c.requires.area.lawful) in
+    let law : IsKind (g.T.SlotSectors.kind (geometry_of d area)) = g.met.T.SlotSectors.lawful (geometry_of d area) (unit_is d area (g.met.F.Flash.is_lawful c.args.flash.now) c.requires.area.lawful) in
     let long = length-sectors d area in
     let low : c.args.self.now.current < length sectors = (let within = current_on g.T.SlotSectors.role g.T.SlotSectors.kind g.T.SlotSectors.kept d c.args.self.now law (g.met.F.Flash.is_lawful c.args.flash.now) c.requires in omega arith) in
     let old : c.next-oldest.result ≡ after (length sectors) c.args.self.now.current = c.next-oldest.ensures.value ∙ next_there d area c.args.self.now.current in
@@ -108,9 +108,9 @@ pub overflow_add-result : goal.overflow_add-result
 overflow_add-result g c =
     let d : Device = g.F.Flash.device c.args.flash.now in
     let area : Area = c.args.self.now.area in
-    let k : Kind = g.T.SlotSectors.kind (unit_of d area) in
+    let k : Kind = g.T.SlotSectors.kind (geometry_of d area) in
     let sectors : List (List ℕ) = sectors_of d area in
-    let law : IsKind (g.T.SlotSectors.kind (unit_of d area)) = g.met.T.SlotSectors.lawful (unit_of d area) (unit_is d area (g.met.F.Flash.is_lawful c.args.flash.now) c.requires.area.lawful) in
+    let law : IsKind (g.T.SlotSectors.kind (geometry_of d area)) = g.met.T.SlotSectors.lawful (geometry_of d area) (unit_is d area (g.met.F.Flash.is_lawful c.args.flash.now) c.requires.area.lawful) in
     let long = length-sectors d area in
     let low : c.args.self.now.current < length sectors = (let within = current_on g.T.SlotSectors.role g.T.SlotSectors.kind g.T.SlotSectors.kept d c.args.self.now law (g.met.F.Flash.is_lawful c.args.flash.now) c.requires in omega arith) in
     let old : c.next-oldest.result ≡ after (length sectors) c.args.self.now.current = c.next-oldest.ensures.value ∙ next_there d area c.args.self.now.current in
@@ -120,9 +120,9 @@ pub returns : goal.returns
 returns g c =
     let d : Device = g.F.Flash.device c.args.flash.now in
     let area : Area = c.args.self.now.area in
-    let k : Kind = g.T.SlotSectors.kind (unit_of d area) in
+    let k : Kind = g.T.SlotSectors.kind (geometry_of d area) in
     let sectors : List (List ℕ) = sectors_of d area in
-    let law : IsKind (g.T.SlotSectors.kind (unit_of d area)) = g.met.T.SlotSectors.lawful (unit_of d area) (unit_is d area (g.met.F.Flash.is_lawful c.args.flash.now) c.requires.area.lawful) in
+    let law : IsKind (g.T.SlotSectors.kind (geometry_of d area)) = g.met.T.SlotSectors.lawful (geometry_of d area) (unit_is d area (g.met.F.Flash.is_lawful c.args.flash.now) c.requires.area.lawful) in
     let long = length-sectors d area in
     let low : c.args.self.now.current < length sectors = (let within = current_on g.T.SlotSectors.role g.T.SlotSectors.kind g.T.SlotSectors.kept d c.args.self.now law (g.met.F.Flash.is_lawful c.args.flash.now) c.requires in omega arith) in
     let old : c.next-oldest.result ≡ after (length sectors) c.args.self.now.current = c.next-oldest.ensures.value ∙ next_there d area c.args.self.now.current in
@@ -138,9 +138,9 @@ pub cost_in-requires-clause-seen : goal.cost_in-requires-clause-seen
 cost_in-requires-clause-seen g c =
     let d : Device = g.F.Flash.device c.args.flash.now in
     let area : Area = c.args.self.now.area in
-    let k : Kind = g.T.SlotSectors.kind (unit_of d area) in
+    let k : Kind = g.T.SlotSectors.kind (geometry_of d area) in
     let sectors : List (List ℕ) = sectors_of d area in
-    let law : IsKind (g.T.SlotSectors.kind (unit_of d area)) = g.met.T.SlotSectors.lawful (unit_of d area) (unit_is d area (g.met.F.Flash.is_lawful c.args.flash.now) c.requires.area.lawful) in
+    let law : IsKind (g.T.SlotSectors.kind (geometry_of d area)) = g.met.T.SlotSectors.lawful (geometry_of d area) (unit_is d area (g.met.F.Flash.is_lawful c.args.flash.now) c.requires.area.lawful) in
     let long = length-sectors d area in
     let low : c.args.self.now.current < length sectors = (let within = current_on g.T.SlotSectors.role g.T.SlotSectors.kind g.T.SlotSectors.kept d c.args.self.now law (g.met.F.Flash.is_lawful c.args.flash.now) c.requires in omega arith) in
     let old : c.next-oldest.result ≡ after (length sectors) c.args.self.now.current = c.next-oldest.ensures.value ∙ next_there d area c.args.self.now.current in

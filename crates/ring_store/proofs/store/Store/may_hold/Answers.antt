@@ -1,7 +1,7 @@
 use Rattle.std.proofs.Common.{◌≡◌, ℕ, List, None, sym, ap, ◌∙◌}
 use Rattle.std.specs.Option.{is_some}
 use Rattle.flash_map.specs.declared.area.Area.{Area}
-use Rattle.flash_map.specs.Area.{unit_of, sectors_of}
+use Rattle.flash_map.specs.Area.{geometry_of, sectors_of}
 use Rattle.ring_laws.specs.Live.{all_placed}
 use Rattle.ring_laws.proofs.LastLemmas.{none_by}
 use Rattle.ring_store.specs.Kind.{Kind, IsKind, slots}
@@ -15,9 +15,9 @@ pub returns-clause-none : goal.returns-clause-none
 returns-clause-none g c =
     λ d bank stands not_there.
     let area : Area = c.args.self.now.area in
-    let k : Kind = g.T.SlotSectors.kind (unit_of d area) in
+    let k : Kind = g.T.SlotSectors.kind (geometry_of d area) in
     let sectors : List (List ℕ) = sectors_of d area in
-    let law : IsKind (g.T.SlotSectors.kind (unit_of d area)) = g.met.T.SlotSectors.lawful (unit_of d area) (unit_is d area bank stands.area.lawful) in
+    let law : IsKind (g.T.SlotSectors.kind (geometry_of d area)) = g.met.T.SlotSectors.lawful (geometry_of d area) (unit_is d area bank stands.area.lawful) in
     let some = some_sectors g.T.SlotSectors.role g.T.SlotSectors.kind g.T.SlotSectors.kept d c.args.self.now law bank stands in
     let start : c.start_of.result ≡ None = none_by c.start_of.result (sym c.is_some.ensures ∙ not_there) in
     value_by g.T.SlotSectors.role g.T.SlotSectors.kind g.T.SlotSectors.kept d c.args.self.now law bank stands None c.args.id

@@ -1,6 +1,6 @@
 use Rattle.std.proofs.Common.{ℕ, length, Option, None, ap, ◌∙◌, inl, refl}
 use Rattle.flash_sim.specs.Device.{Device}
-use Rattle.flash_map.specs.Area.{unit_of, sector_size}
+use Rattle.flash_map.specs.Area.{geometry_of, sector_size}
 use Rattle.std.proofs.lemmas.List.{length-replicate}
 use Rattle.ring_store.proofs.MountSteps.{mount-nothing}
 use Rattle.ring_store.proofs.store.Store.mount.Goals as goal
@@ -8,7 +8,7 @@ use Rattle.ring_store.proofs.store.Store.mount.Goals as goal
 pub returns-in-Err-clause-at_most : goal.returns-in-Err-clause-at_most
 returns-in-Err-clause-at_most g c =
     let a : Device = g.F.Flash.device c.args.flash.now in
-    mount-nothing a ((g.T.SlotSectors.kind (unit_of a c.args.area)).units.mount (sector_size a c.args.area))
+    mount-nothing a ((g.T.SlotSectors.kind (geometry_of a c.args.area)).units.mount (sector_size a c.args.area))
 
 pub returns-in-Err-clause-written : goal.returns-in-Err-clause-written
 returns-in-Err-clause-written g c =

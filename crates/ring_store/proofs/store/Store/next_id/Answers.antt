@@ -7,7 +7,7 @@ use Rattle.ring_store.specs.Listed.{items_on}
 use Rattle.ring_store.proofs.NextSteps.{next_is}
 use Rattle.flash_sim.specs.Device.{Device}
 use Rattle.flash_map.specs.declared.area.Area.{Area}
-use Rattle.flash_map.specs.Area.{unit_of, sectors_of, sector_at}
+use Rattle.flash_map.specs.Area.{geometry_of, sectors_of, sector_at}
 use Rattle.ring_store.specs.Kind.{Kind}
 use Rattle.ring_store.proofs.Areas.{open_inside}
 use Rattle.ring_store.proofs.store.Store.next_id.Goals as goal
@@ -20,7 +20,7 @@ pub loop-place-preserved : goal.loop-place-preserved
 loop-place-preserved g c =
     let d : Device = g.F.Flash.device c.args.flash.now in
     let area : Area = c.args.self.now.area in
-    let k : Kind = g.T.SlotSectors.kind (unit_of d area) in
+    let k : Kind = g.T.SlotSectors.kind (geometry_of d area) in
     let sectors : List (List ℕ) = sectors_of d area in
     record {
       some = c.next_in-least.ensures.some;
@@ -40,7 +40,7 @@ pub returns-clause-next : goal.returns-clause-next
 returns-clause-next g c =
     let d : Device = g.F.Flash.device c.args.flash.now in
     let area : Area = c.args.self.now.area in
-    let k : Kind = g.T.SlotSectors.kind (unit_of d area) in
+    let k : Kind = g.T.SlotSectors.kind (geometry_of d area) in
     let sectors : List (List ℕ) = sectors_of d area in
     let count = length-sectors d area in
     let within = open_inside k d area c.args.self.now.current c.requires.area.lawful c.requires.current in

@@ -5,7 +5,7 @@ use Rattle.ring_store.specs.Listed.{items_on}
 use Rattle.ring_store.proofs.NextSteps.{pairs_to, least_start, least_step, least_end}
 use Rattle.flash_sim.specs.Device.{Device}
 use Rattle.flash_map.specs.declared.area.Area.{Area}
-use Rattle.flash_map.specs.Area.{unit_of, sectors_of, sector_at}
+use Rattle.flash_map.specs.Area.{geometry_of, sectors_of, sector_at}
 use Rattle.ring_store.specs.Kind.{Kind, IsKind}
 use Rattle.ring_store.proofs.Areas.{unit_is}
 use Rattle.ring_store.proofs.store.Store.next_in.Goals as goal
@@ -18,20 +18,20 @@ pub entry_in-placed-requires-clause-listed : goal.entry_in-placed-requires-claus
 entry_in-placed-requires-clause-listed g c =
     let d : Device = g.F.Flash.device c.args.flash.now in
     let area : Area = c.args.self.now.area in
-    let k : Kind = g.T.SlotSectors.kind (unit_of d area) in
+    let k : Kind = g.T.SlotSectors.kind (geometry_of d area) in
     let sectors : List (List ℕ) = sectors_of d area in
     let count : c.slots-slots.result ≡ k.count (sector_at sectors c.args.place) = c.slots-slots.ensures.value in
-    let first : c.first_slot-first.result ≡ k.first = c.first_slot-first.ensures.value (unit_of d area) in
+    let first : c.first_slot-first.result ≡ k.first = c.first_slot-first.ensures.value (geometry_of d area) in
     (omega arith, omega arith)
 
 pub loop-slot-init : goal.loop-slot-init
 loop-slot-init g c =
     let d : Device = g.F.Flash.device c.args.flash.now in
     let area : Area = c.args.self.now.area in
-    let k : Kind = g.T.SlotSectors.kind (unit_of d area) in
+    let k : Kind = g.T.SlotSectors.kind (geometry_of d area) in
     let sectors : List (List ℕ) = sectors_of d area in
     let count : c.slots-slots.result ≡ k.count (sector_at sectors c.args.place) = c.slots-slots.ensures.value in
-    let first : c.first_slot-first.result ≡ k.first = c.first_slot-first.ensures.value (unit_of d area) in
+    let first : c.first_slot-first.result ≡ k.first = c.first_slot-first.ensures.value (geometry_of d area) in
     let none : 0 ≡ c.first_slot-first.result - c.first_slot-first.result = omega arith in
     record {
       some = c.requires.some;
@@ -44,10 +44,10 @@ pub loop-slot-preserved : goal.loop-slot-preserved
 loop-slot-preserved g c =
     let d : Device = g.F.Flash.device c.args.flash.now in
     let area : Area = c.args.self.now.area in
-    let k : Kind = g.T.SlotSectors.kind (unit_of d area) in
+    let k : Kind = g.T.SlotSectors.kind (geometry_of d area) in
     let sectors : List (List ℕ) = sectors_of d area in
     let count : c.slots-slots.result ≡ k.count (sector_at sectors c.args.place) = c.slots-slots.ensures.value in
-    let first : c.first_slot-first.result ≡ k.first = c.first_slot-first.ensures.value (unit_of d area) in
+    let first : c.first_slot-first.result ≡ k.first = c.first_slot-first.ensures.value (geometry_of d area) in
     let n : ℕ = c.loop-slot.slot - c.first_slot-first.result in
     let at : c.loop-slot.slot ≡ k.first + (c.loop-slot.slot - c.first_slot-first.result) = omega arith in
     let up : c.loop-slot.slot - c.first_slot-first.result + 1 ≡ c.loop-slot.slot + 1 - c.first_slot-first.result = omega arith in
@@ -63,10 +63,10 @@ pub returns-clause-least : goal.returns-clause-least
 returns-clause-least g c =
     let d : Device = g.F.Flash.device c.args.flash.now in
     let area : Area = c.args.self.now.area in
-    let k : Kind = g.T.SlotSectors.kind (unit_of d area) in
+    let k : Kind = g.T.SlotSectors.kind (geometry_of d area) in
     let sectors : List (List ℕ) = sectors_of d area in
-    let law : IsKind (g.T.SlotSectors.kind (unit_of d area)) = g.met.T.SlotSectors.lawful (unit_of d area) (unit_is d area (g.met.F.Flash.is_lawful c.args.flash.now) c.requires.stands.area.lawful) in
+    let law : IsKind (g.T.SlotSectors.kind (geometry_of d area)) = g.met.T.SlotSectors.lawful (geometry_of d area) (unit_is d area (g.met.F.Flash.is_lawful c.args.flash.now) c.requires.stands.area.lawful) in
     let count : c.slots-slots.result ≡ k.count (sector_at sectors c.args.place) = c.slots-slots.ensures.value in
-    let first : c.first_slot-first.result ≡ k.first = c.first_slot-first.ensures.value (unit_of d area) in
+    let first : c.first_slot-first.result ≡ k.first = c.first_slot-first.ensures.value (geometry_of d area) in
     let all : c.loop-slot.slot - c.first_slot-first.result ≡ k.count (sector_at sectors c.args.place) = omega arith in
     least_end k law (items_on g.T.SlotSectors.kind d area) c.args.after (sector_at sectors c.args.place) (c.loop-slot.slot - c.first_slot-first.result) c.loop-slot.next all c.loop-slot.invariant.least

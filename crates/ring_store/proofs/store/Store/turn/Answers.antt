@@ -1,7 +1,7 @@
 use Rattle.std.proofs.Common.{◌≡◌, ℕ, sym, subst}
 use Rattle.flash_sim.specs.Device.{Device}
 use Rattle.flash_map.specs.declared.area.Area.{Area}
-use Rattle.flash_map.specs.Area.{unit_of, sectors_of, sector_at}
+use Rattle.flash_map.specs.Area.{geometry_of, sectors_of, sector_at}
 use Rattle.ring_laws.specs.Forms.{AtRest}
 use Rattle.ring_store.specs.Kind.{IsKind}
 use Rattle.ring_store.proofs.Areas.{unit_is}
@@ -16,12 +16,12 @@ returns-clause-stands g c =
     let d : Device = g.F.Flash.device c.round.new.flash in
     let area : Area = c.args.self.now.area in
     let on = c.requires.stands in
-    let law : IsKind (g.T.SlotSectors.kind (unit_of a area)) = g.met.T.SlotSectors.lawful (unit_of a area) (unit_is a area (g.met.F.Flash.is_lawful c.args.flash.now) on.area.lawful) in
+    let law : IsKind (g.T.SlotSectors.kind (geometry_of a area)) = g.met.T.SlotSectors.lawful (geometry_of a area) (unit_is a area (g.met.F.Flash.is_lawful c.args.flash.now) on.area.lawful) in
     let did = c.in_ok-self.ensures in
     let at : StandsAt g.T.SlotSectors.role g.T.SlotSectors.kind g.T.SlotSectors.kept d area c.in_ok-self.field-0 c.round.new.opened =
     stands g.T.SlotSectors.role g.T.SlotSectors.kind g.T.SlotSectors.kept a d area c.in_ok-self.field-0 c.round.new.opened law did.touches.banks on.area
-    (subst (λ (p : ℕ). AtRest (g.T.SlotSectors.kind (unit_of a area)).reading (sectors_of d area) p) (sym did.opened) did.rested)
-    (subst (λ (p : ℕ). c.round.new.opened ≡ g.T.SlotSectors.kept (unit_of a area) (sector_at (sectors_of d area) p)) (sym did.opened) did.kept) in
+    (subst (λ (p : ℕ). AtRest (g.T.SlotSectors.kind (geometry_of a area)).reading (sectors_of d area) p) (sym did.opened) did.rested)
+    (subst (λ (p : ℕ). c.round.new.opened ≡ g.T.SlotSectors.kept (geometry_of a area) (sector_at (sectors_of d area) p)) (sym did.opened) did.kept) in
     stands_with g.T.SlotSectors.role g.T.SlotSectors.kind g.T.SlotSectors.kept d area c.in_ok-self.field-0 c.round.new.opened c.fill.new.cache at c.fill.ensures
 
 pub fill-requires-clause-area : goal.fill-requires-clause-area
@@ -30,12 +30,12 @@ fill-requires-clause-area g c =
     let d : Device = g.F.Flash.device c.round.new.flash in
     let area : Area = c.args.self.now.area in
     let on = c.requires.stands in
-    let law : IsKind (g.T.SlotSectors.kind (unit_of a area)) = g.met.T.SlotSectors.lawful (unit_of a area) (unit_is a area (g.met.F.Flash.is_lawful c.args.flash.now) on.area.lawful) in
+    let law : IsKind (g.T.SlotSectors.kind (geometry_of a area)) = g.met.T.SlotSectors.lawful (geometry_of a area) (unit_is a area (g.met.F.Flash.is_lawful c.args.flash.now) on.area.lawful) in
     let did = c.in_ok-self.ensures in
     let at : StandsAt g.T.SlotSectors.role g.T.SlotSectors.kind g.T.SlotSectors.kept d area c.in_ok-self.field-0 c.round.new.opened =
     stands g.T.SlotSectors.role g.T.SlotSectors.kind g.T.SlotSectors.kept a d area c.in_ok-self.field-0 c.round.new.opened law did.touches.banks on.area
-    (subst (λ (p : ℕ). AtRest (g.T.SlotSectors.kind (unit_of a area)).reading (sectors_of d area) p) (sym did.opened) did.rested)
-    (subst (λ (p : ℕ). c.round.new.opened ≡ g.T.SlotSectors.kept (unit_of a area) (sector_at (sectors_of d area) p)) (sym did.opened) did.kept) in
+    (subst (λ (p : ℕ). AtRest (g.T.SlotSectors.kind (geometry_of a area)).reading (sectors_of d area) p) (sym did.opened) did.rested)
+    (subst (λ (p : ℕ). c.round.new.opened ≡ g.T.SlotSectors.kept (geometry_of a area) (sector_at (sectors_of d area) p)) (sym did.opened) did.kept) in
     at.area
 
 pub fill-requires-clause-kept : goal.fill-requires-clause-kept
@@ -44,12 +44,12 @@ fill-requires-clause-kept g c =
     let d : Device = g.F.Flash.device c.round.new.flash in
     let area : Area = c.args.self.now.area in
     let on = c.requires.stands in
-    let law : IsKind (g.T.SlotSectors.kind (unit_of a area)) = g.met.T.SlotSectors.lawful (unit_of a area) (unit_is a area (g.met.F.Flash.is_lawful c.args.flash.now) on.area.lawful) in
+    let law : IsKind (g.T.SlotSectors.kind (geometry_of a area)) = g.met.T.SlotSectors.lawful (geometry_of a area) (unit_is a area (g.met.F.Flash.is_lawful c.args.flash.now) on.area.lawful) in
     let did = c.in_ok-self.ensures in
     let at : StandsAt g.T.SlotSectors.role g.T.SlotSectors.kind g.T.SlotSectors.kept d area c.in_ok-self.field-0 c.round.new.opened =
     stands g.T.SlotSectors.role g.T.SlotSectors.kind g.T.SlotSectors.kept a d area c.in_ok-self.field-0 c.round.new.opened law did.touches.banks on.area
-    (subst (λ (p : ℕ). AtRest (g.T.SlotSectors.kind (unit_of a area)).reading (sectors_of d area) p) (sym did.opened) did.rested)
-    (subst (λ (p : ℕ). c.round.new.opened ≡ g.T.SlotSectors.kept (unit_of a area) (sector_at (sectors_of d area) p)) (sym did.opened) did.kept) in
+    (subst (λ (p : ℕ). AtRest (g.T.SlotSectors.kind (geometry_of a area)).reading (sectors_of d area) p) (sym did.opened) did.rested)
+    (subst (λ (p : ℕ). c.round.new.opened ≡ g.T.SlotSectors.kept (geometry_of a area) (sector_at (sectors_of d area) p)) (sym did.opened) did.kept) in
     at.opened
 
 pub fill-requires-clause-current : goal.fill-requires-clause-current
@@ -58,12 +58,12 @@ fill-requires-clause-current g c =
     let d : Device = g.F.Flash.device c.round.new.flash in
     let area : Area = c.args.self.now.area in
     let on = c.requires.stands in
-    let law : IsKind (g.T.SlotSectors.kind (unit_of a area)) = g.met.T.SlotSectors.lawful (unit_of a area) (unit_is a area (g.met.F.Flash.is_lawful c.args.flash.now) on.area.lawful) in
+    let law : IsKind (g.T.SlotSectors.kind (geometry_of a area)) = g.met.T.SlotSectors.lawful (geometry_of a area) (unit_is a area (g.met.F.Flash.is_lawful c.args.flash.now) on.area.lawful) in
     let did = c.in_ok-self.ensures in
     let at : StandsAt g.T.SlotSectors.role g.T.SlotSectors.kind g.T.SlotSectors.kept d area c.in_ok-self.field-0 c.round.new.opened =
     stands g.T.SlotSectors.role g.T.SlotSectors.kind g.T.SlotSectors.kept a d area c.in_ok-self.field-0 c.round.new.opened law did.touches.banks on.area
-    (subst (λ (p : ℕ). AtRest (g.T.SlotSectors.kind (unit_of a area)).reading (sectors_of d area) p) (sym did.opened) did.rested)
-    (subst (λ (p : ℕ). c.round.new.opened ≡ g.T.SlotSectors.kept (unit_of a area) (sector_at (sectors_of d area) p)) (sym did.opened) did.kept) in
+    (subst (λ (p : ℕ). AtRest (g.T.SlotSectors.kind (geometry_of a area)).reading (sectors_of d area) p) (sym did.opened) did.rested)
+    (subst (λ (p : ℕ). c.round.new.opened ≡ g.T.SlotSectors.kept (geometry_of a area) (sector_at (sectors_of d area) p)) (sym did.opened) did.kept) in
     at.current
 
 pub fill-requires-clause-slots : goal.fill-requires-clause-slots

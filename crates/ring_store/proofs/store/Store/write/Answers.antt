@@ -2,12 +2,12 @@ use Rattle.std.proofs.Common.{◌≡◌, length, refl, ap, arith}
 use Rattle.flash_sim.specs.Device.{Device}
 use Rattle.flash_map.specs.declared.area.Area.{Area}
 use Rattle.flash_map.specs.declared.area.Geometry.{Geometry}
-use Rattle.flash_map.specs.Area.{unit_of, sector_size, sectors_of}
+use Rattle.flash_map.specs.Area.{geometry_of, sector_size, sectors_of}
 use Rattle.pair_laws.specs.Rounds.{live_cost}
 use Rattle.ring_store.specs.Kind.{IsKind}
 use Rattle.ring_store.specs.Standing.{list_of}
 use Rattle.ring_store.proofs.Areas.{unit_is}
-use Rattle.ring_store.proofs.CallFacts.{to_unit}
+use Rattle.ring_store.proofs.CallFacts.{to_geometry}
 use Rattle.ring_store.proofs.RoomFacts.{rest_open, at_of, stands_with}
 use Rattle.ring_store.proofs.WriteSteps.{write_held, write_done, write_full, write_stops, ends_true, ends_false, short-by, long-by, narrow-by, unit-by, need-by}
 use Rattle.ring_store.proofs.store.Store.write.Goals as goal
@@ -36,11 +36,11 @@ pub returns-then-holds-clause-ends : goal.returns-then-holds-clause-ends
 returns-then-holds-clause-ends g c =
     let a : Device = g.F.Flash.device c.args.flash.now in
     let area : Area = c.args.self.now.area in
-    let law : IsKind (g.T.SlotSectors.kind (unit_of a area)) = g.met.T.SlotSectors.lawful (unit_of a area) (unit_is a area (g.met.F.Flash.is_lawful c.args.flash.now) c.requires.stands.area.lawful) in
+    let law : IsKind (g.T.SlotSectors.kind (geometry_of a area)) = g.met.T.SlotSectors.lawful (geometry_of a area) (unit_is a area (g.met.F.Flash.is_lawful c.args.flash.now) c.requires.stands.area.lawful) in
     let on = at_of g.T.SlotSectors.role g.T.SlotSectors.kind g.T.SlotSectors.kept a c.args.self.now c.requires.stands in
     let form = rest_open g.T.SlotSectors.role g.T.SlotSectors.kind g.T.SlotSectors.kept a area c.args.self.now.current c.args.self.now.opened law (g.met.F.Flash.is_lawful c.args.flash.now) on in
     let short = short-by g.T.SlotSectors.kind a area c.geometry-g.result (length c.args.bytes.now) c.is_too_long.result c.geometry-g.ensures c.is_too_long.ensures c.if-is_too_long.false in
-    write_held (g.T.SlotSectors.kind (unit_of a area)) law a area form c.args.id c.args.bytes.now c.requires.some short c.if-holds.ensures
+    write_held (g.T.SlotSectors.kind (geometry_of a area)) law a area form c.args.id c.args.bytes.now c.requires.some short c.if-holds.ensures
 
 pub append-requires-clause-stands : goal.append-requires-clause-stands
 append-requires-clause-stands g c =
@@ -52,9 +52,9 @@ pub append-requires-clause-narrow : goal.append-requires-clause-narrow
 append-requires-clause-narrow g c =
     let a : Device = g.F.Flash.device c.args.flash.now in
     let area : Area = c.args.self.now.area in
-    let law : IsKind (g.T.SlotSectors.kind (unit_of a area)) = g.met.T.SlotSectors.lawful (unit_of a area) (unit_is a area (g.met.F.Flash.is_lawful c.args.flash.now) c.requires.stands.area.lawful) in
+    let law : IsKind (g.T.SlotSectors.kind (geometry_of a area)) = g.met.T.SlotSectors.lawful (geometry_of a area) (unit_is a area (g.met.F.Flash.is_lawful c.args.flash.now) c.requires.stands.area.lawful) in
     let short = short-by g.T.SlotSectors.kind a area c.geometry-g.result (length c.args.bytes.now) c.is_too_long.result c.geometry-g.ensures c.is_too_long.ensures c.if-is_too_long.false in
-    let narrow = narrow-by (g.T.SlotSectors.kind (unit_of a area)) law (sector_size a area) (length c.args.bytes.now) c.requires.stands.area.lawful.at_most short in
+    let narrow = narrow-by (g.T.SlotSectors.kind (geometry_of a area)) law (sector_size a area) (length c.args.bytes.now) c.requires.stands.area.lawful.at_most short in
     narrow
 
 pub append-requires-clause-short : goal.append-requires-clause-short
@@ -68,21 +68,21 @@ pub returns-in-Err-clause-ends : goal.returns-in-Err-clause-ends
 returns-in-Err-clause-ends g c =
     let a : Device = g.F.Flash.device c.args.flash.now in
     let area : Area = c.args.self.now.area in
-    let law : IsKind (g.T.SlotSectors.kind (unit_of a area)) = g.met.T.SlotSectors.lawful (unit_of a area) (unit_is a area (g.met.F.Flash.is_lawful c.args.flash.now) c.requires.stands.area.lawful) in
+    let law : IsKind (g.T.SlotSectors.kind (geometry_of a area)) = g.met.T.SlotSectors.lawful (geometry_of a area) (unit_is a area (g.met.F.Flash.is_lawful c.args.flash.now) c.requires.stands.area.lawful) in
     let on = at_of g.T.SlotSectors.role g.T.SlotSectors.kind g.T.SlotSectors.kept a c.args.self.now c.requires.stands in
     let form = rest_open g.T.SlotSectors.role g.T.SlotSectors.kind g.T.SlotSectors.kept a area c.args.self.now.current c.args.self.now.opened law (g.met.F.Flash.is_lawful c.args.flash.now) on in
     let short = short-by g.T.SlotSectors.kind a area c.geometry-g.result (length c.args.bytes.now) c.is_too_long.result c.geometry-g.ensures c.is_too_long.ensures c.if-is_too_long.false in
-    write_stops (g.T.SlotSectors.kind (unit_of a area)) law a area form (g.F.Flash.device c.append.new.flash) c.args.id c.args.bytes.now c.requires.some short c.if-holds.ensures c.in-Err.ensures.ends
+    write_stops (g.T.SlotSectors.kind (geometry_of a area)) law a area form (g.F.Flash.device c.append.new.flash) c.args.id c.args.bytes.now c.requires.some short c.if-holds.ensures c.in-Err.ensures.ends
 
 pub returns-in-Ok-true-clause-ends : goal.returns-in-Ok-true-clause-ends
 returns-in-Ok-true-clause-ends g c =
     let a : Device = g.F.Flash.device c.args.flash.now in
     let area : Area = c.args.self.now.area in
-    let law : IsKind (g.T.SlotSectors.kind (unit_of a area)) = g.met.T.SlotSectors.lawful (unit_of a area) (unit_is a area (g.met.F.Flash.is_lawful c.args.flash.now) c.requires.stands.area.lawful) in
+    let law : IsKind (g.T.SlotSectors.kind (geometry_of a area)) = g.met.T.SlotSectors.lawful (geometry_of a area) (unit_is a area (g.met.F.Flash.is_lawful c.args.flash.now) c.requires.stands.area.lawful) in
     let on = at_of g.T.SlotSectors.role g.T.SlotSectors.kind g.T.SlotSectors.kept a c.args.self.now c.requires.stands in
     let form = rest_open g.T.SlotSectors.role g.T.SlotSectors.kind g.T.SlotSectors.kept a area c.args.self.now.current c.args.self.now.opened law (g.met.F.Flash.is_lawful c.args.flash.now) on in
     let short = short-by g.T.SlotSectors.kind a area c.geometry-g.result (length c.args.bytes.now) c.is_too_long.result c.geometry-g.ensures c.is_too_long.ensures c.if-is_too_long.false in
-    write_done (g.T.SlotSectors.kind (unit_of a area)) law a area form (g.F.Flash.device c.append.new.flash) c.args.id c.args.bytes.now c.requires.some short c.if-holds.ensures (ends_true (g.T.SlotSectors.kind (unit_of a area)) a (g.F.Flash.device c.append.new.flash) area c.args.id c.args.bytes.now c.in-Ok-true.field-0 c.in-Ok-true.field-0-test c.in-Ok-true.ensures.ends)
+    write_done (g.T.SlotSectors.kind (geometry_of a area)) law a area form (g.F.Flash.device c.append.new.flash) c.args.id c.args.bytes.now c.requires.some short c.if-holds.ensures (ends_true (g.T.SlotSectors.kind (geometry_of a area)) a (g.F.Flash.device c.append.new.flash) area c.args.id c.args.bytes.now c.in-Ok-true.field-0 c.in-Ok-true.field-0-test c.in-Ok-true.ensures.ends)
 
 pub cost-need-requires-clause-unit : goal.cost-need-requires-clause-unit
 cost-need-requires-clause-unit g c =
@@ -94,18 +94,18 @@ pub cost-need-requires-clause-short : goal.cost-need-requires-clause-short
 cost-need-requires-clause-short g c =
     let a : Device = g.F.Flash.device c.args.flash.now in
     let area : Area = c.args.self.now.area in
-    let law : IsKind (g.T.SlotSectors.kind (unit_of a area)) = g.met.T.SlotSectors.lawful (unit_of a area) (unit_is a area (g.met.F.Flash.is_lawful c.args.flash.now) c.requires.stands.area.lawful) in
+    let law : IsKind (g.T.SlotSectors.kind (geometry_of a area)) = g.met.T.SlotSectors.lawful (geometry_of a area) (unit_is a area (g.met.F.Flash.is_lawful c.args.flash.now) c.requires.stands.area.lawful) in
     let short = short-by g.T.SlotSectors.kind a area c.geometry-g.result (length c.args.bytes.now) c.is_too_long.result c.geometry-g.ensures c.is_too_long.ensures c.if-is_too_long.false in
-    let narrow = narrow-by (g.T.SlotSectors.kind (unit_of a area)) law (sector_size a area) (length c.args.bytes.now) c.requires.stands.area.lawful.at_most short in
+    let narrow = narrow-by (g.T.SlotSectors.kind (geometry_of a area)) law (sector_size a area) (length c.args.bytes.now) c.requires.stands.area.lawful.at_most short in
     narrow
 
 pub overflow_cast-bytes : goal.overflow_cast-bytes
 overflow_cast-bytes g c =
     let a : Device = g.F.Flash.device c.args.flash.now in
     let area : Area = c.args.self.now.area in
-    let law : IsKind (g.T.SlotSectors.kind (unit_of a area)) = g.met.T.SlotSectors.lawful (unit_of a area) (unit_is a area (g.met.F.Flash.is_lawful c.args.flash.now) c.requires.stands.area.lawful) in
+    let law : IsKind (g.T.SlotSectors.kind (geometry_of a area)) = g.met.T.SlotSectors.lawful (geometry_of a area) (unit_is a area (g.met.F.Flash.is_lawful c.args.flash.now) c.requires.stands.area.lawful) in
     let short = short-by g.T.SlotSectors.kind a area c.geometry-g.result (length c.args.bytes.now) c.is_too_long.result c.geometry-g.ensures c.is_too_long.ensures c.if-is_too_long.false in
-    let narrow = narrow-by (g.T.SlotSectors.kind (unit_of a area)) law (sector_size a area) (length c.args.bytes.now) c.requires.stands.area.lawful.at_most short in
+    let narrow = narrow-by (g.T.SlotSectors.kind (geometry_of a area)) law (sector_size a area) (length c.args.bytes.now) c.requires.stands.area.lawful.at_most short in
     let small = narrow in
     omega arith
 
@@ -113,12 +113,12 @@ pub returns-in-Ok-false-clause-ends : goal.returns-in-Ok-false-clause-ends
 returns-in-Ok-false-clause-ends g c =
     let a : Device = g.F.Flash.device c.args.flash.now in
     let area : Area = c.args.self.now.area in
-    let law : IsKind (g.T.SlotSectors.kind (unit_of a area)) = g.met.T.SlotSectors.lawful (unit_of a area) (unit_is a area (g.met.F.Flash.is_lawful c.args.flash.now) c.requires.stands.area.lawful) in
+    let law : IsKind (g.T.SlotSectors.kind (geometry_of a area)) = g.met.T.SlotSectors.lawful (geometry_of a area) (unit_is a area (g.met.F.Flash.is_lawful c.args.flash.now) c.requires.stands.area.lawful) in
     let on = at_of g.T.SlotSectors.role g.T.SlotSectors.kind g.T.SlotSectors.kept a c.args.self.now c.requires.stands in
     let form = rest_open g.T.SlotSectors.role g.T.SlotSectors.kind g.T.SlotSectors.kept a area c.args.self.now.current c.args.self.now.opened law (g.met.F.Flash.is_lawful c.args.flash.now) on in
     let short = short-by g.T.SlotSectors.kind a area c.geometry-g.result (length c.args.bytes.now) c.is_too_long.result c.geometry-g.ensures c.is_too_long.ensures c.if-is_too_long.false in
-    write_full (g.T.SlotSectors.kind (unit_of a area)) law a area form (g.F.Flash.device c.append.new.flash) c.args.id c.args.bytes.now c.cost-need.result c.live_cost-live.result short c.if-holds.ensures (ends_false (g.T.SlotSectors.kind (unit_of a area)) a (g.F.Flash.device c.append.new.flash) area c.args.id c.args.bytes.now c.in-Ok-false.field-0 c.in-Ok-false.field-0-test c.in-Ok-false.ensures.ends) (need-by g.T.SlotSectors.kind a area c.geometry-g.result (length c.args.bytes.now) c.cost-need.result c.geometry-g.ensures c.cost-need.ensures.value)
-    (to_unit (λ u. c.live_cost-live.result ≡ live_cost (g.T.SlotSectors.kind u).cost (list_of (g.T.SlotSectors.kind u) (sectors_of (g.F.Flash.device c.append.new.flash) area))) a (g.F.Flash.device c.append.new.flash) area c.in-Ok-false.ensures.touches.banks c.live_cost-live.ensures)
+    write_full (g.T.SlotSectors.kind (geometry_of a area)) law a area form (g.F.Flash.device c.append.new.flash) c.args.id c.args.bytes.now c.cost-need.result c.live_cost-live.result short c.if-holds.ensures (ends_false (g.T.SlotSectors.kind (geometry_of a area)) a (g.F.Flash.device c.append.new.flash) area c.args.id c.args.bytes.now c.in-Ok-false.field-0 c.in-Ok-false.field-0-test c.in-Ok-false.ensures.ends) (need-by g.T.SlotSectors.kind a area c.geometry-g.result (length c.args.bytes.now) c.cost-need.result c.geometry-g.ensures c.cost-need.ensures.value)
+    (to_geometry (λ u. c.live_cost-live.result ≡ live_cost (g.T.SlotSectors.kind u).cost (list_of (g.T.SlotSectors.kind u) (sectors_of (g.F.Flash.device c.append.new.flash) area))) a (g.F.Flash.device c.append.new.flash) area c.in-Ok-false.ensures.touches.banks c.live_cost-live.ensures)
 
 pub returns-then-is_too_long-clause-written : goal.returns-then-is_too_long-clause-written
 returns-then-is_too_long-clause-written g c =

@@ -3,8 +3,9 @@ use Rattle.std.proofs.Common.{◌≡◌, ℕ, ◌+◌, ◌-◌, ◌*◌, List, [
 use Rattle.std.specs.Prelude.{slice_range}
 use Rattle.std.proofs.lemmas.List.{take_all, get_or-set_same, set-set, set-get_or}
 use Rattle.flash_sim.specs.Bank.{IsLawful, bank_at}
-use Rattle.flash_sim.specs.Device.{Device, bank_of, bytes_of}
+use Rattle.flash_sim.specs.Device.{Device, bytes_of}
 use Rattle.flash_sim.specs.declared.flash.Bank.{Bank}
+use Rattle.flash_sim.specs.declared.flash.Kind.{Kind}
 use Rattle.flash_sim.specs.declared.flash.Kind.TheVariants.{Erasing, Rewritable}
 use Rattle.flash_map.specs.declared.area.Area.{Area}
 use Rattle.flash_map.specs.declared.area.Role.{Role}
@@ -12,21 +13,27 @@ use Rattle.flash_map.specs.Area.{unit_of, sector_size, sectors_of, sector_bytes,
 use Rattle.flash_map.specs.Lawful.{IsLawfulFor, HasUnit}
 use Rattle.flash_map.proofs.Places.{length-sector}
 use Rattle.flash_map.proofs.Sectors.{length-sectors_from}
-use Rattle.zms_cycle.specs.Areas.{IsZmsSector}
+use Rattle.zms_cycle.specs.Areas.{IsZmsSector, kind_on}
 
 -- a whole sector is viewed
 pub whole_range : (b : List ℕ) (n : ℕ) → length b ≡ n → slice_range b 0 (0 + n) ≡ b
 whole_range b n long = take_all (0 + n - 0) b (omega arith)
 
-not_erasing : Rewritable ≡ Erasing → ⊥
+-- A bank is of one kind.
+
+pub not_erasing : Rewritable ≡ Erasing → ⊥
 not_erasing e = cc
+
+pub never_erasing : {kind : Kind} → kind ≡ Rewritable → kind ≡ Erasing → ⊥
+never_erasing rewritable erasing = not_erasing (sym rewritable ∙ erasing)
+
+-- which stays after a call that left the banks
+pub same_kind : (old new : Device) (area : Area) → new.banks ≡ old.banks → kind_on new area ≡ kind_on old area
+same_kind old new area banks = ap (λ (bs : List Bank). (bank_at bs area.bank).kind) banks
 
 module _ (d : Device) (area : Area) (sector : ℕ) (is : IsZmsSector d area sector) where
   pub unit_is : unit_of d area ≡ 16
   unit_is = subst (λ (role : Role). HasUnit role (unit_of d area)) is.role is.lawful.unit
-
-  pub never_erasing : (bank_of d area.bank).kind ≡ Erasing → ⊥
-  never_erasing erasing = not_erasing (sym is.rewritable ∙ erasing)
 
   pub count_sectors : length (sectors_of d area) ≡ area.sectors
   count_sectors = length-sectors_from area.sectors (sector_size d area) (drop (area.first * sector_size d area) (bytes_of d area.bank))
@@ -54,4 +61,4 @@ others_then a b c area sector first second =
 
 -- after a call that left the banks
 pub still_zms : (old new : Device) (area : Area) (sector : ℕ) → new.banks ≡ old.banks → IsZmsSector old area sector → IsZmsSector new area sector
-still_zms old new area sector banks is = record { lawful = subst (λ (bs : List Bank). IsLawfulFor bs area) (sym banks) is.lawful; role = is.role; rewritable = ap (λ (bs : List Bank). (bank_at bs area.bank).kind) banks ∙ is.rewritable; has_sector = is.has_sector }
+still_zms old new area sector banks is = record { lawful = subst (λ (bs : List Bank). IsLawfulFor bs area) (sym banks) is.lawful; role = is.role; has_sector = is.has_sector }

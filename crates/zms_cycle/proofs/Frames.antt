@@ -5,17 +5,17 @@ use Rattle.std.specs.List.{filter_map, list_any, list_all}
 use Rattle.std.proofs.lemmas.Bool.{false≢true, cases_Bool, cases_lt, cond-true, cond-false, and_parts, or_parts, not-false, leb-true, eqb-true, le-leb}
 use Rattle.flash_map.specs.Units.{padded}
 use Rattle.flash_map.proofs.Rounding.{padding}
-use Rattle.flash_sim.specs.Device.{overwritten}
-use Rattle.flash_map.proofs.Ranges.{range_above, range_below}
-use Rattle.flash_map.proofs.Sectors.{length-overwritten}
+use Rattle.flash_sim.specs.declared.flash.Kind.{Kind}
+use Rattle.flash_sim.specs.declared.flash.Kind.TheVariants.{Rewritable}
 use Rattle.ring_laws.specs.Slots.{Slot, used_slots}
 use Rattle.ring_laws.proofs.SlotCosts.{fold_max-ge}
 use Rattle.ring_laws.proofs.SlotLemmas.{HasFence, HasFence-from_low}
 use Rattle.ring_laws.proofs.SlotChanges.{SameFrom, slot_at-from, used_slots-kept}
 use Rattle.zms_cycle.specs.Entries.{offset_of, decoded}
 use Rattle.zms_cycle.specs.declared.reading.Found.{Found}
-use Rattle.zms_cycle.specs.Sector.{slot_of, is_valid, cycle_of, valid_slots, holds_close, is_closed, entry_in, entries, holds_done, data_len, capacity, low, value_end, end_of, data_end, is_under, has_guard, is_sound, entry_cost, holds_too_much, is_overfull, value_of, pair_of, pairs, part_of_list}
+use Rattle.zms_cycle.specs.Sector.{slot_of, is_valid, cycle_of, valid_slots, holds_close, is_closed, entry_in, entries, holds_done, data_len, capacity, low, value_end, end_of, written, data_end, is_under, has_guard, is_sound, entry_cost, holds_too_much, is_overfull, value_of, pair_of, pairs, part_of_list}
 use Rattle.zms_cycle.specs.Changes.{KeepsSlots, KeepsList}
+use Rattle.zms_cycle.proofs.ErasedSlots.{written_aligned, written-never}
 use Rattle.zms_cycle.proofs.Slots16.{Covers, covers-not_valid, covers-higher, cycle_of-is}
 
 pub pad : (n : ℕ) → (n ≤ padded 16 n) × (padded 16 n ≤ n + 15)
@@ -128,7 +128,7 @@ ends-aligned limit (f ∷ fs) a all aligned =
     ] in
     ends-aligned limit fs (max a (value_end f)) parts.1 both
 
-data_len-aligned : (len : ℕ) → data_len len % 16 ≡ 0
+pub data_len-aligned : (len : ℕ) → data_len len % 16 ≡ 0
 data_len-aligned len = elim (cases_Bool (leb len 8)) [
   | inl short ↦ ap (λ (n : ℕ). n % 16) (data_len-short len (leb-true len 8 short))
   | inr long ↦ ap (λ (n : ℕ). n % 16) (data_len-long len long) ∙ padded-aligned len
@@ -138,15 +138,21 @@ sum-aligned : (fs : List Found) (a : ℕ) → a % 16 ≡ 0 → fold (λ a f. a +
 sum-aligned [] a aligned = aligned
 sum-aligned (f ∷ fs) a aligned = let here = data_len-aligned f.entry.len in sum-aligned fs (a + data_len f.entry.len) (omega arith)
 
-pub data_end-aligned : (b : List ℕ) → IsSound b → data_end b % 16 ≡ 0
+max-aligned : (m n : ℕ) → m % 16 ≡ 0 → n % 16 ≡ 0 → max m n % 16 ≡ 0
+max-aligned m n first second = elim (cases_lt m n) [
+  | inl lt ↦ let is : max m n ≡ n = omega arith in ap (λ (k : ℕ). k % 16) is ∙ second
+  | inr ge ↦ let is : max m n ≡ m = omega arith in ap (λ (k : ℕ). k % 16) is ∙ first
+]
+
+end_of-aligned : (b : List ℕ) → IsSound b → end_of (entries b) % 16 ≡ 0
 unfolding end_of
-data_end-aligned b sound =
+end_of-aligned b sound =
     let ends = ends-aligned (low b - 16) (entries b) 0 sound.under refl in
     let sums : sum_by (λ f. data_len f.entry.len) (entries b) % 16 ≡ 0 = sum-aligned (entries b) 0 refl in
-    elim (cases_lt (fold max 0 (map value_end (entries b))) (sum_by (λ f. data_len f.entry.len) (entries b))) [
-      | inl lt ↦ let is : max (fold max 0 (map value_end (entries b))) (sum_by (λ f. data_len f.entry.len) (entries b)) ≡ sum_by (λ f. data_len f.entry.len) (entries b) = omega arith in ap (λ (n : ℕ). n % 16) is ∙ sums
-      | inr ge ↦ let is : max (fold max 0 (map value_end (entries b))) (sum_by (λ f. data_len f.entry.len) (entries b)) ≡ fold max 0 (map value_end (entries b)) = omega arith in ap (λ (n : ℕ). n % 16) is ∙ ends
-    ]
+    max-aligned (fold max 0 (map value_end (entries b))) (sum_by (λ f. data_len f.entry.len) (entries b)) ends sums
+
+pub data_end-aligned : (kind : Kind) (b : List ℕ) → IsSound b → data_end kind b % 16 ≡ 0
+data_end-aligned kind b sound = max-aligned (end_of (entries b)) (written kind b) (end_of-aligned b sound) (written_aligned kind b)
 
 -- every value of a sound sector stands under its guard slot
 ends-under : (limit : ℕ) (fs : List Found) (a : ℕ) → list_all (is_under limit) fs ≡ true → a ≤ limit → fold max a (map value_end fs) ≤ limit
@@ -182,7 +188,6 @@ slots-keep old new long cycle closed slots = record {
   same_entries = ap (filter_map entry_in) slots;
   gc_done = ap (list_any holds_done) slots;
   lower = let count = ap length slots in omega arith;
-  same_end = ap (λ (ss : List Slot). end_of (filter_map entry_in ss)) slots;
 }
 
 pub keeps_slots : (b new : List ℕ) → 16 ≤ low b → SameFrom (low b) b new → is_valid (cycle_of b) (slot_of new (length (valid_slots b) + 2)) ≡ false → KeepsSlots b new
@@ -194,29 +199,42 @@ keeps_slots b new guard same stop =
     ∙ used_slots-kept (is_valid (cycle_of b)) 2 16 (low b) b new (length (valid_slots b)) (omega arith) same (fence_of b guard) (omega arith) stop)
 
 -- and the values stay where nothing under the data end changes
-pub keeps_list : (b new : List ℕ) → KeepsSlots b new → ((i j : ℕ) → j ≤ data_end b → slice_range new i j ≡ slice_range b i j) → KeepsList b new
-keeps_list b new kept below = record {
-  kept = kept;
-  list = ap (map (pair_of new)) kept.same_entries ∙ pairs-same (data_end b) b new below (entries b) 0 (end_of-above (entries b)).ends;
-}
+pub keeps_list : (kind : Kind) (most : ℕ) (b new : List ℕ) → KeepsSlots b new → (slot_of new 1).bytes ≡ (slot_of b 1).bytes → written kind b ≤ written kind new → written kind new ≤ data_end kind b + most
+    → ((i j : ℕ) → j ≤ data_end kind b → slice_range new i j ≡ slice_range b i j) → KeepsList kind most b new
+keeps_list kind most b new kept close from to below =
+    let ends : end_of (entries new) ≡ end_of (entries b) = ap end_of kept.same_entries in
+    record {
+      kept = kept;
+      list = ap (map (pair_of new)) kept.same_entries ∙ pairs-same (end_of (entries b)) b new (λ i j le. below i j (omega arith)) (entries b) 0 (end_of-above (entries b)).ends;
+      close_slot = close;
+      end_from = omega arith;
+      end_to = omega arith;
+    }
 
-pub keeps_then : {a b c : List ℕ} → KeepsList a b → KeepsList b c → KeepsList a c
-keeps_then first second = record {
-  kept = record {
-    long = second.kept.long ∙ first.kept.long;
-    cycle = second.kept.cycle ∙ first.kept.cycle;
-    closed = second.kept.closed ∙ first.kept.closed;
-    slots = second.kept.slots ∙ first.kept.slots;
-    same_entries = second.kept.same_entries ∙ first.kept.same_entries;
-    gc_done = second.kept.gc_done ∙ first.kept.gc_done;
-    lower = second.kept.lower ∙ first.kept.lower;
-    same_end = second.kept.same_end ∙ first.kept.same_end;
-  };
-  list = second.list ∙ first.list;
-}
+pub keeps_then : {kind : Kind} {m n : ℕ} {a b c : List ℕ} → KeepsList kind m a b → KeepsList kind n b c → KeepsList kind (m + n) a c
+keeps_then {kind} {m} {n} {a} {b} {c} first second =
+    let from-a : data_end kind a ≤ data_end kind b = first.end_from in
+    let from-b : data_end kind b ≤ data_end kind c = second.end_from in
+    let to-a : data_end kind b ≤ data_end kind a + m = first.end_to in
+    let to-b : data_end kind c ≤ data_end kind b + n = second.end_to in
+    record {
+      kept = record {
+        long = second.kept.long ∙ first.kept.long;
+        cycle = second.kept.cycle ∙ first.kept.cycle;
+        closed = second.kept.closed ∙ first.kept.closed;
+        slots = second.kept.slots ∙ first.kept.slots;
+        same_entries = second.kept.same_entries ∙ first.kept.same_entries;
+        gc_done = second.kept.gc_done ∙ first.kept.gc_done;
+        lower = second.kept.lower ∙ first.kept.lower;
+      };
+      list = second.list ∙ first.list;
+      close_slot = second.close_slot ∙ first.close_slot;
+      end_from = omega arith;
+      end_to = omega arith;
+    }
 
-pub keeps_same : (b : List ℕ) → KeepsList b b
-keeps_same b = record { kept = slots-keep b b refl refl refl refl; list = refl }
+pub keeps_same : (kind : Kind) (most : ℕ) (b : List ℕ) → KeepsList kind most b b
+keeps_same kind most b = record { kept = slots-keep b b refl refl refl refl; list = refl; close_slot = refl; end_from = omega arith; end_to = omega arith }
 
 pub sound-same : (old new : List ℕ) → KeepsSlots old new → is_sound new ≡ is_sound old
 sound-same old new kept = ap (λ (n : ℕ). leb 16 n && list_all (is_under (n - 16)) (entries new)) kept.lower ∙ ap (λ (fs : List Found). leb 16 (low old) && list_all (is_under (low old - 16)) fs) kept.same_entries
@@ -240,19 +258,8 @@ part-same old new kept list =
           ∙ sym (cond-false (is_overfull old) None (Some (pairs old)) roomy)
     ]
 
--- a write between the data end and the guard slot
-pub keeps-data : (b p : List ℕ) → 16 ≤ low b → data_end b + length p ≤ low b - 16 → KeepsList b (overwritten b (data_end b) p)
-keeps-data b p guard fits =
-    let inside : data_end b + length p ≤ length b = omega arith in
-    let same : SameFrom (low b - 16) b (overwritten b (data_end b) p) = record { long = length-overwritten b (data_end b) p inside; bytes = λ i j le. range_above b (data_end b) p i j inside (omega arith) } in
-    let from_low : SameFrom (low b) b (overwritten b (data_end b) p) = record { long = same.long; bytes = λ i j le. same.bytes i j (omega arith) } in
-    let guard_same = slot_at-from 16 (low b - 16) b (overwritten b (data_end b) p) same (length (valid_slots b) + 2) (omega arith) in
-    keeps_list b (overwritten b (data_end b) p)
-    (keeps_slots b (overwritten b (data_end b) p) guard from_low (ap (λ (slot : Slot). is_valid (cycle_of b) slot) guard_same ∙ (fence_of b guard).fence))
-    (λ i j le. range_below b (data_end b) p i j (omega arith) le)
-
--- the guard slot or one under it is overwritten
-pub keeps-covered : (b new : List ℕ) (k : ℕ) → 16 ≤ low b → length (valid_slots b) + 2 ≤ k → (k + 1) * 16 ≤ length b → data_end b ≤ length b - (k + 1) * 16 → Covers k b new → KeepsList b new
+-- the guard slot or one under it is overwritten, on a bank that is never erased
+pub keeps-covered : (b new : List ℕ) (k : ℕ) → 16 ≤ low b → length (valid_slots b) + 2 ≤ k → (k + 1) * 16 ≤ length b → data_end Rewritable b ≤ length b - (k + 1) * 16 → Covers k b new → KeepsList Rewritable 0 b new
 keeps-covered b new k guard lower inside above covers =
     let same : SameFrom (low b) b new = record { long = covers.above.long; bytes = λ i j le. covers.above.bytes i j (omega arith) } in
     let stop : is_valid (cycle_of b) (slot_of new (length (valid_slots b) + 2)) ≡ false = elim (cases_lt (length (valid_slots b) + 2) k) [
@@ -261,4 +268,7 @@ keeps-covered b new k guard lower inside above covers =
           let is : k ≡ length (valid_slots b) + 2 = omega arith in
           subst (λ (j : ℕ). is_valid (cycle_of b) (slot_of new j) ≡ false) is (covers-not_valid (cycle_of b) k b new covers (subst (λ (j : ℕ). is_valid (cycle_of b) (slot_of b j) ≡ false) (sym is) (fence_of b guard).fence))
     ] in
-    keeps_list b new (keeps_slots b new guard same stop) (λ i j le. covers.below i j (omega arith))
+    let close : slot_of new 1 ≡ slot_of b 1 = slot_at-from 16 (low b) b new same 1 (omega arith) in
+    let none = written-never b in
+    let still = written-never new in
+    keeps_list Rewritable 0 b new (keeps_slots b new guard same stop) (ap (λ (slot : Slot). slot.bytes) close) (omega arith) (omega arith) (λ i j le. covers.below i j (omega arith))

@@ -4,13 +4,14 @@ pub mod Bytes
 pub mod CloseCalls
 pub mod CopyCalls
 pub mod EmptyCalls
+pub mod Ends
 pub mod EntryCalls
+pub mod ErasedSlots
 pub mod Frames
 pub mod GuardUnits
 pub mod Marks
 pub mod OverwrittenValue
 pub mod PairCalls
-pub mod Rooms
 pub mod Scanning
 pub mod SlotSearch
 pub mod Slots16

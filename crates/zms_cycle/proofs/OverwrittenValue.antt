@@ -5,6 +5,7 @@
 -- overfull, before the guard and behind it, and an overfull sector has no part in a list.
 use Rattle.std.proofs.Common.{◌≡◌, ◌⊎◌, ℕ, true, List, [], ◌∷◌, ◌++◌, length, get_or, replicate, Some, None, refl, sym, ap, ◌∙◌, inl, inr, arith}
 use Rattle.std.proofs.lemmas.Bool.{cond-true}
+use Rattle.flash_sim.specs.declared.flash.Kind.TheVariants.{Rewritable}
 use Rattle.flash_map.specs.Units.{padded}
 use Rattle.crc8_entry.specs.Crc.{crc, extended, bits_of}
 use Rattle.ring_laws.specs.Slots.{slot_at, used_slots}
@@ -27,7 +28,7 @@ long = refl
 
 -- what emptying makes of it before its cut
 abbrev pub guarded_sector : List ℕ
-guarded_sector = guarded (next_cycle (cycle_of sector)) 1 sector
+guarded_sector = guarded Rewritable (next_cycle (cycle_of sector)) 1 sector
 
 -- the guard is needed
 pub is_guarded : is_valid_under (next_cycle (cycle_of sector)) (slot_of sector 1) ≡ true

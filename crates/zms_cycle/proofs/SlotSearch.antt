@@ -13,7 +13,7 @@ use Rattle.zms_cycle.specs.declared.reading.Found.{Found}
 use Rattle.zms_cycle.specs.Entries.{entry_of, decoded, is_special}
 use Rattle.zms_cycle.specs.Sector.{slot_of, is_valid, cycle_of, valid_slots, entry_in}
 use Rattle.zms_cycle.specs.Searches.{names}
-use Rattle.zms_cycle.proofs.Slots16.{valid-is, entry_in-is}
+use Rattle.zms_cycle.proofs.Slots16.{valid-is, entry_in-is, not_valid}
 
 -- ---- what decodes has the fields that its bytes name
 
@@ -104,3 +104,18 @@ reach_step id b slot reach new false from is at low before =
         | inr ge ↦ let e : slot ≡ k = omega arith in subst (λ (j : ℕ). names id (slot_of b j) ≡ false) e (sym is)
       ],
     )
+
+-- a slot of the list checks
+pub listed_decodes : (b : List ℕ) (k : ℕ) → 2 ≤ k → k < length (valid_slots b) + 2 → decoded (slot_of b k).bytes ≡ Some (entry_of (slot_of b k).bytes)
+listed_decodes b k from below =
+    let valid : is_valid (cycle_of b) (slot_of b k) ≡ true = used_passes (is_valid (cycle_of b)) 2 16 b k from below in
+    elim (decoded_cases (slot_of b k).bytes) [
+      | inl none ↦ absurd (false≢true (sym (not_valid (cycle_of b) (slot_of b k) none) ∙ valid))
+      | inr some ↦ some
+    ]
+
+-- and it stands in the sector
+pub listed_inside : (b : List ℕ) (k : ℕ) → 2 ≤ k → k < length (valid_slots b) + 2 → (k + 1) * 16 ≤ length b
+listed_inside b k from below =
+    let fits = used_count_fits (is_valid (cycle_of b)) 2 16 b in
+    omega arith

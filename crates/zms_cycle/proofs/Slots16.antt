@@ -4,6 +4,8 @@ use Rattle.std.specs.Prelude.{slice_range}
 use Rattle.std.specs.Option.{option_and_then, option_map_or}
 use Rattle.std.proofs.lemmas.Bool.{cases_Bool, cond-true, cond-false}
 use Rattle.std.proofs.lemmas.List.{take_all}
+use Rattle.flash_sim.specs.declared.flash.Kind.{Kind}
+use Rattle.flash_sim.specs.declared.flash.Kind.TheVariants.{Erasing, Rewritable}
 use Rattle.flash_map.proofs.Ranges.{range_above, range_below, range_at}
 use Rattle.flash_map.proofs.Sectors.{length-overwritten}
 use Rattle.ring_laws.specs.Slots.{Slot}
@@ -76,19 +78,24 @@ covers-same k b = record { above = record { long = refl; bytes = λ i j le. refl
 pub decoded-put : (b : List ℕ) (k : ℕ) → (k + 1) * 16 ≤ length b → decoded (slot_of (with_slot b k fill) k).bytes ≡ None
 decoded-put b k inside = ap decoded (slot-put b k fill length-fill inside) ∙ decoded-fill
 
+-- a slot with the fill unit is valid under no cycle
+pub slot-filled : (cycle : ℕ) (b : List ℕ) (k : ℕ) → (k + 1) * 16 ≤ length b → is_valid_under cycle (slot_of (with_slot b k fill) k) ≡ false
+slot-filled cycle b k inside = valid-is cycle (slot_of (with_slot b k fill) k) None (decoded-put b k inside)
+
 pub covers-fill : (k : ℕ) (b : List ℕ) → (k + 1) * 16 ≤ length b → Covers k b (with_slot b k fill)
 covers-fill k b inside = record { above = with_slot-above b k fill length-fill inside; below = with_slot-below b k fill length-fill inside; unit = inr (decoded-put b k inside) }
 
-pub covers-guarded : (cycle k : ℕ) (b : List ℕ) → (k + 1) * 16 ≤ length b → Covers k b (guarded cycle k b)
-covers-guarded cycle k b inside = elim (cases_Bool (is_valid_under cycle (slot_of b k))) [
+pub covers-guarded : (kind : Kind) (cycle k : ℕ) (b : List ℕ) → (k + 1) * 16 ≤ length b → Covers k b (guarded kind cycle k b)
+covers-guarded Erasing cycle k b inside = covers-same k b
+covers-guarded Rewritable cycle k b inside = elim (cases_Bool (is_valid_under cycle (slot_of b k))) [
   | inl valid ↦ subst (λ (new : List ℕ). Covers k b new) (sym (cond-true (is_valid_under cycle (slot_of b k)) (with_slot b k fill) b valid)) (covers-fill k b inside)
   | inr other ↦ subst (λ (new : List ℕ). Covers k b new) (sym (cond-false (is_valid_under cycle (slot_of b k)) (with_slot b k fill) b other)) (covers-same k b)
 ]
 
 -- THE law of the guard: after it the slot is not valid under the cycle.
-pub guarded-not_valid : (cycle k : ℕ) (b : List ℕ) → (k + 1) * 16 ≤ length b → is_valid_under cycle (slot_of (guarded cycle k b) k) ≡ false
+pub guarded-not_valid : (cycle k : ℕ) (b : List ℕ) → (k + 1) * 16 ≤ length b → is_valid_under cycle (slot_of (guarded Rewritable cycle k b) k) ≡ false
 guarded-not_valid cycle k b inside = elim (cases_Bool (is_valid_under cycle (slot_of b k))) [
-  | inl valid ↦ ap (λ (new : List ℕ). is_valid_under cycle (slot_of new k)) (cond-true (is_valid_under cycle (slot_of b k)) (with_slot b k fill) b valid) ∙ valid-is cycle (slot_of (with_slot b k fill) k) None (decoded-put b k inside)
+  | inl valid ↦ ap (λ (new : List ℕ). is_valid_under cycle (slot_of new k)) (cond-true (is_valid_under cycle (slot_of b k)) (with_slot b k fill) b valid) ∙ slot-filled cycle b k inside
   | inr other ↦ ap (λ (new : List ℕ). is_valid_under cycle (slot_of new k)) (cond-false (is_valid_under cycle (slot_of b k)) (with_slot b k fill) b other) ∙ other
 ]
 

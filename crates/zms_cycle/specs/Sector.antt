@@ -1,9 +1,11 @@
 -- How one sector reads. Values grow upward from its start, and slots of sixteen bytes downward from its end.
 -- Slot 0 holds the empty entry, which gives the sector's cycle; slot 1 is for the close entry; entries follow from slot 2.
-use Rattle.std.specs.Prelude.{ℕ, ◌+◌, ◌-◌, ◌*◌, ◌%◌, max, Bool, true, false, not, ◌&&◌, ◌||◌, List, [], length, take, map, fold, sum_by, slice_range, Option, Some, None, ◌==◌, nat_le, nat_lt, if◌then◌else◌}
+use Rattle.std.specs.Prelude.{ℕ, ◌+◌, ◌-◌, ◌*◌, ◌%◌, max, Bool, true, false, not, ◌&&◌, ◌||◌, List, [], length, take, map, fold, sum_by, slice_range, is_some, Option, Some, None, ◌==◌, nat_le, nat_lt, if◌then◌else◌}
 use Rattle.std.specs.List.{filter_map, list_all, list_any}
 use Rattle.std.specs.Option.{option_and_then, option_map_or}
-use Rattle.flash_map.specs.Units.{padded}
+use Rattle.flash_sim.specs.declared.flash.Kind.{Kind}
+use Rattle.flash_sim.specs.declared.flash.Kind.TheVariants.{Erasing, Rewritable}
+use Rattle.flash_map.specs.Units.{padded, is_erased, written_end}
 use Rattle.ring_laws.specs.Slots.{Slot, slot_at, used_slots, low as low_of}
 use Rattle.zms_cycle.specs.declared.entry.ZEntry.{ZEntry}
 use Rattle.zms_cycle.specs.declared.reading.Found.{Found}
@@ -36,6 +38,15 @@ holds_close slot = option_map_or is_close (decoded slot.bytes) false
 
 abbrev pub is_closed : List ℕ → Bool
 is_closed sector = is_valid (cycle_of sector) (slot_of sector 1) && holds_close (slot_of sector 1)
+
+-- slot 0 holds an empty entry, and every other byte is FF
+unfoldable pub is_fresh : List ℕ → Bool
+is_fresh sector = is_some (cycle_of sector) && is_erased (take (length sector - 16) sector)
+
+-- The close entry can be put into slot 1, by the kind of the bank.
+unfoldable pub can_close : Kind → List ℕ → Bool
+can_close Rewritable sector = true
+can_close Erasing sector = is_erased (slot_of sector 1).bytes
 
 -- Entries.
 
@@ -77,16 +88,22 @@ value_end f = if nat_le f.entry.len 8 then 0 else offset_of f.entry + padded 16 
 unfoldable pub end_of : List Found → ℕ
 end_of found = max (fold max 0 (map value_end found)) (sum_by (λ f. data_len f.entry.len) found)
 
--- where the next value goes
-abbrev pub data_end : List ℕ → ℕ
-data_end sector = end_of (entries sector)
+-- The end of the last unit under the slots that is not erased, where the bank is one that is erased: nothing can be put
+-- over what a cut value left there. A blank sector is emptied before anything is put into it.
+unfoldable pub written : Kind → List ℕ → ℕ
+written Rewritable sector = 0
+written Erasing sector = if is_some (cycle_of sector) then written_end 16 (low sector) sector else 0
 
-abbrev pub free : List ℕ → ℕ
-free sector = low sector - data_end sector
+-- where the next value goes
+abbrev pub data_end : Kind → List ℕ → ℕ
+data_end kind sector = max (end_of (entries sector)) (written kind sector)
+
+abbrev pub free : Kind → List ℕ → ℕ
+free kind sector = low sector - data_end kind sector
 
 -- Whether a value of this length fits; a length of 0 is a delete. Slots stay for gc-done, a delete and the guard.
-abbrev pub fits : List ℕ → ℕ → Bool
-fits sector len = if len == 0 then nat_le 32 (free sector) else nat_le (cost len + (if has_gc_done sector then 2 else 3) * 16) (free sector)
+abbrev pub fits : Kind → List ℕ → ℕ → Bool
+fits kind sector len = if len == 0 then nat_le 32 (free kind sector) else nat_le (cost len + (if has_gc_done sector then 2 else 3) * 16) (free kind sector)
 
 -- the value stands in whole units that end at the limit or under it
 unfoldable pub is_under : ℕ → Found → Bool

@@ -8,9 +8,9 @@ ghost use Rattle.flash_map.specs.Pieces.{LosesWithin};
 ghost use Rattle.flash_map.specs.Spending.{SpendsBetween};
 ghost use Rattle.flash_map.specs.Touches.{Touches};
 ghost use Rattle.flash_map.specs.declared.pieces.TheConstants.{PIECE};
-ghost use Rattle.zms_cycle.specs.Areas.{IsZmsSector, HasSlot};
-ghost use Rattle.zms_cycle.specs.Changes.{guard_units, with_value, HasPart, KeepsList, AddsPair, MarksDone};
-ghost use Rattle.zms_cycle.specs.OnArea.{IsUsedOn, IsSoundOn, FitsOn, free_on, Makes, Adds, entry_units, next_guard};
+ghost use Rattle.zms_cycle.specs.Areas.{IsZmsSector, HasSlot, CanPutAt};
+ghost use Rattle.zms_cycle.specs.Changes.{with_value, HasPart, MarksDone};
+ghost use Rattle.zms_cycle.specs.OnArea.{IsUsedOn, IsSoundOn, FitsOn, free_on, Makes, Keeps, KeepsBut, Adds, entry_units, next_guard};
 ghost use Rattle.zms_cycle.specs.Entries.{value_entry, done_entry};
 ghost use Rattle.zms_cycle.specs.declared.reading.TheConstants.{SLOT};
 ghost use Rattle.zms_cycle.specs.Sector.{cycle_of, valid_slots, data_len, cost, free, is_sound, fits};
@@ -76,6 +76,7 @@ pub fn put_bytes<F: Flash>(
     requires zms { IsZmsSector (F.device flash.old) area.now sector }
     requires fits { at + padded 16 (length bytes.now) ≤ sector_size (F.device flash.old) area.now }
     requires aligned { at % 16 ≡ 0 }
+    requires erased { CanPutAt (F.device flash.old) area.now sector at (padded 16 (length bytes.now)) }
 
     ensures touches { Touches (area.now ∷ []) (F.device flash.old) (F.device flash.new) (is_err result) }
     ensures others { OthersStay (F.device flash.old) (F.device flash.new) area.now sector }
@@ -100,6 +101,7 @@ fn put_value<F: Flash>(
     requires zms { IsZmsSector (F.device flash.old) area.now sector }
     requires fits { at + data_len (length bytes.now) ≤ sector_size (F.device flash.old) area.now }
     requires aligned { at % 16 ≡ 0 }
+    requires erased { CanPutAt (F.device flash.old) area.now sector at (data_len (length bytes.now)) }
 
     ensures touches { Touches (area.now ∷ []) (F.device flash.old) (F.device flash.new) (is_err result) }
     ensures others { OthersStay (F.device flash.old) (F.device flash.new) area.now sector }
@@ -116,11 +118,12 @@ fn put_value<F: Flash>(
     put_bytes(flash, area, sector, at, bytes)
 }
 
-/// Puts a value, in calls of at most `PIECE` bytes, and then its entry, under which the guard is set first. No bytes are
-/// a delete.
+/// Puts a value, in calls of at most `PIECE` bytes, and then its entry, under which the guard is set first on a bank that is
+/// never erased. No bytes are a delete.
 ///
 /// # Errors
-/// `PowerLost`: the sector's list and marks are as before.
+/// `PowerLost`: the sector's list and marks are as before. On a bank that is erased, the units of the value that were put are
+/// gone of what was free.
 pub fn put_entry<F: Flash, L: Ledger>(
     flash: &mut F,
     area: &Area,
@@ -138,13 +141,13 @@ pub fn put_entry<F: Flash, L: Ledger>(
     ensures touches { Touches (area.now ∷ []) (F.device flash.old) (F.device flash.new) (is_err result) }
     ensures others { OthersStay (F.device flash.old) (F.device flash.new) area.now sector }
     ensures ok { OnOk result (Adds (F.device flash.old) (F.device flash.new) area.now sector id bytes.now) }
-    ensures lost { OnErr result (Makes KeepsList (F.device flash.old) (F.device flash.new) area.now sector) }
+    ensures lost { OnErr result (KeepsBut (length bytes.now) (F.device flash.old) (F.device flash.new) area.now sector) }
     ensures spends { let units = entry_units (length bytes.now) in
         OnOk result (SpendsBetween (F.device flash.old) (F.device flash.new) units (units + 1)) }
     ensures guards { let units = entry_units (length bytes.now) + next_guard (F.device flash.old) area.now sector in
         OnOk result (SpendsBetween (F.device flash.old) (F.device flash.new) units units) }
     ensures in_pieces { OnErr result (LosesWithin PIECE (F.device flash.old) (F.device flash.new)) }
-    ensures spends_lost { OnErr result (SpendsBetween (F.device flash.old) (F.device flash.new) 0 (entry_units (length bytes.now) + 1)) }
+    ensures spends_lost { OnErr result (SpendsBetween (F.device flash.old) (F.device flash.new) 0 (entry_units (length bytes.now))) }
 {
     let opened = opened_sector(flash, area, sector, steps);
     let entry = value_entry(opened.cycle, id, bytes, opened.data_end);
@@ -166,7 +169,7 @@ fn done_entry(cycle: u8, data_end: u32) -> ZEntry
 }
 
 /// Marks a sector into which a collection has copied all that it keeps: gc-done in the guard slot, under which the guard
-/// is set first.
+/// is set first on a bank that is never erased.
 ///
 /// # Errors
 /// `PowerLost`: the sector's list and marks are as before.
@@ -184,12 +187,12 @@ pub fn put_done<F: Flash, L: Ledger>(
     ensures touches { Touches (area.now ∷ []) (F.device flash.old) (F.device flash.new) (is_err result) }
     ensures others { OthersStay (F.device flash.old) (F.device flash.new) area.now sector }
     ensures ok { OnOk result (Makes MarksDone (F.device flash.old) (F.device flash.new) area.now sector) }
-    ensures lost { OnErr result (Makes KeepsList (F.device flash.old) (F.device flash.new) area.now sector) }
+    ensures lost { OnErr result (Keeps 0 (F.device flash.old) (F.device flash.new) area.now sector) }
     ensures spends { OnOk result (SpendsBetween (F.device flash.old) (F.device flash.new) 1 2) }
     ensures guards { let units = 1 + next_guard (F.device flash.old) area.now sector in
         OnOk result (SpendsBetween (F.device flash.old) (F.device flash.new) units units) }
     ensures in_pieces { OnErr result (LosesWithin SLOT (F.device flash.old) (F.device flash.new)) }
-    ensures spends_lost { OnErr result (SpendsBetween (F.device flash.old) (F.device flash.new) 0 2) }
+    ensures spends_lost { OnErr result (SpendsBetween (F.device flash.old) (F.device flash.new) 0 1) }
 {
     let opened = opened_sector(flash, area, sector, steps);
     let entry = done_entry(opened.cycle, opened.data_end);

@@ -8,9 +8,9 @@ ghost use Rattle.flash_map.specs.Spending.{SpendsBetween};
 ghost use Rattle.flash_map.specs.Touches.{Touches};
 ghost use Rattle.flash_map.specs.declared.copies.TheConstants.{COPY_PIECE};
 ghost use Rattle.flash_map.specs.Units.{padded, padded_bytes};
-ghost use Rattle.zms_cycle.specs.Areas.{IsZmsSector, HasSlot};
-ghost use Rattle.zms_cycle.specs.Changes.{guard_units, with_value, HasPart, KeepsList, AddsPair};
-ghost use Rattle.zms_cycle.specs.OnArea.{IsUsedOn, IsSoundOn, IsListedOn, entry_len_on, free_on, Makes, Copies, entry_units, next_guard};
+ghost use Rattle.zms_cycle.specs.Areas.{IsZmsSector, HasSlot, CanPutAt};
+ghost use Rattle.zms_cycle.specs.Changes.{with_value, HasPart};
+ghost use Rattle.zms_cycle.specs.OnArea.{IsUsedOn, IsSoundOn, IsListedOn, entry_len_on, free_on, KeepsBut, Copies, entry_units, next_guard};
 ghost use Rattle.zms_cycle.specs.Entries.{moved_entry};
 ghost use Rattle.zms_cycle.specs.Sector.{slot_of, cycle_of, valid_slots, entry_in, entry_len, pair_at, value_of, data_len, cost, free, is_sound};
 
@@ -74,6 +74,7 @@ fn copy_bytes<F: Flash, L: Ledger>(
     requires from { from.offset + from.len ≤ sector_size (F.device flash.old) area.now }
     requires fits { to + padded 16 from.len ≤ sector_size (F.device flash.old) area.now }
     requires aligned { to % 16 ≡ 0 }
+    requires erased { CanPutAt (F.device flash.old) area.now sector to (padded 16 from.len) }
 
     ensures touches { Touches (area.now ∷ []) (F.device flash.old) (F.device flash.new) (is_err result) }
     ensures others { OthersStay (F.device flash.old) (F.device flash.new) area.now sector }
@@ -102,6 +103,7 @@ fn copy_value<F: Flash, L: Ledger>(
     requires len { length (value_of (sector_bytes (F.device flash.old) area.now from_sector) from.now) ≡ from.now.len }
     requires fits { to + data_len from.now.len ≤ sector_size (F.device flash.old) area.now }
     requires aligned { to % 16 ≡ 0 }
+    requires erased { CanPutAt (F.device flash.old) area.now sector to (data_len from.now.len) }
 
     ensures touches { Touches (area.now ∷ []) (F.device flash.old) (F.device flash.new) (is_err result) }
     ensures others { OthersStay (F.device flash.old) (F.device flash.new) area.now sector }
@@ -123,10 +125,11 @@ fn copy_value<F: Flash, L: Ledger>(
 }
 
 /// Copies an entry of another sector's list, its value in calls of at most `COPY_PIECE` bytes and then the entry, under
-/// which the guard is set first.
+/// which the guard is set first on a bank that is never erased.
 ///
 /// # Errors
-/// `PowerLost`: the list and marks of the sector that is copied to are as before.
+/// `PowerLost`: the list and marks of the sector that is copied to are as before. On a bank that is erased, the units of the value
+/// that were put are gone of what was free.
 pub fn copy_entry<F: Flash, L: Ledger>(
     flash: &mut F,
     area: &Area,
@@ -150,7 +153,8 @@ pub fn copy_entry<F: Flash, L: Ledger>(
     ensures touches { Touches (area.now ∷ []) (F.device flash.old) (F.device flash.new) (is_err result) }
     ensures others { OthersStay (F.device flash.old) (F.device flash.new) area.now sector }
     ensures ok { OnOk result (Copies (F.device flash.old) (F.device flash.new) area.now sector from_sector from_slot) }
-    ensures lost { OnErr result (Makes KeepsList (F.device flash.old) (F.device flash.new) area.now sector) }
+    ensures lost { let d = F.device flash.old in
+        OnErr result (KeepsBut (entry_len_on d area.now from_sector from_slot) d (F.device flash.new) area.now sector) }
     ensures spends { let units = entry_units (entry_len_on (F.device flash.old) area.now from_sector from_slot) in
         OnOk result (SpendsBetween (F.device flash.old) (F.device flash.new) units (units + 1)) }
     ensures guards { let d = F.device flash.old in
@@ -158,7 +162,7 @@ pub fn copy_entry<F: Flash, L: Ledger>(
         OnOk result (SpendsBetween (F.device flash.old) (F.device flash.new) units units) }
     ensures in_pieces { OnErr result (LosesWithin COPY_PIECE (F.device flash.old) (F.device flash.new)) }
     ensures spends_lost { let units = entry_units (entry_len_on (F.device flash.old) area.now from_sector from_slot) in
-        OnErr result (SpendsBetween (F.device flash.old) (F.device flash.new) 0 (units + 1)) }
+        OnErr result (SpendsBetween (F.device flash.old) (F.device flash.new) 0 units) }
 {
     let opened = opened_sector(flash, area, sector, steps);
     let from = ordinary_entry(flash, area, from_sector, from_slot, steps);

@@ -1,6 +1,6 @@
 // An entry and its sixteen bytes.
 ghost use Rattle.std.specs.Prelude.{◌≡◌, ◌≤◌, length};
-ghost use Rattle.zms_cycle.specs.Entries.{encoded, decoded, fill};
+ghost use Rattle.zms_cycle.specs.Entries.{entry_of, encoded, decoded, fill};
 
 use crc8_entry::{START, checks, crc8};
 
@@ -43,6 +43,21 @@ pub fn encode_zentry(e: &ZEntry) -> [u8; 16]
     ]
 }
 
+/// What sixteen bytes say as an entry, whether their CRC matches or not.
+pub fn zentry_fields(bytes: &[u8]) -> ZEntry
+    requires { length bytes.now ≡ 16 }
+    ensures { result ≡ entry_of bytes.now }
+{
+    let mut tail = [0; 8];
+    tail.copy_from_slice(&bytes[8..16]);
+    ZEntry {
+        cycle: bytes[1],
+        len: u16::from_le_bytes([bytes[2], bytes[3]]),
+        id: u32::from_le_bytes([bytes[4], bytes[5], bytes[6], bytes[7]]),
+        tail,
+    }
+}
+
 /// The entry in sixteen bytes. `None` exactly where the CRC does not match.
 #[tactic(auto, unfolding(crate::specs::Entries::decoded))]
 pub fn decode_zentry(bytes: &[u8]) -> Option<ZEntry>
@@ -52,14 +67,7 @@ pub fn decode_zentry(bytes: &[u8]) -> Option<ZEntry>
     if !checks(&bytes[1..], bytes[0]) {
         return None;
     }
-    let mut tail = [0; 8];
-    tail.copy_from_slice(&bytes[8..16]);
-    Some(ZEntry {
-        cycle: bytes[1],
-        len: u16::from_le_bytes([bytes[2], bytes[3]]),
-        id: u32::from_le_bytes([bytes[4], bytes[5], bytes[6], bytes[7]]),
-        tail,
-    })
+    Some(zentry_fields(bytes))
 }
 
 /// A unit that never checks, whatever the cycle.

@@ -1,11 +1,12 @@
 // Single units of a sector: the guard, and an entry above its guard.
-ghost use Rattle.std.specs.Prelude.{◌≡◌, ◌⊎◌, ◌+◌, ◌-◌, ◌*◌, ◌<◌, ◌≤◌, ◌∷◌, [], false, length, is_err, OnOk, OnErr, if◌then◌else◌};
+ghost use Rattle.std.specs.Prelude.{◌≡◌, ◌⊎◌, ◌+◌, ◌-◌, ◌*◌, ◌<◌, ◌≤◌, ◌∷◌, [], false, length, is_err, Some, OnOk, OnErr};
 ghost use Rattle.flash_map.specs.Area.{IsLawfulArea, sector_size, sectors_of, sector_bytes, OthersStay};
 ghost use Rattle.flash_map.specs.Pieces.{LosesWithin};
 ghost use Rattle.flash_map.specs.Spending.{SpendsBetween};
 ghost use Rattle.flash_map.specs.Touches.{Touches};
-ghost use Rattle.zms_cycle.specs.Areas.{IsZmsSector, HasSlot};
-ghost use Rattle.zms_cycle.specs.Changes.{with_slot, guarded};
+ghost use Rattle.flash_sim.specs.declared.flash.Kind.TheVariants.{Erasing, Rewritable};
+ghost use Rattle.zms_cycle.specs.Areas.{IsZmsSector, HasSlot, CanPut, kind_on};
+ghost use Rattle.zms_cycle.specs.Changes.{with_slot, guarded, guard_units};
 ghost use Rattle.zms_cycle.specs.Entries.{encoded};
 ghost use Rattle.zms_cycle.specs.Sector.{slot_of, is_valid_under};
 ghost use Rattle.zms_cycle.specs.declared.reading.TheConstants.{SLOT};
@@ -13,7 +14,7 @@ ghost use Rattle.zms_cycle.specs.declared.reading.TheConstants.{SLOT};
 use crate::reading::{SLOT, is_of_cycle};
 use crate::{ZEntry, decode_zentry, encode_zentry, fill_unit};
 use flash_map::{Area, area_program, area_view, geometry};
-use flash_sim::{Flash, PowerLost, Steps};
+use flash_sim::{Flash, Kind, PowerLost, Steps};
 use std::sync::ledger::Ledger;
 
 // Where a slot starts in a sector.
@@ -36,6 +37,7 @@ pub fn put_unit<F: Flash>(
     requires zms { IsZmsSector (F.device flash.old) area.now sector }
     requires slot { HasSlot (F.device flash.old) area.now slot }
     requires unit { length bytes.now ≡ 16 }
+    requires erased { CanPut (F.device flash.old) area.now sector slot }
 
     ensures touches { Touches (area.now ∷ []) (F.device flash.old) (F.device flash.new) (is_err result) }
     ensures others { OthersStay (F.device flash.old) (F.device flash.new) area.now sector }
@@ -49,7 +51,8 @@ pub fn put_unit<F: Flash>(
     area_program(flash, area, sector, start, bytes)
 }
 
-/// Programs the fill unit exactly where the slot is valid under the cycle.
+/// On a bank that is never erased, programs the fill unit exactly where the slot is valid under the cycle. On one that is
+/// erased it programs nothing.
 ///
 /// # Errors
 /// `PowerLost`: no byte changed.
@@ -66,24 +69,35 @@ pub fn guard<F: Flash, L: Ledger>(
 
     ensures touches { Touches (area.now ∷ []) (F.device flash.old) (F.device flash.new) (is_err result) }
     ensures others { OthersStay (F.device flash.old) (F.device flash.new) area.now sector }
-    ensures ok { OnOk result (sector_bytes (F.device flash.new) area.now sector ≡ guarded cycle slot (sector_bytes (F.device flash.old) area.now sector)) }
-    ensures not_valid { OnOk result (is_valid_under cycle (slot_of (sector_bytes (F.device flash.new) area.now sector) slot) ≡ false) }
+    ensures ok { let d = F.device flash.old in
+        OnOk result (sector_bytes (F.device flash.new) area.now sector ≡ guarded (kind_on d area.now) cycle slot (sector_bytes d area.now sector)) }
+    ensures not_valid { kind_on (F.device flash.old) area.now ≡ Rewritable
+        → OnOk result (is_valid_under cycle (slot_of (sector_bytes (F.device flash.new) area.now sector) slot) ≡ false) }
+    ensures idle { kind_on (F.device flash.old) area.now ≡ Erasing → F.device flash.new ≡ F.device flash.old }
     ensures lost { OnErr result (sectors_of (F.device flash.new) area.now ≡ sectors_of (F.device flash.old) area.now) }
-    ensures spends { let units = (if is_valid_under cycle (slot_of (sector_bytes (F.device flash.old) area.now sector) slot) then 1 else 0) in
-        OnOk result (SpendsBetween (F.device flash.old) (F.device flash.new) units units) }
+    ensures rewritable_lost { OnErr result (kind_on (F.device flash.old) area.now ≡ Rewritable) }
+    ensures spends { let d = F.device flash.old in
+        let units = guard_units (kind_on d area.now) (Some cycle) slot (sector_bytes d area.now sector) in
+        OnOk result (SpendsBetween d (F.device flash.new) units units) }
     ensures in_pieces { OnErr result (LosesWithin SLOT (F.device flash.old) (F.device flash.new)) }
     ensures spends_lost { OnErr result (SpendsBetween (F.device flash.old) (F.device flash.new) 0 0) }
-    ensures step { steps.new ≡ steps.old + 1 }
+    ensures step { kind_on (F.device flash.old) area.now ≡ Rewritable → steps.new ≡ steps.old + 1 }
+    ensures no_step { kind_on (F.device flash.old) area.now ≡ Erasing → steps.new ≡ steps.old }
 {
-    let start = slot_start(flash, area, slot);
-    let entry = decode_zentry(area_view(flash, area, sector, start, SLOT, steps));
-    if is_of_cycle(&entry, cycle) {
-        return put_unit(flash, area, sector, slot, &fill_unit());
+    match geometry(flash, area).kind {
+        Kind::Erasing => Ok(()),
+        Kind::Rewritable => {
+            let start = slot_start(flash, area, slot);
+            let entry = decode_zentry(area_view(flash, area, sector, start, SLOT, steps));
+            if is_of_cycle(&entry, cycle) {
+                return put_unit(flash, area, sector, slot, &fill_unit());
+            }
+            Ok(())
+        }
     }
-    Ok(())
 }
 
-// Programs an entry, once the slot under it is not valid under the entry's cycle. A cut puts no entry.
+// Programs an entry, once the slot under it is guarded. A cut puts no entry.
 pub fn put_slot<F: Flash, L: Ledger>(
     flash: &mut F,
     area: &Area,
@@ -94,15 +108,19 @@ pub fn put_slot<F: Flash, L: Ledger>(
 ) -> Result<(), PowerLost>
     requires zms { IsZmsSector (F.device flash.old) area.now sector }
     requires slot { HasSlot (F.device flash.old) area.now (slot + 1) }
+    requires erased { CanPut (F.device flash.old) area.now sector slot }
 
     ensures touches { Touches (area.now ∷ []) (F.device flash.old) (F.device flash.new) (is_err result) }
     ensures others { OthersStay (F.device flash.old) (F.device flash.new) area.now sector }
-    ensures ok { OnOk result (sector_bytes (F.device flash.new) area.now sector ≡ with_slot (guarded entry.now.cycle (slot + 1) (sector_bytes (F.device flash.old) area.now sector)) slot (encoded entry.now)) }
-    ensures lost { OnErr result ((sector_bytes (F.device flash.new) area.now sector ≡ sector_bytes (F.device flash.old) area.now sector)
-        ⊎ (sector_bytes (F.device flash.new) area.now sector ≡ guarded entry.now.cycle (slot + 1) (sector_bytes (F.device flash.old) area.now sector))) }
+    ensures ok { let d = F.device flash.old in
+        OnOk result (sector_bytes (F.device flash.new) area.now sector ≡ with_slot (guarded (kind_on d area.now) entry.now.cycle (slot + 1) (sector_bytes d area.now sector)) slot (encoded entry.now)) }
+    ensures lost { let d = F.device flash.old in
+        OnErr result ((sector_bytes (F.device flash.new) area.now sector ≡ sector_bytes d area.now sector)
+        ⊎ (sector_bytes (F.device flash.new) area.now sector ≡ guarded (kind_on d area.now) entry.now.cycle (slot + 1) (sector_bytes d area.now sector))) }
     ensures spends { OnOk result (SpendsBetween (F.device flash.old) (F.device flash.new) 1 2) }
-    ensures guards { let units = 1 + (if is_valid_under entry.now.cycle (slot_of (sector_bytes (F.device flash.old) area.now sector) (slot + 1)) then 1 else 0) in
-        OnOk result (SpendsBetween (F.device flash.old) (F.device flash.new) units units) }
+    ensures guards { let d = F.device flash.old in
+        let units = 1 + guard_units (kind_on d area.now) (Some entry.now.cycle) (slot + 1) (sector_bytes d area.now sector) in
+        OnOk result (SpendsBetween d (F.device flash.new) units units) }
     ensures in_pieces { OnErr result (LosesWithin SLOT (F.device flash.old) (F.device flash.new)) }
     ensures spends_lost { OnErr result (SpendsBetween (F.device flash.old) (F.device flash.new) 0 1) }
 {

@@ -15,11 +15,11 @@ mod searching;
 
 pub use appending::{put_done, put_entry};
 pub use copying::copy_entry;
-pub use entry::{ZEntry, decode_zentry, encode_zentry, fill_unit};
+pub use entry::{ZEntry, decode_zentry, encode_zentry, fill_unit, zentry_fields};
 pub use guarding::guard;
 pub use marking::{close, empty_sector};
 pub use reading::{
-    FIRST, Found, SLOT, SectorState, TAIL, TAIL_AT, capacity, cost, data_len, entry_in, offset_of,
-    read_sector, state,
+    FIRST, Found, SLOT, SectorState, TAIL, TAIL_AT, can_close, capacity, cost, data_len, entry_in,
+    is_fresh, listed_entry, offset_of, read_sector, state,
 };
 pub use searching::{has_close, listed_slots, reach_in};

@@ -1,19 +1,20 @@
 // Closing and emptying a sector.
-ghost use Rattle.std.specs.Prelude.{◌≡◌, ◌+◌, ◌-◌, ◌*◌, ◌/◌, ◌<◌, ◌≤◌, ◌∷◌, [], length, is_err, Some, IsTrue, IsSome, OnOk, OnErr};
+ghost use Rattle.std.specs.Prelude.{◌≡◌, ◌+◌, ◌-◌, ◌*◌, ◌/◌, ◌^◌, ◌<◌, ◌≤◌, ◌∷◌, [], min, length, is_err, Some, IsTrue, IsSome, OnOk, OnErr};
 ghost use Rattle.flash_map.specs.Area.{sector_size, sectors_of, sector_bytes, OthersStay};
 ghost use Rattle.flash_map.specs.Spending.{SpendsBetween};
 ghost use Rattle.flash_map.specs.Touches.{Touches};
-ghost use Rattle.zms_cycle.specs.Areas.{IsZmsSector, HasSlot};
-ghost use Rattle.zms_cycle.specs.Changes.{with_slot, guard_units, IsFilled, KeepsList, StopsEmptying, Closes, Empties, next_cycle};
+ghost use Rattle.flash_sim.specs.declared.flash.Kind.TheVariants.{Erasing, Rewritable};
+ghost use Rattle.zms_cycle.specs.Areas.{IsZmsSector, HasSlot, kind_on};
+ghost use Rattle.zms_cycle.specs.Changes.{with_slot, IsFilled, KeepsList, StopsGuarding, StopsEmptying, Closes, Empties, next_cycle};
 ghost use Rattle.zms_cycle.specs.Entries.{fill, empty_entry, close_entry};
-ghost use Rattle.zms_cycle.specs.OnArea.{IsUsedOn, IsSoundOn, free_on, Makes, emptying_units};
+ghost use Rattle.zms_cycle.specs.OnArea.{IsUsedOn, IsSoundOn, IsClosableOn, free_on, Makes, Keeps, emptying_units, closing_units};
 ghost use Rattle.zms_cycle.specs.Sector.{cycle_of, valid_slots, low, data_end, free, is_sound};
 
 use crate::guarding::{put_unit, slot_start};
-use crate::reading::{FIRST, SLOT, SPECIAL_ID, opened_sector, sector_cycle};
+use crate::reading::{FIRST, Opened, SLOT, SPECIAL_ID, opened_sector, sector_cycle};
 use crate::{ZEntry, encode_zentry, fill_unit, guard};
-use flash_map::{Area, area_view, geometry};
-use flash_sim::{Flash, PowerLost, Steps};
+use flash_map::{Area, area_view, erase_if, geometry, is_erased, sector_view};
+use flash_sim::{Flash, Kind, PowerLost, Steps};
 use std::sync::ledger::Ledger;
 
 fn empty_entry(cycle: u8) -> ZEntry
@@ -49,12 +50,65 @@ fn next_cycle(cycle: Option<u8>) -> u8
     }
 }
 
-/// Empties a sector by the empty entry of the next cycle, once slots 1 and 2 are not valid under that cycle.
+// Empties a sector of a bank that is never erased, by the empty entry of the next cycle, once slots 1 and 2 are not valid
+// under that cycle.
+fn empty_by_guards<F: Flash, L: Ledger>(
+    flash: &mut F,
+    area: &Area,
+    sector: u32,
+    cycle: u8,
+    steps: &mut Steps<L>,
+) -> Result<(), PowerLost>
+    requires zms { IsZmsSector (F.device flash.old) area.now sector }
+    requires kind { kind_on (F.device flash.old) area.now ≡ Rewritable }
+    requires cycle { cycle ≡ next_cycle (cycle_of (sector_bytes (F.device flash.old) area.now sector)) }
+
+    ensures touches { Touches (area.now ∷ []) (F.device flash.old) (F.device flash.new) (is_err result) }
+    ensures others { OthersStay (F.device flash.old) (F.device flash.new) area.now sector }
+    ensures ok { OnOk result (Makes Empties (F.device flash.old) (F.device flash.new) area.now sector) }
+    ensures lost { OnErr result (Makes (λ kind. StopsGuarding) (F.device flash.old) (F.device flash.new) area.now sector) }
+    ensures guards { let units = emptying_units (F.device flash.old) area.now sector in
+        OnOk result (SpendsBetween (F.device flash.old) (F.device flash.new) units units) }
+    ensures spends_lost { OnErr result (SpendsBetween (F.device flash.old) (F.device flash.new) 0 2) }
+{
+    guard(flash, area, sector, 1, cycle, steps)?;
+    guard(flash, area, sector, 2, cycle, steps)?;
+    put_unit(flash, area, sector, 0, &encode_zentry(&empty_entry(cycle)))
+}
+
+// Empties a sector of a bank that is erased: it is erased where a byte is not FF, and then the empty entry of this cycle is put.
+fn empty_by_erasing<F: Flash, L: Ledger>(
+    flash: &mut F,
+    area: &Area,
+    sector: u32,
+    cycle: u8,
+    steps: &mut Steps<L>,
+) -> Result<(), PowerLost>
+    requires zms { IsZmsSector (F.device flash.old) area.now sector }
+    requires kind { kind_on (F.device flash.old) area.now ≡ Erasing }
+    requires cycle { cycle ≡ next_cycle (cycle_of (sector_bytes (F.device flash.old) area.now sector)) }
+
+    ensures touches { Touches (area.now ∷ []) (F.device flash.old) (F.device flash.new) (is_err result) }
+    ensures others { OthersStay (F.device flash.old) (F.device flash.new) area.now sector }
+    ensures ok { OnOk result (Makes Empties (F.device flash.old) (F.device flash.new) area.now sector) }
+    ensures lost { OnErr result (Makes StopsEmptying (F.device flash.old) (F.device flash.new) area.now sector) }
+    ensures guards { let units = emptying_units (F.device flash.old) area.now sector in
+        OnOk result (SpendsBetween (F.device flash.old) (F.device flash.new) units units) }
+    ensures spends_lost { OnErr result (SpendsBetween (F.device flash.old) (F.device flash.new) 0 1) }
+{
+    let is_used = !is_erased(sector_view(flash, area, sector, steps));
+    erase_if(flash, area, sector, is_used)?;
+    put_unit(flash, area, sector, 0, &encode_zentry(&empty_entry(cycle)))
+}
+
+/// Empties a sector by the empty entry of the next cycle. On a bank that is never erased, slots 1 and 2 are made not valid
+/// under that cycle first; on one that is erased, the sector is erased first, unless it is all FF.
 ///
 /// # Errors
-/// `PowerLost`: the sector's being closed, its gc-done and its list are as before, or it is not closed and its slot 2 is not
-/// valid, so its list is empty and it has no gc-done. A sector that holds more than it may has no part in a list. The
-/// cycle, the slots and the marks are as before, and so is each value, unless the guard of slot 1 has to be put over one.
+/// `PowerLost`. On a bank that is never erased: the sector's being closed, its gc-done and its list are as before, or it is not
+/// closed and its slot 2 is not valid, so its list is empty and it has no gc-done. A sector that holds more than it may has no
+/// part in a list. The cycle, the slots and the marks are as before, and so is each value, unless the guard of slot 1 has to be
+/// put over one. On one that is erased: the sector is as before, or each byte is FF.
 pub fn empty_sector<F: Flash, L: Ledger>(
     flash: &mut F,
     area: &Area,
@@ -70,12 +124,13 @@ pub fn empty_sector<F: Flash, L: Ledger>(
     ensures spends { OnOk result (SpendsBetween (F.device flash.old) (F.device flash.new) 1 3) }
     ensures guards { let units = emptying_units (F.device flash.old) area.now sector in
         OnOk result (SpendsBetween (F.device flash.old) (F.device flash.new) units units) }
-    ensures spends_lost { OnErr result (SpendsBetween (F.device flash.old) (F.device flash.new) 0 3) }
+    ensures spends_lost { OnErr result (SpendsBetween (F.device flash.old) (F.device flash.new) 0 2) }
 {
     let cycle = next_cycle(sector_cycle(flash, area, sector, steps));
-    guard(flash, area, sector, 1, cycle, steps)?;
-    guard(flash, area, sector, 2, cycle, steps)?;
-    put_unit(flash, area, sector, 0, &encode_zentry(&empty_entry(cycle)))
+    match geometry(flash, area).kind {
+        Kind::Rewritable => empty_by_guards(flash, area, sector, cycle, steps),
+        Kind::Erasing => empty_by_erasing(flash, area, sector, cycle, steps),
+    }
 }
 
 // Makes a slot the fill unit. A cut changes no byte.
@@ -87,6 +142,7 @@ fn fill_slot<F: Flash, L: Ledger>(
     steps: &mut Steps<L>,
 ) -> Result<(), PowerLost>
     requires zms { IsZmsSector (F.device flash.old) area.now sector }
+    requires kind { kind_on (F.device flash.old) area.now ≡ Rewritable }
     requires slot { HasSlot (F.device flash.old) area.now slot }
 
     ensures touches { Touches (area.now ∷ []) (F.device flash.old) (F.device flash.new) (is_err result) }
@@ -115,13 +171,14 @@ fn fill_slots<F: Flash, L: Ledger>(
     steps: &mut Steps<L>,
 ) -> Result<(), PowerLost>
     requires zms { IsZmsSector (F.device flash.old) area.now sector }
+    requires kind { kind_on (F.device flash.old) area.now ≡ Rewritable }
     requires guarded { 16 ≤ low (sector_bytes (F.device flash.old) area.now sector) }
     requires bottom { length (valid_slots (sector_bytes (F.device flash.old) area.now sector)) + 2 ≤ bottom }
-    requires top { 0 < top → data_end (sector_bytes (F.device flash.old) area.now sector) + top * 16 ≤ sector_size (F.device flash.old) area.now }
+    requires top { 0 < top → data_end Rewritable (sector_bytes (F.device flash.old) area.now sector) + top * 16 ≤ sector_size (F.device flash.old) area.now }
 
     ensures touches { Touches (area.now ∷ []) (F.device flash.old) (F.device flash.new) (is_err result) }
     ensures others { OthersStay (F.device flash.old) (F.device flash.new) area.now sector }
-    ensures keeps { KeepsList (sector_bytes (F.device flash.old) area.now sector) (sector_bytes (F.device flash.new) area.now sector) }
+    ensures keeps { Makes (λ kind. KeepsList Rewritable 0) (F.device flash.old) (F.device flash.new) area.now sector }
     ensures filled { OnOk result (IsFilled (sector_bytes (F.device flash.new) area.now sector) bottom top) }
     ensures spends { SpendsBetween (F.device flash.old) (F.device flash.new) 0 (top - bottom) }
 {
@@ -133,11 +190,46 @@ fn fill_slots<F: Flash, L: Ledger>(
     Ok(())
 }
 
-/// Closes a sector: every unit between its values and its slots becomes the fill unit, and then the close entry is put,
-/// which names the start of the lowest used slot.
+// On a bank that is never erased, makes every unit between the values of a sector and its slots the fill unit. On one that is
+// erased there is nothing to do.
+fn fill_free<F: Flash, L: Ledger>(
+    flash: &mut F,
+    area: &Area,
+    sector: u32,
+    opened: &Opened,
+    steps: &mut Steps<L>,
+) -> Result<(), PowerLost>
+    requires zms { IsZmsSector (F.device flash.old) area.now sector }
+    requires sound { IsSoundOn (F.device flash.old) area.now sector }
+    requires slots { opened.now.slots ≡ length (valid_slots (sector_bytes (F.device flash.old) area.now sector)) }
+    requires data_end { let d = F.device flash.old in
+        opened.now.data_end ≡ min (data_end (kind_on d area.now) (sector_bytes d area.now sector)) (2 ^ 32 - 1) }
+
+    ensures touches { Touches (area.now ∷ []) (F.device flash.old) (F.device flash.new) (is_err result) }
+    ensures others { OthersStay (F.device flash.old) (F.device flash.new) area.now sector }
+    ensures keeps { Keeps 0 (F.device flash.old) (F.device flash.new) area.now sector }
+    ensures filled { let b = sector_bytes (F.device flash.old) area.now sector in
+        kind_on (F.device flash.old) area.now ≡ Rewritable
+        → OnOk result (IsFilled (sector_bytes (F.device flash.new) area.now sector) (length (valid_slots b) + 2) ((length b - data_end Rewritable b) / 16)) }
+    ensures idle { kind_on (F.device flash.old) area.now ≡ Erasing → F.device flash.new ≡ F.device flash.old }
+    ensures spends { SpendsBetween (F.device flash.old) (F.device flash.new) 0 (closing_units (F.device flash.old) area.now sector - 1) }
+{
+    let geometry = geometry(flash, area);
+    match geometry.kind {
+        Kind::Erasing => Ok(()),
+        Kind::Rewritable => {
+            let bottom = opened.slots + FIRST;
+            let top = geometry.sector.saturating_sub(opened.data_end) / SLOT;
+            fill_slots(flash, area, sector, top, bottom, steps)
+        }
+    }
+}
+
+/// Closes a sector by the close entry, which names the start of the lowest used slot. On a bank that is never erased, every unit
+/// between its values and its slots becomes the fill unit first.
 ///
 /// # Errors
-/// `PowerLost`: the sector's list and marks are as before.
+/// `PowerLost`: the sector's list and marks are as before. On a bank that is erased no byte changed.
 pub fn close<F: Flash, L: Ledger>(
     flash: &mut F,
     area: &Area,
@@ -147,22 +239,20 @@ pub fn close<F: Flash, L: Ledger>(
     requires zms { IsZmsSector (F.device flash.old) area.now sector }
     requires used { IsUsedOn (F.device flash.old) area.now sector }
     requires sound { IsSoundOn (F.device flash.old) area.now sector }
+    requires closable { IsClosableOn (F.device flash.old) area.now sector }
 
     ensures touches { Touches (area.now ∷ []) (F.device flash.old) (F.device flash.new) (is_err result) }
     ensures others { OthersStay (F.device flash.old) (F.device flash.new) area.now sector }
     ensures ok { OnOk result (Makes Closes (F.device flash.old) (F.device flash.new) area.now sector) }
-    ensures lost { OnErr result (Makes KeepsList (F.device flash.old) (F.device flash.new) area.now sector) }
-    ensures spends { let most = free_on (F.device flash.old) area.now sector / 16 + 1 in
-        OnOk result (SpendsBetween (F.device flash.old) (F.device flash.new) 1 most) }
-    ensures spends_lost { let most = free_on (F.device flash.old) area.now sector / 16 + 1 in
-        OnErr result (SpendsBetween (F.device flash.old) (F.device flash.new) 0 most) }
+    ensures lost { OnErr result (Keeps 0 (F.device flash.old) (F.device flash.new) area.now sector) }
+    ensures idle_lost { let d = F.device flash.old in kind_on d area.now ≡ Erasing
+        → OnErr result (sector_bytes (F.device flash.new) area.now sector ≡ sector_bytes d area.now sector) }
+    ensures spends { OnOk result (SpendsBetween (F.device flash.old) (F.device flash.new) 1 (closing_units (F.device flash.old) area.now sector)) }
+    ensures spends_lost { OnErr result (SpendsBetween (F.device flash.old) (F.device flash.new) 0 (closing_units (F.device flash.old) area.now sector)) }
 {
     let opened = opened_sector(flash, area, sector, steps);
-    let size = geometry(flash, area).sector;
-    let bottom = opened.slots + FIRST;
-    let low = size - bottom * SLOT;
-    let top = size.saturating_sub(opened.data_end) / SLOT;
-    fill_slots(flash, area, sector, top, bottom, steps)?;
+    let low = geometry(flash, area).sector - (opened.slots + FIRST) * SLOT;
+    fill_free(flash, area, sector, &opened, steps)?;
     put_unit(
         flash,
         area,

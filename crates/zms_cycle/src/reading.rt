@@ -4,14 +4,14 @@ ghost use Rattle.std.specs.List.{list_all};
 ghost use Rattle.std.specs.Option.{option_and_then, option_map_or};
 ghost use Rattle.flash_map.specs.Area.{sector_bytes};
 ghost use Rattle.ring_laws.specs.Slots.{used_slots};
-ghost use Rattle.zms_cycle.specs.Areas.{IsZmsSector};
+ghost use Rattle.zms_cycle.specs.Areas.{IsZmsSector, kind_on};
 ghost use Rattle.zms_cycle.specs.Entries.{decoded, offset_of, is_special, mark_of, is_empty, is_close, is_done};
-ghost use Rattle.zms_cycle.specs.Sector.{slot_of, is_valid_under, is_valid, cycle_of, valid_slots, holds_close, is_closed, entry_in, value_end, data_len, cost, capacity, data_end};
+ghost use Rattle.zms_cycle.specs.Sector.{slot_of, is_valid_under, is_valid, cycle_of, valid_slots, holds_close, is_closed, entry_in, value_end, data_len, cost, capacity, written, data_end, is_fresh, can_close};
 ghost use Rattle.zms_cycle.specs.States.{state_of};
 
-use crate::{ZEntry, decode_zentry};
-use flash_map::{Area, area_view, geometry, padded};
-use flash_sim::{Flash, Steps};
+use crate::{ZEntry, decode_zentry, zentry_fields};
+use flash_map::{Area, area_view, geometry, is_erased, padded, trimmed_len};
+use flash_sim::{Flash, Kind, Steps};
 use std::sync::ledger::Ledger;
 
 /// The bytes of a slot, which are one unit.
@@ -32,7 +32,7 @@ pub const FIRST: u32 = 2;
 // The slots that values and their entries leave: for empty, close, gc-done, one delete and the guard.
 const KEPT_SLOTS: u32 = 5;
 
-/// A sector: blank, or used in a cycle, with the number of valid slots from slot 2 on and the end of the values in bytes.
+/// A sector: blank, or used in a cycle, with the number of valid slots from slot 2 on and where the next value goes, in bytes.
 #[derive(Clone, Copy, Debug, PartialEq, Eq)]
 pub enum SectorState {
     Blank,
@@ -185,6 +185,24 @@ pub fn entry_in(sector: &[u8], slot: u32) -> Option<Found>
     ordinary(entry_at(sector, slot), slot)
 }
 
+// The entry in a slot of a sector's list. Its CRC has made it one of the list, so it is not made again.
+fn listed_at(sector: &[u8], slot: u32) -> ZEntry
+    requires from { 2 ≤ slot }
+    requires listed { slot < length (valid_slots sector.now) + 2 }
+    ensures { decoded (slot_of sector.now slot).bytes ≡ Some result }
+{
+    zentry_fields(slot_of(sector, slot))
+}
+
+/// The entry in a slot of a sector's list, where it is no special one.
+pub fn listed_entry(sector: &[u8], slot: u32) -> Option<Found>
+    requires from { 2 ≤ slot }
+    requires listed { slot < length (valid_slots sector.now) + 2 }
+    ensures { result ≡ entry_in (slot_of sector.now slot) }
+{
+    ordinary(Some(listed_at(sector, slot)), slot)
+}
+
 fn holds_done(entry: &Option<ZEntry>) -> bool
     ensures { result ≡ option_map_or is_done entry.now false }
 {
@@ -264,19 +282,38 @@ fn len_of(found: &Option<Found>) -> u64
     }
 }
 
-// How far a sector of this cycle is filled.
-fn used_state(sector: &[u8], cycle: u8) -> SectorState
+// The end of what is written under the slots of a used sector with so many of them, by the kind of its bank.
+fn written(sector: &[u8], slots: u32, kind: Kind) -> u32
+    requires long { 48 ≤ length sector.now }
+    requires short { length sector.now ≤ 2 ^ 15 }
+    requires used { IsSome (cycle_of sector.now) }
+    requires slots { slots ≡ length (valid_slots sector.now) }
+    ensures value { result ≡ written kind sector.now }
+    ensures small { result ≤ 2 ^ 15 }
+{
+    match kind {
+        Kind::Rewritable => 0,
+        Kind::Erasing => {
+            let low = sector.len() - (slots + FIRST) as usize * SLOT as usize;
+            padded(SLOT, trimmed_len(&sector[..low]) as u32)
+        }
+    }
+}
+
+// How far a sector of this cycle is filled, on a bank of this kind.
+fn used_state(sector: &[u8], cycle: u8, kind: Kind) -> SectorState
     requires long { 48 ≤ length sector.now }
     requires short { length sector.now ≤ 2 ^ 15 }
     requires cycle { cycle_of sector.now ≡ Some cycle }
-    ensures { result ≡ state_of sector.now }
+    ensures { result ≡ state_of kind sector.now }
 {
     let slots = valid_count(sector, cycle);
+    let written = written(sector, slots, kind);
     let mut ends = 0;
     let mut lens = 0;
     let mut gc_done = false;
     for slot in FIRST..FIRST + slots {
-        let entry = entry_at(sector, slot);
+        let entry = Some(listed_at(sector, slot));
         let found = ordinary(entry, slot);
         ends = end_of(&found).max(ends);
         lens += len_of(&found);
@@ -286,19 +323,22 @@ fn used_state(sector: &[u8], cycle: u8) -> SectorState
         cycle,
         closed: is_closed(sector, cycle),
         slots,
-        data_end: ends.max(lens).min(u64::from(u32::MAX)) as u32,
+        data_end: ends
+            .max(lens)
+            .max(u64::from(written))
+            .min(u64::from(u32::MAX)) as u32,
         gc_done,
     }
 }
 
-/// How the bytes of a sector read.
-pub fn read_sector(sector: &[u8]) -> SectorState
+/// How the bytes of a sector read, on a bank of this kind.
+pub fn read_sector(sector: &[u8], kind: Kind) -> SectorState
     requires long { 48 ≤ length sector.now }
     requires short { length sector.now ≤ 2 ^ 15 }
-    ensures { result ≡ state_of sector.now }
+    ensures { result ≡ state_of kind sector.now }
 {
     match cycle_of(sector) {
-        Some(cycle) => used_state(sector, cycle),
+        Some(cycle) => used_state(sector, cycle, kind),
         None => SectorState::Blank,
     }
 }
@@ -311,11 +351,37 @@ pub fn state<F: Flash, L: Ledger>(
     steps: &mut Steps<L>,
 ) -> SectorState
     requires { IsZmsSector (F.device flash.now) area.now sector }
-    ensures state { result ≡ state_of (sector_bytes (F.device flash.now) area.now sector) }
+    ensures state { let d = F.device flash.now in
+        result ≡ state_of (kind_on d area.now) (sector_bytes d area.now sector) }
     ensures step { steps.new ≡ steps.old + 1 }
 {
-    let size = geometry(flash, area).sector;
-    read_sector(area_view(flash, area, sector, 0, size, steps))
+    let geometry = geometry(flash, area);
+    let bytes = area_view(flash, area, sector, 0, geometry.sector, steps);
+    read_sector(bytes, geometry.kind)
+}
+
+/// Whether a sector holds its empty entry and is erased but for that.
+#[tactic(auto, unfolding(crate::specs::Sector::is_fresh))]
+pub fn is_fresh(sector: &[u8]) -> bool
+    requires { 16 ≤ length sector.now }
+    ensures { result ≡ is_fresh sector.now }
+{
+    match cycle_of(sector) {
+        Some(_) => is_erased(&sector[..sector.len() - SLOT as usize]),
+        None => false,
+    }
+}
+
+/// Whether the close entry can be put into a sector, on a bank of this kind.
+#[tactic(auto, unfolding(crate::specs::Sector::can_close))]
+pub fn can_close(sector: &[u8], kind: Kind) -> bool
+    requires { 32 ≤ length sector.now }
+    ensures { result ≡ can_close kind sector.now }
+{
+    match kind {
+        Kind::Rewritable => true,
+        Kind::Erasing => is_erased(slot_of(sector, 1)),
+    }
 }
 
 // The cycle of a sector, or none where it is blank.
@@ -332,7 +398,7 @@ pub(crate) fn sector_cycle<F: Flash, L: Ledger>(
     cycle_of(area_view(flash, area, sector, 0, size, steps))
 }
 
-/// A used sector: its cycle, the number of its valid slots, and the end of its values, in bytes.
+/// A used sector: its cycle, the number of its valid slots, and where the next value goes, in bytes.
 #[derive(Clone, Copy, Debug, PartialEq, Eq)]
 pub(crate) struct Opened {
     pub cycle: u8,
@@ -351,7 +417,8 @@ pub(crate) fn opened_sector<F: Flash, L: Ledger>(
     requires used { IsSome (cycle_of (sector_bytes (F.device flash.now) area.now sector)) }
     ensures cycle { cycle_of (sector_bytes (F.device flash.now) area.now sector) ≡ Some result.cycle }
     ensures slots { result.slots ≡ length (valid_slots (sector_bytes (F.device flash.now) area.now sector)) }
-    ensures data_end { result.data_end ≡ min (data_end (sector_bytes (F.device flash.now) area.now sector)) (2 ^ 32 - 1) }
+    ensures data_end { let d = F.device flash.now in
+        result.data_end ≡ min (data_end (kind_on d area.now) (sector_bytes d area.now sector)) (2 ^ 32 - 1) }
 {
     match state(flash, area, sector, steps) {
         SectorState::Used {

@@ -1,5 +1,5 @@
 -- Bytes FF are no empty entry, so a sector of them alone is not in use.
-use Rattle.std.proofs.Common.{◌≡◌, ℕ, ◌+◌, ◌-◌, ◌*◌, ◌≤◌, Bool, true, false, not, cond, List, length, take, get_or, replicate, Option, Some, None, refl, sym, ap, ◌∙◌, inl, inr, arith}
+use Rattle.std.proofs.Common.{◌≡◌, ℕ, ◌+◌, ◌-◌, ◌*◌, ◌≤◌, true, not, cond, List, length, take, get_or, replicate, Option, Some, None, refl, sym, ap, ◌∙◌, inl, inr, arith}
 use Rattle.std.specs.Prelude.{is_some}
 use Rattle.std.specs.List.{list_all, range_with_len}
 use Rattle.std.specs.Option.{option_and_then}
@@ -10,11 +10,12 @@ use Rattle.std.proofs.lemmas.List.FromFn.{length-range_with_len, get_or-range_wi
 use Rattle.crc8_entry.specs.Crc.{crc, extended, bits_of}
 use Rattle.flash_map.specs.Units.{is_erased}
 use Rattle.flash_map.proofs.ErasedBytes.{erased_is}
+use Rattle.flash_sim.specs.declared.flash.Kind.{Kind}
 use Rattle.ring_laws.specs.Slots.{slot_at}
 use Rattle.zms_cycle.specs.Entries.{decoded, is_empty}
-use Rattle.zms_cycle.specs.Sector.{slot_of, cycle_of}
+use Rattle.zms_cycle.specs.Sector.{cycle_of}
 use Rattle.zms_kind.specs.Area.{is_unused}
-use Rattle.zms_kind.proofs.StepLemmas.{no_cycle}
+use Rattle.zms_kind.proofs.Roomy.{no_cycle}
 
 -- the cycle of a sector with these bytes in slot 0
 abbrev cycle_by : List ℕ → Option ℕ
@@ -37,7 +38,7 @@ none_at n few = by_cycle (cycle_by (replicate n 255)) refl
         let here = ap (λ (k : ℕ). not (is_some (cycle_by (replicate k 255)))) same ∙ ap (λ (o : Option ℕ). not (is_some o)) is in
         absurd (true≢false (sym each_none ∙ list_all_at (λ (k : ℕ). not (is_some (cycle_by (replicate k 255)))) (range_with_len 0 17) n 0 (omega arith) here))
 
-cycle_none : (m : ℕ) → cycle_of (replicate m 255) ≡ None
+pub cycle_none : (m : ℕ) → cycle_of (replicate m 255) ≡ None
 unfolding slot_at cycle_of
 cycle_none m =
     let count = length-replicate {A = ℕ} m 255 in
@@ -50,5 +51,5 @@ cycle_none m =
       | inr long ↦ ap cycle_by (bytes ∙ take-replicate {X = ℕ} (start + 16 - start) (m - start) 255 (omega arith)) ∙ none_at (start + 16 - start) (omega arith)
     ]
 
-pub erased-unused : (b : List ℕ) → is_erased b ≡ true → is_unused b ≡ true
-erased-unused b erased = no_cycle b (ap cycle_of (erased_is b erased) ∙ cycle_none (length b))
+pub erased-unused : (kind : Kind) (b : List ℕ) → is_erased b ≡ true → is_unused kind b ≡ true
+erased-unused kind b erased = no_cycle kind b (ap cycle_of (erased_is b erased) ∙ cycle_none (length b))

@@ -3,6 +3,7 @@ use Rattle.std.proofs.Common.{◌≡◌, ℕ, ◌+◌, ◌*◌, ◌≤◌, Bool,
 use Rattle.std.specs.Option.{option_map_or}
 use Rattle.std.proofs.lemmas.Bool.{cases_Bool, cases_eq, cond-true, cond-false, eq-eqb, ne_eqb, leb-true}
 use Rattle.pair_laws.specs.Rounds.{stored_cost}
+use Rattle.flash_sim.specs.declared.flash.Kind.{Kind}
 use Rattle.ring_laws.specs.Slots.{Slot}
 use Rattle.ring_laws.proofs.SlotCosts.{slots_cost}
 use Rattle.zms_cycle.specs.declared.entry.ZEntry.{ZEntry}
@@ -35,8 +36,8 @@ entry_cost-le f = let le : entry_cost f ≤ 16 + data_len f.entry.len = at_most 
     at_most true n = omega arith
     at_most false n = omega arith
 
-stored-le_slots : (b : List ℕ) → is_sound b ≡ true → stored_cost cost (pairs b) + cond (has_gc_done b) 16 0 ≤ 16 * length (valid_slots b) + data_end b
-stored-le_slots b sound =
+stored-le_slots : (kind : Kind) (b : List ℕ) → is_sound b ≡ true → stored_cost cost (pairs b) + cond (has_gc_done b) 16 0 ≤ 16 * length (valid_slots b) + data_end kind b
+stored-le_slots kind b sound =
     let costs = costs_are b sound in
     let slots = slots_cost entry_in holds_done 16 entry_cost (λ (f : Found). data_len f.entry.len) entry_cost-le entry_not_done (valid_slots b) in
     let above = end_of-above (entries b) in
@@ -47,14 +48,14 @@ spare : (t : Bool) → cond t 2 3 * 16 + cond t 16 0 ≡ 48
 spare true = refl
 spare false = refl
 
-pub fits-costs : (b : List ℕ) (len : ℕ) → is_sound b ≡ true → stored_cost cost (pairs b) ≤ capacity (length b) → fits b len ≡ true → stored_cost cost (pairs b) + cond (eqb len 0) 0 (cost len) ≤ capacity (length b)
-fits-costs b len sound costs fitting =
+pub fits-costs : (kind : Kind) (b : List ℕ) (len : ℕ) → is_sound b ≡ true → stored_cost cost (pairs b) ≤ capacity (length b) → fits kind b len ≡ true → stored_cost cost (pairs b) + cond (eqb len 0) 0 (cost len) ≤ capacity (length b)
+fits-costs kind b len sound costs fitting =
     elim (cases_eq len 0) [
       | inl none ↦ let own = cond-true (eqb len 0) 0 (cost len) (eq-eqb len 0 none) in omega arith
       | inr some ↦
           let own = cond-false (eqb len 0) 0 (cost len) (ne_eqb len 0 some) in
-          let room = leb-true (cost len + cond (has_gc_done b) 2 3 * 16) (free b) (sym (cond-false (eqb len 0) (leb 32 (free b)) (leb (cost len + cond (has_gc_done b) 2 3 * 16) (free b)) (ne_eqb len 0 some)) ∙ fitting) in
-          let slots = stored-le_slots b sound in
+          let room = leb-true (cost len + cond (has_gc_done b) 2 3 * 16) (free kind b) (sym (cond-false (eqb len 0) (leb 32 (free kind b)) (leb (cost len + cond (has_gc_done b) 2 3 * 16) (free kind b)) (ne_eqb len 0 some)) ∙ fitting) in
+          let slots = stored-le_slots kind b sound in
           let both = spare (has_gc_done b) in
           omega arith
     ]

@@ -12,33 +12,37 @@ use Rattle.ring_laws.proofs.SlotWalks as walks
 use Rattle.ring_laws.specs.Slots.{Slot, slot_at, slots, used_slots}
 use Rattle.ring_laws.proofs.SlotLemmas.{index-slot_at, length-used_slots}
 use Rattle.ring_laws.proofs.SlotCounts.{slots_to_used, used_inside, used_count_fits}
+use Rattle.flash_sim.specs.declared.flash.Kind.{Kind}
+use Rattle.flash_sim.specs.declared.flash.Kind.TheVariants.{Erasing, Rewritable}
 use Rattle.ring_laws.specs.Reading.{IsReading}
 use Rattle.zms_cycle.specs.declared.entry.ZEntry.{ZEntry}
 use Rattle.zms_cycle.specs.declared.reading.Found.{Found}
 use Rattle.zms_cycle.specs.declared.reading.SectorState.TheVariants.{Blank, Used}
-use Rattle.zms_cycle.specs.Sector.{slot_of, is_valid, cycle_of, valid_slots, holds_close, is_closed, entry_in, entries, holds_done, has_gc_done, capacity, low, data_end, end_of, is_under, has_guard, is_sound, pair_of, entry_cost, holds_too_much, is_overfull}
+use Rattle.zms_cycle.specs.Sector.{slot_of, is_valid, cycle_of, valid_slots, holds_close, is_closed, entry_in, entries, holds_done, has_gc_done, capacity, low, written, data_end, end_of, is_under, has_guard, is_sound, pair_of, entry_cost, holds_too_much, is_overfull, can_close}
 use Rattle.zms_cycle.specs.Entries.{decoded, is_special}
 use Rattle.zms_cycle.specs.States.{state_of}
 use Rattle.zms_cycle.proofs.Slots16.{entry_in-is}
+use Rattle.zms_cycle.proofs.ErasedSlots.{written-blank, written-never}
 use Rattle.zms_cycle.proofs.Frames.{sound-parts}
 use Rattle.zms_cycle.proofs.Scanning.{entries_to}
-use Rattle.zms_kind.specs.Area.{is_begun, is_unused, reading, marks_of, placed_at, IsListed, last_in}
+use Rattle.zms_kind.specs.Area.{is_begun, may_close, is_unused, reading, marks_of, placed_at, IsListed, last_in}
 
 -- What the state says.
 
-state_some : (b : List ℕ) (o : Option ℕ) → cycle_of b ≡ o → state_of b ≡ option_map_or (λ c. Used c (is_closed b) (length (valid_slots b)) (min (data_end b) (2 ^ 32 - 1)) (has_gc_done b)) o Blank
-state_some b o at = ap (λ (o : Option ℕ). option_map_or (λ c. Used c (is_closed b) (length (valid_slots b)) (min (data_end b) (2 ^ 32 - 1)) (has_gc_done b)) o Blank) at
+module _ (kind : Kind) (b : List ℕ) where
+  state_some : (o : Option ℕ) → cycle_of b ≡ o → state_of kind b ≡ option_map_or (λ c. Used c (is_closed b) (length (valid_slots b)) (min (data_end kind b) (2 ^ 32 - 1)) (has_gc_done b)) o Blank
+  state_some o at = ap (λ (o : Option ℕ). option_map_or (λ c. Used c (is_closed b) (length (valid_slots b)) (min (data_end kind b) (2 ^ 32 - 1)) (has_gc_done b)) o Blank) at
 
-not_used : {c n e : ℕ} {s d : Bool} → Blank ≡ Used c s n e d → ⊥
-not_used h = cc
+  not_used : {c n e : ℕ} {s d : Bool} → Blank ≡ Used c s n e d → ⊥
+  not_used h = cc
 
-blank_is : (b : List ℕ) (o : Option ℕ) → cycle_of b ≡ o → Blank ≡ state_of b → cycle_of b ≡ None
-blank_is b None at is = at
-blank_is b (Some cycle) at is = absurd (not_used (is ∙ state_some b (Some cycle) at))
+  blank_is : (o : Option ℕ) → cycle_of b ≡ o → Blank ≡ state_of kind b → cycle_of b ≡ None
+  blank_is None at is = at
+  blank_is (Some cycle) at is = absurd (not_used (is ∙ state_some (Some cycle) at))
 
-record IsUsed (b : List ℕ) (cycle slots end : ℕ) (closed done : Bool) : Type 0 where
+record IsUsed (kind : Kind) (b : List ℕ) (cycle slots end : ℕ) (closed done : Bool) : Type 0 where
   pub of_cycle : cycle_of b ≡ Some cycle
-  pub ends : end ≡ min (data_end b) (2 ^ 32 - 1)
+  pub ends : end ≡ min (data_end kind b) (2 ^ 32 - 1)
   pub shut : closed ≡ is_closed b
   pub count : slots ≡ length (valid_slots b)
   pub marked : done ≡ has_gc_done b
@@ -46,10 +50,10 @@ record IsUsed (b : List ℕ) (cycle slots end : ℕ) (closed done : Bool) : Type
 same_used : {a c n e m f : ℕ} {s d t g : Bool} → Used a s n e d ≡ Used c t m f g → (s ≡ t) × (n ≡ m) × (d ≡ g) × (a ≡ c) × (e ≡ f)
 same_used h = (cc, cc, cc, cc, cc)
 
-used_is : (b : List ℕ) (cycle slots end : ℕ) (closed done : Bool) (o : Option ℕ) → cycle_of b ≡ o → Used cycle closed slots end done ≡ state_of b → IsUsed b cycle slots end closed done
-used_is b cycle slots end closed done None at is = absurd (not_used (sym (is ∙ state_some b None at)))
-used_is b cycle slots end closed done (Some c) at is =
-    let same = same_used (is ∙ state_some b (Some c) at) in
+used_is : (kind : Kind) (b : List ℕ) (cycle slots end : ℕ) (closed done : Bool) (o : Option ℕ) → cycle_of b ≡ o → Used cycle closed slots end done ≡ state_of kind b → IsUsed kind b cycle slots end closed done
+used_is kind b cycle slots end closed done None at is = absurd (not_used kind b (sym (is ∙ state_some kind b None at)))
+used_is kind b cycle slots end closed done (Some c) at is =
+    let same = same_used (is ∙ state_some kind b (Some c) at) in
     record { of_cycle = at ∙ ap (λ (n : ℕ). Some n) (sym same.3); ends = same.4; shut = same.0; count = same.1; marked = same.2 }
 
 -- where slot 2 is not valid, none is
@@ -86,9 +90,9 @@ begun_count b long =
       | inr unused ↦ ap (λ (ss : List Slot). ltb 0 (length ss)) (none_valid b unused) ∙ sym unused
     ]
 
-marks_are : (b : List ℕ) (blank begun closed done : Bool) (slots end : ℕ) → blank ≡ not (is_some (cycle_of b)) → begun ≡ is_begun b → closed ≡ is_closed b → done ≡ has_gc_done b → slots ≡ length (valid_slots b) → end ≡ min (data_end b) (2 ^ 32 - 1)
-    → record { blank = blank; begun = begun; closed = closed; gc_done = done; slots = slots; data_end = end } ≡ marks_of b
-marks_are b blank begun closed done slots end o a c d n e =
+marks_are : (kind : Kind) (b : List ℕ) (blank begun closed done : Bool) (slots end : ℕ) → blank ≡ not (is_some (cycle_of b)) → begun ≡ is_begun b → closed ≡ is_closed b → done ≡ has_gc_done b → slots ≡ length (valid_slots b) → end ≡ min (data_end kind b) (2 ^ 32 - 1)
+    → record { blank = blank; begun = begun; closed = closed; gc_done = done; slots = slots; data_end = end } ≡ marks_of kind b
+marks_are kind b blank begun closed done slots end o a c d n e =
     ap (λ (t : Bool). record { blank = t; begun = begun; closed = closed; gc_done = done; slots = slots; data_end = end }) o
     ∙ ap (λ (t : Bool). record { blank = not (is_some (cycle_of b)); begun = t; closed = closed; gc_done = done; slots = slots; data_end = end }) a
     ∙ ap (λ (t : Bool). record { blank = not (is_some (cycle_of b)); begun = is_begun b; closed = t; gc_done = done; slots = slots; data_end = end }) c
@@ -100,49 +104,104 @@ end_of-nothing : end_of [] ≡ 0
 unfolding end_of
 end_of-nothing = refl
 
-pub marks_blank : (b : List ℕ) → Blank ≡ state_of b → record { blank = true; begun = false; closed = false; gc_done = false; slots = 0; data_end = 0 } ≡ marks_of b
+-- the data end of a sector with no slots, under which nothing is written
+pub empty_end : (kind : Kind) (b : List ℕ) → valid_slots b ≡ [] → written kind b ≡ 0 → data_end kind b ≡ 0
+empty_end kind b empty none =
+    let ends : end_of (entries b) ≡ 0 = ap (λ (ss : List Slot). end_of (filter_map entry_in ss)) empty ∙ end_of-nothing in
+    omega arith
+
+pub written-none : (kind : Kind) (b : List ℕ) → cycle_of b ≡ None → written kind b ≡ 0
+written-none Rewritable b none = written-never b
+written-none Erasing b none = written-blank b none
+
+pub marks_blank : (kind : Kind) (b : List ℕ) → Blank ≡ state_of kind b → record { blank = true; begun = false; closed = false; gc_done = false; slots = 0; data_end = 0 } ≡ marks_of kind b
 unfolding is_begun
-marks_blank b is =
-    let none = blank_is b (cycle_of b) refl is in
+marks_blank kind b is =
+    let none = blank_is kind b (cycle_of b) refl is in
     let invalid = λ (slot : Slot). ap (λ (o : Option ℕ). is_valid o slot) none in
     let empty = none_valid b (invalid (slot_of b 2)) in
-    let end : data_end b ≡ 0 = ap (λ (ss : List Slot). end_of (filter_map entry_in ss)) empty ∙ end_of-nothing in
-    marks_are b true false false false 0 0 (sym (ap (λ (o : Option ℕ). not (is_some o)) none)) (sym (invalid (slot_of b 2))) (sym (and_left (is_valid (cycle_of b) (slot_of b 1)) (holds_close (slot_of b 1)) (invalid (slot_of b 1))))
+    let end : data_end kind b ≡ 0 = empty_end kind b empty (written-none kind b none) in
+    marks_are kind b true false false false 0 0 (sym (ap (λ (o : Option ℕ). not (is_some o)) none)) (sym (invalid (slot_of b 2))) (sym (and_left (is_valid (cycle_of b) (slot_of b 1)) (holds_close (slot_of b 1)) (invalid (slot_of b 1))))
     (sym (ap (list_any holds_done) empty)) (sym (ap (λ (ss : List Slot). length ss) empty)) (omega arith)
 
-pub marks_used : (b : List ℕ) (cycle slots end : ℕ) (closed done begun : Bool) → 48 ≤ length b → Used cycle closed slots end done ≡ state_of b → begun ≡ ltb 0 slots
-    → record { blank = false; begun = begun; closed = closed; gc_done = done; slots = slots; data_end = end } ≡ marks_of b
-marks_used b cycle slots end closed done begun long is from =
-    let u = used_is b cycle slots end closed done (cycle_of b) refl is in
-    marks_are b false begun closed done slots end (sym (ap (λ (o : Option ℕ). not (is_some o)) u.of_cycle)) (from ∙ ap (λ (n : ℕ). ltb 0 n) u.count ∙ begun_count b long) u.shut u.marked u.count u.ends
+pub marks_used : (kind : Kind) (b : List ℕ) (cycle slots end : ℕ) (closed done begun : Bool) → 48 ≤ length b → Used cycle closed slots end done ≡ state_of kind b → begun ≡ ltb 0 slots
+    → record { blank = false; begun = begun; closed = closed; gc_done = done; slots = slots; data_end = end } ≡ marks_of kind b
+marks_used kind b cycle slots end closed done begun long is from =
+    let u = used_is kind b cycle slots end closed done (cycle_of b) refl is in
+    marks_are kind b false begun closed done slots end (sym (ap (λ (o : Option ℕ). not (is_some o)) u.of_cycle)) (from ∙ ap (λ (n : ℕ). ltb 0 n) u.count ∙ begun_count b long) u.shut u.marked u.count u.ends
 
 -- A sector that is not in use.
 
-unused_parts : (b : List ℕ) → is_unused b ≡ true → (is_valid (cycle_of b) (slot_of b 2) ≡ false) × (is_closed b ≡ false)
+-- whatever stands in slot 1, a bank that is never erased takes the close entry
+pub may_close-never : (b : List ℕ) → may_close Rewritable b ≡ true
+unfolding may_close can_close
+may_close-never b = by_cases (is_closed b) (not (is_some (cycle_of b)))
+  where
+    by_cases : (x y : Bool) → (x || (y || true)) ≡ true
+    by_cases true y = refl
+    by_cases false true = refl
+    by_cases false false = refl
+
+pub closed_may : (kind : Kind) (b : List ℕ) → is_closed b ≡ true → may_close kind b ≡ true
+unfolding may_close
+closed_may kind b closed = ap (λ (t : Bool). t || (not (is_some (cycle_of b)) || can_close kind b)) closed
+
+or_true : (x y : Bool) → y ≡ true → (x || y) ≡ true
+or_true true y e = refl
+or_true false y e = e
+
+pub blank_may : (kind : Kind) (b : List ℕ) → cycle_of b ≡ None → may_close kind b ≡ true
+unfolding may_close
+blank_may kind b none = or_true (is_closed b) (not (is_some (cycle_of b)) || can_close kind b) (ap (λ (o : Option ℕ). not (is_some o) || can_close kind b) none)
+
+pub closable_may : (kind : Kind) (b : List ℕ) → can_close kind b ≡ true → may_close kind b ≡ true
+unfolding may_close
+closable_may kind b closable = or_true (is_closed b) (not (is_some (cycle_of b)) || can_close kind b) (or_true (not (is_some (cycle_of b))) (can_close kind b) closable)
+
+-- an open sector with a cycle that may be closed can be
+pub may_closable : (kind : Kind) (b : List ℕ) → may_close kind b ≡ true → is_closed b ≡ false → is_some (cycle_of b) ≡ true → can_close kind b ≡ true
+unfolding may_close
+may_closable kind b may open_here used =
+    sym (ap (λ (t : Bool). t || (not (is_some (cycle_of b)) || can_close kind b)) open_here ∙ ap (λ (t : Bool). not t || can_close kind b) used) ∙ may
+
+unused_parts : (kind : Kind) (b : List ℕ) → is_unused kind b ≡ true → (is_valid (cycle_of b) (slot_of b 2) ≡ false) × (is_closed b ≡ false) × (may_close kind b ≡ true)
 unfolding is_unused is_begun
-unused_parts b unused =
-    let parts = and_parts (not (is_valid (cycle_of b) (slot_of b 2))) (not (is_closed b)) unused in
-    (not-true (is_valid (cycle_of b) (slot_of b 2)) parts.0, not-true (is_closed b) parts.1)
+unused_parts kind b unused =
+    let parts = and_parts (not (is_valid (cycle_of b) (slot_of b 2))) (not (is_closed b) && may_close kind b) unused in
+    let more = and_parts (not (is_closed b)) (may_close kind b) parts.1 in
+    (not-true (is_valid (cycle_of b) (slot_of b 2)) parts.0, not-true (is_closed b) more.0, more.1)
 
-pub unused_slots : (b : List ℕ) → is_unused b ≡ true → valid_slots b ≡ []
-unused_slots b unused = none_valid b (unused_parts b unused).0
+pub unused_slots : (kind : Kind) (b : List ℕ) → is_unused kind b ≡ true → valid_slots b ≡ []
+unused_slots kind b unused = none_valid b (unused_parts kind b unused).0
 
-pub unused_closed : (b : List ℕ) → is_unused b ≡ true → is_closed b ≡ false
-unused_closed b unused = (unused_parts b unused).1
+pub unused_closed : (kind : Kind) (b : List ℕ) → is_unused kind b ≡ true → is_closed b ≡ false
+unused_closed kind b unused = (unused_parts kind b unused).1
+
+pub unused_may : (kind : Kind) (b : List ℕ) → is_unused kind b ≡ true → may_close kind b ≡ true
+unused_may kind b unused = (unused_parts kind b unused).2
+
+-- where its slot 1 is as it must be, a sector is in use on any bank or on none
+pub unused-by : (kind : Kind) (b : List ℕ) → may_close kind b ≡ true → is_unused kind b ≡ is_unused Rewritable b
+unfolding is_unused
+unused-by kind b may =
+    ap (λ (t : Bool). not (is_begun b) && (not (is_closed b) && t)) may
+    ∙ sym (ap (λ (t : Bool). not (is_begun b) && (not (is_closed b) && t)) (may_close-never b))
 
 -- A sector that is not in use is open and holds nothing.
-pub laws : IsReading reading
-laws = record {
-  closed = unused_closed;
-  gc_done = λ b unused. ap (list_any holds_done) (unused_slots b unused);
-  pairs = λ b unused. ap (λ (ss : List Slot). map (pair_of b) (filter_map entry_in ss)) (unused_slots b unused);
+pub laws : (kind : Kind) → IsReading (reading kind)
+laws kind = record {
+  closed = unused_closed kind;
+  gc_done = λ b unused. ap (list_any holds_done) (unused_slots kind b unused);
+  pairs = λ b unused. ap (λ (ss : List Slot). map (pair_of b) (filter_map entry_in ss)) (unused_slots kind b unused);
 }
 
-pub unused-is : (b : List ℕ) → (is_begun b || is_closed b) ≡ not (is_unused b)
+pub unused-is : (b : List ℕ) → (is_begun b || is_closed b) ≡ not (is_unused Rewritable b)
 unfolding is_unused
-unused-is b = by_cases (is_begun b) (is_closed b)
+unused-is b =
+    by_cases (is_begun b) (is_closed b)
+    ∙ ap (λ (t : Bool). not (not (is_begun b) && (not (is_closed b) && t))) (sym (may_close-never b))
   where
-    by_cases : (x y : Bool) → (x || y) ≡ not (not x && not y)
+    by_cases : (x y : Bool) → (x || y) ≡ not (not x && (not y && true))
     by_cases true y = refl
     by_cases false true = refl
     by_cases false false = refl
@@ -165,18 +224,18 @@ costs_of b roomy =
       | inr le ↦ le
     ]
 
-pub unused_sound : (b : List ℕ) → 48 ≤ length b → is_unused b ≡ true → is_sound b ≡ true
-unused_sound b long unused =
-    let empty = unused_slots b unused in
+pub unused_sound : (kind : Kind) (b : List ℕ) → 48 ≤ length b → is_unused kind b ≡ true → is_sound b ≡ true
+unused_sound kind b long unused =
+    let empty = unused_slots kind b unused in
     let none : length (valid_slots b) ≡ 0 = ap (λ (ss : List Slot). length ss) empty in
     ap (λ (t : Bool). t && list_all (is_under (low b - 16)) (entries b)) (le-leb 16 (low b) (omega arith))
     ∙ ap (λ (ss : List Slot). list_all (is_under (low b - 16)) (filter_map entry_in ss)) empty
 
-pub unused_roomy : (b : List ℕ) → 48 ≤ length b → is_unused b ≡ true → is_overfull b ≡ false
+pub unused_roomy : (kind : Kind) (b : List ℕ) → 48 ≤ length b → is_unused kind b ≡ true → is_overfull b ≡ false
 unfolding holds_too_much
-unused_roomy b long unused =
-    let guard = (sound-parts b (unused_sound b long unused)).guard in
-    let empty : entries b ≡ [] = ap (filter_map entry_in) (unused_slots b unused) in
+unused_roomy kind b long unused =
+    let guard = (sound-parts b (unused_sound kind b long unused)).guard in
+    let empty : entries b ≡ [] = ap (filter_map entry_in) (unused_slots kind b unused) in
     ap (λ (t : Bool). not t || holds_too_much b) (le-leb 16 (low b) guard)
     ∙ ap (λ (found : List Found). list_any (λ f. not (is_under (low b - 16) f)) found || ltb (capacity (length b)) (sum_by entry_cost found)) empty
     ∙ le-ltb (capacity (length b)) 0 (omega arith)

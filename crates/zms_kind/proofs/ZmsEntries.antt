@@ -1,5 +1,6 @@
 -- The entries of ZMS, as the laws on live items ask for them.
 use Rattle.std.proofs.Common.{refl, ◌∙◌, arith}
+use Rattle.flash_sim.specs.declared.flash.Kind.{Kind}
 use Rattle.ring_laws.proofs.SlotLemmas.{index-slot_at}
 use Rattle.ring_laws.specs.Entries.{AreEntries}
 use Rattle.ring_laws.proofs.SlotEntries.{read-slots}
@@ -8,8 +9,8 @@ use Rattle.zms_kind.specs.Area.{zms}
 use Rattle.zms_kind.proofs.EntryReads.{is_read, bytes_len}
 use Rattle.zms_kind.proofs.Sectors.{read_room}
 
-pub are_zms : AreEntries zms
-are_zms = record {
+pub are_zms : (kind : Kind) → AreEntries (zms kind)
+are_zms kind = record {
   listed = λ b. read-slots entry_in (is_valid (cycle_of b)) 2 16 b;
   sector = λ place e. refl;
   slot = λ b place n e some. (is_read (slot_of b n) e some).slot_is ∙ index-slot_at 16 b n;

@@ -10,4 +10,4 @@ mod sector;
 pub use laws::parts_of_list;
 pub use mounting::scan;
 pub use places::marks_at;
-pub use sector::{Marks, Placed, find_in};
+pub use sector::{Marks, Placed, find_in, is_clean};

@@ -2,12 +2,13 @@
 ghost use Rattle.std.specs.Prelude.{◌≡◌, ◌^◌, ◌<◌, ◌≤◌, ◌||◌, not, length, false, IfSome};
 ghost use Rattle.std.specs.Option.{option_map, option_map_or};
 ghost use Rattle.zms_cycle.specs.Sector.{valid_slots, entries, has_guard, is_under, cost, capacity, entry_cost, holds_too_much};
-ghost use Rattle.zms_kind.specs.Area.{marks_of, placed_at, last_in, IsListed};
+ghost use Rattle.zms_kind.specs.Area.{marks_of, may_close, is_clean, placed_at, last_in, IsListed};
 
 use flash_map::padded;
+use flash_sim::Kind;
 use zms_cycle::{
-    FIRST, Found, SLOT, SectorState, TAIL, ZEntry, capacity, cost, entry_in, offset_of, reach_in,
-    read_sector,
+    FIRST, Found, SLOT, SectorState, TAIL, ZEntry, can_close, capacity, cost, is_fresh,
+    listed_entry, offset_of, reach_in, read_sector,
 };
 
 // The slots of a sector that no entry takes up: for empty and close, and the guard slot.
@@ -45,13 +46,13 @@ impl Marks {
     }
 }
 
-/// The marks of a sector.
-pub fn read_marks(sector: &[u8]) -> Marks
+/// The marks of a sector, on a bank of this kind.
+pub fn read_marks(sector: &[u8], kind: Kind) -> Marks
     requires long { 48 ≤ length sector.now }
     requires short { length sector.now ≤ 2 ^ 15 }
-    ensures { result ≡ marks_of sector.now }
+    ensures { result ≡ marks_of kind sector.now }
 {
-    match read_sector(sector) {
+    match read_sector(sector, kind) {
         SectorState::Blank => Marks {
             blank: true,
             begun: false,
@@ -74,6 +75,37 @@ pub fn read_marks(sector: &[u8]) -> Marks
             slots,
             data_end,
         },
+    }
+}
+
+/// Whether a sector with these marks is closed, or can be, or is blank, on a bank of this kind.
+#[tactic(auto, unfolding(crate::specs::Area::may_close))]
+pub fn may_close(sector: &[u8], marks: &Marks, kind: Kind) -> bool
+    requires long { 48 ≤ length sector.now }
+    requires marks { marks.now ≡ marks_of kind sector.now }
+    ensures { result ≡ may_close kind sector.now }
+{
+    if marks.closed {
+        return true;
+    }
+    if marks.blank {
+        return true;
+    }
+    can_close(sector, kind)
+}
+
+/// Whether nothing has to be done to a sector before a collection into it is begun, but to empty a blank one, on a bank of
+/// this kind.
+#[tactic(auto, unfolding(crate::specs::Area::is_clean))]
+pub fn is_clean(sector: &[u8], kind: Kind) -> bool
+    requires long { 48 ≤ length sector.now }
+    requires short { length sector.now ≤ 2 ^ 15 }
+    ensures { result ≡ is_clean kind sector.now }
+{
+    let marks = read_marks(sector, kind);
+    match kind {
+        Kind::Rewritable => !marks.in_use(),
+        Kind::Erasing => marks.blank || is_fresh(sector),
     }
 }
 
@@ -135,7 +167,7 @@ pub fn holds_too_much(sector: &[u8], slots: u32) -> bool
     let mut over = false;
     let mut costs = 0;
     for slot in FIRST..FIRST + slots {
-        let found = entry_in(sector, slot);
+        let found = listed_entry(sector, slot);
         over |= passes(&found, limit);
         costs += cost_of(&found);
     }
@@ -152,7 +184,7 @@ pub fn find_in(sector: &[u8], place: u32, id: u32) -> Option<Placed>
 {
     let mut count = reach_in(sector, id);
     while count > 0 {
-        if let Some(found) = entry_in(sector, count + 1) {
+        if let Some(found) = listed_entry(sector, count + 1) {
             if found.entry.id == id {
                 return Some(placed_in(found, place));
             }

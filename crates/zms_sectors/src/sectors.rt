@@ -1,21 +1,22 @@
 // What is kept of the open sector, and the calls on sectors.
-ghost use Rattle.std.specs.Prelude.{◌≡◌, ◌+◌, ◌*◌, ◌^◌, ◌<◌, ◌≤◌, ℕ, List, length, Some};
+ghost use Rattle.std.specs.Prelude.{◌≡◌, ◌+◌, ◌*◌, ◌^◌, ◌<◌, ◌≤◌, ℕ, IfSome, List, length, Some};
+ghost use Rattle.std.specs.Option.{option_map};
 ghost use Rattle.flash_map.specs.declared.area.Role.TheVariants.{Zms as zms_role};
-ghost use Rattle.zms_cycle.specs.Entries.{offset_of};
+ghost use Rattle.zms_cycle.specs.Entries.{entry_of as fields_of, offset_of};
 ghost use Rattle.zms_cycle.specs.Sector.{slot_of, entry_in, has_gc_done, value_of};
 ghost use Rattle.zms_kind.specs.Kinds.{entry_of, kind};
 ghost use Rattle.zms_kind.proofs.KindLemmas.{zms_is_kind};
 ghost use Rattle.ring_store.specs.Kind.{placed_at};
 
-use flash_map::{Area, Damaged, geometry, sector_view};
-use flash_sim::{Flash, PowerLost, Steps};
+use flash_map::{Area, Damaged, Geometry, geometry, sector_view};
+use flash_sim::{Flash, Kind, PowerLost, Steps};
 use ring_store::{Placed, SlotSectors};
 use std::sync::ledger::Ledger;
 use zms_cycle::{
-    FIRST, Found, SLOT, TAIL, TAIL_AT, capacity, close, copy_entry, cost, empty_sector, entry_in,
-    has_close, listed_slots, offset_of, put_done, put_entry,
+    FIRST, Found, SLOT, TAIL, TAIL_AT, capacity, close, copy_entry, cost, empty_sector, has_close,
+    listed_entry, listed_slots, offset_of, put_done, put_entry,
 };
-use zms_kind::{find_in, marks_at, scan};
+use zms_kind::{find_in, is_clean, marks_at, scan};
 
 /// What is kept of an open sector.
 #[derive(Clone, Copy, Debug, PartialEq, Eq)]
@@ -53,12 +54,30 @@ fn value_in<'a>(bytes: &'a [u8], found: &Found) -> &'a [u8]
     &bytes[start..start + len]
 }
 
+// The id that a slot's bytes have where an entry has its own. Their CRC is not looked at.
+fn id_of(slot: &[u8]) -> u32
+    requires { length slot.now ≡ 16 }
+    ensures { result ≡ (fields_of slot.now).id }
+{
+    u32::from_le_bytes([slot[4], slot[5], slot[6], slot[7]])
+}
+
+// The same of a slot of a sector with these bytes.
+fn named_id(bytes: &[u8], slot: u32) -> u32
+    requires short { length bytes.now ≤ 2 ^ 15 }
+    requires inside { (slot + 1) * 16 ≤ length bytes.now }
+    ensures { IfSome (option_map entry_of (entry_in (slot_of bytes.now slot))) (λ e. e.id ≡ result) }
+{
+    let start = bytes.len() - (slot + 1) as usize * SLOT as usize;
+    id_of(&bytes[start..start + SLOT as usize])
+}
+
 impl SlotSectors for ZmsOpen {
     ghost role = { zms_role };
 
     ghost kind = { kind };
 
-    ghost kept = { λ unit b. record { gc_done = has_gc_done b } };
+    ghost kept = { λ geometry b. record { gc_done = has_gc_done b } };
 
     fn first_slot() -> u32 {
         2
@@ -68,25 +87,33 @@ impl SlotSectors for ZmsOpen {
         false
     }
 
-    fn cost(_unit: u32, len: u32) -> u64 {
+    fn cost(_geometry: &Geometry, len: u32) -> u64 {
         u64::from(cost(len as u16))
     }
 
-    fn capacity(_unit: u32, size: u32) -> u32 {
-        capacity(size)
+    fn capacity(geometry: &Geometry) -> u32 {
+        capacity(geometry.sector)
     }
 
-    fn slot_size(_unit: u32) -> u32 {
+    fn slot_size(_geometry: &Geometry) -> u32 {
         SLOT
     }
 
-    fn is_blank<F: Flash, L: Ledger>(
+    fn opens_ready(geometry: &Geometry) -> bool {
+        match geometry.kind {
+            Kind::Rewritable => false,
+            Kind::Erasing => true,
+        }
+    }
+
+    fn is_clean<F: Flash, L: Ledger>(
         flash: &F,
         area: &Area,
         place: u32,
         steps: &mut Steps<L>,
     ) -> bool {
-        !marks_at(flash, area, place, steps).in_use()
+        let kind = geometry(flash, area).kind;
+        is_clean(sector_view(flash, area, place, steps), kind)
     }
 
     fn is_closed<F: Flash, L: Ledger>(
@@ -137,10 +164,20 @@ impl SlotSectors for ZmsOpen {
         slot: u32,
         steps: &mut Steps<L>,
     ) -> Option<Placed> {
-        match entry_in(sector_view(flash, area, place, steps), slot) {
+        match listed_entry(sector_view(flash, area, place, steps), slot) {
             Some(found) => Some(placed(found, place)),
             None => None,
         }
+    }
+
+    fn id_in<F: Flash, L: Ledger>(
+        flash: &F,
+        area: &Area,
+        place: u32,
+        slot: u32,
+        steps: &mut Steps<L>,
+    ) -> u32 {
+        named_id(sector_view(flash, area, place, steps), slot)
     }
 
     fn value<'a, F: Flash, L: Ledger>(
@@ -150,7 +187,7 @@ impl SlotSectors for ZmsOpen {
         steps: &mut Steps<L>,
     ) -> &'a [u8] {
         let bytes = sector_view(flash, area, placed.sector, steps);
-        match entry_in(bytes, placed.slot) {
+        match listed_entry(bytes, placed.slot) {
             Some(found) => value_in(bytes, &found),
             None => unreachable!(),
         }
@@ -251,5 +288,5 @@ impl SlotSectors for ZmsOpen {
         scan(flash, area, steps)
     }
 
-    ghost lawful = { λ unit is. zms_is_kind unit };
+    ghost lawful = { λ geometry is. zms_is_kind geometry };
 }

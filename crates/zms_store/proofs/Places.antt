@@ -2,6 +2,7 @@
 use Rattle.std.proofs.Common.{◌≡◌, ℕ, ◌<◌, List, length, Option, Some, sym, ap, subst, ◌∙◌}
 use Rattle.std.specs.Option.{option_map}
 use Rattle.flash_map.specs.Area.{sector_at}
+use Rattle.flash_map.specs.declared.area.Geometry.{Geometry}
 use Rattle.ring_laws.specs.Area.{counts_at}
 use Rattle.ring_store.specs.declared.entry.Placed.{Placed as PlacedEntry}
 use Rattle.ring_store.specs.Kind.{placed_at}
@@ -9,7 +10,7 @@ use Rattle.ring_store.specs.Listed as ring
 use Rattle.zms_cycle.specs.declared.reading.Found.{Found}
 use Rattle.zms_cycle.specs.Sector.{slot_of, entry_in}
 use Rattle.zms_kind.specs.declared.sector.Placed.{Placed}
-use Rattle.zms_kind.specs.Area.{reading, IsListed, IsPlaced}
+use Rattle.zms_kind.specs.Area.{plain, IsListed, IsPlaced}
 use Rattle.zms_kind.specs.Kinds.{entry_of, record_of, kind}
 
 some_same : (x y : PlacedEntry) → Some x ≡ Some y → x ≡ y
@@ -20,11 +21,11 @@ pub read_same : (b : List ℕ) (p : PlacedEntry) (f : Found) → entry_in (slot_
 read_same b p f read is = some_same (placed_at p.sector (entry_of f)) p (sym (ap (λ (o : Option Found). option_map (placed_at p.sector) (option_map entry_of o)) read) ∙ is)
 
 -- its sector counts
-pub placed_there : (unit : ℕ) (sectors : List (List ℕ)) (current : ℕ) (q : PlacedEntry) (p : Placed) → record_of p ≡ q → ring.IsPlaced (kind unit) sectors current q → IsListed (sector_at sectors q.sector) p → IsPlaced sectors current p
-placed_there unit sectors current q p e placed listed =
+pub placed_there : (geometry : Geometry) (sectors : List (List ℕ)) (current : ℕ) (q : PlacedEntry) (p : Placed) → record_of p ≡ q → ring.IsPlaced (kind geometry) sectors current q → IsListed (sector_at sectors q.sector) p → IsPlaced sectors current p
+placed_there geometry sectors current q p e placed listed =
     let same : p.sector ≡ q.sector = ap (λ (x : PlacedEntry). x.sector) e in
     record {
       within = subst (λ (k : ℕ). k < length sectors) (sym same) placed.listed.within;
-      counts = ap (counts_at reading sectors current) same ∙ placed.counts;
+      counts = ap (counts_at plain sectors current) same ∙ placed.counts;
       listed = subst (λ (k : ℕ). IsListed (sector_at sectors k) p) (sym same) listed;
     }

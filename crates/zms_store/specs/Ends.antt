@@ -7,9 +7,8 @@ use Rattle.flash_map.specs.declared.area.Role.TheVariants.{Zms as ZmsRole}
 use Rattle.flash_map.specs.declared.faults.MountFault.{MountFault}
 use Rattle.flash_map.specs.declared.faults.WriteFault.{WriteFault}
 use Rattle.flash_map.specs.Area.{sector_size, sectors_of}
-use Rattle.ring_laws.specs.Area.{is_blank_at}
 use Rattle.ring_store.specs.Collecting as collecting
-use Rattle.ring_store.specs.Kind.{Range}
+use Rattle.ring_store.specs.Kind.{Range, is_clean_at}
 use Rattle.ring_store.specs.Spending as spending
 use Rattle.ring_store.specs.Stands as stands
 use Rattle.ring_store.specs.Wrapped.{store_in}
@@ -37,13 +36,14 @@ abbrev pub KeepsOrTurnsOn : Device → Device → Area → ℕ → Type 0
 KeepsOrTurnsOn old new area place =
     collecting.KeepsOrTurns (kind_on old area) (sectors_of old area) (sectors_of new area) place
 
--- what a round spends; where there is nothing to collect, the units of the close
+-- what a round spends: the units of the close; of the new open sector, where it has to be made ready; and of a collection,
+-- where there is something to collect
 abbrev pub round_units_on : Device → Area → ℕ → Range
 round_units_on d area place = spending.round_units (kind_on d area) (sectors_of d area) place
 
--- the sector is neither closed nor has a valid slot 2
-abbrev pub is_blank_on : Device → Area → ℕ → Bool
-is_blank_on d area place = is_blank_at (kind_on d area).reading (sectors_of d area) place
+-- the sector has no entry, and all that a sector has is free in it
+abbrev pub is_clean_on : Device → Area → ℕ → Bool
+is_clean_on d area place = is_clean_at (kind_on d area) (sectors_of d area) place
 
 abbrev pub WriteEnds : {T : Type 0} → Device → Device → Area → ℕ → List ℕ → Result T WriteFault → Type 0
 WriteEnds old new area id bytes result = writing.WriteEnds (kind_on old area) old new area id bytes result
@@ -51,7 +51,7 @@ WriteEnds old new area id bytes result = writing.WriteEnds (kind_on old area) ol
 abbrev pub DeleteEnds : {T : Type 0} → Device → Device → Area → ℕ → Result T PowerLost → Type 0
 DeleteEnds old new area id result = writing.DeleteEnds (kind_on old area) old new area id result
 
--- some sector of the area, which was so on the device before, is closed or has a valid slot 2 now
+-- some sector of the area, as it reads on the device before, is not blank now
 abbrev pub IsWritten : Device → Device → Area → Type 0
 IsWritten old new area = written.IsWritten (kind_on old area) (sectors_of new area)
 
@@ -62,3 +62,7 @@ KeepsWritten old new area = IsWritten old old area → IsWritten old new area
 -- nothing changed, or something is written now
 abbrev pub SameOrWritten : Device → Device → Area → Type 0
 SameOrWritten old new area = (new ≡ old) ⊎ IsWritten old new area
+
+-- no byte of the area changed, or something is written now
+abbrev pub SameBytesOrWritten : Device → Device → Area → Type 0
+SameBytesOrWritten old new area = (sectors_of new area ≡ sectors_of old area) ⊎ IsWritten old new area

@@ -4,8 +4,9 @@ use Rattle.std.specs.Prelude.{ℕ, List}
 use Rattle.flash_sim.specs.Device.{Device}
 use Rattle.flash_sim.specs.declared.flash.Bank.{Bank}
 use Rattle.flash_map.specs.declared.area.Area.{Area}
+use Rattle.flash_map.specs.declared.area.Geometry.{Geometry}
 use Rattle.flash_map.specs.declared.area.Role.TheVariants.{Zms as ZmsRole}
-use Rattle.flash_map.specs.Area.{unit_of, sectors_of}
+use Rattle.flash_map.specs.Area.{geometry_of, sectors_of}
 use Rattle.pair_laws.specs.Items.{Items}
 use Rattle.pair_laws.specs.Rounds.{live_cost}
 use Rattle.ring_store.specs.declared.entry.Placed.{Placed as PlacedEntry}
@@ -22,13 +23,13 @@ use Rattle.zms_store.specs.declared.store.Zms.{Zms}
 
 -- how its sectors read
 abbrev pub kind_on : Device → Area → Kind
-kind_on d area = kind (unit_of d area)
+kind_on d area = kind (geometry_of d area)
 
 -- what is kept of the open sector, by its bytes
-abbrev pub kept : ℕ → List ℕ → ZmsOpen
-kept unit b = record { gc_done = has_gc_done b }
+abbrev pub kept : Geometry → List ℕ → ZmsOpen
+kept geometry b = record { gc_done = has_gc_done b }
 
--- an area on which a store may stand: its bank is never erased
+-- an area on which a store may stand, on a bank of either kind
 abbrev pub IsZmsArea : List Bank → Area → Type 0
 IsZmsArea banks area = ring.IsStoreArea ZmsRole banks area
 

@@ -77,8 +77,8 @@ impl Zms {
         self.store.may_hold(id)
     }
 
-    /// The last entries of ids, by one walk over the list: of 1000 ids at most, the least that have bytes. The
-    /// table tells of each id where no more than 1000 ids ever had bytes in the list. It does so as long as the
+    /// The last entries of ids, by one walk over the list: of 950 ids at most, the least that have bytes. The
+    /// table tells of each id where no more than 950 ids ever had bytes in the list. It does so as long as the
     /// area stays as it is.
     pub fn last_slots<F: Flash, L: Ledger>(&self, flash: &F, steps: &mut Steps<L>) -> LastSlots
         requires { StandsOn (F.device flash.now) self.now }

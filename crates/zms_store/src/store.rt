@@ -5,7 +5,7 @@ ghost use Rattle.flash_map.specs.Faults.{mount_lost};
 ghost use Rattle.flash_map.specs.Spending.{SpendsBetween};
 ghost use Rattle.flash_map.specs.Touches.{Touches};
 ghost use Rattle.ring_store.specs.Standing.{SpendsIn, SpendsUpTo};
-ghost use Rattle.zms_store.specs.Ends.{MountEnds, TurnsOn, KeepsOrTurnsOn, round_units_on, is_blank_on, KeepsWritten, SameOrWritten};
+ghost use Rattle.zms_store.specs.Ends.{MountEnds, TurnsOn, KeepsOrTurnsOn, round_units_on, is_clean_on, KeepsWritten, SameOrWritten, SameBytesOrWritten};
 ghost use Rattle.zms_store.specs.Standing.{IsZmsArea, StandsOn, KeepsItems};
 
 use flash_map::{Area, MountFault};
@@ -23,7 +23,7 @@ pub struct Zms {
 
 impl Zms {
     /// Reads the area and carries out what a loss of power left undone: the emptying of a collected sector,
-    /// which takes one to three units, or a whole collection. Where neither was cut, nothing is programmed.
+    /// which takes one to three units (one or two on a bank that is erased), or a whole collection. Where neither was cut, nothing is programmed.
     /// The items stay, and the newest versions of each, also where power is lost. Whatever the result, it
     /// programs at most twice the units of a sector. An area in which anything changed has a sector in use
     /// then, also where power is lost.
@@ -73,10 +73,11 @@ impl Zms {
         self.store.is_up()
     }
 
-    /// Closes the open sector and collects the oldest one, where that is in use; where it is not, it spends
-    /// the units of the close. The items stay, also where power is lost. What does not fit then is kept out
-    /// by the copied items alone, and a delete fits. Where slot 2 of the open sector is not valid, nothing is
-    /// programmed.
+    /// Closes the open sector and collects the oldest one, where that is in use; where it is not, the next
+    /// sector is made ready on a bank that is erased. The items stay, also where power is lost. What does not
+    /// fit then is kept out by the copied items alone, and a delete fits. Where the open sector is clean,
+    /// nothing is programmed: on a bank that is never erased where its slot 2 is not valid, on one that is
+    /// erased where it is blank or fresh.
     ///
     /// # Errors
     /// `PowerLost`. The store is then down.
@@ -94,22 +95,22 @@ impl Zms {
         ensures written { let d = F.device flash.old in
             KeepsWritten d (F.device flash.new) self.old.store.area }
         ensures changed { let d = F.device flash.old in
-            SameOrWritten d (F.device flash.new) self.old.store.area }
+            SameBytesOrWritten d (F.device flash.new) self.old.store.area }
 
         ensures stands { OnOk result (StandsOn (F.device flash.new) self.new) }
         ensures turns { let d = F.device flash.old in let store = self.old.store in
-            is_blank_on d store.area store.current ≡ false
+            is_clean_on d store.area store.current ≡ false
             → OnOk result (TurnsOn d (F.device flash.new) store.area store.current) }
-        ensures blank { let d = F.device flash.old in let store = self.old.store in
-            is_blank_on d store.area store.current ≡ true → F.device flash.new ≡ d }
+        ensures clean { let d = F.device flash.old in let store = self.old.store in
+            is_clean_on d store.area store.current ≡ true → F.device flash.new ≡ d }
         ensures units { let d = F.device flash.old in let store = self.old.store in
-            is_blank_on d store.area store.current ≡ false
+            is_clean_on d store.area store.current ≡ false
             → OnOk result (SpendsIn d (F.device flash.new)
             (round_units_on d store.area store.current)) }
 
         ensures down { OnErr result (self.new.store.up ≡ false) }
         ensures used { let d = F.device flash.old in let store = self.old.store in
-            OnErr result (is_blank_on d store.area store.current ≡ false) }
+            OnErr result (is_clean_on d store.area store.current ≡ false) }
         ensures list_lost { let d = F.device flash.old in let store = self.old.store in
             OnErr result (KeepsOrTurnsOn d (F.device flash.new) store.area store.current) }
         ensures bound { let d = F.device flash.old in let store = self.old.store in

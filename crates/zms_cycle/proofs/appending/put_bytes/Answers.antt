@@ -8,7 +8,7 @@ use Rattle.zms_cycle.proofs.EntryCalls.{can_bytes, bytes_ok, bytes_others, bytes
 use Rattle.zms_cycle.proofs.appending.put_bytes.Goals as goal
 
 pub program_padded-requires-clause-can : goal.program_padded-requires-clause-can
-program_padded-requires-clause-can g c = can_bytes (g.F.Flash.device c.args.flash.now) (g.F.Flash.device c.args.flash.now) c.args.area.now c.args.sector c.args.at c.args.bytes.now c.requires.zms c.requires.fits c.requires.aligned
+program_padded-requires-clause-can g c = can_bytes (g.F.Flash.device c.args.flash.now) (g.F.Flash.device c.args.flash.now) c.args.area.now c.args.sector c.args.at c.args.bytes.now c.requires.zms (g.met.F.Flash.is_lawful c.args.flash.now) c.requires.fits c.requires.aligned c.requires.erased
 
 pub returns-clause-ok : goal.returns-clause-ok
 returns-clause-ok g c = on_ok_weaker c.program_padded.result (bytes_ok (g.F.Flash.device c.args.flash.now) (g.F.Flash.device c.program_padded.new.flash) c.args.area.now c.args.sector c.args.at c.args.bytes.now c.requires.zms) c.program_padded.ensures.ok

@@ -1,10 +1,14 @@
-use Rattle.std.proofs.Common.{refl, ap, arith}
+use Rattle.std.proofs.Common.{ℕ, refl, ap, subst, arith}
 use Rattle.std.proofs.lemmas.Result.{on_ok_weaker, on_err_weaker}
 use Rattle.flash_map.specs.Area.{sector_bytes}
 use Rattle.flash_map.proofs.SpendingBounds.{between_within}
 use Rattle.zms_cycle.specs.declared.entry.ZEntry.{ZEntry}
+use Rattle.flash_sim.specs.Device.{Device}
+use Rattle.zms_cycle.specs.Areas.{kind_on}
+use Rattle.zms_cycle.specs.Changes.{KeepsList}
+use Rattle.zms_cycle.proofs.Ends.{nothing_left}
 use Rattle.zms_cycle.proofs.Frames.{keeps_same}
-use Rattle.zms_cycle.proofs.EntryCalls.{ready, ready_slots, ready_slot, ready_cut, ready_done}
+use Rattle.zms_cycle.proofs.EntryCalls.{gone, ready, ready_slots, ready_slot, ready_next, ready_cut, ready_done}
 use Rattle.zms_cycle.proofs.GuardUnits.{entry_guard}
 use Rattle.zms_cycle.proofs.appending.put_done.Goals as goal
 
@@ -18,6 +22,11 @@ put_slot-requires-clause-slot g c =
     let r = ready (g.F.Flash.device c.args.flash.now) c.args.area.now c.args.sector c.opened_sector-opened.result.cycle c.opened_sector-opened.result.slots c.opened_sector-opened.result.data_end 0 c.requires.zms (g.met.F.Flash.is_lawful c.args.flash.now) c.requires.sound c.opened_sector-opened.ensures.cycle c.opened_sector-opened.ensures.slots c.opened_sector-opened.ensures.data_end (let room = c.requires.room in omega arith) in
     ready_slot (g.F.Flash.device c.args.flash.now) c.args.area.now c.args.sector c.opened_sector-opened.result.cycle c.opened_sector-opened.result.slots c.opened_sector-opened.result.data_end 0 r (g.F.Flash.device c.args.flash.now) refl
 
+pub put_slot-requires-clause-erased : goal.put_slot-requires-clause-erased
+put_slot-requires-clause-erased g c =
+    let r = ready (g.F.Flash.device c.args.flash.now) c.args.area.now c.args.sector c.opened_sector-opened.result.cycle c.opened_sector-opened.result.slots c.opened_sector-opened.result.data_end 0 c.requires.zms (g.met.F.Flash.is_lawful c.args.flash.now) c.requires.sound c.opened_sector-opened.ensures.cycle c.opened_sector-opened.ensures.slots c.opened_sector-opened.ensures.data_end (let room = c.requires.room in omega arith) in
+    ready_next (g.F.Flash.device c.args.flash.now) c.args.area.now c.args.sector c.opened_sector-opened.result.cycle c.opened_sector-opened.result.slots c.opened_sector-opened.result.data_end 0 r (g.F.Flash.device c.args.flash.now) refl (keeps_same (kind_on (g.F.Flash.device c.args.flash.now) c.args.area.now) (gone (g.F.Flash.device c.args.flash.now) c.args.area.now 0) (sector_bytes (g.F.Flash.device c.args.flash.now) c.args.area.now c.args.sector))
+
 pub returns-clause-ok : goal.returns-clause-ok
 returns-clause-ok g c =
     let r = ready (g.F.Flash.device c.args.flash.now) c.args.area.now c.args.sector c.opened_sector-opened.result.cycle c.opened_sector-opened.result.slots c.opened_sector-opened.result.data_end 0 c.requires.zms (g.met.F.Flash.is_lawful c.args.flash.now) c.requires.sound c.opened_sector-opened.ensures.cycle c.opened_sector-opened.ensures.slots c.opened_sector-opened.ensures.data_end (let room = c.requires.room in omega arith) in
@@ -25,11 +34,18 @@ returns-clause-ok g c =
 
 pub returns-clause-lost : goal.returns-clause-lost
 returns-clause-lost g c =
+    let d : Device = g.F.Flash.device c.args.flash.now in
+    let b = sector_bytes (g.F.Flash.device c.args.flash.now) c.args.area.now c.args.sector in
+    let kind = kind_on (g.F.Flash.device c.args.flash.now) c.args.area.now in
+    let new = sector_bytes (g.F.Flash.device c.put_slot.new.flash) c.args.area.now c.args.sector in
     let r = ready (g.F.Flash.device c.args.flash.now) c.args.area.now c.args.sector c.opened_sector-opened.result.cycle c.opened_sector-opened.result.slots c.opened_sector-opened.result.data_end 0 c.requires.zms (g.met.F.Flash.is_lawful c.args.flash.now) c.requires.sound c.opened_sector-opened.ensures.cycle c.opened_sector-opened.ensures.slots c.opened_sector-opened.ensures.data_end (let room = c.requires.room in omega arith) in
-    on_err_weaker c.put_slot.result (ready_cut (g.F.Flash.device c.args.flash.now) c.args.area.now c.args.sector c.opened_sector-opened.result.cycle c.opened_sector-opened.result.slots c.opened_sector-opened.result.data_end 0 r (sector_bytes (g.F.Flash.device c.args.flash.now) c.args.area.now c.args.sector) (sector_bytes (g.F.Flash.device c.put_slot.new.flash) c.args.area.now c.args.sector) c.done_entry-entry.result (ap (λ (e : ZEntry). e.cycle) c.done_entry-entry.ensures) (keeps_same (sector_bytes (g.F.Flash.device c.args.flash.now) c.args.area.now c.args.sector))) c.put_slot.ensures.lost
+    on_err_weaker c.put_slot.result
+    (λ cut. subst (λ (n : ℕ). KeepsList (kind_on (g.F.Flash.device c.args.flash.now) c.args.area.now) n (sector_bytes (g.F.Flash.device c.args.flash.now) c.args.area.now c.args.sector) (sector_bytes (g.F.Flash.device c.put_slot.new.flash) c.args.area.now c.args.sector)) (nothing_left kind)
+    (ready_cut d c.args.area.now c.args.sector c.opened_sector-opened.result.cycle c.opened_sector-opened.result.slots c.opened_sector-opened.result.data_end 0 r b new c.done_entry-entry.result kind refl (ap (λ (e : ZEntry). e.cycle) c.done_entry-entry.ensures) (keeps_same kind (gone d c.args.area.now 0) b) cut))
+    c.put_slot.ensures.lost
 
 pub returns-clause-spends_lost : goal.returns-clause-spends_lost
-returns-clause-spends_lost g c = on_err_weaker c.put_slot.result (λ spends. between_within spends 0 2 (omega arith) (omega arith)) c.put_slot.ensures.spends_lost
+returns-clause-spends_lost g c = on_err_weaker c.put_slot.result (λ spends. between_within spends 0 1 (omega arith) (omega arith)) c.put_slot.ensures.spends_lost
 
 pub returns-clause-guards : goal.returns-clause-guards
 returns-clause-guards g c =

@@ -1,7 +1,9 @@
-use Rattle.std.proofs.Common.{ℕ, ◌/◌, length, sym, subst, ◌∙◌, arith}
+use Rattle.std.proofs.Common.{◌≡◌, ℕ, ◌+◌, ◌/◌, true, length, sym, subst, ◌∙◌, arith}
 use Rattle.std.proofs.lemmas.Result.{on_ok_weaker, on_err_weaker}
 use Rattle.flash_map.specs.Area.{sector_bytes}
 use Rattle.flash_map.specs.Spending.{SpendsBetween}
+use Rattle.flash_map.specs.Units.{is_erased}
+use Rattle.std.specs.Prelude.{slice_range}
 use Rattle.zms_cycle.specs.Changes.{HasPart}
 use Rattle.zms_cycle.proofs.EntryCalls.{long_len, long_value, short_spends, short_value}
 use Rattle.zms_cycle.proofs.appending.put_value.Goals as goal
@@ -14,6 +16,11 @@ returns-then-bytes-clause-spends g c = short_spends (g.F.Flash.device c.args.fla
 
 pub put_bytes-requires-clause-fits : goal.put_bytes-requires-clause-fits
 put_bytes-requires-clause-fits g c = let fits = c.requires.fits in let len = long_len (length c.args.bytes.now) (omega arith) in omega arith
+
+pub put_bytes-requires-clause-erased : goal.put_bytes-requires-clause-erased
+put_bytes-requires-clause-erased g c erasing =
+    let len = long_len (length c.args.bytes.now) (omega arith) in
+    subst (λ (n : ℕ). is_erased (slice_range (sector_bytes (g.F.Flash.device c.args.flash.now) c.args.area.now c.args.sector) c.args.at (c.args.at + n)) ≡ true) len (c.requires.erased erasing)
 
 pub returns-clause-ok : goal.returns-clause-ok
 returns-clause-ok g c = on_ok_weaker c.put_bytes.result (λ is. is ∙ long_value (sector_bytes (g.F.Flash.device c.args.flash.now) c.args.area.now c.args.sector) c.args.at c.args.bytes.now (omega arith)) c.put_bytes.ensures.ok

@@ -1,10 +1,11 @@
-use Rattle.std.proofs.Common.{ℕ, ◌+◌, ◌/◌, ◌≤◌, sym, subst, arith}
+use Rattle.std.proofs.Common.{◌≡◌, ℕ, ◌+◌, ◌/◌, ◌≤◌, true, sym, subst, arith}
 use Rattle.std.proofs.lemmas.Result.{on_ok_weaker, on_err_weaker}
 use Rattle.flash_sim.specs.Device.{Device}
 use Rattle.flash_map.specs.Area.{unit_of, sector_size, sector_bytes}
 use Rattle.flash_map.specs.Copies.{source}
 use Rattle.flash_map.specs.Spending.{SpendsBetween}
-use Rattle.flash_map.specs.Units.{padded}
+use Rattle.flash_map.specs.Units.{padded, is_erased}
+use Rattle.std.specs.Prelude.{slice_range}
 use Rattle.flash_map.proofs.SpendingBounds.{between_exact, between_most}
 use Rattle.zms_cycle.specs.Changes.{HasPart}
 use Rattle.zms_cycle.proofs.AreaFacts.{unit_is, size_is}
@@ -25,7 +26,8 @@ copy_padded-requires-clause-can g c =
     let size = size_is d c.args.area.now c.args.from.sector c.requires.from_zms (g.met.F.Flash.is_lawful c.args.flash.now) in
     let from = c.requires.from in
     let long = length-range (sector_bytes d c.args.area.now c.args.from.sector) c.args.from.offset c.args.from.len (omega (arith, size, from)) in
-    can_bytes d d c.args.area.now c.args.sector c.args.to (source d c.args.area.now c.args.from) c.requires.zms (subst (λ (n : ℕ). c.args.to + padded 16 n ≤ sector_size d c.args.area.now) (sym long) c.requires.fits) c.requires.aligned
+    can_bytes d d c.args.area.now c.args.sector c.args.to (source d c.args.area.now c.args.from) c.requires.zms (g.met.F.Flash.is_lawful c.args.flash.now) (subst (λ (n : ℕ). c.args.to + padded 16 n ≤ sector_size d c.args.area.now) (sym long) c.requires.fits) c.requires.aligned
+    (λ erasing. subst (λ (n : ℕ). is_erased (slice_range (sector_bytes d c.args.area.now c.args.sector) c.args.to (c.args.to + padded 16 n)) ≡ true) (sym long) (c.requires.erased erasing))
 
 pub returns-clause-others : goal.returns-clause-others
 returns-clause-others g c =

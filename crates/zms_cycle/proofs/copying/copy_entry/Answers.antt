@@ -1,15 +1,17 @@
-use Rattle.std.proofs.Common.{ℕ, ◌+◌, ◌/◌, List, length, sym, ap, subst, ◌∙◌, arith, [], ◌∷◌}
+use Rattle.std.proofs.Common.{ℕ, ◌+◌, ◌/◌, List, length, Some, sym, ap, subst, ◌∙◌, arith, [], ◌∷◌}
 use Rattle.std.proofs.lemmas.Result.{on_ok_weaker, on_err_weaker}
 use Rattle.flash_map.specs.Area.{sector_bytes}
 use Rattle.flash_map.proofs.PieceLemmas.{on_err, within_then, within_most}
 use Rattle.flash_map.proofs.SpendingBounds.{between_then, between_within}
 use Rattle.zms_cycle.specs.declared.entry.ZEntry.{ZEntry}
-use Rattle.zms_cycle.specs.Changes.{HasPart, AddsPair}
+use Rattle.flash_sim.specs.declared.flash.Kind.{Kind}
+use Rattle.zms_cycle.specs.Areas.{kind_on, CanPutAt}
+use Rattle.zms_cycle.specs.Changes.{HasPart, KeepsList, left_over, guard_units, AddsPair}
 use Rattle.zms_cycle.specs.Sector.{valid_slots, data_len, cost, value_of, slot_of, entry_len}
-use Rattle.zms_cycle.proofs.AreaFacts.{size_is, still_zms, others_then}
-use Rattle.zms_cycle.proofs.Frames.{sound-parts}
+use Rattle.zms_cycle.proofs.AreaFacts.{size_is, same_kind, still_zms, others_then}
+use Rattle.zms_cycle.proofs.Frames.{sound-parts, data_len-aligned}
 use Rattle.zms_cycle.proofs.CopyCalls.{copied, moved_is, ordinary_id}
-use Rattle.zms_cycle.proofs.EntryCalls.{ready, ready_fits, ready_aligned, ready_slots, ready_slot, ready_part, ready_cut, ready_value, ready_pair}
+use Rattle.zms_cycle.proofs.EntryCalls.{ready, ready_fits, ready_aligned, ready_slots, ready_slot, ready_put, ready_next, ready_part, ready_cut, ready_value, ready_pair}
 use Rattle.zms_cycle.proofs.GuardUnits.{value_under, entry_guard}
 use Rattle.flash_map.specs.declared.copies.TheConstants.{COPY_PIECE}
 use Rattle.zms_cycle.specs.declared.reading.TheConstants.{SLOT}
@@ -43,19 +45,29 @@ copy_value-requires-clause-aligned g c =
     let r = ready (g.F.Flash.device c.args.flash.now) c.args.area.now c.args.sector c.opened_sector-opened.result.cycle c.opened_sector-opened.result.slots c.opened_sector-opened.result.data_end (data_len (length (value_of (sector_bytes (g.F.Flash.device c.args.flash.now) c.args.area.now c.args.from_sector) c.ordinary_entry-from.result))) c.requires.zms (g.met.F.Flash.is_lawful c.args.flash.now) c.requires.sound c.opened_sector-opened.ensures.cycle c.opened_sector-opened.ensures.slots c.opened_sector-opened.ensures.data_end (omega (arith, room, same)) in
     ready_aligned (g.F.Flash.device c.args.flash.now) c.args.area.now c.args.sector c.opened_sector-opened.result.cycle c.opened_sector-opened.result.slots c.opened_sector-opened.result.data_end (data_len (length (value_of (sector_bytes (g.F.Flash.device c.args.flash.now) c.args.area.now c.args.from_sector) c.ordinary_entry-from.result))) r
 
+pub copy_value-requires-clause-erased : goal.copy_value-requires-clause-erased
+copy_value-requires-clause-erased g c =
+    let copy = copied (sector_bytes (g.F.Flash.device c.args.flash.now) c.args.area.now c.args.from_sector) c.args.from_slot c.ordinary_entry-from.result c.requires.from_sound c.requires.from c.requires.listed (omega arith) c.ordinary_entry-from.ensures in
+    let same = ap data_len (copy.len ∙ sym copy.listed_len) in
+    let room = c.requires.room in
+    let r = ready (g.F.Flash.device c.args.flash.now) c.args.area.now c.args.sector c.opened_sector-opened.result.cycle c.opened_sector-opened.result.slots c.opened_sector-opened.result.data_end (data_len (length (value_of (sector_bytes (g.F.Flash.device c.args.flash.now) c.args.area.now c.args.from_sector) c.ordinary_entry-from.result))) c.requires.zms (g.met.F.Flash.is_lawful c.args.flash.now) c.requires.sound c.opened_sector-opened.ensures.cycle c.opened_sector-opened.ensures.slots c.opened_sector-opened.ensures.data_end (omega (arith, room, same)) in
+    subst (λ (n : ℕ). CanPutAt (g.F.Flash.device c.args.flash.now) c.args.area.now c.args.sector c.opened_sector-opened.result.data_end (data_len n)) copy.len (ready_put (g.F.Flash.device c.args.flash.now) c.args.area.now c.args.sector c.opened_sector-opened.result.cycle c.opened_sector-opened.result.slots c.opened_sector-opened.result.data_end (data_len (length (value_of (sector_bytes (g.F.Flash.device c.args.flash.now) c.args.area.now c.args.from_sector) c.ordinary_entry-from.result))) r)
+
 pub returns-in_err-copy_value-clause-lost : goal.returns-in_err-copy_value-clause-lost
 returns-in_err-copy_value-clause-lost g c =
     let copy = copied (sector_bytes (g.F.Flash.device c.args.flash.now) c.args.area.now c.args.from_sector) c.args.from_slot c.ordinary_entry-from.result c.requires.from_sound c.requires.from c.requires.listed (omega arith) c.ordinary_entry-from.ensures in
     let same = ap data_len (copy.len ∙ sym copy.listed_len) in
     let room = c.requires.room in
     let r = ready (g.F.Flash.device c.args.flash.now) c.args.area.now c.args.sector c.opened_sector-opened.result.cycle c.opened_sector-opened.result.slots c.opened_sector-opened.result.data_end (data_len (length (value_of (sector_bytes (g.F.Flash.device c.args.flash.now) c.args.area.now c.args.from_sector) c.ordinary_entry-from.result))) c.requires.zms (g.met.F.Flash.is_lawful c.args.flash.now) c.requires.sound c.opened_sector-opened.ensures.cycle c.opened_sector-opened.ensures.slots c.opened_sector-opened.ensures.data_end (omega (arith, room, same)) in
-    on_err c.from_residual.result (ready_part (g.F.Flash.device c.args.flash.now) c.args.area.now c.args.sector c.opened_sector-opened.result.cycle c.opened_sector-opened.result.slots c.opened_sector-opened.result.data_end (data_len (length (value_of (sector_bytes (g.F.Flash.device c.args.flash.now) c.args.area.now c.args.from_sector) c.ordinary_entry-from.result))) r (sector_bytes (g.F.Flash.device c.copy_value.new.flash) c.args.area.now c.args.sector) (subst (λ (n : ℕ). HasPart (sector_bytes (g.F.Flash.device c.args.flash.now) c.args.area.now c.args.sector) (sector_bytes (g.F.Flash.device c.copy_value.new.flash) c.args.area.now c.args.sector) c.opened_sector-opened.result.data_end (data_len n)) (sym copy.len) c.in_err-copy_value.ensures.lost))
+    on_err c.from_residual.result
+    (subst (λ (n : ℕ). KeepsList (kind_on (g.F.Flash.device c.args.flash.now) c.args.area.now) (left_over (kind_on (g.F.Flash.device c.args.flash.now) c.args.area.now) (data_len n)) (sector_bytes (g.F.Flash.device c.args.flash.now) c.args.area.now c.args.sector) (sector_bytes (g.F.Flash.device c.copy_value.new.flash) c.args.area.now c.args.sector)) (copy.len ∙ sym copy.listed_len)
+    (ready_part (g.F.Flash.device c.args.flash.now) c.args.area.now c.args.sector c.opened_sector-opened.result.cycle c.opened_sector-opened.result.slots c.opened_sector-opened.result.data_end (data_len (length (value_of (sector_bytes (g.F.Flash.device c.args.flash.now) c.args.area.now c.args.from_sector) c.ordinary_entry-from.result))) r (sector_bytes (g.F.Flash.device c.copy_value.new.flash) c.args.area.now c.args.sector) (data_len-aligned (length (value_of (sector_bytes (g.F.Flash.device c.args.flash.now) c.args.area.now c.args.from_sector) c.ordinary_entry-from.result))) (subst (λ (n : ℕ). HasPart (sector_bytes (g.F.Flash.device c.args.flash.now) c.args.area.now c.args.sector) (sector_bytes (g.F.Flash.device c.copy_value.new.flash) c.args.area.now c.args.sector) c.opened_sector-opened.result.data_end (data_len n)) (sym copy.len) c.in_err-copy_value.ensures.lost)))
 
 pub returns-in_err-copy_value-clause-spends_lost : goal.returns-in_err-copy_value-clause-spends_lost
 returns-in_err-copy_value-clause-spends_lost g c =
     let copy = copied (sector_bytes (g.F.Flash.device c.args.flash.now) c.args.area.now c.args.from_sector) c.args.from_slot c.ordinary_entry-from.result c.requires.from_sound c.requires.from c.requires.listed (omega arith) c.ordinary_entry-from.ensures in
     let same = ap data_len copy.listed_len in
-    on_err c.from_residual.result (between_within c.in_err-copy_value.ensures.spends_lost 0 (cost (entry_len (sector_bytes (g.F.Flash.device c.args.flash.now) c.args.area.now c.args.from_sector) c.args.from_slot) / 16 + 1) (omega arith) (omega arith))
+    on_err c.from_residual.result (between_within c.in_err-copy_value.ensures.spends_lost 0 (cost (entry_len (sector_bytes (g.F.Flash.device c.args.flash.now) c.args.area.now c.args.from_sector) c.args.from_slot) / 16) (omega arith) (omega arith))
 
 pub overflow_add-opened : goal.overflow_add-opened
 overflow_add-opened g c =
@@ -76,6 +88,15 @@ put_slot-requires-clause-slot g c =
     let r = ready (g.F.Flash.device c.args.flash.now) c.args.area.now c.args.sector c.opened_sector-opened.result.cycle c.opened_sector-opened.result.slots c.opened_sector-opened.result.data_end (data_len (length (value_of (sector_bytes (g.F.Flash.device c.args.flash.now) c.args.area.now c.args.from_sector) c.ordinary_entry-from.result))) c.requires.zms (g.met.F.Flash.is_lawful c.args.flash.now) c.requires.sound c.opened_sector-opened.ensures.cycle c.opened_sector-opened.ensures.slots c.opened_sector-opened.ensures.data_end (omega (arith, room, same)) in
     ready_slot (g.F.Flash.device c.args.flash.now) c.args.area.now c.args.sector c.opened_sector-opened.result.cycle c.opened_sector-opened.result.slots c.opened_sector-opened.result.data_end (data_len (length (value_of (sector_bytes (g.F.Flash.device c.args.flash.now) c.args.area.now c.args.from_sector) c.ordinary_entry-from.result))) r (g.F.Flash.device c.copy_value.new.flash) c.in_ok-copy_value.ensures.touches.banks
 
+pub put_slot-requires-clause-erased : goal.put_slot-requires-clause-erased
+put_slot-requires-clause-erased g c =
+    let copy = copied (sector_bytes (g.F.Flash.device c.args.flash.now) c.args.area.now c.args.from_sector) c.args.from_slot c.ordinary_entry-from.result c.requires.from_sound c.requires.from c.requires.listed (omega arith) c.ordinary_entry-from.ensures in
+    let same = ap data_len (copy.len ∙ sym copy.listed_len) in
+    let room = c.requires.room in
+    let r = ready (g.F.Flash.device c.args.flash.now) c.args.area.now c.args.sector c.opened_sector-opened.result.cycle c.opened_sector-opened.result.slots c.opened_sector-opened.result.data_end (data_len (length (value_of (sector_bytes (g.F.Flash.device c.args.flash.now) c.args.area.now c.args.from_sector) c.ordinary_entry-from.result))) c.requires.zms (g.met.F.Flash.is_lawful c.args.flash.now) c.requires.sound c.opened_sector-opened.ensures.cycle c.opened_sector-opened.ensures.slots c.opened_sector-opened.ensures.data_end (omega (arith, room, same)) in
+    ready_next (g.F.Flash.device c.args.flash.now) c.args.area.now c.args.sector c.opened_sector-opened.result.cycle c.opened_sector-opened.result.slots c.opened_sector-opened.result.data_end (data_len (length (value_of (sector_bytes (g.F.Flash.device c.args.flash.now) c.args.area.now c.args.from_sector) c.ordinary_entry-from.result))) r (g.F.Flash.device c.copy_value.new.flash) c.in_ok-copy_value.ensures.touches.banks
+    (ready_value (g.F.Flash.device c.args.flash.now) c.args.area.now c.args.sector c.opened_sector-opened.result.cycle c.opened_sector-opened.result.slots c.opened_sector-opened.result.data_end (value_of (sector_bytes (g.F.Flash.device c.args.flash.now) c.args.area.now c.args.from_sector) c.ordinary_entry-from.result) (sector_bytes (g.F.Flash.device c.copy_value.new.flash) c.args.area.now c.args.sector) r c.in_ok-copy_value.ensures.ok)
+
 pub returns-clause-others : goal.returns-clause-others
 returns-clause-others g c = others_then (g.F.Flash.device c.args.flash.now) (g.F.Flash.device c.copy_value.new.flash) (g.F.Flash.device c.put_slot.new.flash) c.args.area.now c.args.sector c.in_ok-copy_value.ensures.others c.put_slot.ensures.others
 
@@ -86,7 +107,7 @@ returns-clause-ok g c =
     let room = c.requires.room in
     let r = ready (g.F.Flash.device c.args.flash.now) c.args.area.now c.args.sector c.opened_sector-opened.result.cycle c.opened_sector-opened.result.slots c.opened_sector-opened.result.data_end (data_len (length (value_of (sector_bytes (g.F.Flash.device c.args.flash.now) c.args.area.now c.args.from_sector) c.ordinary_entry-from.result))) c.requires.zms (g.met.F.Flash.is_lawful c.args.flash.now) c.requires.sound c.opened_sector-opened.ensures.cycle c.opened_sector-opened.ensures.slots c.opened_sector-opened.ensures.data_end (omega (arith, room, same)) in
     let ordinary = ordinary_id (slot_of (sector_bytes (g.F.Flash.device c.args.flash.now) c.args.area.now c.args.from_sector) c.args.from_slot) c.ordinary_entry-from.result c.args.from_slot (omega arith) c.ordinary_entry-from.ensures in
-    on_ok_weaker c.put_slot.result (λ is. subst (λ (pair : ℕ × List ℕ). AddsPair (sector_bytes (g.F.Flash.device c.args.flash.now) c.args.area.now c.args.sector) (sector_bytes (g.F.Flash.device c.put_slot.new.flash) c.args.area.now c.args.sector) pair.0 pair.1) (sym copy.pair) (ready_pair (g.F.Flash.device c.args.flash.now) c.args.area.now c.args.sector c.opened_sector-opened.result.cycle c.opened_sector-opened.result.slots c.opened_sector-opened.result.data_end c.ordinary_entry-from.result.id (value_of (sector_bytes (g.F.Flash.device c.args.flash.now) c.args.area.now c.args.from_sector) c.ordinary_entry-from.result) (sector_bytes (g.F.Flash.device c.copy_value.new.flash) c.args.area.now c.args.sector) (sector_bytes (g.F.Flash.device c.put_slot.new.flash) c.args.area.now c.args.sector) c.moved_entry-entry.result r ordinary c.in_ok-copy_value.ensures.ok (c.moved_entry-entry.ensures ∙ moved_is (sector_bytes (g.F.Flash.device c.args.flash.now) c.args.area.now c.args.from_sector) c.ordinary_entry-from.result c.opened_sector-opened.result.cycle c.opened_sector-opened.result.data_end copy.len) is)) c.put_slot.ensures.ok
+    on_ok_weaker c.put_slot.result (λ is. subst (λ (pair : ℕ × List ℕ). AddsPair (kind_on (g.F.Flash.device c.args.flash.now) c.args.area.now) (sector_bytes (g.F.Flash.device c.args.flash.now) c.args.area.now c.args.sector) (sector_bytes (g.F.Flash.device c.put_slot.new.flash) c.args.area.now c.args.sector) pair.0 pair.1) (sym copy.pair) (ready_pair (g.F.Flash.device c.args.flash.now) c.args.area.now c.args.sector c.opened_sector-opened.result.cycle c.opened_sector-opened.result.slots c.opened_sector-opened.result.data_end c.ordinary_entry-from.result.id (value_of (sector_bytes (g.F.Flash.device c.args.flash.now) c.args.area.now c.args.from_sector) c.ordinary_entry-from.result) (sector_bytes (g.F.Flash.device c.copy_value.new.flash) c.args.area.now c.args.sector) (sector_bytes (g.F.Flash.device c.put_slot.new.flash) c.args.area.now c.args.sector) c.moved_entry-entry.result (kind_on (g.F.Flash.device c.copy_value.new.flash) c.args.area.now) (same_kind (g.F.Flash.device c.args.flash.now) (g.F.Flash.device c.copy_value.new.flash) c.args.area.now c.in_ok-copy_value.ensures.touches.banks) r ordinary c.in_ok-copy_value.ensures.ok (c.moved_entry-entry.ensures ∙ moved_is (sector_bytes (g.F.Flash.device c.args.flash.now) c.args.area.now c.args.from_sector) c.ordinary_entry-from.result c.opened_sector-opened.result.cycle c.opened_sector-opened.result.data_end copy.len) is)) c.put_slot.ensures.ok
 
 pub returns-clause-lost : goal.returns-clause-lost
 returns-clause-lost g c =
@@ -94,7 +115,11 @@ returns-clause-lost g c =
     let same = ap data_len (copy.len ∙ sym copy.listed_len) in
     let room = c.requires.room in
     let r = ready (g.F.Flash.device c.args.flash.now) c.args.area.now c.args.sector c.opened_sector-opened.result.cycle c.opened_sector-opened.result.slots c.opened_sector-opened.result.data_end (data_len (length (value_of (sector_bytes (g.F.Flash.device c.args.flash.now) c.args.area.now c.args.from_sector) c.ordinary_entry-from.result))) c.requires.zms (g.met.F.Flash.is_lawful c.args.flash.now) c.requires.sound c.opened_sector-opened.ensures.cycle c.opened_sector-opened.ensures.slots c.opened_sector-opened.ensures.data_end (omega (arith, room, same)) in
-    on_err_weaker c.put_slot.result (ready_cut (g.F.Flash.device c.args.flash.now) c.args.area.now c.args.sector c.opened_sector-opened.result.cycle c.opened_sector-opened.result.slots c.opened_sector-opened.result.data_end (data_len (length (value_of (sector_bytes (g.F.Flash.device c.args.flash.now) c.args.area.now c.args.from_sector) c.ordinary_entry-from.result))) r (sector_bytes (g.F.Flash.device c.copy_value.new.flash) c.args.area.now c.args.sector) (sector_bytes (g.F.Flash.device c.put_slot.new.flash) c.args.area.now c.args.sector) c.moved_entry-entry.result (ap (λ (e : ZEntry). e.cycle) c.moved_entry-entry.ensures) (ready_value (g.F.Flash.device c.args.flash.now) c.args.area.now c.args.sector c.opened_sector-opened.result.cycle c.opened_sector-opened.result.slots c.opened_sector-opened.result.data_end (value_of (sector_bytes (g.F.Flash.device c.args.flash.now) c.args.area.now c.args.from_sector) c.ordinary_entry-from.result) (sector_bytes (g.F.Flash.device c.copy_value.new.flash) c.args.area.now c.args.sector) r c.in_ok-copy_value.ensures.ok)) c.put_slot.ensures.lost
+    on_err_weaker c.put_slot.result
+    (λ cut. subst (λ (n : ℕ). KeepsList (kind_on (g.F.Flash.device c.args.flash.now) c.args.area.now) (left_over (kind_on (g.F.Flash.device c.args.flash.now) c.args.area.now) (data_len n)) (sector_bytes (g.F.Flash.device c.args.flash.now) c.args.area.now c.args.sector) (sector_bytes (g.F.Flash.device c.put_slot.new.flash) c.args.area.now c.args.sector)) (copy.len ∙ sym copy.listed_len)
+    (ready_cut (g.F.Flash.device c.args.flash.now) c.args.area.now c.args.sector c.opened_sector-opened.result.cycle c.opened_sector-opened.result.slots c.opened_sector-opened.result.data_end (data_len (length (value_of (sector_bytes (g.F.Flash.device c.args.flash.now) c.args.area.now c.args.from_sector) c.ordinary_entry-from.result))) r (sector_bytes (g.F.Flash.device c.copy_value.new.flash) c.args.area.now c.args.sector) (sector_bytes (g.F.Flash.device c.put_slot.new.flash) c.args.area.now c.args.sector) c.moved_entry-entry.result (kind_on (g.F.Flash.device c.copy_value.new.flash) c.args.area.now) (same_kind (g.F.Flash.device c.args.flash.now) (g.F.Flash.device c.copy_value.new.flash) c.args.area.now c.in_ok-copy_value.ensures.touches.banks) (ap (λ (e : ZEntry). e.cycle) c.moved_entry-entry.ensures)
+    (ready_value (g.F.Flash.device c.args.flash.now) c.args.area.now c.args.sector c.opened_sector-opened.result.cycle c.opened_sector-opened.result.slots c.opened_sector-opened.result.data_end (value_of (sector_bytes (g.F.Flash.device c.args.flash.now) c.args.area.now c.args.from_sector) c.ordinary_entry-from.result) (sector_bytes (g.F.Flash.device c.copy_value.new.flash) c.args.area.now c.args.sector) r c.in_ok-copy_value.ensures.ok) cut))
+    c.put_slot.ensures.lost
 
 pub returns-clause-spends : goal.returns-clause-spends
 returns-clause-spends g c =
@@ -106,7 +131,7 @@ pub returns-clause-spends_lost : goal.returns-clause-spends_lost
 returns-clause-spends_lost g c =
     let copy = copied (sector_bytes (g.F.Flash.device c.args.flash.now) c.args.area.now c.args.from_sector) c.args.from_slot c.ordinary_entry-from.result c.requires.from_sound c.requires.from c.requires.listed (omega arith) c.ordinary_entry-from.ensures in
     let same = ap data_len copy.listed_len in
-    on_err_weaker c.put_slot.result (λ spends. between_within (between_then c.in_ok-copy_value.ensures.spends spends) 0 (cost (entry_len (sector_bytes (g.F.Flash.device c.args.flash.now) c.args.area.now c.args.from_sector) c.args.from_slot) / 16 + 1) (omega arith) (omega arith)) c.put_slot.ensures.spends_lost
+    on_err_weaker c.put_slot.result (λ spends. between_within (between_then c.in_ok-copy_value.ensures.spends spends) 0 (cost (entry_len (sector_bytes (g.F.Flash.device c.args.flash.now) c.args.area.now c.args.from_sector) c.args.from_slot) / 16) (omega arith) (omega arith)) c.put_slot.ensures.spends_lost
 
 pub returns-clause-guards : goal.returns-clause-guards
 returns-clause-guards g c =
@@ -114,8 +139,9 @@ returns-clause-guards g c =
     let same = ap data_len (copy.len ∙ sym copy.listed_len) in
     let room = c.requires.room in
     let r = ready (g.F.Flash.device c.args.flash.now) c.args.area.now c.args.sector c.opened_sector-opened.result.cycle c.opened_sector-opened.result.slots c.opened_sector-opened.result.data_end (data_len (length (value_of (sector_bytes (g.F.Flash.device c.args.flash.now) c.args.area.now c.args.from_sector) c.ordinary_entry-from.result))) c.requires.zms (g.met.F.Flash.is_lawful c.args.flash.now) c.requires.sound c.opened_sector-opened.ensures.cycle c.opened_sector-opened.ensures.slots c.opened_sector-opened.ensures.data_end (omega (arith, room, same)) in
-    let under = ap (λ (b : List ℕ). slot_of b (length (valid_slots (sector_bytes (g.F.Flash.device c.args.flash.now) c.args.area.now c.args.sector)) + 2 + 1)) c.in_ok-copy_value.ensures.ok ∙ value_under (sector_bytes (g.F.Flash.device c.args.flash.now) c.args.area.now c.args.sector) (value_of (sector_bytes (g.F.Flash.device c.args.flash.now) c.args.area.now c.args.from_sector) c.ordinary_entry-from.result) c.opened_sector-opened.result.data_end r.end_is r.fits in
-    let due = entry_guard (g.F.Flash.device c.args.flash.now) c.args.area.now c.args.sector c.opened_sector-opened.result.cycle c.opened_sector-opened.result.slots c.opened_sector-opened.result.data_end (data_len (length (value_of (sector_bytes (g.F.Flash.device c.args.flash.now) c.args.area.now c.args.from_sector) c.ordinary_entry-from.result))) c.moved_entry-entry.result.cycle (sector_bytes (g.F.Flash.device c.copy_value.new.flash) c.args.area.now c.args.sector) r (ap (λ (e : ZEntry). e.cycle) c.moved_entry-entry.ensures) under in
+    let under = ap (λ (b : List ℕ). slot_of b (length (valid_slots (sector_bytes (g.F.Flash.device c.args.flash.now) c.args.area.now c.args.sector)) + 2 + 1)) c.in_ok-copy_value.ensures.ok ∙ value_under (kind_on (g.F.Flash.device c.args.flash.now) c.args.area.now) (sector_bytes (g.F.Flash.device c.args.flash.now) c.args.area.now c.args.sector) (value_of (sector_bytes (g.F.Flash.device c.args.flash.now) c.args.area.now c.args.from_sector) c.ordinary_entry-from.result) c.opened_sector-opened.result.data_end r.end_is r.fits in
+    let due = ap (λ (k : Kind). guard_units k (Some c.moved_entry-entry.result.cycle) (c.opened_sector-opened.result.slots + 2 + 1) (sector_bytes (g.F.Flash.device c.copy_value.new.flash) c.args.area.now c.args.sector)) (same_kind (g.F.Flash.device c.args.flash.now) (g.F.Flash.device c.copy_value.new.flash) c.args.area.now c.in_ok-copy_value.ensures.touches.banks)
+    ∙ entry_guard (g.F.Flash.device c.args.flash.now) c.args.area.now c.args.sector c.opened_sector-opened.result.cycle c.opened_sector-opened.result.slots c.opened_sector-opened.result.data_end (data_len (length (value_of (sector_bytes (g.F.Flash.device c.args.flash.now) c.args.area.now c.args.from_sector) c.ordinary_entry-from.result))) c.moved_entry-entry.result.cycle (sector_bytes (g.F.Flash.device c.copy_value.new.flash) c.args.area.now c.args.sector) r (ap (λ (e : ZEntry). e.cycle) c.moved_entry-entry.ensures) under in
     let listed = ap data_len copy.listed_len in
     on_ok_weaker c.put_slot.result (λ spends. between_within (between_then c.in_ok-copy_value.ensures.spends spends) _ _ (omega arith) (omega arith)) c.put_slot.ensures.guards
 

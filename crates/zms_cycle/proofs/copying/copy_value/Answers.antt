@@ -1,8 +1,8 @@
-use Rattle.std.proofs.Common.{ℕ, ◌/◌, sym, subst, ◌∙◌, arith, length, ap}
+use Rattle.std.proofs.Common.{◌≡◌, ℕ, ◌/◌, true, sym, subst, ◌∙◌, arith, length, ap}
 use Rattle.std.proofs.lemmas.Result.{on_ok_weaker, on_err_weaker}
 use Rattle.std.specs.Prelude.{◌+◌, slice_range}
 use Rattle.flash_sim.specs.Device.{overwritten}
-use Rattle.flash_map.specs.Units.{padded_bytes}
+use Rattle.flash_map.specs.Units.{padded_bytes, is_erased}
 use Rattle.flash_map.specs.Area.{sector_bytes}
 use Rattle.flash_map.specs.Spending.{SpendsBetween}
 use Rattle.zms_cycle.specs.Changes.{HasPart}
@@ -28,6 +28,11 @@ copy_bytes-requires-clause-from g c =
 
 pub copy_bytes-requires-clause-fits : goal.copy_bytes-requires-clause-fits
 copy_bytes-requires-clause-fits g c = let fits = c.requires.fits in let len = long_len c.args.from.now.len (omega arith) in omega arith
+
+pub copy_bytes-requires-clause-erased : goal.copy_bytes-requires-clause-erased
+copy_bytes-requires-clause-erased g c erasing =
+    let len = long_len c.args.from.now.len (omega arith) in
+    subst (λ (n : ℕ). is_erased (slice_range (sector_bytes (g.F.Flash.device c.args.flash.now) c.args.area.now c.args.sector) c.args.to (c.args.to + n)) ≡ true) len (c.requires.erased erasing)
 
 pub returns-clause-ok : goal.returns-clause-ok
 returns-clause-ok g c =

@@ -1,47 +1,93 @@
-use Rattle.std.proofs.Common.{ℕ, List, ap, ◌∙◌, arith}
+use Rattle.std.proofs.Common.{◌≡◌, ℕ, List, Some, sym, ap, ◌∙◌, arith}
 use Rattle.std.proofs.lemmas.Result.{on_ok_weaker}
-use Rattle.std.proofs.lemmas.Bool.{cond-true, cond-false}
+use Rattle.flash_sim.specs.declared.flash.Kind.TheVariants.{Erasing, Rewritable}
 use Rattle.flash_map.specs.Area.{sector_bytes}
+use Rattle.flash_map.specs.declared.area.Geometry.{Geometry}
 use Rattle.flash_map.proofs.SpendingBounds.{between_none}
 use Rattle.ring_laws.proofs.SlotLemmas.{bytes-slot_at}
+use Rattle.zms_cycle.specs.Areas.{kind_on}
 use Rattle.zms_cycle.specs.Sector.{slot_of, is_valid_under}
-use Rattle.zms_cycle.specs.Changes.{with_slot}
-use Rattle.zms_cycle.proofs.AreaFacts.{size_is}
-use Rattle.zms_cycle.proofs.Slots16.{guarded-not_valid}
-use Rattle.zms_cycle.proofs.UnitCalls.{valid_read, guarded-valid, guarded-other, spends_chosen}
+use Rattle.zms_cycle.specs.Changes.{with_slot, guard_units}
+use Rattle.zms_cycle.proofs.AreaFacts.{size_is, never_erasing}
+use Rattle.zms_cycle.proofs.Slots16.{slot-filled}
+use Rattle.zms_cycle.proofs.UnitCalls.{valid_read, guarded-valid, guarded-other, guarded-erasing, units-valid, units-other, units-erasing, spends_just}
 use Rattle.zms_cycle.proofs.guarding.guard.Goals as goal
+
+pub put_unit-requires-clause-erased : goal.put_unit-requires-clause-erased
+put_unit-requires-clause-erased g c =
+    let kind : kind_on (g.F.Flash.device c.args.flash.now) c.args.area.now ≡ Rewritable = sym (ap (λ (shape : Geometry). shape.kind) c.geometry.ensures) ∙ c.in-Rewritable.is in
+    λ erasing. absurd (never_erasing kind erasing)
 
 pub returns-then-is_of_cycle-clause-ok : goal.returns-then-is_of_cycle-clause-ok
 returns-then-is_of_cycle-clause-ok g c =
+    let kind : kind_on (g.F.Flash.device c.args.flash.now) c.args.area.now ≡ Rewritable = sym (ap (λ (shape : Geometry). shape.kind) c.geometry.ensures) ∙ c.in-Rewritable.is in
     let size = size_is (g.F.Flash.device c.args.flash.now) c.args.area.now c.args.sector c.requires.zms (g.met.F.Flash.is_lawful c.args.flash.now) in
     let valid = valid_read c.args.cycle (sector_bytes (g.F.Flash.device c.args.flash.now) c.args.area.now c.args.sector) c.args.slot c.area_view.result.now c.decode_zentry-entry.result c.is_of_cycle.result c.decode_zentry-entry.ensures (c.area_view.ensures.bytes ∙ bytes-slot_at 16 (sector_bytes (g.F.Flash.device c.args.flash.now) c.args.area.now c.args.sector) c.args.slot c.slot_start-start.result (omega (arith, size, c.slot_start-start.ensures))) c.is_of_cycle.ensures in
-    on_ok_weaker c.put_unit.result (λ written. written ∙ ap (λ (bytes : List ℕ). with_slot (sector_bytes (g.F.Flash.device c.args.flash.now) c.args.area.now c.args.sector) c.args.slot bytes) c.fill_unit.ensures ∙ guarded-valid c.args.cycle c.args.slot (sector_bytes (g.F.Flash.device c.args.flash.now) c.args.area.now c.args.sector) (valid ∙ c.if-is_of_cycle.true)) c.put_unit.ensures.ok
+    on_ok_weaker c.put_unit.result (λ written. written ∙ ap (λ (bytes : List ℕ). with_slot (sector_bytes (g.F.Flash.device c.args.flash.now) c.args.area.now c.args.sector) c.args.slot bytes) c.fill_unit.ensures ∙ guarded-valid (kind_on (g.F.Flash.device c.args.flash.now) c.args.area.now) c.args.cycle c.args.slot (sector_bytes (g.F.Flash.device c.args.flash.now) c.args.area.now c.args.sector) kind (valid ∙ c.if-is_of_cycle.true)) c.put_unit.ensures.ok
 
 pub returns-then-is_of_cycle-clause-not_valid : goal.returns-then-is_of_cycle-clause-not_valid
-returns-then-is_of_cycle-clause-not_valid g c =
+returns-then-is_of_cycle-clause-not_valid g c = λ rewritable.
     let size = size_is (g.F.Flash.device c.args.flash.now) c.args.area.now c.args.sector c.requires.zms (g.met.F.Flash.is_lawful c.args.flash.now) in
-    on_ok_weaker c.put_unit.result (λ written. ap (λ (b : List ℕ). is_valid_under c.args.cycle (slot_of b c.args.slot)) written ∙ guarded-not_valid c.args.cycle c.args.slot (sector_bytes (g.F.Flash.device c.args.flash.now) c.args.area.now c.args.sector) (let inside = c.requires.slot in omega (arith, size, inside))) (returns-then-is_of_cycle-clause-ok g c)
+    on_ok_weaker c.put_unit.result (λ written. ap (λ (b : List ℕ). is_valid_under c.args.cycle (slot_of b c.args.slot)) (written ∙ ap (λ (bytes : List ℕ). with_slot (sector_bytes (g.F.Flash.device c.args.flash.now) c.args.area.now c.args.sector) c.args.slot bytes) c.fill_unit.ensures) ∙ slot-filled c.args.cycle (sector_bytes (g.F.Flash.device c.args.flash.now) c.args.area.now c.args.sector) c.args.slot (let inside = c.requires.slot in omega (arith, size, inside))) c.put_unit.ensures.ok
+
+pub returns-then-is_of_cycle-clause-idle : goal.returns-then-is_of_cycle-clause-idle
+returns-then-is_of_cycle-clause-idle g c =
+    let kind : kind_on (g.F.Flash.device c.args.flash.now) c.args.area.now ≡ Rewritable = sym (ap (λ (shape : Geometry). shape.kind) c.geometry.ensures) ∙ c.in-Rewritable.is in
+    λ erasing. absurd (never_erasing kind erasing)
+
+pub returns-then-is_of_cycle-clause-no_step : goal.returns-then-is_of_cycle-clause-no_step
+returns-then-is_of_cycle-clause-no_step g c =
+    let kind : kind_on (g.F.Flash.device c.args.flash.now) c.args.area.now ≡ Rewritable = sym (ap (λ (shape : Geometry). shape.kind) c.geometry.ensures) ∙ c.in-Rewritable.is in
+    λ erasing. absurd (never_erasing kind erasing)
 
 pub returns-then-is_of_cycle-clause-spends : goal.returns-then-is_of_cycle-clause-spends
 returns-then-is_of_cycle-clause-spends g c =
+    let kind : kind_on (g.F.Flash.device c.args.flash.now) c.args.area.now ≡ Rewritable = sym (ap (λ (shape : Geometry). shape.kind) c.geometry.ensures) ∙ c.in-Rewritable.is in
     let size = size_is (g.F.Flash.device c.args.flash.now) c.args.area.now c.args.sector c.requires.zms (g.met.F.Flash.is_lawful c.args.flash.now) in
     let valid = valid_read c.args.cycle (sector_bytes (g.F.Flash.device c.args.flash.now) c.args.area.now c.args.sector) c.args.slot c.area_view.result.now c.decode_zentry-entry.result c.is_of_cycle.result c.decode_zentry-entry.ensures (c.area_view.ensures.bytes ∙ bytes-slot_at 16 (sector_bytes (g.F.Flash.device c.args.flash.now) c.args.area.now c.args.sector) c.args.slot c.slot_start-start.result (omega (arith, size, c.slot_start-start.ensures))) c.is_of_cycle.ensures in
-    on_ok_weaker c.put_unit.result (λ spends. spends_chosen (g.F.Flash.device c.args.flash.now) (g.F.Flash.device c.put_unit.new.flash) (is_valid_under c.args.cycle (slot_of (sector_bytes (g.F.Flash.device c.args.flash.now) c.args.area.now c.args.sector) c.args.slot)) 1 (cond-true (is_valid_under c.args.cycle (slot_of (sector_bytes (g.F.Flash.device c.args.flash.now) c.args.area.now c.args.sector) c.args.slot)) 1 0 (valid ∙ c.if-is_of_cycle.true)) spends) c.put_unit.ensures.spends
+    on_ok_weaker c.put_unit.result (λ spends. spends_just (g.F.Flash.device c.args.flash.now) (g.F.Flash.device c.put_unit.new.flash) (guard_units (kind_on (g.F.Flash.device c.args.flash.now) c.args.area.now) (Some c.args.cycle) c.args.slot (sector_bytes (g.F.Flash.device c.args.flash.now) c.args.area.now c.args.sector)) 1 (units-valid (kind_on (g.F.Flash.device c.args.flash.now) c.args.area.now) c.args.cycle c.args.slot (sector_bytes (g.F.Flash.device c.args.flash.now) c.args.area.now c.args.sector) kind (valid ∙ c.if-is_of_cycle.true)) spends) c.put_unit.ensures.spends
 
-pub returns-clause-ok : goal.returns-clause-ok
-returns-clause-ok g c =
+pub returns-in-Erasing-clause-ok : goal.returns-in-Erasing-clause-ok
+returns-in-Erasing-clause-ok g c =
+    let kind : kind_on (g.F.Flash.device c.args.flash.now) c.args.area.now ≡ Erasing = sym (ap (λ (shape : Geometry). shape.kind) c.geometry.ensures) ∙ c.in-Erasing.is in
+    guarded-erasing (kind_on (g.F.Flash.device c.args.flash.now) c.args.area.now) c.args.cycle c.args.slot (sector_bytes (g.F.Flash.device c.args.flash.now) c.args.area.now c.args.sector) kind
+
+pub returns-in-Erasing-clause-not_valid : goal.returns-in-Erasing-clause-not_valid
+returns-in-Erasing-clause-not_valid g c =
+    let kind : kind_on (g.F.Flash.device c.args.flash.now) c.args.area.now ≡ Erasing = sym (ap (λ (shape : Geometry). shape.kind) c.geometry.ensures) ∙ c.in-Erasing.is in
+    λ rewritable. absurd (never_erasing rewritable kind)
+
+pub returns-in-Erasing-clause-spends : goal.returns-in-Erasing-clause-spends
+returns-in-Erasing-clause-spends g c =
+    let kind : kind_on (g.F.Flash.device c.args.flash.now) c.args.area.now ≡ Erasing = sym (ap (λ (shape : Geometry). shape.kind) c.geometry.ensures) ∙ c.in-Erasing.is in
+    spends_just (g.F.Flash.device c.args.flash.now) (g.F.Flash.device c.args.flash.now) (guard_units (kind_on (g.F.Flash.device c.args.flash.now) c.args.area.now) (Some c.args.cycle) c.args.slot (sector_bytes (g.F.Flash.device c.args.flash.now) c.args.area.now c.args.sector)) 0 (units-erasing (kind_on (g.F.Flash.device c.args.flash.now) c.args.area.now) c.args.cycle c.args.slot (sector_bytes (g.F.Flash.device c.args.flash.now) c.args.area.now c.args.sector) kind) (between_none (g.F.Flash.device c.args.flash.now))
+
+pub returns-in-Erasing-clause-step : goal.returns-in-Erasing-clause-step
+returns-in-Erasing-clause-step g c =
+    let kind : kind_on (g.F.Flash.device c.args.flash.now) c.args.area.now ≡ Erasing = sym (ap (λ (shape : Geometry). shape.kind) c.geometry.ensures) ∙ c.in-Erasing.is in
+    λ rewritable. absurd (never_erasing rewritable kind)
+
+pub returns-else-is_of_cycle-clause-ok : goal.returns-else-is_of_cycle-clause-ok
+returns-else-is_of_cycle-clause-ok g c =
+    let kind : kind_on (g.F.Flash.device c.args.flash.now) c.args.area.now ≡ Rewritable = sym (ap (λ (shape : Geometry). shape.kind) c.geometry.ensures) ∙ c.in-Rewritable.is in
     let size = size_is (g.F.Flash.device c.args.flash.now) c.args.area.now c.args.sector c.requires.zms (g.met.F.Flash.is_lawful c.args.flash.now) in
     let valid = valid_read c.args.cycle (sector_bytes (g.F.Flash.device c.args.flash.now) c.args.area.now c.args.sector) c.args.slot c.area_view.result.now c.decode_zentry-entry.result c.is_of_cycle.result c.decode_zentry-entry.ensures (c.area_view.ensures.bytes ∙ bytes-slot_at 16 (sector_bytes (g.F.Flash.device c.args.flash.now) c.args.area.now c.args.sector) c.args.slot c.slot_start-start.result (omega (arith, size, c.slot_start-start.ensures))) c.is_of_cycle.ensures in
-    guarded-other c.args.cycle c.args.slot (sector_bytes (g.F.Flash.device c.args.flash.now) c.args.area.now c.args.sector) (valid ∙ c.if-is_of_cycle.false)
+    guarded-other (kind_on (g.F.Flash.device c.args.flash.now) c.args.area.now) c.args.cycle c.args.slot (sector_bytes (g.F.Flash.device c.args.flash.now) c.args.area.now c.args.sector) kind (valid ∙ c.if-is_of_cycle.false)
 
-pub returns-clause-not_valid : goal.returns-clause-not_valid
-returns-clause-not_valid g c =
+pub returns-else-is_of_cycle-clause-not_valid : goal.returns-else-is_of_cycle-clause-not_valid
+returns-else-is_of_cycle-clause-not_valid g c = λ rewritable.
     let size = size_is (g.F.Flash.device c.args.flash.now) c.args.area.now c.args.sector c.requires.zms (g.met.F.Flash.is_lawful c.args.flash.now) in
     let valid = valid_read c.args.cycle (sector_bytes (g.F.Flash.device c.args.flash.now) c.args.area.now c.args.sector) c.args.slot c.area_view.result.now c.decode_zentry-entry.result c.is_of_cycle.result c.decode_zentry-entry.ensures (c.area_view.ensures.bytes ∙ bytes-slot_at 16 (sector_bytes (g.F.Flash.device c.args.flash.now) c.args.area.now c.args.sector) c.args.slot c.slot_start-start.result (omega (arith, size, c.slot_start-start.ensures))) c.is_of_cycle.ensures in
     valid ∙ c.if-is_of_cycle.false
 
-pub returns-clause-spends : goal.returns-clause-spends
-returns-clause-spends g c =
+pub returns-else-is_of_cycle-clause-no_step : goal.returns-else-is_of_cycle-clause-no_step
+returns-else-is_of_cycle-clause-no_step g c =
+    let kind : kind_on (g.F.Flash.device c.args.flash.now) c.args.area.now ≡ Rewritable = sym (ap (λ (shape : Geometry). shape.kind) c.geometry.ensures) ∙ c.in-Rewritable.is in
+    λ erasing. absurd (never_erasing kind erasing)
+
+pub returns-else-is_of_cycle-clause-spends : goal.returns-else-is_of_cycle-clause-spends
+returns-else-is_of_cycle-clause-spends g c =
+    let kind : kind_on (g.F.Flash.device c.args.flash.now) c.args.area.now ≡ Rewritable = sym (ap (λ (shape : Geometry). shape.kind) c.geometry.ensures) ∙ c.in-Rewritable.is in
     let size = size_is (g.F.Flash.device c.args.flash.now) c.args.area.now c.args.sector c.requires.zms (g.met.F.Flash.is_lawful c.args.flash.now) in
     let valid = valid_read c.args.cycle (sector_bytes (g.F.Flash.device c.args.flash.now) c.args.area.now c.args.sector) c.args.slot c.area_view.result.now c.decode_zentry-entry.result c.is_of_cycle.result c.decode_zentry-entry.ensures (c.area_view.ensures.bytes ∙ bytes-slot_at 16 (sector_bytes (g.F.Flash.device c.args.flash.now) c.args.area.now c.args.sector) c.args.slot c.slot_start-start.result (omega (arith, size, c.slot_start-start.ensures))) c.is_of_cycle.ensures in
-    spends_chosen (g.F.Flash.device c.args.flash.now) (g.F.Flash.device c.args.flash.now) (is_valid_under c.args.cycle (slot_of (sector_bytes (g.F.Flash.device c.args.flash.now) c.args.area.now c.args.sector) c.args.slot)) 0 (cond-false (is_valid_under c.args.cycle (slot_of (sector_bytes (g.F.Flash.device c.args.flash.now) c.args.area.now c.args.sector) c.args.slot)) 1 0 (valid ∙ c.if-is_of_cycle.false)) (between_none (g.F.Flash.device c.args.flash.now))
+    spends_just (g.F.Flash.device c.args.flash.now) (g.F.Flash.device c.args.flash.now) (guard_units (kind_on (g.F.Flash.device c.args.flash.now) c.args.area.now) (Some c.args.cycle) c.args.slot (sector_bytes (g.F.Flash.device c.args.flash.now) c.args.area.now c.args.sector)) 0 (units-other (kind_on (g.F.Flash.device c.args.flash.now) c.args.area.now) c.args.cycle c.args.slot (sector_bytes (g.F.Flash.device c.args.flash.now) c.args.area.now c.args.sector) kind (valid ∙ c.if-is_of_cycle.false)) (between_none (g.F.Flash.device c.args.flash.now))

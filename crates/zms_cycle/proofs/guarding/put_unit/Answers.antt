@@ -9,7 +9,7 @@ use Rattle.zms_cycle.proofs.guarding.put_unit.Goals as goal
 
 pub area_program-requires-clause-can : goal.area_program-requires-clause-can
 area_program-requires-clause-can g c =
-    can_unit (g.F.Flash.device c.args.flash.now) (g.F.Flash.device c.args.flash.now) c.args.area.now c.args.sector c.args.slot c.slot_start-start.result c.args.bytes.now c.requires.zms (g.met.F.Flash.is_lawful c.args.flash.now) c.slot_start-start.ensures c.requires.slot c.requires.unit
+    can_unit (g.F.Flash.device c.args.flash.now) (g.F.Flash.device c.args.flash.now) c.args.area.now c.args.sector c.args.slot c.slot_start-start.result c.args.bytes.now c.requires.zms (g.met.F.Flash.is_lawful c.args.flash.now) c.slot_start-start.ensures c.requires.slot c.requires.unit c.requires.erased
 
 pub returns-clause-ok : goal.returns-clause-ok
 returns-clause-ok g c = on_ok_weaker c.area_program.result (unit_written (g.F.Flash.device c.args.flash.now) (g.F.Flash.device c.area_program.new.flash) c.args.area.now c.args.sector c.args.slot c.slot_start-start.result c.args.bytes.now c.requires.zms (g.met.F.Flash.is_lawful c.args.flash.now) c.slot_start-start.ensures c.requires.slot c.requires.unit) c.area_program.ensures.written

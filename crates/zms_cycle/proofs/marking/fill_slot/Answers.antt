@@ -6,7 +6,7 @@ use Rattle.flash_map.specs.Area.{sector_bytes}
 use Rattle.flash_map.proofs.SpendingBounds.{between_none, between_within}
 use Rattle.zms_cycle.specs.Entries.{fill}
 use Rattle.zms_cycle.specs.Changes.{with_slot}
-use Rattle.zms_cycle.proofs.AreaFacts.{size_is}
+use Rattle.zms_cycle.proofs.AreaFacts.{size_is, never_erasing}
 use Rattle.zms_cycle.proofs.Bytes.{length-fill}
 use Rattle.zms_cycle.proofs.CloseCalls.{unit_again}
 use Rattle.zms_cycle.proofs.marking.fill_slot.Goals as goal
@@ -22,6 +22,9 @@ returns-then-is_filled-clause-spends g c = between_within (between_none (g.F.Fla
 
 pub put_unit-requires-clause-unit : goal.put_unit-requires-clause-unit
 put_unit-requires-clause-unit g c = ap length c.fill_unit-unit.ensures ∙ length-fill
+
+pub put_unit-requires-clause-erased : goal.put_unit-requires-clause-erased
+put_unit-requires-clause-erased g c = λ erasing. absurd (never_erasing c.requires.kind erasing)
 
 pub returns-clause-ok : goal.returns-clause-ok
 returns-clause-ok g c = on_ok_weaker c.put_unit.result (λ is. is ∙ ap (λ (bytes : List ℕ). with_slot (sector_bytes (g.F.Flash.device c.args.flash.now) c.args.area.now c.args.sector) c.args.slot bytes) c.fill_unit-unit.ensures) c.put_unit.ensures.ok

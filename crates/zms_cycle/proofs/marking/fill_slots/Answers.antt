@@ -1,10 +1,11 @@
-use Rattle.std.proofs.Common.{◌≡◌, ◌-◌, ◌∷◌, [], List, refl, ap, arith}
+use Rattle.std.proofs.Common.{◌≡◌, ◌-◌, ◌∷◌, [], List, refl, ap, ◌∙◌, arith}
 use Rattle.flash_sim.specs.Bank.{bank_at}
 use Rattle.flash_sim.specs.declared.flash.Bank.{Bank}
+use Rattle.flash_sim.specs.declared.flash.Kind.TheVariants.{Rewritable}
 use Rattle.flash_map.specs.Area.{sector_bytes, sector_size}
 use Rattle.flash_map.proofs.SpendingBounds.{between_none, between_then, between_within}
 use Rattle.flash_map.proofs.Touches.{then, untouched}
-use Rattle.zms_cycle.proofs.AreaFacts.{size_is, still_zms, others_same, others_then}
+use Rattle.zms_cycle.proofs.AreaFacts.{size_is, same_kind, still_zms, others_same, others_then}
 use Rattle.zms_cycle.proofs.EmptyCalls.{same_bytes}
 use Rattle.zms_cycle.proofs.Frames.{keeps_same}
 use Rattle.zms_cycle.proofs.CloseCalls.{fill_keeps, fill_more, filled_as, keeps_equal}
@@ -16,13 +17,16 @@ loop-slot-init g c = record {
   over = omega arith;
   touches = untouched (c.args.area.now ∷ []) (g.F.Flash.device c.args.flash.now);
   others = others_same (g.F.Flash.device c.args.flash.now) (g.F.Flash.device c.args.flash.now) c.args.area.now c.args.sector refl;
-  keeps = keeps_same (sector_bytes (g.F.Flash.device c.args.flash.now) c.args.area.now c.args.sector);
+  keeps = keeps_same Rewritable 0 (sector_bytes (g.F.Flash.device c.args.flash.now) c.args.area.now c.args.sector);
   filled = λ k from below. absurd (omega arith);
   spends = between_within (between_none (g.F.Flash.device c.args.flash.now)) 0 (c.args.top - c.args.top) (omega arith) (omega arith);
 }
 
 pub fill_slot-requires-clause-zms : goal.fill_slot-requires-clause-zms
 fill_slot-requires-clause-zms g c = still_zms (g.F.Flash.device c.args.flash.now) (g.F.Flash.device c.loop-slot.flash) c.args.area.now c.args.sector c.loop-slot.invariant.touches.banks c.requires.zms
+
+pub fill_slot-requires-clause-kind : goal.fill_slot-requires-clause-kind
+fill_slot-requires-clause-kind g c = same_kind (g.F.Flash.device c.args.flash.now) (g.F.Flash.device c.loop-slot.flash) c.args.area.now c.loop-slot.invariant.touches.banks ∙ c.requires.kind
 
 pub fill_slot-requires-clause-slot : goal.fill_slot-requires-clause-slot
 fill_slot-requires-clause-slot g c =
@@ -52,7 +56,7 @@ pub returns-in_err-fill_slot-clause-others : goal.returns-in_err-fill_slot-claus
 returns-in_err-fill_slot-clause-others g c = others_then (g.F.Flash.device c.args.flash.now) (g.F.Flash.device c.loop-slot.flash) (g.F.Flash.device c.fill_slot.new.flash) c.args.area.now c.args.sector c.loop-slot.invariant.others c.in_err-fill_slot.ensures.others
 
 pub returns-in_err-fill_slot-clause-keeps : goal.returns-in_err-fill_slot-clause-keeps
-returns-in_err-fill_slot-clause-keeps g c = keeps_equal (sector_bytes (g.F.Flash.device c.args.flash.now) c.args.area.now c.args.sector) (sector_bytes (g.F.Flash.device c.loop-slot.flash) c.args.area.now c.args.sector) (sector_bytes (g.F.Flash.device c.fill_slot.new.flash) c.args.area.now c.args.sector) c.loop-slot.invariant.keeps (same_bytes (g.F.Flash.device c.loop-slot.flash) (g.F.Flash.device c.fill_slot.new.flash) c.args.area.now c.args.sector c.in_err-fill_slot.ensures.lost)
+returns-in_err-fill_slot-clause-keeps g c = keeps_equal Rewritable (sector_bytes (g.F.Flash.device c.args.flash.now) c.args.area.now c.args.sector) (sector_bytes (g.F.Flash.device c.loop-slot.flash) c.args.area.now c.args.sector) (sector_bytes (g.F.Flash.device c.fill_slot.new.flash) c.args.area.now c.args.sector) c.loop-slot.invariant.keeps (same_bytes (g.F.Flash.device c.loop-slot.flash) (g.F.Flash.device c.fill_slot.new.flash) c.args.area.now c.args.sector c.in_err-fill_slot.ensures.lost)
 
 pub returns-in_err-fill_slot-clause-spends : goal.returns-in_err-fill_slot-clause-spends
 returns-in_err-fill_slot-clause-spends g c =

@@ -1,4 +1,5 @@
 use Rattle.std.proofs.Common.{◌-◌, ◌≤◌, ◌∷◌, [], false}
+use Rattle.flash_sim.specs.declared.flash.Kind.TheVariants.{Rewritable}
 use Rattle.flash_map.specs.Area.{sector_bytes, OthersStay}
 use Rattle.flash_map.specs.Spending.{SpendsBetween}
 use Rattle.flash_map.specs.Touches.{Touches}
@@ -11,7 +12,7 @@ invariant-loop-slot g l = record {
   over : l.top - l.slot ≤ l.top - l.bottom;
   touches : Touches (l.area ∷ []) (g.F.Flash.device l.initial.flash) (g.F.Flash.device l.flash) false;
   others : OthersStay (g.F.Flash.device l.initial.flash) (g.F.Flash.device l.flash) l.area l.sector;
-  keeps : KeepsList (sector_bytes (g.F.Flash.device l.initial.flash) l.area l.sector) (sector_bytes (g.F.Flash.device l.flash) l.area l.sector);
+  keeps : KeepsList Rewritable 0 (sector_bytes (g.F.Flash.device l.initial.flash) l.area l.sector) (sector_bytes (g.F.Flash.device l.flash) l.area l.sector);
   filled : IsFilled (sector_bytes (g.F.Flash.device l.flash) l.area l.sector) l.slot l.top;
   spends : SpendsBetween (g.F.Flash.device l.initial.flash) (g.F.Flash.device l.flash) 0 (l.top - l.slot);
 }

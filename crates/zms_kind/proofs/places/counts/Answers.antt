@@ -3,7 +3,7 @@ use Rattle.flash_sim.specs.Device.{Device}
 use Rattle.flash_map.specs.Area.{sectors_of}
 use Rattle.ring_laws.specs.Area.{next, is_closed_at}
 use Rattle.zms_kind.specs.declared.sector.Marks.{Marks}
-use Rattle.zms_kind.specs.Area.{reading}
+use Rattle.zms_kind.specs.Area.{plain}
 use Rattle.zms_kind.proofs.MountLemmas.{next_there, counts_closed, counts_open}
 use Rattle.zms_kind.proofs.places.counts.Goals as goal
 use Rattle.zms_kind.proofs.places.counts.Goals.{then-marks_at-2, else-marks_at-2}
@@ -13,7 +13,7 @@ returns-after-marks_at-2 g c =
     let d : Device = g.F.Flash.device c.args.flash.now in
     let sectors : List (List ℕ) = sectors_of d c.args.area.now in
     let after : c.next-after.result ≡ next sectors c.args.current = c.next-after.ensures.value ∙ next_there d c.args.area.now c.args.current in
-    let shut : is_closed_at reading sectors (next sectors c.args.current) ≡ true = ap (is_closed_at reading sectors) (sym after) ∙ sym (ap (λ (m : Marks). m.closed) c.marks_at.ensures) ∙ c.if-marks_at.true in
+    let shut : is_closed_at plain sectors (next sectors c.args.current) ≡ true = ap (is_closed_at plain sectors) (sym after) ∙ sym (ap (λ (m : Marks). m.closed) c.marks_at.ensures) ∙ c.if-marks_at.true in
     let done = ap (λ (m : Marks). m.gc_done) c.marks_at-then-marks_at.ensures in
     elim c.if-marks_at-2.branch [
       | then-marks_at-2 w ↦ counts_closed sectors c.args.current c.args.place c.if-marks_at-2.hidden true shut (sym done ∙ w.if-marks_at-2.true) (w.hidden-is ∙ after)
@@ -25,4 +25,4 @@ returns-else-marks_at g c =
     let d : Device = g.F.Flash.device c.args.flash.now in
     let sectors : List (List ℕ) = sectors_of d c.args.area.now in
     let after : c.next-after.result ≡ next sectors c.args.current = c.next-after.ensures.value ∙ next_there d c.args.area.now c.args.current in
-    counts_open sectors c.args.current c.args.place (ap (is_closed_at reading sectors) (sym after) ∙ sym (ap (λ (m : Marks). m.closed) c.marks_at.ensures) ∙ c.if-marks_at.false)
+    counts_open sectors c.args.current c.args.place (ap (is_closed_at plain sectors) (sym after) ∙ sym (ap (λ (m : Marks). m.closed) c.marks_at.ensures) ∙ c.if-marks_at.false)

@@ -4,7 +4,7 @@ use Rattle.zms_cycle.specs.Sector.{valid_slots, entries}
 use Rattle.zms_cycle.proofs.Scanning.{entries_to}
 use Rattle.zms_kind.specs.declared.sector.Placed.{Placed}
 use Rattle.zms_kind.specs.Area.{placed_at, last_in, IsListed}
-use Rattle.zms_kind.proofs.Sectors.{few_slots, read_room, entries_all, listed_here, find_here, find_other, find_none}
+use Rattle.zms_kind.proofs.Sectors.{few_slots, entries_all, listed_here, find_here, find_other, find_none}
 use Rattle.zms_kind.proofs.PassedSlots.{find_past}
 use Rattle.zms_kind.proofs.sector.find_in.Goals as goal
 use Rattle.zms_kind.proofs.sector.find_in.Goals.{in-Some+else-found-id, in_default}
@@ -16,8 +16,11 @@ loop-count-init c = record {
       (omega (arith, c.reach_in-count.ensures.within)) c.reach_in-count.ensures.others (ap (last_in c.args.id) (entries_all c.args.sector.now (length (valid_slots c.args.sector.now)) refl));
 }
 
-pub entry_in-requires : goal.entry_in-requires
-entry_in-requires c = read_room c.args.sector.now (c.loop-count.count + 1) (omega arith) (omega (arith, c.loop-count.invariant.inside))
+pub listed_entry-requires-clause-from : goal.listed_entry-requires-clause-from
+listed_entry-requires-clause-from c = omega arith
+
+pub listed_entry-requires-clause-listed : goal.listed_entry-requires-clause-listed
+listed_entry-requires-clause-listed c = omega (arith, c.loop-count.invariant.inside)
 
 pub returns-then-found-id-clause-last : goal.returns-then-found-id-clause-last
 returns-then-found-id-clause-last c =
@@ -35,9 +38,9 @@ returns-then-found-id-clause-listed c =
 pub loop-count-preserved : goal.loop-count-preserved
 loop-count-preserved c = record {
   inside = omega (arith, c.loop-count.invariant.inside);
-  later = elim c.match-entry_in.branch [
+  later = elim c.match-listed_entry.branch [
     | in-Some+else-found-id w ↦ find_other c.args.sector.now c.args.id c.loop-count.count (c.loop-count.count + 1) w.in-Some.found _ c.loop-count-test.true (omega arith) w.in-Some.ensures w.if-found-id.false c.loop-count.invariant.later
-    | in_default w ↦ find_none c.args.sector.now c.args.id c.loop-count.count (c.loop-count.count + 1) _ c.loop-count-test.true (omega arith) (sym w.in_default.is ∙ c.entry_in.ensures) c.loop-count.invariant.later
+    | in_default w ↦ find_none c.args.sector.now c.args.id c.loop-count.count (c.loop-count.count + 1) _ c.loop-count-test.true (omega arith) (sym w.in_default.is ∙ c.listed_entry.ensures) c.loop-count.invariant.later
   ];
 }
 

@@ -3,14 +3,14 @@ use Rattle.std.specs.Prelude.{sum_by}
 use Rattle.std.specs.List.{list_any}
 use Rattle.zms_cycle.specs.Sector.{is_under, entry_cost}
 use Rattle.zms_cycle.proofs.Scanning.{entries_to}
-use Rattle.zms_kind.proofs.Sectors.{few_slots, read_room, any_step, sum_step, too_much_is}
+use Rattle.zms_kind.proofs.Sectors.{few_slots, any_step, sum_step, too_much_is}
 use Rattle.zms_kind.proofs.sector.holds_too_much.Goals as goal
 
 pub overflow_add-slot-end : goal.overflow_add-slot-end
 overflow_add-slot-end c = let few = few_slots c.args.sector.now in omega (arith, c.requires.slots)
 
-pub entry_in-found-requires : goal.entry_in-found-requires
-entry_in-found-requires c = read_room c.args.sector.now c.loop-slot.slot (omega arith) (omega (arith, c.requires.slots))
+pub listed_entry-found-requires-clause-listed : goal.listed_entry-found-requires-clause-listed
+listed_entry-found-requires-clause-listed c = omega (arith, c.requires.slots)
 
 pub overflow_add-costs : goal.overflow_add-costs
 overflow_add-costs c =
@@ -23,9 +23,9 @@ loop-slot-preserved c =
     let b : List ℕ = c.args.sector.now in
     let next : c.loop-slot.slot - 2 + 1 ≡ c.loop-slot.slot + 1 - 2 = omega arith in
     record {
-      over = any_step (λ f. not (is_under c.saturating_sub-limit.result f)) b (c.loop-slot.slot - 2) c.loop-slot.slot c.entry_in-found.result c.loop-slot.over c.passes-over.result (omega arith) c.entry_in-found.ensures kept.over c.passes-over.ensures
+      over = any_step (λ f. not (is_under c.saturating_sub-limit.result f)) b (c.loop-slot.slot - 2) c.loop-slot.slot c.listed_entry-found.result c.loop-slot.over c.passes-over.result (omega arith) c.listed_entry-found.ensures kept.over c.passes-over.ensures
           ∙ ap (λ (n : ℕ). list_any (λ f. not (is_under c.saturating_sub-limit.result f)) (entries_to b n)) next;
-      costs = sum_step entry_cost b (c.loop-slot.slot - 2) c.loop-slot.slot c.entry_in-found.result c.loop-slot.costs c.cost_of-costs.result (omega arith) c.entry_in-found.ensures kept.costs c.cost_of-costs.ensures.value
+      costs = sum_step entry_cost b (c.loop-slot.slot - 2) c.loop-slot.slot c.listed_entry-found.result c.loop-slot.costs c.cost_of-costs.result (omega arith) c.listed_entry-found.ensures kept.costs c.cost_of-costs.ensures.value
           ∙ ap (λ (n : ℕ). sum_by entry_cost (entries_to b n)) next;
       small = omega (arith, kept.small, c.cost_of-costs.ensures.small);
     }

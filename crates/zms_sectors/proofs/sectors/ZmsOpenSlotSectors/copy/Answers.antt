@@ -1,14 +1,12 @@
-use Rattle.std.proofs.Common.{◌≡◌, ◌+◌, ◌*◌, ◌<◌, ◌≤◌, ◌⊎◌, ◌||◌, ℕ, Bool, true, false, not, List, length, Option, Some, None, refl, sym, ap, subst, ◌∙◌, inl, inr, arith}
-use Rattle.std.proofs.lemmas.Result.{on_ok_weaker, on_err_weaker}
+use Rattle.std.proofs.Common.{ℕ, List, arith}
+use Rattle.std.proofs.lemmas.Result.{on_ok_weaker}
 use Rattle.flash_sim.specs.Device.{Device}
 use Rattle.flash_map.specs.declared.area.Area.{Area}
-use Rattle.flash_map.specs.Area.{unit_of, sectors_of, sector_at}
-use Rattle.flash_map.proofs.SpendingBounds.{between_none, between_then, between_within}
-use Rattle.ring_store.proofs.Areas.{size_there, large_there}
-use Rattle.zms_kind.specs.declared.sector.Marks.{Marks}
-use Rattle.zms_kind.proofs.Roomy.{roomy_of, ring_sound_of}
-use Rattle.zms_kind.proofs.Sectors.{unused-is, few_slots, read_room}
-use Rattle.zms_kind.proofs.StepLemmas.{ready_cycle, ready_sound, open_cycle, clears, closes, keeps, adds, marks, fits_cost, begins_as, adds_copy}
+use Rattle.flash_map.specs.declared.area.Geometry.{Geometry}
+use Rattle.flash_map.specs.Area.{geometry_of, sectors_of, sector_at}
+use Rattle.ring_store.proofs.Areas.{large_there}
+use Rattle.zms_kind.proofs.Roomy.{roomy_of}
+use Rattle.zms_kind.proofs.StepLemmas.{ready_may, adds_copy}
 use Rattle.flash_map.specs.declared.area.Role.TheVariants.{Zms as zms_role}
 use Rattle.zms_sectors.proofs.sectors.ZmsOpenSlotSectors.copy.Goals as goal
 
@@ -16,20 +14,20 @@ pub copy_entry-requires-clause-from_sound : goal.copy_entry-requires-clause-from
 copy_entry-requires-clause-from_sound g c =
     let a : Device = g.F.Flash.device c.args.flash.now in
     let area : Area = c.args.area.now in
-    let u : ℕ = unit_of a area in
+    let u : Geometry = geometry_of a area in
     let b : List ℕ = sector_at (sectors_of a area) c.args.place in
     let wide = large_there zms_role a area (g.met.F.Flash.is_lawful c.args.flash.now) c.requires.area c.args.place c.requires.inside in
-    let there = large_there zms_role a area (g.met.F.Flash.is_lawful c.args.flash.now) c.requires.area c.args.from.now.sector c.requires.has_source in (roomy_of (sector_at (sectors_of a area) c.args.from.now.sector) (omega arith) c.requires.source).sound
+    let there = large_there zms_role a area (g.met.F.Flash.is_lawful c.args.flash.now) c.requires.area c.args.from.now.sector c.requires.has_source in (roomy_of u.kind (sector_at (sectors_of a area) c.args.from.now.sector) (omega arith) c.requires.source).sound
 
 pub returns-clause-adds : goal.returns-clause-adds
 returns-clause-adds g c =
     let a : Device = g.F.Flash.device c.args.flash.now in
     let area : Area = c.args.area.now in
-    let u : ℕ = unit_of a area in
+    let u : Geometry = geometry_of a area in
     let b : List ℕ = sector_at (sectors_of a area) c.args.place in
     let wide = large_there zms_role a area (g.met.F.Flash.is_lawful c.args.flash.now) c.requires.area c.args.place c.requires.inside in
     let e : Device = g.F.Flash.device c.copy_entry.new.flash in
     let there = large_there zms_role a area (g.met.F.Flash.is_lawful c.args.flash.now) c.requires.area c.args.from.now.sector c.requires.has_source in
-    let sound = (roomy_of (sector_at (sectors_of a area) c.args.from.now.sector) (omega arith) c.requires.source).sound in
+    let sound = (roomy_of u.kind (sector_at (sectors_of a area) c.args.from.now.sector) (omega arith) c.requires.source).sound in
     let listed = c.requires.listed in
-    on_ok_weaker c.copy_entry.result (λ h. adds_copy u (sector_at (sectors_of a area) c.args.place) (sector_at (sectors_of e area) c.args.place) (sector_at (sectors_of a area) c.args.from.now.sector) c.args.from.now wide sound listed.0 listed.1 c.requires.there c.requires.room h) c.copy_entry.ensures.ok
+    on_ok_weaker c.copy_entry.result (λ h. adds_copy u (sector_at (sectors_of a area) c.args.place) (sector_at (sectors_of e area) c.args.place) (sector_at (sectors_of a area) c.args.from.now.sector) c.args.from.now wide sound listed.0 listed.1 c.requires.there (ready_may u.kind (sector_at (sectors_of a area) c.args.place) c.requires.ready) c.requires.room h) c.copy_entry.ensures.ok

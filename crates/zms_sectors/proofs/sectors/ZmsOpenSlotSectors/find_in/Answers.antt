@@ -1,15 +1,9 @@
-use Rattle.std.proofs.Common.{◌≡◌, ◌+◌, ◌*◌, ◌<◌, ◌≤◌, ◌⊎◌, ◌||◌, ℕ, Bool, true, false, not, List, length, Option, Some, None, refl, sym, ap, subst, ◌∙◌, inl, inr, arith}
-use Rattle.std.proofs.lemmas.Result.{on_ok_weaker, on_err_weaker}
+use Rattle.std.proofs.Common.{ℕ, List, sym, ap, ◌∙◌}
 use Rattle.flash_sim.specs.Device.{Device}
 use Rattle.flash_map.specs.declared.area.Area.{Area}
-use Rattle.flash_map.specs.Area.{unit_of, sectors_of, sector_at}
-use Rattle.flash_map.proofs.SpendingBounds.{between_none, between_then, between_within}
-use Rattle.ring_store.proofs.Areas.{size_there, large_there}
-use Rattle.zms_kind.specs.declared.sector.Marks.{Marks}
-use Rattle.zms_kind.proofs.Roomy.{roomy_of, ring_sound_of}
-use Rattle.zms_kind.proofs.Sectors.{unused-is, few_slots, read_room}
-use Rattle.zms_kind.proofs.StepLemmas.{ready_cycle, ready_sound, open_cycle, clears, closes, keeps, adds, marks, fits_cost, begins_as, last_same}
-use Rattle.flash_map.specs.declared.area.Role.TheVariants.{Zms as zms_role}
+use Rattle.flash_map.specs.declared.area.Geometry.{Geometry}
+use Rattle.flash_map.specs.Area.{geometry_of, sectors_of, sector_at}
+use Rattle.zms_kind.proofs.StepLemmas.{last_same}
 use Rattle.std.specs.Option.{option_map}
 use Rattle.zms_cycle.specs.Sector.{entries}
 use Rattle.zms_kind.specs.Kinds.{record_of}
@@ -20,7 +14,7 @@ pub returns-in-Some : goal.returns-in-Some
 returns-in-Some g c =
     let a : Device = g.F.Flash.device c.args.flash.now in
     let area : Area = c.args.area.now in
-    let u : ℕ = unit_of a area in
+    let u : Geometry = geometry_of a area in
     let bytes = c.sector_view.ensures.bytes in
     let found = c.find_in.ensures.last ∙ ap (λ (b : List ℕ). option_map (zms_placed_at c.args.place) (last_in c.args.id (entries b))) bytes in
     (rw c.from.ensures (ap (option_map record_of) (sym c.in-Some.is ∙ found) ∙ last_same u (sector_at (sectors_of a area) c.args.place) c.args.place c.args.id))
@@ -29,7 +23,7 @@ pub returns-in-None : goal.returns-in-None
 returns-in-None g c =
     let a : Device = g.F.Flash.device c.args.flash.now in
     let area : Area = c.args.area.now in
-    let u : ℕ = unit_of a area in
+    let u : Geometry = geometry_of a area in
     let bytes = c.sector_view.ensures.bytes in
     let found = c.find_in.ensures.last ∙ ap (λ (b : List ℕ). option_map (zms_placed_at c.args.place) (last_in c.args.id (entries b))) bytes in
     ap (option_map record_of) (sym c.in-None.is ∙ found) ∙ last_same u (sector_at (sectors_of a area) c.args.place) c.args.place c.args.id

@@ -1,9 +1,10 @@
-use Rattle.std.proofs.Common.{◌≡◌, ◌+◌, ◌-◌, ◌*◌, ◌^◌, ◌<◌, ◌≤◌, min, ℕ, List, length, sym, ap, subst, ◌∙◌, arith}
+use Rattle.std.proofs.Common.{◌≡◌, ◌-◌, ◌^◌, min, ℕ, List, length, ap, arith}
 use Rattle.flash_sim.specs.Device.{Device}
 use Rattle.flash_map.specs.declared.area.Geometry.{Geometry}
 use Rattle.flash_map.specs.declared.area.Role.TheVariants.{Zms as zms_role}
 use Rattle.flash_map.specs.Area.{sectors_of, sector_at, sector_size}
 use Rattle.ring_store.proofs.Areas.{size_there}
+use Rattle.zms_cycle.specs.Areas.{kind_on}
 use Rattle.zms_cycle.specs.Sector.{valid_slots, data_end}
 use Rattle.zms_kind.specs.declared.sector.Marks.{Marks}
 use Rattle.zms_kind.proofs.Sectors.{few_slots}
@@ -34,7 +35,7 @@ returns g c =
     let slots : c.marks_at-marks.result.slots ≡ length (valid_slots (sector_at (sectors_of d c.args.area.now) c.args.place)) = ap (λ (m : Marks). m.slots) c.marks_at-marks.ensures in
     let size : length (sector_at (sectors_of d c.args.area.now) c.args.place) ≡ sector_size d c.args.area.now = size_there zms_role d c.args.area.now (g.met.F.Flash.is_lawful c.args.flash.now) c.requires.area c.args.place c.requires.inside in
     let few = few_slots (sector_at (sectors_of d c.args.area.now) c.args.place) in
-    let end : c.marks_at-marks.result.data_end ≡ min (data_end (sector_at (sectors_of d c.args.area.now) c.args.place)) (2 ^ 32 - 1) = ap (λ (m : Marks). m.data_end) c.marks_at-marks.ensures in
+    let end : c.marks_at-marks.result.data_end ≡ min (data_end (kind_on d c.args.area.now) (sector_at (sectors_of d c.args.area.now) c.args.place)) (2 ^ 32 - 1) = ap (λ (m : Marks). m.data_end) c.marks_at-marks.ensures in
     let shape : c.geometry-size.result.sector ≡ sector_size d c.args.area.now = ap (λ (s : Geometry). s.sector) c.geometry-size.ensures in
     let once = c.saturating_sub.ensures in
     let twice = c.saturating_sub-2.ensures in

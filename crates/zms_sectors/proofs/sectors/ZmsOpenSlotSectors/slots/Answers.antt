@@ -1,15 +1,6 @@
-use Rattle.std.proofs.Common.{◌≡◌, ◌+◌, ◌*◌, ◌<◌, ◌≤◌, ◌⊎◌, ◌||◌, ℕ, Bool, true, false, not, List, length, Option, Some, None, refl, sym, ap, subst, ◌∙◌, inl, inr, arith}
-use Rattle.std.proofs.lemmas.Result.{on_ok_weaker, on_err_weaker}
-use Rattle.flash_sim.specs.Device.{Device}
-use Rattle.flash_map.specs.declared.area.Area.{Area}
-use Rattle.flash_map.specs.Area.{unit_of, sectors_of, sector_at}
-use Rattle.flash_map.proofs.SpendingBounds.{between_none, between_then, between_within}
-use Rattle.ring_store.proofs.Areas.{size_there, large_there}
+use Rattle.std.proofs.Common.{ℕ, List, length, ap, ◌∙◌, arith}
 use Rattle.zms_cycle.specs.Sector.{valid_slots}
-use Rattle.zms_kind.proofs.Roomy.{roomy_of, ring_sound_of}
-use Rattle.zms_kind.proofs.Sectors.{unused-is, few_slots, read_room}
-use Rattle.zms_kind.proofs.StepLemmas.{ready_cycle, ready_sound, open_cycle, clears, closes, keeps, adds, marks, fits_cost, begins_as}
-use Rattle.flash_map.specs.declared.area.Role.TheVariants.{Zms as zms_role}
+use Rattle.zms_kind.proofs.Sectors.{few_slots}
 use Rattle.zms_sectors.proofs.sectors.ZmsOpenSlotSectors.slots.Goals as goal
 
 pub returns-clause-value : goal.returns-clause-value

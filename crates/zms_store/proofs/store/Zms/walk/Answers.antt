@@ -2,7 +2,7 @@ use Rattle.std.proofs.Common.{◌≡◌, Option, Some, sym, ap, subst, ◌∙◌
 use Rattle.std.specs.Prelude.{IfSome}
 use Rattle.flash_sim.specs.Device.{Device}
 use Rattle.flash_map.specs.declared.area.Area.{Area}
-use Rattle.flash_map.specs.Area.{unit_of, sectors_of, sector_at}
+use Rattle.flash_map.specs.Area.{geometry_of, sectors_of, sector_at}
 use Rattle.ring_store.specs.declared.entry.Placed.{Placed as PlacedEntry}
 use Rattle.ring_store.specs.Older.{IsNextOlder, newest_before}
 use Rattle.zms_kind.specs.Area.{IsListed}
@@ -21,7 +21,7 @@ returns-in-Some-clause-placed g c =
     let d : Device = g.F.Flash.device c.args.flash.now in
     let placed = rw c.in-Some.is at c.walk.ensures.placed in
     let listed = subst (λ (a : Area). IsListed (sector_at (sectors_of d a) c.in-Some.placed.sector) c.entry_at.result) c.area.ensures c.entry_at.ensures.listed in
-    placed_there (unit_of d c.args.self.now.store.area) (sectors_of d c.args.self.now.store.area) c.args.self.now.store.current c.in-Some.placed c.entry_at.result c.entry_at.ensures.same placed listed
+    placed_there (geometry_of d c.args.self.now.store.area) (sectors_of d c.args.self.now.store.area) c.args.self.now.store.current c.in-Some.placed c.entry_at.result c.entry_at.ensures.same placed listed
 
 pub returns-in-Some-clause-before : goal.returns-in-Some-clause-before
 returns-in-Some-clause-before g c =

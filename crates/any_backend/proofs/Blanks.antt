@@ -24,6 +24,7 @@ use Rattle.ring_laws.specs.Reading.{Reading}
 use Rattle.ring_laws.proofs.Stays.{open_within}
 use Rattle.nvs_store.specs.Scans as nvs
 use Rattle.nvs_store.proofs.Blank.{reads-blank}
+use Rattle.flash_sim.specs.declared.flash.Kind.{Kind as BankKind}
 use Rattle.zms_kind.specs.Area as zms
 use Rattle.zms_kind.proofs.Erased.{erased-unused}
 use Rattle.zms_kind.proofs.Sectors.{laws}
@@ -91,11 +92,11 @@ module _ (n size : ℕ) (several : 2 ≤ n) where
 
   -- ---- as ZMS
 
-  zms-free : (k : ℕ) → k < length blanks → is_closed_at zms.reading blanks k ≡ false
-  zms-free k lt = laws.closed (sector_at blanks k) (erased-unused (sector_at blanks k) (ap is_erased (each k lt) ∙ erased_from size))
+  zms-free : (kind : BankKind) (k : ℕ) → k < length blanks → is_closed_at (zms.reading kind) blanks k ≡ false
+  zms-free kind k lt = (laws kind).closed (sector_at blanks k) (erased-unused kind (sector_at blanks k) (ap is_erased (each k lt) ∙ erased_from size))
 
-  pub zms-done : is_closed_at zms.reading (replicate n (replicate size 0xFF)) (next (replicate n (replicate size 0xFF)) (open_sector zms.reading (replicate n (replicate size 0xFF)))) ≡ false
-  zms-done = next-free zms.reading blanks several-too zms-free
+  pub zms-done : (kind : BankKind) → is_closed_at (zms.reading kind) (replicate n (replicate size 0xFF)) (next (replicate n (replicate size 0xFF)) (open_sector (zms.reading kind) (replicate n (replicate size 0xFF)))) ≡ false
+  zms-done kind = next-free (zms.reading kind) blanks several-too (zms-free kind)
 
 -- ---- as a ring of records
 
@@ -159,9 +160,9 @@ module _ (d : Device) (area : Area) (lawful : IsLawfulFor d.banks area) where
   pub blank_idle : erases_due (states (unit_of d area) (blank_sectors (geometry_of d area))) ≡ 0
   blank_idle = none-due (unit_of d area) area.sectors (sector_size d area) some filled
 
-  undamaged-as : (role : Role) → serves_as role (geometry_of d area).kind → damage_as role area (geometry_of d area) (blank_sectors (geometry_of d area)) ≡ None
+  undamaged-as : (role : Role) → serves_as role → damage_as role area (geometry_of d area) (blank_sectors (geometry_of d area)) ≡ None
   undamaged-as Nvs serves = nvs-undamaged area.sectors (sector_size d area) lawful.several (unit_of d area)
-  undamaged-as Zms serves = zms-undamaged area.sectors (sector_size d area) lawful.several
+  undamaged-as Zms serves = zms-undamaged area.sectors (sector_size d area) lawful.several (geometry_of d area).kind
   undamaged-as Fcb serves = fcb-undamaged (value_limit area) (unit_of d area) area.sectors (sector_size d area) lawful.several lawful.few
   undamaged-as Sel serves = absurd serves
 
@@ -169,21 +170,21 @@ module _ (d : Device) (area : Area) (lawful : IsLawfulFor d.banks area) where
   nvs-none = nvs-empty area.sectors (sector_size d area) lawful.several (unit_of d area)
 
   zms-none : zms_items area (geometry_of d area) (blank_sectors (geometry_of d area)) ≡ maps.empty
-  zms-none = zms-empty area.sectors (sector_size d area) lawful.several
+  zms-none = zms-empty area.sectors (sector_size d area) lawful.several (geometry_of d area).kind
 
-  empty-as : (role : Role) → serves_as role (geometry_of d area).kind → contents_as role area (geometry_of d area) (blank_sectors (geometry_of d area)) ≡ maps.empty
+  empty-as : (role : Role) → serves_as role → contents_as role area (geometry_of d area) (blank_sectors (geometry_of d area)) ≡ maps.empty
   empty-as Nvs serves = no-settings (nvs_numbers area) (nvs_items area (geometry_of d area) (blank_sectors (geometry_of d area))) nvs-none
   empty-as Zms serves = no-settings (zms_numbers area) (zms_items area (geometry_of d area) (blank_sectors (geometry_of d area))) zms-none
   empty-as Fcb serves = fcb-empty (value_limit area) (unit_of d area) area.sectors (sector_size d area) lawful.several lawful.few
   empty-as Sel serves = absurd serves
 
-  rests-as : (role : Role) → serves_as role (geometry_of d area).kind → rests_as role area (geometry_of d area) (blank_sectors (geometry_of d area))
+  rests-as : (role : Role) → serves_as role → rests_as role area (geometry_of d area) (blank_sectors (geometry_of d area))
   rests-as Nvs serves = record {
     store = nvs-done area.sectors (sector_size d area) lawful.several (unit_of d area);
     clean = no-strays (nvs_numbers area) (nvs_items area (geometry_of d area) (blank_sectors (geometry_of d area))) nvs-none;
   }
   rests-as Zms serves = record {
-    store = zms-done area.sectors (sector_size d area) lawful.several;
+    store = zms-done area.sectors (sector_size d area) lawful.several (geometry_of d area).kind;
     clean = no-strays (zms_numbers area) (zms_items area (geometry_of d area) (blank_sectors (geometry_of d area))) zms-none;
   }
   rests-as Fcb serves = blank_idle

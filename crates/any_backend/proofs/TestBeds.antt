@@ -56,14 +56,11 @@ module _ (kind : Kind) (unit : ℕ) (role : Role) (area : Area) (is : area.role 
     long_values = λ two. absurd (omega arith);
   }
 
-  serves-here : serves_as role kind → serves_as area.role (bank_at (bank kind unit ∷ []) area.bank).kind
-  serves-here serves = subst (λ (r : Role). serves_as r (bank_at (bank kind unit ∷ []) area.bank).kind) (sym is) (subst (λ (b : Bank). serves_as role b.kind) (sym here-is) serves)
-
   pub bed-lawful : (d : Device) → d.banks ≡ bank kind unit ∷ [] → HasKind role kind → HasUnit role unit → IsLawfulFor d.banks area
   bed-lawful d banks has_kind has_unit = subst (λ (all : List Bank). IsLawfulFor all area) (sym banks) (lawful-here has_kind has_unit)
 
-  pub bed-serves : (d : Device) → d.banks ≡ bank kind unit ∷ [] → serves_as role kind → any_serves area (geometry_of d area)
-  bed-serves d banks serves = subst (λ (all : List Bank). serves_as area.role (bank_at all area.bank).kind) (sym banks) (serves-here serves)
+pub bed-serves : (d : Device) (role : Role) (area : Area) → area.role ≡ role → serves_as role → any_serves area (geometry_of d area)
+bed-serves d role area is serves = subst serves_as (sym is) serves
 
 -- a role's units are units
 pub role-unit : (role : Role) (unit : ℕ) → HasUnit role unit → IsUnit unit
@@ -74,9 +71,6 @@ role-unit Sel unit has = has
 
 pub lawful-after : (d e : Device) (area : Area) → e.banks ≡ d.banks → IsLawfulFor d.banks area → IsLawfulFor e.banks area
 lawful-after d e area banks lawful = subst (λ (all : List Bank). IsLawfulFor all area) (sym banks) lawful
-
-pub serves-after : (d e : Device) (area : Area) → e.banks ≡ d.banks → any_serves area (geometry_of d area) → any_serves area (geometry_of e area)
-serves-after d e area banks serves = subst (λ (all : List Bank). serves_as area.role (bank_at all area.bank).kind) (sym banks) serves
 
 -- a call that leaves the banks and the backend's area leaves it ready
 pub ready-after : (d e : Device) (area : Area) (backend : AnyBackend) → e.banks ≡ d.banks → IsLawfulFor d.banks area → area_of backend ≡ area → StandsOn area_of Stands e backend → IsReady e backend

@@ -17,7 +17,7 @@ blank_sectors geometry = replicate geometry.sectors (replicate geometry.sector 0
 abbrev pub IsBlank : Device → Area → Type 0
 IsBlank d area = sectors_of d area ≡ blank_sectors (geometry_of d area)
 
--- a blank area on which a store works shows no damage
+-- a blank area of any role but a selector's shows no damage
 abbrev pub BlankIsUndamaged : Type 0
 BlankIsUndamaged = (d : Device) (area : Area) → IsLawfulFor d.banks area → any_serves area (geometry_of d area)
     → IsBlank d area → on any_damage d area ≡ None

@@ -1,8 +1,6 @@
 -- What is said of an area, by its role, which says which store it is for. No store is for a selector.
 use Rattle.std.specs.Prelude.{◌≡◌, ⊤, ℕ, Bool, false, List, Option, None}
 use Rattle.std.specs.FinMap.{empty}
-use Rattle.flash_sim.specs.declared.flash.Kind.{Kind}
-use Rattle.flash_sim.specs.declared.flash.Kind.TheVariants.{Rewritable}
 use Rattle.flash_sim.specs.declared.flash.Loss.{Loss}
 use Rattle.flash_map.specs.Area.{value_limit}
 use Rattle.flash_map.specs.declared.area.Area.{Area}
@@ -26,12 +24,12 @@ use Rattle.backend_zms.specs.Standing.{settings_of as zms_settings, Rests as Zms
 use Rattle.backend_fcb.specs.Reading.{damage_of, settings_in}
 use Rattle.backend_fcb.specs.Tearing.{body_for, Tears}
 
--- ZMS is for banks whose units can be programmed again
-abbrev pub serves_as : Role → Kind → Type 0
-serves_as Nvs kind = ⊤
-serves_as Zms kind = kind ≡ Rewritable
-serves_as Fcb kind = ⊤
-serves_as Sel kind = ⊥
+-- each role but that of a selector has a store, which works on all banks that areas of the role may stand on
+abbrev pub serves_as : Role → Type 0
+serves_as Nvs = ⊤
+serves_as Zms = ⊤
+serves_as Fcb = ⊤
+serves_as Sel = ⊥
 
 abbrev pub damage_as : Role → Area → Geometry → List (List ℕ) → Option Damaged
 damage_as Nvs area geometry sectors = nvs_damage area geometry sectors
@@ -81,9 +79,9 @@ tears_as Sel area geometry command done before after = ⊥
 
 -- ---- by the role of the area
 
--- a store is for its role, and works on such a bank
+-- there is a store for the area's role
 abbrev pub any_serves : Area → Geometry → Type 0
-any_serves area geometry = serves_as area.role geometry.kind
+any_serves area geometry = serves_as area.role
 
 -- the damage that the sectors show
 abbrev pub any_damage : Area → Geometry → List (List ℕ) → Option Damaged

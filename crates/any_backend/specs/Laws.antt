@@ -15,10 +15,10 @@ use Rattle.backend_zms.specs.Standing.{reads_settings as zms-reads}
 use Rattle.backend_fcb.specs.Laws.{reads_settings as fcb-reads}
 use Rattle.any_backend.specs.ByRole.{serves_as, damage_as, contents_as, any_serves, any_damage, any_contents}
 
-reads-as : (role : Role) (d : Device) (area : Area) → area.role ≡ role → IsLawful d.banks d.bytes → IsLawfulFor d.banks area → serves_as role (geometry_of d area).kind → on (damage_as role) d area ≡ None
+reads-as : (role : Role) (d : Device) (area : Area) → area.role ≡ role → IsLawful d.banks d.bytes → IsLawfulFor d.banks area → serves_as role → on (damage_as role) d area ≡ None
     → IsSettings (value_limit area) (on (contents_as role) d area)
 reads-as Nvs d area role lawful for serves undamaged = nvs-reads d area lawful for role undamaged
-reads-as Zms d area role lawful for serves undamaged = zms-reads d area lawful for (role, serves) undamaged
+reads-as Zms d area role lawful for serves undamaged = zms-reads d area lawful for role undamaged
 reads-as Fcb d area role lawful for serves undamaged = fcb-reads d area lawful for role undamaged
 reads-as Sel d area role lawful for serves undamaged = absurd serves
 

@@ -47,9 +47,9 @@ stands-up (Zms backend) geometry sectors stands = stands.store.up
 stands-up (Fcb backend) geometry sectors stands = ap is_up_stage stands.ready
 
 pub stands-serves : (state : AnyBackend) (geometry : Geometry) (sectors : List (List ℕ)) → Stands state geometry sectors → any_serves (area_of state) geometry
-stands-serves (Nvs backend) geometry sectors stands = subst (λ (r : Role). serves_as r geometry.kind) (sym stands.store.role) tt
-stands-serves (Zms backend) geometry sectors stands = subst (λ (r : Role). serves_as r geometry.kind) (sym stands.store.role) (stands.store.rewritable refl)
-stands-serves (Fcb backend) geometry sectors stands = subst (λ (r : Role). serves_as r geometry.kind) (sym stands.role) tt
+stands-serves (Nvs backend) geometry sectors stands = subst serves_as (sym stands.store.role) tt
+stands-serves (Zms backend) geometry sectors stands = subst serves_as (sym stands.store.role) tt
+stands-serves (Fcb backend) geometry sectors stands = subst serves_as (sym stands.role) tt
 
 pub stands-reads : (state : AnyBackend) (geometry : Geometry) (sectors : List (List ℕ)) → Stands state geometry sectors → any_damage (area_of state) geometry sectors ≡ None
 stands-reads (Nvs backend) geometry sectors stands = subst (λ (r : Role). damage_as r backend.store.store.area geometry sectors ≡ None) (sym stands.store.role) stands.store.undamaged

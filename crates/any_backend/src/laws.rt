@@ -1,7 +1,7 @@
 // What blank areas are to the stores. The function does nothing; its contract is the law.
 ghost use Rattle.any_backend.specs.Blank.{BlankIsEmpty, BlankIsUndamaged, BlankRests};
 
-/// A lawful area on which a store works and each byte of which is FF shows no damage, reads as no settings, and leaves a mount
+/// A lawful area of any role but a selector's, each byte of which is FF, shows no damage, reads as no settings, and leaves a mount
 /// nothing to do.
 pub fn blank_areas()
     ensures undamaged { BlankIsUndamaged }

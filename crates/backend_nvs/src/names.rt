@@ -41,6 +41,7 @@ fn name_between<S: ItemStore, F: Flash, L: Ledger>(
 }
 
 // The least name that is greater than this one, or the least of all.
+#[inline(never)]
 pub(crate) fn next_name<S: ItemStore, F: Flash, L: Ledger>(
     store: &S,
     flash: &F,

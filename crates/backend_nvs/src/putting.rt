@@ -114,6 +114,7 @@ fn add_name<S: ItemStore, F: Flash, L: Ledger>(
 }
 
 // Gives a name a value.
+#[inline(never)]
 pub(crate) fn set_value<S: ItemStore, F: Flash, L: Ledger>(
     store: &mut S,
     flash: &mut F,

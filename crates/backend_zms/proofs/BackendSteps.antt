@@ -32,7 +32,7 @@ module _ (d e : Device) (area : Area) (banks : IsLawful d.banks d.bytes) (lawful
   long = let least : 512 ≤ sector_size d area = lawful.at_least in omega arith
 
   pub erased-undamaged : on zms_damage e area ≡ None
-  erased-undamaged = ap (zms_damage area (geometry_of e area)) erased ∙ zms-undamaged area.sectors (sector_size d area) several
+  erased-undamaged = ap (zms_damage area (geometry_of e area)) erased ∙ zms-undamaged area.sectors (sector_size d area) several (geometry_of e area).kind
 
   pub erased-empty : on settings_of e area ≡ empty
-  erased-empty = no-settings (numbers_in area) (on zms_items e area) (ap (zms_items area (geometry_of e area)) erased ∙ zms-empty area.sectors (sector_size d area) several)
+  erased-empty = no-settings (numbers_in area) (on zms_items e area) (ap (zms_items area (geometry_of e area)) erased ∙ zms-empty area.sectors (sector_size d area) several (geometry_of e area).kind)

@@ -2,7 +2,6 @@
 use Rattle.std.specs.Prelude.{◌≡◌, ℕ, List, None}
 use Rattle.flash_sim.specs.Bank.{IsLawful}
 use Rattle.flash_sim.specs.Device.{Device}
-use Rattle.flash_sim.specs.declared.flash.Kind.TheVariants.{Rewritable}
 use Rattle.flash_map.specs.declared.area.Area.{Area}
 use Rattle.flash_map.specs.declared.area.Geometry.{Geometry}
 use Rattle.flash_map.specs.declared.area.Role.TheVariants.{Zms as ZmsRole}
@@ -16,9 +15,9 @@ use Rattle.item_store.specs.ZmsStore.{zms_damage, zms_items, zms_rests, ZmsStand
 use Rattle.backend_zms.specs.declared.backend.ZmsBackend.{ZmsBackend}
 use Rattle.backend_zms.specs.Numbers.{numbers_in, zms-numbers, step-small}
 
--- a ZMS area on a bank whose units can be programmed again
+-- a ZMS area
 abbrev pub IsServed : Area → Geometry → Type 0
-IsServed area geometry = (area.role ≡ ZmsRole) × (geometry.kind ≡ Rewritable)
+IsServed area geometry = area.role ≡ ZmsRole
 
 -- the settings that its sectors read as
 abbrev pub settings_of : Area → Geometry → List (List ℕ) → Map

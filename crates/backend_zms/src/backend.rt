@@ -45,7 +45,7 @@ impl Backend for ZmsBackend {
 
     ghost stands_up = { λ backend geometry sectors stands. stands.store.up };
 
-    ghost stands_serves = { λ backend geometry sectors stands. (stands.store.role, stands.store.rewritable refl) };
+    ghost stands_serves = { λ backend geometry sectors stands. stands.store.role };
 
     ghost stands_reads = { λ backend geometry sectors stands. stands.store.undamaged };
 

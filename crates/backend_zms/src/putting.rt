@@ -22,6 +22,7 @@ use setting_name::Name;
 use std::sync::ledger::Ledger;
 
 // Gives a name a value.
+#[inline(never)]
 pub(crate) fn set_value<S: ItemStore, F: Flash, L: Ledger>(
     store: &mut S,
     flash: &mut F,

@@ -44,9 +44,9 @@ fn slot_cost<T: SlotSectors, F: Flash, L: Ledger>(
         result ≡ cost_of (slots k) (option_map (placed_at place) (read slot)) }
     ensures small { result ≤ 2 ^ 18 }
 {
-    let unit = geometry(flash, area).unit;
+    let geometry = geometry(flash, area);
     match T::entry_in(flash, area, place, slot, steps) {
-        Some(placed) => T::cost(unit, placed.len),
+        Some(placed) => T::cost(&geometry, placed.len),
         None => 0,
     }
 }
@@ -100,7 +100,7 @@ fn room<T: SlotSectors, F: Flash>(flash: &F, area: &Area) -> u64
         result ≡ (area.now.sectors - 1) * k.cap (sector_size d area.now) }
 {
     let geometry = geometry(flash, area);
-    u64::from(area.sectors - 1) * u64::from(T::capacity(geometry.unit, geometry.sector))
+    u64::from(area.sectors - 1) * u64::from(T::capacity(&geometry))
 }
 
 /// What an area has of items and of other entries, and what room there is for more. The entries are

@@ -1,31 +1,47 @@
 -- A blank area is fresh.
-use Rattle.std.proofs.Common.{◌≡◌, ℕ, ◌+◌, ◌*◌, ◌<◌, ◌≤◌, true, List, [], length, refl, ap, arith}
+use Rattle.std.proofs.Common.{◌≡◌, ℕ, ◌+◌, ◌*◌, ◌<◌, ◌≤◌, Bool, true, not, ◌&&◌, ◌||◌, List, [], length, Option, None, refl, ap, ◌∙◌, arith}
+use Rattle.std.specs.Prelude.{is_some}
 use Rattle.std.proofs.lemmas.List.Elements.{All-get_or}
 use Rattle.flash_sim.specs.Bank.{IsLawful}
 use Rattle.flash_sim.specs.Device.{Device}
 use Rattle.flash_map.specs.declared.area.Area.{Area}
+use Rattle.flash_map.specs.declared.area.Geometry.{Geometry}
 use Rattle.flash_map.specs.declared.area.Role.{Role}
 use Rattle.flash_map.specs.declared.area.Role.TheVariants.{Nvs, Zms}
-use Rattle.flash_map.specs.Area.{sector_at, sector_size, sectors_of, unit_of}
+use Rattle.flash_map.specs.Area.{geometry_of, sector_at, sector_size, sectors_of, unit_of}
 use Rattle.flash_map.specs.Units.{is_erased}
 use Rattle.ring_laws.specs.Area.{is_blank_at, open_sector}
 use Rattle.ring_laws.proofs.AreaReads.{length-sectors}
 use Rattle.nvs_kind.specs.Kinds as nvs
 use Rattle.nvs_kind.proofs.KindLemmas.{nvs_is_kind}
-use Rattle.ring_store.specs.Kind.{IsKind, Kind}
+use Rattle.ring_store.specs.Kind.{IsKind, Kind, is_clean_at}
 use Rattle.ring_store.specs.Listed.{kind_on}
 use Rattle.ring_store.specs.Standing.{IsStoreArea}
 use Rattle.ring_store.specs.Writing.{open_at}
 use Rattle.ring_store.proofs.Areas.{large_there, open_inside, size_there, unit_is}
 use Rattle.ring_store.proofs.BlankAreas.{blank-empty, blank-rests}
 use Rattle.zms_kind.specs.Kinds as zms
-use Rattle.zms_kind.proofs.Erased.{erased-unused}
+use Rattle.zms_kind.proofs.Erased.{cycle_none, erased-unused}
+use Rattle.zms_kind.specs.Area.{is_clean}
+use Rattle.zms_cycle.specs.Sector.{cycle_of, is_fresh}
+use Rattle.flash_map.proofs.ErasedBytes.{erased_is}
+use Rattle.flash_sim.specs.declared.flash.Kind.{Kind as BankKind}
+use Rattle.flash_sim.specs.declared.flash.Kind.TheVariants.{Erasing, Rewritable}
 use Rattle.zms_kind.proofs.KindLemmas.{zms_is_kind}
 use Rattle.item_session.specs.Laws.{NvsBlankIsFresh, ZmsBlankIsFresh}
 use Rattle.item_session.specs.Whole.{IsBlankOn, IsFresh, cap_on, free_on, spare_on}
 
--- a kind that takes a sector of FF alone as one with no entry
-module _ (role : Role) (kind : ℕ → Kind) (d : Device) (area : Area) (law : IsKind (kind_on kind d area)) (unused : (b : List ℕ) → is_erased b ≡ true → (kind_on kind d area).reading.is_blank b ≡ true)
+-- a sector of FF alone is a clean one of ZMS
+erased-clean : (kind : BankKind) (b : List ℕ) → is_erased b ≡ true → is_clean kind b ≡ true
+unfolding is_clean
+erased-clean Rewritable b erased = erased-unused Rewritable b erased
+erased-clean Erasing b erased =
+    let none : cycle_of b ≡ None = ap cycle_of (erased_is b erased) ∙ cycle_none (length b) in
+    ap (λ (t : Bool). t && (not (is_some (cycle_of b)) || is_fresh b)) (erased-unused Erasing b erased)
+    ∙ ap (λ (o : Option ℕ). not (is_some o) || is_fresh b) none
+
+-- a kind that takes a sector of FF alone as a clean one
+module _ (role : Role) (kind : Geometry → Kind) (d : Device) (area : Area) (law : IsKind (kind_on kind d area)) (clean : (b : List ℕ) → is_erased b ≡ true → (kind_on kind d area).is_clean b ≡ true)
     (lawful : IsLawful d.banks d.bytes) (is : IsStoreArea role d.banks area) (blank : IsBlankOn d area) where
   abbrev k : Kind
   k = kind_on kind d area
@@ -36,18 +52,21 @@ module _ (role : Role) (kind : ℕ → Kind) (d : Device) (area : Area) (law : I
   several : 2 ≤ length (sectors_of d area)
   several = let count = length-sectors d area in let two = is.lawful.several in omega (arith, count, two)
 
+  each_clean : (place : ℕ) → place < length (sectors_of d area) → is_clean_at k (sectors_of d area) place ≡ true
+  each_clean place within = clean (sector_at (sectors_of d area) place) (All-get_or (λ (sector : List ℕ). is_erased sector ≡ true) (sectors_of d area) place [] within blank)
+
   each_blank : (place : ℕ) → place < length (sectors_of d area) → is_blank_at k.reading (sectors_of d area) place ≡ true
-  each_blank place within = unused (sector_at (sectors_of d area) place) (All-get_or (λ (sector : List ℕ). is_erased sector ≡ true) (sectors_of d area) place [] within blank)
+  each_blank place within = law.clean (sector_at (sectors_of d area) place) (each_clean place within)
 
   inside : opened < area.sectors
   inside = open_inside k d area opened is.lawful refl
 
-  open_blank : k.reading.is_blank (open_at k d area) ≡ true
-  open_blank = let count = length-sectors d area in let within = inside in each_blank opened (omega (arith, count, within))
+  open_clean : k.is_clean (open_at k d area) ≡ true
+  open_clean = let count = length-sectors d area in let within = inside in each_clean opened (omega (arith, count, within))
 
   all_free : cap_on kind d area + spare_on kind d area ≤ free_on kind d area
   all_free =
-      let full : k.free (open_at k d area) ≡ k.cap (length (open_at k d area)) + 3 * k.slot = law.room (open_at k d area) (large_there role d area lawful is opened inside) open_blank in
+      let full : k.free (open_at k d area) ≡ k.cap (length (open_at k d area)) + 3 * k.slot = law.room (open_at k d area) (large_there role d area lawful is opened inside) open_clean in
       let size : k.cap (length (open_at k d area)) ≡ k.cap (sector_size d area) = ap k.cap (size_there role d area lawful is opened inside) in
       omega (arith, full, size)
 
@@ -58,4 +77,4 @@ pub nvs_blank_is_fresh : NvsBlankIsFresh
 nvs_blank_is_fresh d area lawful is blank = fresh Nvs nvs.kind d area (nvs_is_kind (unit_of d area) (unit_is d area lawful is.lawful)) (λ b erased. erased) lawful is blank
 
 pub zms_blank_is_fresh : ZmsBlankIsFresh
-zms_blank_is_fresh d area lawful is blank = fresh Zms zms.kind d area (zms_is_kind (unit_of d area)) erased-unused lawful is blank
+zms_blank_is_fresh d area lawful is blank = fresh Zms zms.kind d area (zms_is_kind (geometry_of d area)) (erased-clean (geometry_of d area).kind) lawful is blank

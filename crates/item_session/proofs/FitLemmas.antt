@@ -3,6 +3,7 @@ use Rattle.std.proofs.Common.{◌≡◌, ◌⊎◌, inl, inr, ℕ, true, false, 
 use Rattle.std.proofs.lemmas.Bool.{false≢true}
 use Rattle.flash_sim.specs.Device.{Device}
 use Rattle.flash_map.specs.declared.area.Area.{Area}
+use Rattle.flash_map.specs.declared.area.Geometry.{Geometry}
 use Rattle.flash_map.specs.Area.{sector_size, sectors_of}
 use Rattle.item_lines.specs.declared.line.Line.{Line}
 use Rattle.item_lines.specs.declared.line.Line.TheVariants.{Set, Get, Delete, Older, Space, Cut, Uncut, Mount}
@@ -50,7 +51,7 @@ module _ (k : Kind) (law : IsKind k) (old new : Device) (area : Area) (id : ℕ)
         | inr more ↦ inr (more ∙ ap (λ (d : Device). list_at k d area ++ (id, bytes) ∷ []) same)
       ]
 
-module _ (kind : ℕ → Kind) (area : Area) (old new : Device) where
+module _ (kind : Geometry → Kind) (area : Area) (old new : Device) where
   -- nothing was added
   none : (line : Line) (answer : Answer) → Adds new.spent line answer [] → list_on kind new area ≡ list_on kind old area → ForgetsNone kind area line answer old new
   none line answer adds same = record { added = []; adds = adds; list = same ∙ sym (append-nil (list_on kind old area)) }

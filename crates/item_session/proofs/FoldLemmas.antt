@@ -3,6 +3,7 @@ use Rattle.std.proofs.Common.{◌≡◌, ◌⊎◌, inl, inr, ℕ, ◌+◌, ◌<
 use Rattle.std.proofs.lemmas.List.{drop_more, take_more, take_all, take-append-drop}
 use Rattle.flash_sim.specs.Device.{Device}
 use Rattle.flash_map.specs.declared.area.Area.{Area}
+use Rattle.flash_map.specs.declared.area.Geometry.{Geometry}
 use Rattle.session_table.specs.Follows.{Follows}
 use Rattle.session_table.proofs.FollowsLemmas.{last, one}
 use Rattle.item_lines.specs.declared.line.Line.{Line}
@@ -14,7 +15,7 @@ use Rattle.item_session.specs.declared.fault.SessionFault.{SessionFault}
 use Rattle.item_session.specs.declared.fault.SessionFault.TheVariants.{Damaged as IsDamaged, NoMemory}
 use Rattle.item_session.specs.Device.{IsServed, IsServedOn, turned_on}
 use Rattle.item_session.specs.Standing.{damage_on}
-use Rattle.ring_store.proofs.CallFacts.{from_unit}
+use Rattle.ring_store.proofs.CallFacts.{from_geometry}
 use Rattle.item_session.specs.LineDone.{LineDone}
 use Rattle.item_session.specs.Running.{MountStops, Ran, RunEnds, RunStops, WantsMemory}
 use Rattle.item_session.proofs.RunLemmas.{runs_of}
@@ -22,7 +23,7 @@ use Rattle.item_session.proofs.RunLemmas.{runs_of}
 lines_on : (lines : List Line) (i : ℕ) (line : Line) → i < length lines → line ≡ get_or lines i line → take (i + 1) lines ≡ take i lines ++ line ∷ []
 lines_on lines i line below is = take_more lines i line below ∙ ap (λ (x : Line). take i lines ++ x ∷ []) (sym is)
 
-module _ (kind : ℕ → Kind) (area : Area) where
+module _ (kind : Geometry → Kind) (area : Area) where
   -- the mount and so many lines were carried out
   abbrev pub RanTo : List Line → ℕ → List Answer → Device → Device → Type 0
   RanTo lines i answers first now = Follows (LineDone kind area) (Mount ∷ take i lines) answers first now
@@ -81,7 +82,7 @@ module _ (kind : ℕ → Kind) (area : Area) where
   }
 
 -- a mount alone turns power on
-pub left_as : (kind : ℕ → Kind) (area : Area) (line : Line) (old new : Device) → WantsMemory kind area line old new → (new ≡ old) ⊎ ((line ≡ Mount) × (new ≡ turned_on old))
+pub left_as : (kind : Geometry → Kind) (area : Area) (line : Line) (old new : Device) → WantsMemory kind area line old new → (new ≡ old) ⊎ ((line ≡ Mount) × (new ≡ turned_on old))
 left_as kind area Mount old new wants = inr (refl, wants)
 left_as kind area (Get id) old new wants = inl wants.0
 left_as kind area (Older id n) old new wants = inl wants.0
@@ -93,17 +94,17 @@ left_as kind area Uncut old new wants = absurd wants
 
 -- ---- the session between lines, and how the opening mount stops
 
-pub served_there : (kind : ℕ → Kind) (area own : Area) (first d : Device) (line : Line) → d.banks ≡ first.banks → own ≡ area → IsServedOn kind first area line → IsServedOn kind d own line
+pub served_there : (kind : Geometry → Kind) (area own : Area) (first d : Device) (line : Line) → d.banks ≡ first.banks → own ≡ area → IsServedOn kind first area line → IsServedOn kind d own line
 served_there kind area own first d line banks same served =
-    subst (λ (a : Area). IsServedOn kind d a line) (sym same) (from_unit (λ (u : ℕ). IsServed (kind u).ids (value_limit area) line) first d area banks served)
+    subst (λ (a : Area). IsServedOn kind d a line) (sym same) (from_geometry (λ (u : Geometry). IsServed (kind u).ids (value_limit area) line) first d area banks served)
 
-pub sound_at : (kind : ℕ → Kind) (area own : Area) (d : Device) → own ≡ area → damage_on kind d own ≡ None → damage_on kind d area ≡ None
+pub sound_at : (kind : Geometry → Kind) (area own : Area) (d : Device) → own ≡ area → damage_on kind d own ≡ None → damage_on kind d area ≡ None
 sound_at kind area own d same none = subst (λ (a : Area). damage_on kind d a ≡ None) same none
 
-pub stops_open : (kind : ℕ → Kind) (area : Area) (lines : List Line) (old new : Device) (fault : SessionFault) → MountStops kind area old new fault → RunEnds kind area (Mount ∷ lines) old new (Err fault)
+pub stops_open : (kind : Geometry → Kind) (area : Area) (lines : List Line) (old new : Device) (fault : SessionFault) → MountStops kind area old new fault → RunEnds kind area (Mount ∷ lines) old new (Err fault)
 stops_open kind area lines old new (IsDamaged damaged) stops = stops
 stops_open kind area lines old new NoMemory stops = stops_first kind area lines old new stops
 
-pub stops_sound : (kind : ℕ → Kind) (area : Area) (old new : Device) (fault : SessionFault) → MountStops kind area old new fault → damage_on kind old area ≡ None → damage_on kind new area ≡ None
+pub stops_sound : (kind : Geometry → Kind) (area : Area) (old new : Device) (fault : SessionFault) → MountStops kind area old new fault → damage_on kind old area ≡ None → damage_on kind new area ≡ None
 stops_sound kind area old new (IsDamaged damaged) stops was = ap (λ (d : Device). damage_on kind d area) stops.1 ∙ was
 stops_sound kind area old new NoMemory stops was = ap (λ (d : Device). damage_on kind d area) stops ∙ was

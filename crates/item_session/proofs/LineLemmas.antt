@@ -7,6 +7,7 @@ use Rattle.std.proofs.lemmas.Bool.{false≢true}
 use Rattle.flash_sim.specs.Device.{Device, After, replanned, dropped}
 use Rattle.flash_sim.specs.declared.flash.NoMemory.{NoMemory}
 use Rattle.flash_map.specs.declared.area.Area.{Area}
+use Rattle.flash_map.specs.declared.area.Geometry.{Geometry}
 use Rattle.flash_map.specs.Area.{sector_size, sectors_of}
 use Rattle.flash_map.specs.Spending.{SpendsBetween}
 use Rattle.flash_map.specs.Touches.{Touches}
@@ -56,7 +57,7 @@ older_no_mount id n is = cc
 space_no_mount : Space ≡ Mount → ⊥
 space_no_mount is = cc
 
-module _ (kind : ℕ → Kind) (area : Area) (d : Device) where
+module _ (kind : Geometry → Kind) (area : Area) (d : Device) where
   quiet : (line : Line) (answer : Answer) → ((last : ℕ) → Step (rules_on kind d area) last line answer (state_of kind area d) (state_of kind area d))
       → powered_for line d ≡ d → replan line ≡ keeps → is_lost answer ≡ false → units_of answer ≡ 0 → WritesBy kind area line answer d d → (line ≡ Mount → ⊥) → LineDone kind area line answer d d
   quiet line answer step same stays lasts units writes no_mount = record {
@@ -120,7 +121,7 @@ pub some_bytes : (bytes : List ℕ) → (bytes ≡ [] → ⊥) → 0 < length by
 some_bytes [] some = absurd (some refl)
 some_bytes (x ∷ bytes) some = omega arith
 
-pub version_at : (kind : ℕ → Kind) (area given : Area) (d : Device) (id n : ℕ) (value : List ℕ) (r : Result Answer NoMemory) → d.is_on ≡ true → given ≡ area → slice_get (versions (list_on kind d given) id) n ≡ Some value → (value ≡ [] → ⊥)
+pub version_at : (kind : Geometry → Kind) (area given : Area) (d : Device) (id n : ℕ) (value : List ℕ) (r : Result Answer NoMemory) → d.is_on ≡ true → given ≡ area → slice_get (versions (list_on kind d given) id) n ≡ Some value → (value ≡ [] → ⊥)
     → IfOk r (λ answer. answer ≡ answers.Value value) → IfOk r (λ answer. LineDone kind area (Older id n) answer d d)
 version_at kind area given d id n value (Ok answer) on same is some told =
     subst (λ (x : Answer). LineDone kind area (Older id n) x d d) (sym told)
@@ -144,7 +145,7 @@ cut_no_mount units is = cc
 uncut_no_mount : Uncut ≡ Mount → ⊥
 uncut_no_mount is = cc
 
-module _ (kind : ℕ → Kind) (area : Area) (old new : Device) where
+module _ (kind : Geometry → Kind) (area : Area) (old new : Device) where
   pub planned : (units : ℕ) → new ≡ record old { plan = replanned old.plan (After units) } → LineDone kind area (Cut units) (answers.Done 0) old new
   planned units is =
       subst (λ (d : Device). LineDone kind area (Cut units) (answers.Done 0) old d) (sym is)

@@ -5,6 +5,7 @@ use Rattle.std.specs.List.{slice_get}
 use Rattle.flash_sim.specs.Device.{Device}
 use Rattle.flash_sim.specs.declared.flash.NoMemory.{NoMemory}
 use Rattle.flash_map.specs.declared.area.Area.{Area}
+use Rattle.flash_map.specs.declared.area.Geometry.{Geometry}
 use Rattle.item_lines.specs.declared.line.Line.TheVariants.{Get, Older}
 use Rattle.item_lines.specs.declared.answer.Answer.{Answer}
 use Rattle.ring_store.specs.Kind.{Kind}
@@ -13,7 +14,7 @@ use Rattle.ring_store.specs.Versions.{versions}
 use Rattle.item_session.specs.Running.{WantsMemory}
 use Rattle.item_session.proofs.LineLemmas.{some_bytes}
 
-module _ (kind : ℕ → Kind) (area given : Area) (d : Device) (on : d.is_on ≡ true) (same : given ≡ area) where
+module _ (kind : Geometry → Kind) (area given : Area) (d : Device) (on : d.is_on ≡ true) (same : given ≡ area) where
   pub item_wants : (id : ℕ) (value : List ℕ) (r : Result Answer NoMemory) → get (items_on kind d given) id ≡ Some value → OnErr r (WantsMemory kind area (Get id) d d)
   item_wants id value (Ok answer) is = tt
   item_wants id value (Err e) is = (refl, on, (value, subst (λ (a : Area). get (items_on kind d a) id ≡ Some value) same is))

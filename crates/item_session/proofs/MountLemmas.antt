@@ -2,6 +2,7 @@
 use Rattle.std.proofs.Common.{◌≡◌, ℕ, ◌-◌, false, [], ◌∷◌, List, None, Some, Result, Ok, Err, refl, ap, subst, ◌∙◌}
 use Rattle.flash_sim.specs.Device.{Device}
 use Rattle.flash_map.specs.declared.area.Area.{Area}
+use Rattle.flash_map.specs.declared.area.Geometry.{Geometry}
 use Rattle.flash_map.specs.declared.area.Role.{Role}
 use Rattle.flash_map.specs.declared.faults.Damaged.{Damaged}
 use Rattle.flash_map.specs.declared.faults.MountFault.{MountFault}
@@ -22,7 +23,7 @@ use Rattle.item_session.specs.Standing.{IsMounted, ShowsDamage, damage_on}
 use Rattle.item_session.proofs.LineLemmas.{mount_done, mount_lost as mount_cut}
 use Rattle.item_session.proofs.StateLemmas.{sound_there}
 
-module _ {T : Type 0} (role : Role) (kind : ℕ → Kind) (kept : ℕ → List ℕ → T) (area given : Area) (old mid new : Device) (on : mid ≡ turned_on old) (same : given ≡ area) (r : Result (Store T) MountFault)
+module _ {T : Type 0} (role : Role) (kind : Geometry → Kind) (kept : Geometry → List ℕ → T) (area given : Area) (old mid new : Device) (on : mid ≡ turned_on old) (same : given ≡ area) (r : Result (Store T) MountFault)
     (touches : Touches (given ∷ []) mid new (mount_lost r)) (ends : MountEnds role kind kept mid new given r)
     (most : SpendsBetween mid new 0 ((kind_on kind mid given).units.mount (sector_size mid given))) where
   ended : (x : Result (Store T) MountFault) → r ≡ x → MountEnds role kind kept (turned_on old) new area x

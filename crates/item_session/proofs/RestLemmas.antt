@@ -4,8 +4,9 @@ use Rattle.std.proofs.lemmas.Bool.{false≢true}
 use Rattle.flash_sim.specs.Bank.{IsLawful}
 use Rattle.flash_sim.specs.Device.{Device}
 use Rattle.flash_map.specs.declared.area.Area.{Area}
+use Rattle.flash_map.specs.declared.area.Geometry.{Geometry}
 use Rattle.flash_map.specs.declared.area.Role.{Role}
-use Rattle.flash_map.specs.Area.{sectors_of, unit_of}
+use Rattle.flash_map.specs.Area.{geometry_of, sectors_of}
 use Rattle.flash_map.specs.Units.{IsUnit}
 use Rattle.ring_laws.specs.Forms.{AtRest}
 use Rattle.ring_store.specs.declared.store.Store.{Store}
@@ -16,14 +17,14 @@ use Rattle.item_session.specs.declared.session.ItemSession.{ItemSession}
 use Rattle.item_session.specs.Device.{RestsOn}
 use Rattle.item_session.specs.Standing.{IsMounted, IsReady}
 
-module _ {T : Type 0} (role : Role) (kind : ℕ → Kind) (kept : ℕ → List ℕ → T) (laws : (unit : ℕ) → IsUnit unit → IsKind (kind unit)) (d : Device) (lawful : IsLawful d.banks d.bytes) where
+module _ {T : Type 0} (role : Role) (kind : Geometry → Kind) (kept : Geometry → List ℕ → T) (laws : (geometry : Geometry) → IsUnit geometry.unit → IsKind (kind geometry)) (d : Device) (lawful : IsLawful d.banks d.bytes) where
   rests : (area : Area) (store : Option (Store T)) → IsMounted role kind kept d area store → d.is_on ≡ true → RestsOn kind d area
   rests area None off on = absurd (false≢true (sym off ∙ on))
   rests area (Some store) mounted on =
       let stands = mounted.1 on in
-      let law : IsKind (kind (unit_of d store.area)) = laws (unit_of d store.area) (unit_is d store.area lawful stands.area.lawful) in
-      let here : AtRest (kind (unit_of d store.area)).reading (sectors_of d store.area) store.current = rest_on role kind kept d store law lawful stands in
-      subst (λ (a : Area). RestsOn kind d a) mounted.0 (subst (λ (n : ℕ). AtRest (kind (unit_of d store.area)).reading (sectors_of d store.area) n) stands.current here)
+      let law : IsKind (kind (geometry_of d store.area)) = laws (geometry_of d store.area) (unit_is d store.area lawful stands.area.lawful) in
+      let here : AtRest (kind (geometry_of d store.area)).reading (sectors_of d store.area) store.current = rest_on role kind kept d store law lawful stands in
+      subst (λ (a : Area). RestsOn kind d a) mounted.0 (subst (λ (n : ℕ). AtRest (kind (geometry_of d store.area)).reading (sectors_of d store.area) n) stands.current here)
 
   pub rests_still : (area : Area) (session : ItemSession T) → session.area ≡ area → IsReady role kind kept d session → d.is_on ≡ true → RestsOn kind d area
   rests_still area session same ready on = subst (λ (a : Area). RestsOn kind d a) same (rests session.area session.store ready.mounted on)

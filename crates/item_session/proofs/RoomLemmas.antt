@@ -4,6 +4,7 @@ use Rattle.std.proofs.Common.{◌≡◌, inl, inr, ℕ, ◌+◌, ◌≤◌, true
 use Rattle.std.proofs.lemmas.Bool.{false≢true}
 use Rattle.flash_sim.specs.Device.{Device}
 use Rattle.flash_map.specs.declared.area.Area.{Area}
+use Rattle.flash_map.specs.declared.area.Geometry.{Geometry}
 use Rattle.item_lines.specs.declared.line.Line.TheVariants.{Set, Delete}
 use Rattle.item_lines.specs.declared.answer.Answer.{Answer}
 use Rattle.item_lines.specs.declared.answer.Answer.TheVariants as answers
@@ -12,7 +13,7 @@ use Rattle.ring_store.specs.Listed.{kind_on}
 use Rattle.ring_store.specs.Room.{has_room_at}
 use Rattle.ring_store.specs.Standing.{RestsAt}
 use Rattle.ring_store.specs.Writing.{Appends, StopsAppending, open_at}
-use Rattle.ring_store.proofs.CallFacts.{from_unit}
+use Rattle.ring_store.proofs.CallFacts.{from_geometry}
 use Rattle.item_session.specs.Device.{RestsOn}
 use Rattle.item_session.specs.LineDone.{LineDone}
 use Rattle.item_session.specs.Whole.{free_on}
@@ -41,11 +42,11 @@ module _ (k : Kind) (law : IsKind k) (old new : Device) (area : Area) (id : ℕ)
       from_mid entry.mid (no_round k law old new area (length bytes) fits entry.mid entry.makes) (record { rests = stops.rests; room = stops.room })
 
 -- the same of any area
-pub record LeavesRoom (kind : ℕ → Kind) (area : Area) (old new : Device) (cost : ℕ) : Type 0 where
+pub record LeavesRoom (kind : Geometry → Kind) (area : Area) (old new : Device) (cost : ℕ) : Type 0 where
   pub rests : RestsOn kind new area
   pub room : free_on kind old area ≤ free_on kind new area + cost
 
-module _ (kind : ℕ → Kind) (area : Area) (old new : Device) (rests : RestsOn kind old area) where
+module _ (kind : Geometry → Kind) (area : Area) (old new : Device) (rests : RestsOn kind old area) where
   -- nothing changed
   left_alone : (cost : ℕ) → new ≡ old → LeavesRoom kind area old new cost
   left_alone cost same =
@@ -54,8 +55,8 @@ module _ (kind : ℕ → Kind) (area : Area) (old new : Device) (rests : RestsOn
   -- its unit is the same behind a call
   left_there : (cost : ℕ) → new.banks ≡ old.banks → LeavesRoomAt (kind_on kind old area) old new area cost → LeavesRoom kind area old new cost
   left_there cost banks leaves = record {
-    rests = from_unit (λ (u : ℕ). RestsAt (kind u) new area) old new area banks leaves.rests;
-    room = from_unit (λ (u : ℕ). free_on kind old area ≤ (kind u).free (open_at (kind u) new area) + cost) old new area banks leaves.room;
+    rests = from_geometry (λ (u : Geometry). RestsAt (kind u) new area) old new area banks leaves.rests;
+    room = from_geometry (λ (u : Geometry). free_on kind old area ≤ (kind u).free (open_at (kind u) new area) + cost) old new area banks leaves.room;
   }
 
   module _ (law : IsKind (kind_on kind old area)) where

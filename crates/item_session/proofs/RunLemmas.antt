@@ -7,6 +7,8 @@ use Rattle.flash_sim.specs.Device.{Device, Plan, counted}
 use Rattle.flash_sim.specs.declared.flash.Bank.{Bank}
 use Rattle.flash_sim.specs.Bank.{bank_at}
 use Rattle.flash_map.specs.declared.area.Area.{Area}
+use Rattle.ring_store.proofs.Areas.{same_geometry}
+use Rattle.flash_map.specs.declared.area.Geometry.{Geometry}
 use Rattle.flash_map.specs.Touches.{IsInSome}
 use Rattle.flash_map.proofs.Plans.{counted_counted}
 use Rattle.session_table.specs.Follows.{Follows}
@@ -20,7 +22,7 @@ use Rattle.item_session.specs.Laws.{LinesMakeRuns}
 use Rattle.item_session.specs.Device.{rules_of, rules_on, state_of}
 use Rattle.item_session.specs.Step.{IsCounted, Rules, Step}
 
-module _ (kind : ℕ → Kind) (area : Area) where
+module _ (kind : Geometry → Kind) (area : Area) where
   keeps_same : (d : Device) → Keeps area d d
   keeps_same d = record { banks = refl; loads = refl; outside = λ bank offset out. refl }
 
@@ -37,7 +39,7 @@ module _ (kind : ℕ → Kind) (area : Area) where
       (λ line answer a b done. let spent = done.accounts.spent in omega (arith, spent)) lines answers old new runs
 
   same_rules : (old new : Device) → new.banks ≡ old.banks → rules_on kind new area ≡ rules_on kind old area
-  same_rules old new same = ap (λ (banks : List Bank). rules_of (kind (bank_at banks area.bank).unit) (bank_at banks area.bank).sector area.sectors) same
+  same_rules old new same = ap (λ (g : Geometry). rules_of (kind g) g.sector area.sectors) (same_geometry old new area same)
 
   -- the table, where the count of units is no more than so much
   session_of : (rules : Rules) (last : ℕ) (lines : List Line) (answers : List Answer) (old new : Device) → rules_on kind old area ≡ rules → new.spent ≤ last → Follows (LineDone kind area) lines answers old new

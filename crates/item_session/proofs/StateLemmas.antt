@@ -10,6 +10,7 @@ use Rattle.std.proofs.lemmas.Slice.Eq.{bytes_eq-Decides}
 use Rattle.flash_sim.specs.Device.{Device}
 use Rattle.flash_sim.specs.declared.flash.Bank.{Bank}
 use Rattle.flash_map.specs.declared.area.Area.{Area}
+use Rattle.flash_map.specs.declared.area.Geometry.{Geometry}
 use Rattle.flash_map.specs.Area.{sectors_of}
 use Rattle.pair_laws.specs.Items.{Items, items_of, with_pair}
 use Rattle.pair_laws.proofs.ItemLemmas.{items_of-push, same_map}
@@ -17,7 +18,7 @@ use Rattle.ring_store.specs.Kind.{Kind}
 use Rattle.ring_store.specs.Listed.{kind_on, list_on}
 use Rattle.ring_store.specs.Standing.{KeepsItems, list_at}
 use Rattle.ring_store.specs.Versions.{AddsVersion, KeepsVersions}
-use Rattle.ring_store.proofs.CallFacts.{from_unit}
+use Rattle.ring_store.proofs.CallFacts.{from_geometry}
 use Rattle.ring_store.proofs.VersionLemmas.{versions-items}
 use Rattle.item_session.specs.Device.{state_of}
 use Rattle.item_session.specs.Standing.{damage_on}
@@ -91,10 +92,10 @@ loses_changes id old new present loses same =
 
 -- ---- an area
 
-module _ (kind : ℕ → Kind) (area : Area) (old new : Device) (banks : new.banks ≡ old.banks) where
+module _ (kind : Geometry → Kind) (area : Area) (old new : Device) (banks : new.banks ≡ old.banks) where
   -- its unit is the same behind a call
   pub list_there : list_at (kind_on kind old area) new area ≡ list_on kind new area
-  list_there = from_unit (λ (u : ℕ). list_at (kind_on kind old area) new area ≡ list_at (kind u) new area) old new area banks refl
+  list_there = from_geometry (λ (u : Geometry). list_at (kind_on kind old area) new area ≡ list_at (kind u) new area) old new area banks refl
 
   pub keeps_there : KeepsVersions (list_at (kind_on kind old area) old area) (list_at (kind_on kind old area) new area) → KeepsVersions (list_on kind old area) (list_on kind new area)
   keeps_there keeps = subst (λ (pairs : List (ℕ × List ℕ)). KeepsVersions (list_on kind old area) pairs) list_there keeps
@@ -106,7 +107,7 @@ module _ (kind : ℕ → Kind) (area : Area) (old new : Device) (banks : new.ban
   stays_there keeps = stays_if (state_of kind area old) (state_of kind area new) (keeps_there keeps.versions)
 
   pub sound_there : (kind_on kind old area).damage (sectors_of new area) ≡ None → damage_on kind new area ≡ None
-  sound_there none = from_unit (λ (u : ℕ). (kind u).damage (sectors_of new area) ≡ None) old new area banks none
+  sound_there none = from_geometry (λ (u : Geometry). (kind u).damage (sectors_of new area) ≡ None) old new area banks none
 
   -- where no byte changed its list is the same
   pub list_same : new.bytes ≡ old.bytes → list_on kind new area ≡ list_on kind old area

@@ -5,6 +5,8 @@ use Rattle.flash_sim.specs.Bank.{bank_at}
 use Rattle.flash_sim.specs.Device.{Device}
 use Rattle.flash_sim.specs.declared.flash.Bank.{Bank}
 use Rattle.flash_map.specs.declared.area.Area.{Area}
+use Rattle.ring_store.proofs.Areas.{same_geometry}
+use Rattle.flash_map.specs.declared.area.Geometry.{Geometry}
 use Rattle.item_lines.specs.declared.line.Line.{Line}
 use Rattle.item_lines.specs.declared.line.Line.TheVariants.{Set, Get, Delete, Older, Space, Cut, Uncut, Mount}
 use Rattle.item_lines.specs.declared.answer.Answer.{Answer}
@@ -13,7 +15,7 @@ use Rattle.ring_store.specs.Kind.{IsKind, Kind, fits}
 use Rattle.ring_store.specs.Listed.{kind_on, list_on}
 use Rattle.ring_store.specs.Versions.{versions}
 use Rattle.ring_store.specs.Writing.{open_at}
-use Rattle.ring_store.proofs.CallFacts.{from_unit}
+use Rattle.ring_store.proofs.CallFacts.{from_geometry}
 use Rattle.ring_store.proofs.VersionLemmas.{keeps_all}
 use Rattle.session_table.specs.Follows.{Follows}
 use Rattle.item_session.specs.Device.{RestsOn, rules_on, state_of, turned_on}
@@ -43,22 +45,22 @@ module _ (k : Kind) (b : List ℕ) (len : ℕ) (enough : k.cost len + 3 * k.slot
 
 -- ---- an area that kept the whole history so far
 
-record WholeNow (kind : ℕ → Kind) (area : Area) (d : Device) (all : List (ℕ × List ℕ)) (costs : ℕ) : Type 0 where
+record WholeNow (kind : Geometry → Kind) (area : Area) (d : Device) (all : List (ℕ × List ℕ)) (costs : ℕ) : Type 0 where
   pub list : list_on kind d area ≡ all
   pub rests : RestsOn kind d area
   pub room : cap_on kind d area + spare_on kind d area ≤ free_on kind d area + costs
 
 -- what of that is no list
-record RoomNow (kind : ℕ → Kind) (area : Area) (d : Device) (costs : ℕ) : Type 0 where
+record RoomNow (kind : Geometry → Kind) (area : Area) (d : Device) (costs : ℕ) : Type 0 where
   pub rests : RestsOn kind d area
   pub room : cap_on kind d area + spare_on kind d area ≤ free_on kind d area + costs
 
-module _ (kind : ℕ → Kind) (area : Area) (old new : Device) where
+module _ (kind : Geometry → Kind) (area : Area) (old new : Device) where
   same_cap : new.banks ≡ old.banks → cap_on kind new area ≡ cap_on kind old area
-  same_cap banks = ap (λ (banks : List Bank). (kind (bank_at banks area.bank).unit).cap (bank_at banks area.bank).sector) banks
+  same_cap banks = ap (λ (g : Geometry). (kind g).cap g.sector) (same_geometry old new area banks)
 
   same_spare : new.banks ≡ old.banks → spare_on kind new area ≡ spare_on kind old area
-  same_spare banks = ap (λ (banks : List Bank). 3 * (kind (bank_at banks area.bank).unit).slot) banks
+  same_spare banks = ap (λ (g : Geometry). 3 * (kind g).slot) (same_geometry old new area banks)
 
   module _ (law : IsKind (kind_on kind old area)) (all : List (ℕ × List ℕ)) (costs : ℕ) (now : WholeNow kind area old all costs) where
     -- so much more fits
@@ -106,17 +108,17 @@ module _ (kind : ℕ → Kind) (area : Area) (old new : Device) where
 
 -- ---- one line
 
-abbrev WholeSoFar : (ℕ → Kind) → Area → Device → List (ℕ × List ℕ) → ℕ → Type 0
+abbrev WholeSoFar : (Geometry → Kind) → Area → Device → List (ℕ × List ℕ) → ℕ → Type 0
 WholeSoFar kind area d all costs = costs ≤ cap_on kind d area → WholeNow kind area d all costs
 
-record Goes (kind : ℕ → Kind) (area : Area) (line : Line) (answer : Answer) (old new : Device) (all : List (ℕ × List ℕ)) (costs : ℕ) : Type 0 where
+record Goes (kind : Geometry → Kind) (area : Area) (line : Line) (answer : Answer) (old new : Device) (all : List (ℕ × List ℕ)) (costs : ℕ) : Type 0 where
   pub added : List (ℕ × List ℕ)
   pub adds : Adds new.spent line answer added
   pub tells : TellsHistory line answer (record { state = state_of kind area old; all = all })
   pub keeps : IsKept (record { state = state_of kind area new; all = all ++ added })
   pub whole : WholeSoFar kind area new (all ++ added) (costs + line_cost (kind_on kind old area).cost line)
 
-module _ (kind : ℕ → Kind) (area : Area) (line : Line) (answer : Answer) (old new : Device) (all : List (ℕ × List ℕ)) (costs : ℕ) (law : IsKind (kind_on kind old area))
+module _ (kind : Geometry → Kind) (area : Area) (line : Line) (answer : Answer) (old new : Device) (all : List (ℕ × List ℕ)) (costs : ℕ) (law : IsKind (kind_on kind old area))
     (kept : IsKept (record { state = state_of kind area old; all = all })) (so_far : WholeSoFar kind area old all costs) (is : LineDone kind area line answer old new) where
   told : GoesOn new.spent line answer all (state_of kind area old) (state_of kind area new)
   told = goes_on new.spent all (state_of kind area old) kept (rules_on kind old area) line answer (state_of kind area new) (is.step new.spent (omega arith))
@@ -158,12 +160,12 @@ module _ (kind : ℕ → Kind) (area : Area) (line : Line) (answer : Answer) (ol
 
 -- ---- a whole run
 
-record Continues (kind : ℕ → Kind) (area : Area) (lines : List Line) (answers : List Answer) (from : Tracked) (new : Device) : Type 0 where
+record Continues (kind : Geometry → Kind) (area : Area) (lines : List Line) (answers : List Answer) (from : Tracked) (new : Device) : Type 0 where
   pub all : List (ℕ × List ℕ)
   pub costs : ℕ
   pub runs : Follows (WholeStep kind area) lines answers from (record { device = new; all = all; costs = costs })
 
-continues : (kind : ℕ → Kind) (area : Area) (lines : List Line) (answers : List Answer) (old new : Device) (all : List (ℕ × List ℕ)) (costs : ℕ) → IsKind (kind_on kind old area) → IsKept (record { state = state_of kind area old; all = all })
+continues : (kind : Geometry → Kind) (area : Area) (lines : List Line) (answers : List Answer) (old new : Device) (all : List (ℕ × List ℕ)) (costs : ℕ) → IsKind (kind_on kind old area) → IsKept (record { state = state_of kind area old; all = all })
     → WholeSoFar kind area old all costs → Follows (LineDone kind area) lines answers old new → Continues kind area lines answers (record { device = old; all = all; costs = costs }) new
 continues kind area [] [] old new all costs law kept so_far same = record { all = all; costs = costs; runs = ap (λ (d : Device). record { device = d; all = all; costs = costs }) same }
 continues kind area [] (answer ∷ answers) old new all costs law kept so_far none = absurd none
@@ -171,7 +173,7 @@ continues kind area (line ∷ lines) [] old new all costs law kept so_far none =
 continues kind area (line ∷ lines) (answer ∷ answers) old new all costs law kept so_far runs =
     let mid : Device = runs.0 in
     let head = goes kind area line answer old mid all costs law kept so_far runs.1 in
-    let there = from_unit (λ (u : ℕ). IsKind (kind u)) old mid area runs.1.keeps.banks law in
+    let there = from_geometry (λ (u : Geometry). IsKind (kind u)) old mid area runs.1.keeps.banks law in
     let tail = continues kind area lines answers mid new (all ++ head.added) (costs + line_cost (kind_on kind old area).cost line) there head.keeps head.whole runs.2 in
     record {
       all = tail.all;

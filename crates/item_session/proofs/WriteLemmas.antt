@@ -4,6 +4,7 @@ use Rattle.std.proofs.lemmas.Bool.{false≢true}
 use Rattle.flash_sim.specs.Device.{Device}
 use Rattle.flash_sim.specs.declared.flash.PowerLost.{PowerLost as Lost}
 use Rattle.flash_map.specs.declared.area.Area.{Area}
+use Rattle.flash_map.specs.declared.area.Geometry.{Geometry}
 use Rattle.flash_map.specs.declared.faults.WriteFault.{WriteFault}
 use Rattle.flash_map.specs.declared.faults.WriteFault.TheVariants.{NoSpace, TooLong, PowerLost}
 use Rattle.flash_map.specs.Area.{sectors_of, value_limit}
@@ -32,7 +33,7 @@ counted_below spent last within counts = omega arith
 some_units : (units : ℕ) → (units ≡ 0 → ⊥) → 0 < units
 some_units units some = omega (arith, some)
 
-module _ (kind : ℕ → Kind) (area : Area) (old new : Device) (on : old.is_on ≡ true) (units : ℕ) (are : units ≡ new.spent - old.spent) where
+module _ (kind : Geometry → Kind) (area : Area) (old new : Device) (on : old.is_on ≡ true) (units : ℕ) (are : units ≡ new.spent - old.spent) where
   abbrev was : State
   was = state_of kind area old
 
@@ -174,7 +175,7 @@ module _ (kind : ℕ → Kind) (area : Area) (old new : Device) (on : old.is_on 
 
 -- ---- as the code has it
 
-module _ (kind : ℕ → Kind) (area given : Area) (old new : Device) (on : old.is_on ≡ true) (same : given ≡ area) where
+module _ (kind : Geometry → Kind) (area given : Area) (old new : Device) (on : old.is_on ≡ true) (same : given ≡ area) where
   -- the area shows no damage afterwards
   pub still_sound : (cut : Bool) → Touches (given ∷ []) old new cut → (kind_on kind old given).damage (sectors_of new given) ≡ None → damage_on kind new area ≡ None
   still_sound cut touches none = subst (λ (a : Area). damage_on kind new a ≡ None) same (sound_there kind given old new touches.banks none)

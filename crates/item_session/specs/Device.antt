@@ -2,6 +2,7 @@
 use Rattle.std.specs.Prelude.{ℕ, ◌<◌, ◌≤◌, ⊤, true, length}
 use Rattle.flash_sim.specs.Device.{Device}
 use Rattle.flash_map.specs.declared.area.Area.{Area}
+use Rattle.flash_map.specs.declared.area.Geometry.{Geometry}
 use Rattle.flash_map.specs.Area.{sector_size, value_limit}
 use Rattle.item_lines.specs.declared.line.Line.{Line}
 use Rattle.item_lines.specs.declared.line.Line.TheVariants.{Set, Get, Delete, Older}
@@ -22,22 +23,22 @@ rules_of k size sectors = record {
   mount = k.units.mount size;
 }
 
-abbrev pub rules_on : (ℕ → Kind) → Device → Area → Rules
+abbrev pub rules_on : (Geometry → Kind) → Device → Area → Rules
 rules_on kind d area = rules_of (kind_on kind d area) (sector_size d area) area.sectors
 
 -- the state that the flash's bytes and power are
-abbrev pub state_of : (ℕ → Kind) → Area → Device → State
+abbrev pub state_of : (Geometry → Kind) → Area → Device → State
 state_of kind area d = record { list = list_on kind d area; is_on = d.is_on }
 
 abbrev pub turned_on : Device → Device
 turned_on d = record d { is_on = true }
 
 -- nothing is left to do for a mount
-abbrev pub RestsOn : (ℕ → Kind) → Device → Area → Type 0
+abbrev pub RestsOn : (Geometry → Kind) → Device → Area → Type 0
 RestsOn kind d area = RestsAt (kind_on kind d area) d area
 
 -- a value that the area's limit lets through fits a sector
-abbrev pub TakesValues : (ℕ → Kind) → Device → Area → Type 0
+abbrev pub TakesValues : (Geometry → Kind) → Device → Area → Type 0
 TakesValues kind d area = (len : ℕ) → len ≤ value_limit area → IsShort (kind_on kind d area) d area len
 
 -- the line's id is below this end, and its value has one byte at least and at most so many
@@ -49,5 +50,5 @@ IsServed ids limit (Older id n) = id < ids
 IsServed ids limit line = ⊤
 
 -- the same of an area
-abbrev pub IsServedOn : (ℕ → Kind) → Device → Area → Line → Type 0
+abbrev pub IsServedOn : (Geometry → Kind) → Device → Area → Line → Type 0
 IsServedOn kind d area line = IsServed (kind_on kind d area).ids (value_limit area) line

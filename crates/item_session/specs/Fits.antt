@@ -2,6 +2,7 @@
 use Rattle.std.specs.Prelude.{◌≡◌, ℕ, ⊤, true, List, ◌++◌, length}
 use Rattle.flash_sim.specs.Device.{Device}
 use Rattle.flash_map.specs.declared.area.Area.{Area}
+use Rattle.flash_map.specs.declared.area.Geometry.{Geometry}
 use Rattle.item_lines.specs.declared.line.Line.{Line}
 use Rattle.item_lines.specs.declared.line.Line.TheVariants.{Set, Delete, Mount}
 use Rattle.item_lines.specs.declared.answer.Answer.{Answer}
@@ -12,14 +13,14 @@ use Rattle.item_session.specs.Device.{RestsOn}
 use Rattle.item_session.specs.History.{Adds}
 
 -- the entry of a set or of a delete fits the open sector, and a mount finds nothing to do
-abbrev pub FitsOpen : (ℕ → Kind) → Device → Area → Line → Type 0
+abbrev pub FitsOpen : (Geometry → Kind) → Device → Area → Line → Type 0
 FitsOpen kind d area (Set id value) = has_room_at (kind_on kind d area) d area (length value) ≡ true
 FitsOpen kind d area (Delete id) = has_room_at (kind_on kind d area) d area 0 ≡ true
 FitsOpen kind d area Mount = RestsOn kind d area
 FitsOpen kind d area line = ⊤
 
 -- what the area says of items is as before, but for what the line adds: each version that was kept still is
-pub record ForgetsNone (kind : ℕ → Kind) (area : Area) (line : Line) (answer : Answer) (old new : Device)
+pub record ForgetsNone (kind : Geometry → Kind) (area : Area) (line : Line) (answer : Answer) (old new : Device)
     : Type 0 where
   pub added : List (ℕ × List ℕ)
   pub adds : Adds new.spent line answer added

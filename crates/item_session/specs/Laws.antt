@@ -4,6 +4,7 @@ use Rattle.std.specs.List.{All}
 use Rattle.flash_sim.specs.Bank.{IsLawful}
 use Rattle.flash_sim.specs.Device.{Device}
 use Rattle.flash_map.specs.declared.area.Area.{Area}
+use Rattle.flash_map.specs.declared.area.Geometry.{Geometry}
 use Rattle.flash_map.specs.declared.area.Role.{Role}
 use Rattle.flash_map.specs.declared.area.Role.TheVariants.{Nvs, Zms}
 use Rattle.script_lines.specs.Script.{IsScript}
@@ -47,13 +48,13 @@ RunsInRow =
 -- say, and no byte changed outside the area
 abbrev pub LinesMakeRuns : Type 0
 LinesMakeRuns =
-    (kind : ℕ → Kind) (area : Area) (lines : List Line) (answers : List Answer) (old new : Device)
+    (kind : Geometry → Kind) (area : Area) (lines : List Line) (answers : List Answer) (old new : Device)
     → Follows (LineDone kind area) lines answers old new → Runs kind area lines answers old new
 
 -- a line whose entry fits the open sector forgets no version, nor does a mount of an area at rest
 abbrev pub ForgetsForRoom : Type 0
 ForgetsForRoom =
-    (kind : ℕ → Kind) (area : Area) (line : Line) (answer : Answer) (old new : Device)
+    (kind : Geometry → Kind) (area : Area) (line : Line) (answer : Answer) (old new : Device)
     → IsKind (kind_on kind old area) → LineDone kind area line answer old new → FitsOpen kind old area line
     → ForgetsNone kind area line answer old new
 
@@ -61,13 +62,13 @@ ForgetsForRoom =
 -- whatever it answered, cost no more than a sector has, wherever power is lost.
 abbrev pub HistoryStaysWhole : Type 0
 HistoryStaysWhole =
-    (kind : ℕ → Kind) (area : Area) (lines : List Line) (answers : List Answer) (old new : Device)
+    (kind : Geometry → Kind) (area : Area) (lines : List Line) (answers : List Answer) (old new : Device)
     → IsKind (kind_on kind old area) → IsFresh kind old area
     → Follows (LineDone kind area) lines answers old new
     → KeepsWhole kind area lines answers old new
 
 -- areas of NVS and of ZMS that are blank are fresh
-abbrev pub BlankIsFresh : Role → (ℕ → Kind) → Type 0
+abbrev pub BlankIsFresh : Role → (Geometry → Kind) → Type 0
 BlankIsFresh role kind =
     (d : Device) (area : Area) → IsLawful d.banks d.bytes → IsStoreArea role d.banks area → IsBlankOn d area
     → IsFresh kind d area

@@ -2,6 +2,7 @@
 use Rattle.std.specs.Prelude.{◌≡◌, ℕ, ◌+◌, ◌≤◌, ⊤, Bool, true, false, None, List, [], ◌∷◌, if◌then◌else◌, All}
 use Rattle.flash_sim.specs.Device.{Device, Never, counted}
 use Rattle.flash_map.specs.declared.area.Area.{Area}
+use Rattle.flash_map.specs.declared.area.Geometry.{Geometry}
 use Rattle.flash_map.specs.Area.{sectors_of}
 use Rattle.flash_map.specs.Touches.{SameOutside, Touches}
 use Rattle.script_lines.specs.Plan.Replan.{keeps as keeps_plan}
@@ -44,7 +45,7 @@ pub record Accounts (line : Line) (answer : Answer) (old new : Device) : Type 0 
   pub unplanned : PlansNoLoss line → StaysUnplanned old new
 
 -- A set or a delete ends as the store's: it collects only where its entry does not fit, and so on.
-abbrev pub WritesBy : (ℕ → Kind) → Area → Line → Answer → Device → Device → Type 0
+abbrev pub WritesBy : (Geometry → Kind) → Area → Line → Answer → Device → Device → Type 0
 WritesBy kind area (Set id value) (answers.Done units) old new =
     Writes (kind_on kind old area) old new area id value
 WritesBy kind area (Set id value) (answers.NoSpace units need live) old new =
@@ -73,7 +74,7 @@ Redoes k area (answers.Lost units) old new =
 Redoes k area answer old new = ⊥
 
 -- An area that shows no damage is mounted, and shows none afterwards. At rest nothing is done.
-pub record MountsBy (kind : ℕ → Kind) (area : Area) (answer : Answer) (old new : Device) : Type 0 where
+pub record MountsBy (kind : Geometry → Kind) (area : Area) (answer : Answer) (old new : Device) : Type 0 where
   pub undamaged : (kind_on kind old area).damage (sectors_of old area) ≡ None
   pub items : KeepsItems (kind_on kind old area) (sectors_of old area) (sectors_of new area)
   pub redoes : Redoes (kind_on kind old area) area answer (turned_on old) new
@@ -93,7 +94,7 @@ SameButPlan old new = new ≡ record old { plan = new.plan }
 -- A line was carried out by the table. But for the plan, the bench was touched in the area alone: a
 -- loss of power lies in it, and without a unit no byte changed. A line on the plan changes nothing
 -- else, and one that only asks changes nothing.
-pub record LineDone (kind : ℕ → Kind) (area : Area) (line : Line) (answer : Answer) (old new : Device)
+pub record LineDone (kind : Geometry → Kind) (area : Area) (line : Line) (answer : Answer) (old new : Device)
     : Type 0 where
   pub step :
       (last : ℕ) → new.spent ≤ last
@@ -107,7 +108,7 @@ pub record LineDone (kind : ℕ → Kind) (area : Area) (line : Line) (answer : 
   pub plans : (replan line ≡ keeps_plan → ⊥) → SameButPlan old new
 
 -- a whole run of lines
-pub record Runs (kind : ℕ → Kind) (area : Area) (lines : List Line) (answers : List Answer) (old new : Device)
+pub record Runs (kind : Geometry → Kind) (area : Area) (lines : List Line) (answers : List Answer) (old new : Device)
     : Type 0 where
   pub session :
       Follows (Step (rules_on kind old area) new.spent) lines answers

@@ -3,6 +3,7 @@ use Rattle.std.specs.Prelude.{◌≡◌, ℕ, ◌+◌, ◌*◌, ◌≤◌, true,
 use Rattle.std.specs.List.{All}
 use Rattle.flash_sim.specs.Device.{Device}
 use Rattle.flash_map.specs.declared.area.Area.{Area}
+use Rattle.flash_map.specs.declared.area.Geometry.{Geometry}
 use Rattle.flash_map.specs.Area.{sector_size, sectors_of}
 use Rattle.flash_map.specs.Units.{is_erased}
 use Rattle.item_lines.specs.declared.line.Line.{Line}
@@ -25,14 +26,14 @@ line_cost cost (Delete id) = cost 0
 line_cost cost line = 0
 
 -- what is free in the open sector, in bytes
-abbrev pub free_on : (ℕ → Kind) → Device → Area → ℕ
+abbrev pub free_on : (Geometry → Kind) → Device → Area → ℕ
 free_on kind d area = let k = kind_on kind d area in k.free (open_at k d area)
 
 -- what a sector of the area has for values and entries, and the slots that it keeps beside these
-abbrev pub cap_on : (ℕ → Kind) → Device → Area → ℕ
+abbrev pub cap_on : (Geometry → Kind) → Device → Area → ℕ
 cap_on kind d area = (kind_on kind d area).cap (sector_size d area)
 
-abbrev pub spare_on : (ℕ → Kind) → Device → Area → ℕ
+abbrev pub spare_on : (Geometry → Kind) → Device → Area → ℕ
 spare_on kind d area = 3 * (kind_on kind d area).slot
 
 -- each byte of the area is FF
@@ -40,7 +41,7 @@ abbrev pub IsBlankOn : Device → Area → Type 0
 IsBlankOn d area = All (λ sector. is_erased sector ≡ true) (sectors_of d area)
 
 -- nothing was said of any item yet, and the open sector is all free
-pub record IsFresh (kind : ℕ → Kind) (d : Device) (area : Area) : Type 0 where
+pub record IsFresh (kind : Geometry → Kind) (d : Device) (area : Area) : Type 0 where
   pub list : list_on kind d area ≡ []
   pub rests : RestsOn kind d area
   pub room : cap_on kind d area + spare_on kind d area ≤ free_on kind d area
@@ -55,7 +56,7 @@ pub record Tracked : Type 0 where
 -- The history goes on, and all of it is kept as long as the sets and deletes of the lines so far, each
 -- whatever it answered, cost no more than a sector has. So long `gone` tells that there never was such a
 -- version.
-pub record WholeStep (kind : ℕ → Kind) (area : Area) (line : Line) (answer : Answer) (old new : Tracked)
+pub record WholeStep (kind : Geometry → Kind) (area : Area) (line : Line) (answer : Answer) (old new : Tracked)
     : Type 0 where
   pub done : LineDone kind area line answer old.device new.device
   pub records :
@@ -69,7 +70,7 @@ pub record WholeStep (kind : ℕ → Kind) (area : Area) (line : Line) (answer :
       → old.costs ≤ cap_on kind old.device area → length (versions old.all id) ≤ n
 
 -- The history begins empty, and goes on so line by line.
-pub record KeepsWhole (kind : ℕ → Kind) (area : Area) (lines : List Line) (answers : List Answer)
+pub record KeepsWhole (kind : Geometry → Kind) (area : Area) (lines : List Line) (answers : List Answer)
     (old new : Device) : Type 0 where
   pub all : List (ℕ × List ℕ)
   pub costs : ℕ

@@ -3,7 +3,8 @@ use Rattle.std.proofs.Common.{◌≡◌, ℕ, ◌-◌, ◌/◌, ◌≤◌, true,
 use Rattle.flash_sim.specs.Bank.{IsLawful}
 use Rattle.flash_sim.specs.Device.{Device}
 use Rattle.flash_map.specs.declared.area.Area.{Area}
-use Rattle.flash_map.specs.Area.{sector_size, unit_of}
+use Rattle.flash_map.specs.declared.area.Geometry.{Geometry}
+use Rattle.flash_map.specs.Area.{geometry_of, sector_size, unit_of}
 use Rattle.flash_map.specs.Lawful.{IsLawfulFor}
 use Rattle.flash_map.specs.Units.{IsUnit, is_erased}
 use Rattle.flash_map.proofs.Rounding.{padding, padded_bounds}
@@ -23,10 +24,10 @@ module _ (d : Device) (area : Area) (lawful : IsLawful d.banks d.bytes) (own : I
   is-unit : IsUnit (unit_of d area)
   is-unit = unit_is d area lawful own.in_bank
 
-  pub nvs-law : IsKind (kind (unit_of d area))
+  pub nvs-law : IsKind (kind (geometry_of d area))
   nvs-law = nvs_is_kind (unit_of d area) is-unit
 
-  pub nvs-frugal : IsFrugal (kind (unit_of d area)) (sector_size d area) (sector_size d area / unit_of d area)
+  pub nvs-frugal : IsFrugal (kind (geometry_of d area)) (sector_size d area) (sector_size d area / unit_of d area)
   nvs-frugal = record {
     round = omega arith;
     entry = λ len short.
@@ -41,5 +42,5 @@ module _ (d : Device) (area : Area) (lawful : IsLawful d.banks d.bytes) (own : I
   }
 
 -- a blank sector is all FF
-pub nvs-erased : (u : ℕ) (b : List ℕ) → is_erased b ≡ true → (kind u).reading.is_blank b ≡ true
-nvs-erased u b erased = erased
+pub nvs-erased : (geometry : Geometry) (b : List ℕ) → is_erased b ≡ true → (kind geometry).reading.is_blank b ≡ true
+nvs-erased geometry b erased = erased

@@ -9,6 +9,7 @@ use Rattle.std.proofs.lemmas.List.Folds.{list_all_at}
 use Rattle.flash_sim.specs.Device.{Device}
 use Rattle.flash_sim.specs.declared.flash.PowerLost.{PowerLost as Lost}
 use Rattle.flash_map.specs.declared.area.Area.{Area}
+use Rattle.flash_map.specs.declared.area.Geometry.{Geometry}
 use Rattle.flash_map.specs.declared.area.Role.{Role}
 use Rattle.flash_map.specs.declared.faults.MountFault.{MountFault}
 use Rattle.flash_map.specs.declared.faults.MountFault.TheVariants.{Damaged as HasDamage, PowerLost as MountLost, NoMemory}
@@ -33,7 +34,7 @@ use Rattle.ring_store.specs.Writing as ring_writing
 use Rattle.ring_store.specs.Written.{IsWritten}
 use Rattle.ring_store.proofs.Areas.{form_here}
 use Rattle.ring_store.proofs.BlankAreas.{blank-empty}
-use Rattle.ring_store.proofs.CallFacts.{from_unit}
+use Rattle.ring_store.proofs.CallFacts.{from_geometry}
 use Rattle.ring_store.proofs.CollectSteps.{rest_from, redo_is}
 use Rattle.backend_api.specs.Ends as api
 use Rattle.backend_api.specs.Room.{removal_units}
@@ -47,10 +48,10 @@ use Rattle.item_store.proofs.MostUnits.{rounds-within, spends-none, between-most
 
 -- ---- a store that stands
 
-module _ {T : Type 0} (role : Role) (kind : ℕ → Kind) (kept : ℕ → List ℕ → T) where
+module _ {T : Type 0} (role : Role) (kind : Geometry → Kind) (kept : Geometry → List ℕ → T) where
   pub ring-on : (d : Device) (store : Store T) → IsLawfulFor d.banks store.area → RingStands role kind kept store (geometry_of d store.area) (sectors_of d store.area) → ring.StandsOn role kind kept d store
   ring-on d store lawful stands = record {
-    area = record { lawful = lawful; role_is = stands.role; rewritable = stands.rewritable };
+    area = record { lawful = lawful; role_is = stands.role };
     up = stands.up;
     current = stands.current;
     opened = stands.opened;
@@ -62,7 +63,6 @@ module _ {T : Type 0} (role : Role) (kind : ℕ → Kind) (kept : ℕ → List �
   pub ring-of : (d : Device) (store : Store T) → ring.StandsOn role kind kept d store → RingStands role kind kept store (geometry_of d store.area) (sectors_of d store.area)
   ring-of d store stands = record {
     role = stands.area.role_is;
-    rewritable = stands.area.rewritable;
     up = stands.up;
     current = stands.current;
     opened = stands.opened;
@@ -74,26 +74,26 @@ module _ {T : Type 0} (role : Role) (kind : ℕ → Kind) (kept : ℕ → List �
   -- ---- how a mount ends
 
   module _ {S : Type 0} (held : S → Store T) (old new : Device) (area : Area) (banks : new.banks ≡ old.banks) where
-    pub ring-mounts : (r : Result S MountFault) → ring.MountEnds role kind kept old new area (store_in held r) → api.MountEnds ((kind (unit_of old area)).damage (sectors_of old area)) old new r
+    pub ring-mounts : (r : Result S MountFault) → ring.MountEnds role kind kept old new area (store_in held r) → api.MountEnds ((kind (geometry_of old area)).damage (sectors_of old area)) old new r
     ring-mounts (Ok s) ends = ends.0
     ring-mounts (Err (HasDamage damaged)) ends = ends
     ring-mounts (Err MountLost) ends = ends.0
     ring-mounts (Err NoMemory) ends = ends
 
     -- an area with no damage has none, and its items stay
-    kept_there : (r : Result S MountFault) → ring.MountEnds role kind kept old new area (store_in held r) → (kind (unit_of old area)).damage (sectors_of old area) ≡ None → (items (kind (unit_of old area)) (sectors_of new area) ≡ items (kind (unit_of old area)) (sectors_of old area)) × ((kind (unit_of old area)).damage (sectors_of new area) ≡ None)
+    kept_there : (r : Result S MountFault) → ring.MountEnds role kind kept old new area (store_in held r) → (kind (geometry_of old area)).damage (sectors_of old area) ≡ None → (items (kind (geometry_of old area)) (sectors_of new area) ≡ items (kind (geometry_of old area)) (sectors_of old area)) × ((kind (geometry_of old area)).damage (sectors_of new area) ≡ None)
     kept_there (Ok s) ends none = (ends.3.items, ends.3.undamaged)
     kept_there (Err (HasDamage damaged)) ends none = absurd (some_none damaged (sym ends.0 ∙ none))
     kept_there (Err MountLost) ends none = (ends.1.items, ends.1.undamaged)
     kept_there (Err NoMemory) ends none =
-        (ap (λ (x : Device). items (kind (unit_of old area)) (sectors_of x area)) ends, ap (λ (x : Device). (kind (unit_of old area)).damage (sectors_of x area)) ends ∙ none)
+        (ap (λ (x : Device). items (kind (geometry_of old area)) (sectors_of x area)) ends, ap (λ (x : Device). (kind (geometry_of old area)).damage (sectors_of x area)) ends ∙ none)
 
-    pub ring-sound : (r : Result S MountFault) → ring.MountEnds role kind kept old new area (store_in held r) → (kind (unit_of old area)).damage (sectors_of old area) ≡ None → (kind (unit_of new area)).damage (sectors_of new area) ≡ None
-    ring-sound r ends none = from_unit (λ u. (kind u).damage (sectors_of new area) ≡ None) old new area banks (kept_there r ends none).1
+    pub ring-sound : (r : Result S MountFault) → ring.MountEnds role kind kept old new area (store_in held r) → (kind (geometry_of old area)).damage (sectors_of old area) ≡ None → (kind (geometry_of new area)).damage (sectors_of new area) ≡ None
+    ring-sound r ends none = from_geometry (λ u. (kind u).damage (sectors_of new area) ≡ None) old new area banks (kept_there r ends none).1
 
-    pub ring-keeps : (r : Result S MountFault) → ring.MountEnds role kind kept old new area (store_in held r) → (kind (unit_of old area)).damage (sectors_of old area) ≡ None → items (kind (unit_of new area)) (sectors_of new area) ≡ items (kind (unit_of old area)) (sectors_of old area)
+    pub ring-keeps : (r : Result S MountFault) → ring.MountEnds role kind kept old new area (store_in held r) → (kind (geometry_of old area)).damage (sectors_of old area) ≡ None → items (kind (geometry_of new area)) (sectors_of new area) ≡ items (kind (geometry_of old area)) (sectors_of old area)
     ring-keeps r ends none =
-        from_unit (λ u. items (kind u) (sectors_of new area) ≡ items (kind (unit_of old area)) (sectors_of old area)) old new area banks (kept_there r ends none).0
+        from_geometry (λ u. items (kind u) (sectors_of new area) ≡ items (kind (geometry_of old area)) (sectors_of old area)) old new area banks (kept_there r ends none).0
 
     pub ring-mounted : (r : Result S MountFault) → ring.MountEnds role kind kept old new area (store_in held r) → IfOk r (λ s. (held s).area ≡ area)
     ring-mounted (Ok s) ends = ends.2
@@ -104,13 +104,13 @@ module _ {T : Type 0} (role : Role) (kind : ℕ → Kind) (kept : ℕ → List �
     ring-up (Err fault) ends = tt
 
     -- where there is nothing to do, nothing changes
-    module _ (law : IsKind (kind (unit_of old area))) (own : IsLawfulFor old.banks area) where
-      at_rest : (kind (unit_of old area)).damage (sectors_of old area) ≡ None → ring_rests kind area (geometry_of old area) (sectors_of old area) → AtRest (kind (unit_of old area)).reading (sectors_of old area) (open_sector (kind (unit_of old area)).reading (sectors_of old area))
+    module _ (law : IsKind (kind (geometry_of old area))) (own : IsLawfulFor old.banks area) where
+      at_rest : (kind (geometry_of old area)).damage (sectors_of old area) ≡ None → ring_rests kind area (geometry_of old area) (sectors_of old area) → AtRest (kind (geometry_of old area)).reading (sectors_of old area) (open_sector (kind (geometry_of old area)).reading (sectors_of old area))
       at_rest none rests =
           let count = length-sectors old area in
-          rest_from (kind (unit_of old area)) law (sectors_of old area) (open_sector (kind (unit_of old area)).reading (sectors_of old area))
-          (form_here (kind (unit_of old area)) law (sectors_of old area) (open_sector (kind (unit_of old area)).reading (sectors_of old area)) (omega (arith, own.several, count)) none refl)
-          (redo_is (kind (unit_of old area)) law (sectors_of old area) (open_sector (kind (unit_of old area)).reading (sectors_of old area)) false ((kind (unit_of old area)).reading.has_gc_done (sector_at (sectors_of old area) (open_sector (kind (unit_of old area)).reading (sectors_of old area)))) rests refl)
+          rest_from (kind (geometry_of old area)) law (sectors_of old area) (open_sector (kind (geometry_of old area)).reading (sectors_of old area))
+          (form_here (kind (geometry_of old area)) law (sectors_of old area) (open_sector (kind (geometry_of old area)).reading (sectors_of old area)) (omega (arith, own.several, count)) none refl)
+          (redo_is (kind (geometry_of old area)) law (sectors_of old area) (open_sector (kind (geometry_of old area)).reading (sectors_of old area)) false ((kind (geometry_of old area)).reading.has_gc_done (sector_at (sectors_of old area) (open_sector (kind (geometry_of old area)).reading (sectors_of old area)))) rests refl)
 
       pub ring-idle : (r : Result S MountFault) → ring.MountEnds role kind kept old new area (store_in held r) → ring_rests kind area (geometry_of old area) (sectors_of old area) → new ≡ old
       ring-idle (Ok s) ends rests = ends.5 (at_rest ends.0 rests)
@@ -175,19 +175,19 @@ module _ (k : Kind) (d e : Device) (area : Area) where
         let most = rounds-within area.sectors (sector_size d area / unit_of d area) 0 0 (k.units.mount (sector_size d area)) (omega arith) (omega arith) frugal.mount in
         between-most d e 0 (k.units.mount (sector_size d area)) (most_units (geometry_of d area)) (omega arith) spent
 
--- the same with the items of each device read at its own unit, which is one
-module _ (kind : ℕ → Kind) (d e : Device) (area : Area) (banks : e.banks ≡ d.banks) where
-  pub ring-writes_on : {V : Type 0} (id : ℕ) (bytes : List ℕ) (r : Result V WriteFault) → ring_writing.WriteEnds (kind (unit_of d area)) d e area id bytes r
-      → WriteEnds (kind (unit_of d area)).cost ((kind (unit_of d area)).cap (sector_size d area)) area.sectors d e (items_at (kind (unit_of d area)) d area) (items_at (kind (unit_of e area)) e area) id bytes r
+-- the same with the items of each device read by its own geometry, which is the same
+module _ (kind : Geometry → Kind) (d e : Device) (area : Area) (banks : e.banks ≡ d.banks) where
+  pub ring-writes_on : {V : Type 0} (id : ℕ) (bytes : List ℕ) (r : Result V WriteFault) → ring_writing.WriteEnds (kind (geometry_of d area)) d e area id bytes r
+      → WriteEnds (kind (geometry_of d area)).cost ((kind (geometry_of d area)).cap (sector_size d area)) area.sectors d e (items_at (kind (geometry_of d area)) d area) (items_at (kind (geometry_of e area)) e area) id bytes r
   ring-writes_on id bytes r ends =
-      from_unit (λ u. WriteEnds (kind (unit_of d area)).cost ((kind (unit_of d area)).cap (sector_size d area)) area.sectors d e (items_at (kind (unit_of d area)) d area) (items_at (kind u) e area) id bytes r) d e area banks
-      (ring-writes (kind (unit_of d area)) d e area id bytes r ends)
+      from_geometry (λ u. WriteEnds (kind (geometry_of d area)).cost ((kind (geometry_of d area)).cap (sector_size d area)) area.sectors d e (items_at (kind (geometry_of d area)) d area) (items_at (kind u) e area) id bytes r) d e area banks
+      (ring-writes (kind (geometry_of d area)) d e area id bytes r ends)
 
-  pub ring-deletes_on : {V : Type 0} (id : ℕ) (r : Result V Lost) → ring_writing.DeleteEnds (kind (unit_of d area)) d e area id r
-      → DeleteEnds d e (items_at (kind (unit_of d area)) d area) (items_at (kind (unit_of e area)) e area) id r
+  pub ring-deletes_on : {V : Type 0} (id : ℕ) (r : Result V Lost) → ring_writing.DeleteEnds (kind (geometry_of d area)) d e area id r
+      → DeleteEnds d e (items_at (kind (geometry_of d area)) d area) (items_at (kind (geometry_of e area)) e area) id r
   ring-deletes_on id r ends =
-      from_unit (λ u. DeleteEnds d e (items_at (kind (unit_of d area)) d area) (items_at (kind u) e area) id r) d e area banks
-      (ring-deletes (kind (unit_of d area)) d e area id r ends)
+      from_geometry (λ u. DeleteEnds d e (items_at (kind (geometry_of d area)) d area) (items_at (kind u) e area) id r) d e area banks
+      (ring-deletes (kind (geometry_of d area)) d e area id r ends)
 
 -- ---- what stays written
 

@@ -2,9 +2,10 @@
 use Rattle.std.proofs.Common.{◌≡◌, ℕ, ◌/◌, ◌≤◌, true, List, refl, sym, subst, arith}
 use Rattle.flash_sim.specs.Device.{Device}
 use Rattle.flash_map.specs.declared.area.Area.{Area}
+use Rattle.flash_map.specs.declared.area.Geometry.{Geometry}
 use Rattle.flash_map.specs.declared.area.Role.{Role}
 use Rattle.flash_map.specs.declared.area.Role.TheVariants.{Zms as ZmsRole}
-use Rattle.flash_map.specs.Area.{sector_size, unit_of}
+use Rattle.flash_map.specs.Area.{geometry_of, sector_size, unit_of}
 use Rattle.flash_map.specs.Lawful.{IsLawfulFor, HasUnit}
 use Rattle.flash_map.specs.Units.{is_erased}
 use Rattle.ring_store.specs.Kind.{IsKind}
@@ -23,7 +24,7 @@ module _ (d : Device) (area : Area) (own : IsLawfulFor d.banks area) (role : are
   unit_16 : unit_of d area ≡ 16
   unit_16 = subst (λ (r : Role). HasUnit r (unit_of d area)) role own.unit
 
-  frugal_16 : IsFrugal (kind (unit_of d area)) (sector_size d area) (sector_size d area / 16)
+  frugal_16 : IsFrugal (kind (geometry_of d area)) (sector_size d area) (sector_size d area / 16)
   frugal_16 = record {
     round = omega arith;
     entry = λ len short.
@@ -33,12 +34,12 @@ module _ (d : Device) (area : Area) (own : IsLawfulFor d.banks area) (role : are
     delete = let least = own.at_least in let none = no-data in omega arith;
   }
 
-  pub zms-frugal : IsFrugal (kind (unit_of d area)) (sector_size d area) (sector_size d area / unit_of d area)
-  zms-frugal = subst (λ (u : ℕ). IsFrugal (kind (unit_of d area)) (sector_size d area) (sector_size d area / u)) (sym unit_16) frugal_16
+  pub zms-frugal : IsFrugal (kind (geometry_of d area)) (sector_size d area) (sector_size d area / unit_of d area)
+  zms-frugal = subst (λ (u : ℕ). IsFrugal (kind (geometry_of d area)) (sector_size d area) (sector_size d area / u)) (sym unit_16) frugal_16
 
-pub zms-law : (unit : ℕ) → IsKind (kind unit)
-zms-law unit = zms_is_kind unit
+pub zms-law : (geometry : Geometry) → IsKind (kind geometry)
+zms-law geometry = zms_is_kind geometry
 
 -- a sector all of whose bytes are FF is not in use
-pub zms-erased : (unit : ℕ) (b : List ℕ) → is_erased b ≡ true → (kind unit).reading.is_blank b ≡ true
-zms-erased unit b erased = erased-unused b erased
+pub zms-erased : (geometry : Geometry) (b : List ℕ) → is_erased b ≡ true → (kind geometry).reading.is_blank b ≡ true
+zms-erased geometry b erased = erased-unused geometry.kind b erased

@@ -10,6 +10,7 @@ use Rattle.pair_laws.specs.Items.{items_of}
 use Rattle.nvs_store.specs.Scans as nvs
 use Rattle.nvs_store.proofs.Blank.{reads-blank}
 use Rattle.ring_store.proofs.BlankAreas.{blank-undamaged, blank-empty}
+use Rattle.flash_sim.specs.declared.flash.Kind.{Kind as BankKind}
 use Rattle.zms_kind.specs.Area as zms
 use Rattle.zms_kind.specs.Area.{is_unused}
 use Rattle.zms_kind.proofs.Damages.{undamaged_ring}
@@ -43,12 +44,12 @@ module _ (n size : ℕ) (several : 2 ≤ n) where
   pub nvs-empty : (unit : ℕ) → items_of (nvs.list_of unit (replicate n (replicate size 0xFF))) ≡ empty
   nvs-empty unit = ap items_of (blank-empty (nvs.reading unit) (reads-blank unit) blanks several-too erased-each) ∙ items-none
 
-  -- and as ZMS
-  unused-each : (k : ℕ) → k < length blanks → is_unused (sector_at blanks k) ≡ true
-  unused-each k lt = erased-unused (sector_at blanks k) (erased-each k lt)
+  -- and as ZMS, on a bank of either kind
+  unused-each : (kind : BankKind) (k : ℕ) → k < length blanks → is_unused kind (sector_at blanks k) ≡ true
+  unused-each kind k lt = erased-unused kind (sector_at blanks k) (erased-each k lt)
 
-  pub zms-undamaged : zms.damage_of (replicate n (replicate size 0xFF)) ≡ None
-  zms-undamaged = undamaged_ring blanks (blank-undamaged zms.reading laws blanks several-too unused-each)
+  pub zms-undamaged : (kind : BankKind) → zms.damage_of kind (replicate n (replicate size 0xFF)) ≡ None
+  zms-undamaged kind = undamaged_ring kind blanks (blank-undamaged (zms.reading kind) (laws kind) blanks several-too (unused-each kind))
 
-  pub zms-empty : items_of (zms.list_of (replicate n (replicate size 0xFF))) ≡ empty
-  zms-empty = ap items_of (blank-empty zms.reading laws blanks several-too unused-each) ∙ items-none
+  pub zms-empty : (kind : BankKind) → items_of (zms.list_of kind (replicate n (replicate size 0xFF))) ≡ empty
+  zms-empty kind = ap items_of (blank-empty (zms.reading kind) (laws kind) blanks several-too (unused-each kind)) ∙ items-none

@@ -169,5 +169,5 @@ module _ (d : Device) (area : Area) (bank : IsLawful d.banks d.bytes) (lawful : 
   pub nvs-few : map.len (items_of (nvs.list_of (unit_of d area) (sectors_of d area))) ≤ most_items (geometry_of d area)
   nvs-few = few-pairs (nvs.reading (unit_of d area)) (nvs-sector (unit_of d area) (unit_is d area bank lawful.in_bank))
 
-  pub zms-few : map.len (items_of (zms.list_of (sectors_of d area))) ≤ most_items (geometry_of d area)
-  zms-few = few-pairs zms.reading zms-sector
+  pub zms-few : map.len (items_of (zms.list_of (geometry_of d area).kind (sectors_of d area))) ≤ most_items (geometry_of d area)
+  zms-few = few-pairs (zms.reading (geometry_of d area).kind) zms-sector

@@ -1,8 +1,7 @@
 -- How an area holds items for a store over sectors of any kind, by its geometry and its sectors alone. A
--- kind is that of the area's unit.
+-- kind is that of the area's geometry.
 use Rattle.std.specs.Prelude.{◌≡◌, ℕ, ◌+◌, ◌*◌, ◌≤◌, true, false, List, Option, None}
 use Rattle.std.proofs.Common.{subst}
-use Rattle.flash_sim.specs.declared.flash.Kind.TheVariants.{Rewritable}
 use Rattle.flash_map.specs.declared.area.Area.{Area}
 use Rattle.flash_map.specs.declared.area.Geometry.{Geometry}
 use Rattle.flash_map.specs.declared.area.Role.{Role}
@@ -16,45 +15,44 @@ use Rattle.ring_store.specs.declared.store.Store.{Store}
 use Rattle.ring_store.specs.Cached.{IsCacheOf}
 use Rattle.ring_store.specs.Kind.{Kind, slots}
 use Rattle.ring_store.specs.Latest.{Tells}
-use Rattle.ring_store.specs.Standing.{is_never_erased, items}
+use Rattle.ring_store.specs.Standing.{items}
 
-abbrev pub ring_damage : (ℕ → Kind) → Area → Geometry → List (List ℕ) → Option Damaged
-ring_damage kind area geometry sectors = (kind geometry.unit).damage sectors
+abbrev pub ring_damage : (Geometry → Kind) → Area → Geometry → List (List ℕ) → Option Damaged
+ring_damage kind area geometry sectors = (kind geometry).damage sectors
 
-abbrev pub ring_items : (ℕ → Kind) → Area → Geometry → List (List ℕ) → Items
-ring_items kind area geometry sectors = items (kind geometry.unit) sectors
+abbrev pub ring_items : (Geometry → Kind) → Area → Geometry → List (List ℕ) → Items
+ring_items kind area geometry sectors = items (kind geometry) sectors
 
 -- no loss of power left anything undone
-abbrev pub ring_rests : (ℕ → Kind) → Area → Geometry → List (List ℕ) → Type 0
+abbrev pub ring_rests : (Geometry → Kind) → Area → Geometry → List (List ℕ) → Type 0
 ring_rests kind area geometry sectors =
-    let reading = (kind geometry.unit).reading in
+    let reading = (kind geometry).reading in
     is_closed_at reading sectors (next sectors (open_sector reading sectors)) ≡ false
 
 -- The store is up: the area is not damaged and at rest, and the store knows its open sector and where the latest
 -- entries stand.
-pub record RingStands {T : Type 0} (own : Role) (kind : ℕ → Kind) (kept : ℕ → List ℕ → T) (store : Store T)
+pub record RingStands {T : Type 0} (own : Role) (kind : Geometry → Kind) (kept : Geometry → List ℕ → T) (store : Store T)
     (geometry : Geometry) (sectors : List (List ℕ)) : Type 0 where
   pub role : store.area.role ≡ own
-  pub rewritable : is_never_erased own ≡ true → geometry.kind ≡ Rewritable
   pub up : store.up ≡ true
-  pub current : store.current ≡ open_sector (kind geometry.unit).reading sectors
-  pub opened : store.opened ≡ kept geometry.unit (sector_at sectors store.current)
-  pub rested : is_closed_at (kind geometry.unit).reading sectors (next sectors store.current) ≡ false
-  pub undamaged : (kind geometry.unit).damage sectors ≡ None
-  pub cached : IsCacheOf store.cache (all_placed (slots (kind geometry.unit)) sectors)
+  pub current : store.current ≡ open_sector (kind geometry).reading sectors
+  pub opened : store.opened ≡ kept geometry (sector_at sectors store.current)
+  pub rested : is_closed_at (kind geometry).reading sectors (next sectors store.current) ≡ false
+  pub undamaged : (kind geometry).damage sectors ≡ None
+  pub cached : IsCacheOf store.cache (all_placed (slots (kind geometry)) sectors)
 
 -- a mount of such an area would have nothing to do
-pub ring-rested : {T : Type 0} (role : Role) (kind : ℕ → Kind) (kept : ℕ → List ℕ → T) (store : Store T)
+pub ring-rested : {T : Type 0} (role : Role) (kind : Geometry → Kind) (kept : Geometry → List ℕ → T) (store : Store T)
     (geometry : Geometry) (sectors : List (List ℕ))
     → RingStands role kind kept store geometry sectors → ring_rests kind store.area geometry sectors
 ring-rested role kind kept store geometry sectors stands =
-    let reading = (kind geometry.unit).reading in
+    let reading = (kind geometry).reading in
     subst (λ (place : ℕ). is_closed_at reading sectors (next sectors place) ≡ false) stands.current stands.rested
 
 -- the index is a table of the last entries of ids
-abbrev pub ring_tells : (ℕ → Kind) → LastSlots → Geometry → List (List ℕ) → Type 0
+abbrev pub ring_tells : (Geometry → Kind) → LastSlots → Geometry → List (List ℕ) → Type 0
 ring_tells kind last geometry sectors =
-    let k = kind geometry.unit in
+    let k = kind geometry in
     Tells k.ids last (all_placed (slots k) sectors)
 
 -- What steps in sectors of this size, which has so many units, spend: a round, an entry that a sector has

@@ -3,7 +3,6 @@ use Rattle.std.specs.Prelude.{◌≡◌, ℕ, ◌+◌, ◌-◌, ◌≤◌, List,
 use Rattle.std.proofs.Common.{arith}
 use Rattle.std.proofs.lemmas.Bool.Decides.{nat_tests}
 use Rattle.flash_sim.specs.Device.{Device}
-use Rattle.flash_sim.specs.declared.flash.Kind.TheVariants.{Rewritable}
 use Rattle.flash_map.specs.Area.{geometry_of, value_limit}
 use Rattle.flash_map.specs.Lawful.{IsLawfulFor}
 use Rattle.flash_map.specs.Units.{padded}
@@ -22,10 +21,10 @@ use Rattle.item_store.specs.Limits.{value-leaves_room}
 use Rattle.item_store.specs.RingStore.{ring_rests, RingStands, ring-rested, ring_tells}
 
 abbrev pub zms_damage : Area → Geometry → List (List ℕ) → Option Damaged
-zms_damage area geometry sectors = damage_of sectors
+zms_damage area geometry sectors = damage_of geometry.kind sectors
 
 abbrev pub zms_items : Area → Geometry → List (List ℕ) → Items
-zms_items area geometry sectors = items_of (list_of sectors)
+zms_items area geometry sectors = items_of (list_of geometry.kind sectors)
 
 -- no loss of power left anything undone
 abbrev pub zms_rests : Area → Geometry → List (List ℕ) → Type 0
@@ -56,6 +55,6 @@ value-fits sector length short = grind (arith, nat_tests)
 
 -- what a value as long as the area allows costs fits a sector
 pub zms-fits : (d : Device) (area : Area) (length : ℕ) → IsLawfulFor d.banks area
-    → (area.role ≡ ZmsRole) × ((geometry_of d area).kind ≡ Rewritable) → length ≤ value_limit area
+    → area.role ≡ ZmsRole → length ≤ value_limit area
     → zms_price (geometry_of d area) length ≤ zms_cap (geometry_of d area)
 zms-fits d area length lawful serves short = value-fits (geometry_of d area).sector length (value-leaves_room d area length lawful short)

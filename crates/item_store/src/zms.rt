@@ -1,6 +1,5 @@
 // The store over ZMS.
-ghost use Rattle.std.specs.Prelude.{◌≡◌, ◌<◌, refl};
-ghost use Rattle.flash_sim.specs.declared.flash.Kind.TheVariants.{Rewritable};
+ghost use Rattle.std.specs.Prelude.{◌≡◌, ◌<◌};
 ghost use Rattle.flash_map.specs.declared.area.Role.TheVariants.{Zms as ZmsRole};
 ghost use Rattle.item_store.specs.Blank.{zms-undamaged, zms-empty};
 ghost use Rattle.item_store.specs.Few.{zms-few};
@@ -18,7 +17,7 @@ use zms_store::Zms;
 impl ItemStore for Zms {
     type Index = LastSlots;
 
-    ghost serves = { λ area geometry. (area.role ≡ ZmsRole) × (geometry.kind ≡ Rewritable) };
+    ghost serves = { λ area geometry. area.role ≡ ZmsRole };
 
     ghost damage = { λ area geometry sectors. zms_damage area geometry sectors };
 
@@ -42,7 +41,7 @@ impl ItemStore for Zms {
 
     ghost stands_up = { λ store geometry sectors stands. stands.up };
 
-    ghost stands_serves = { λ store geometry sectors stands. (stands.role, stands.rewritable refl) };
+    ghost stands_serves = { λ store geometry sectors stands. stands.role };
 
     ghost stands_reads = { λ store geometry sectors stands. stands.undamaged };
 
@@ -52,9 +51,9 @@ impl ItemStore for Zms {
 
     ghost few = { λ d area bank lawful serves. zms-few d area bank lawful };
 
-    ghost blank_reads = { λ area geometry sectors size several long. zms-undamaged sectors size several };
+    ghost blank_reads = { λ area geometry sectors size several long. zms-undamaged sectors size several geometry.kind };
 
-    ghost blank_empty = { λ area geometry sectors size several long. zms-empty sectors size several };
+    ghost blank_empty = { λ area geometry sectors size several long. zms-empty sectors size several geometry.kind };
 
     fn mount<F: Flash, L: Ledger>(
         alloc: Global,

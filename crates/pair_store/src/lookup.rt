@@ -88,6 +88,7 @@ pub fn is_free<S: ItemStore, F: Flash, L: Ledger>(
 }
 
 /// The value of a name; none where it has no value. Where that can be told without an index, none is made.
+#[inline(never)]
 pub fn value_of<'a, N: Numbers, S: ItemStore, F: Flash, L: Ledger>(
     store: &S,
     flash: &'a F,

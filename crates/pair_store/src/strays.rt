@@ -23,6 +23,7 @@ use std::sync::ledger::Ledger;
 ///
 /// # Errors
 /// `PowerLost`, only where the id has an item: it is as before, or gone. The settings are as before, and each item that is kept.
+#[inline(never)]
 pub fn remove_if_stray<N: Numbers, S: ItemStore, F: Flash, L: Ledger>(
     store: &mut S,
     flash: &mut F,
@@ -75,6 +76,7 @@ pub fn remove_if_stray<N: Numbers, S: ItemStore, F: Flash, L: Ledger>(
 /// `PowerLost`: the settings are as before, and each item that is kept. There is an id below which no stray is left, and above
 /// which every item is as before; its own item is as before, or gone.
 #[tactic(auto, using(flash_map::proofs::Touches::then))]
+#[inline(never)]
 pub fn remove_strays<N: Numbers, S: ItemStore, F: Flash, L: Ledger>(
     store: &mut S,
     flash: &mut F,

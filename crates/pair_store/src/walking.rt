@@ -91,6 +91,7 @@ fn name_between<N: Numbers, S: ItemStore, F: Flash, L: Ledger>(
 
 /// The least name of a setting that is greater than this one, or the least of all. It makes one index of the store's entries,
 /// and goes from item to item by it.
+#[inline(never)]
 pub fn next_name<N: Numbers, S: ItemStore, F: Flash, L: Ledger>(
     store: &S,
     flash: &F,

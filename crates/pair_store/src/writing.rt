@@ -55,6 +55,7 @@ pub fn delete_pair<S: ItemStore, F: Flash, L: Ledger>(
 ///
 /// # Errors
 /// `PowerLost`: the settings are as before, or without the name.
+#[inline(never)]
 pub fn delete_name<N: Numbers, S: ItemStore, F: Flash, L: Ledger>(
     store: &mut S,
     flash: &mut F,

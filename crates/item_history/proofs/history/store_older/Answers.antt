@@ -1,7 +1,7 @@
 use Rattle.std.proofs.Common.{◌≡◌, sym, subst, ◌∙◌}
 use Rattle.flash_sim.specs.Device.{Device}
 use Rattle.flash_map.specs.declared.area.Area.{Area}
-use Rattle.flash_map.specs.Area.{unit_of, sectors_of}
+use Rattle.flash_map.specs.Area.{geometry_of, sectors_of}
 use Rattle.ring_store.specs.Kind.{IsKind}
 use Rattle.ring_store.proofs.Areas.{unit_is}
 use Rattle.ring_laws.specs.Area.{open_sector}
@@ -27,7 +27,7 @@ version-requires-clause-rested g c =
     let d : Device = g.F.Flash.device c.args.flash.now in
     let area : Area = c.args.store.now.area in
     let lawful = g.met.F.Flash.is_lawful c.args.flash.now in
-    let law : IsKind (g.T.SlotSectors.kind (unit_of d area)) = g.met.T.SlotSectors.lawful (unit_of d area) (unit_is d area (g.met.F.Flash.is_lawful c.args.flash.now) c.requires.area.lawful) in
+    let law : IsKind (g.T.SlotSectors.kind (geometry_of d area)) = g.met.T.SlotSectors.lawful (geometry_of d area) (unit_is d area (g.met.F.Flash.is_lawful c.args.flash.now) c.requires.area.lawful) in
     let rest : AtRest (kind_on g.T.SlotSectors.kind d area).reading (sectors_of d area) c.open_sector.result =
     subst (AtRest (kind_on g.T.SlotSectors.kind d area).reading (sectors_of d area)) (sym c.open_sector.ensures) (rest_on g.T.SlotSectors.role g.T.SlotSectors.kind g.T.SlotSectors.kept d c.args.store.now law lawful c.requires) in
     subst (λ (a : Area). AtRest (kind_on g.T.SlotSectors.kind d a).reading (sectors_of d a) c.open_sector.result) (sym c.area.ensures) rest

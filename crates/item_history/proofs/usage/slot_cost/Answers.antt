@@ -1,10 +1,10 @@
-use Rattle.std.proofs.Common.{◌≡◌, ℕ, List, Option, sym, ap, subst, ◌∙◌}
+use Rattle.std.proofs.Common.{ℕ, List, Option, sym, ap, subst, ◌∙◌}
 use Rattle.flash_map.specs.declared.area.Geometry.{Geometry}
 use Rattle.flash_map.specs.Units.{IsUnit}
 use Rattle.ring_laws.specs.Live.{cost_of}
 use Rattle.flash_sim.specs.Device.{Device}
 use Rattle.flash_map.specs.declared.area.Area.{Area}
-use Rattle.flash_map.specs.Area.{unit_of, sectors_of}
+use Rattle.flash_map.specs.Area.{geometry_of, sectors_of}
 use Rattle.ring_store.specs.declared.entry.Placed.{Placed}
 use Rattle.ring_store.specs.Kind.{Kind, IsKind, slots}
 use Rattle.ring_store.proofs.Areas.{unit_is}
@@ -14,11 +14,10 @@ pub cost-requires-clause-unit : goal.cost-requires-clause-unit
 cost-requires-clause-unit g c =
     let d : Device = g.F.Flash.device c.args.flash.now in
     let area : Area = c.args.area.now in
-    let k : Kind = g.T.SlotSectors.kind (unit_of d area) in
+    let k : Kind = g.T.SlotSectors.kind (geometry_of d area) in
     let sectors : List (List ℕ) = sectors_of d area in
-    let law : IsKind (g.T.SlotSectors.kind (unit_of d area)) = g.met.T.SlotSectors.lawful (unit_of d area) (unit_is d area (g.met.F.Flash.is_lawful c.args.flash.now) c.requires.area.lawful) in
-    let unit : c.geometry-unit.result.unit ≡ unit_of d area = ap (λ (s : Geometry). s.unit) c.geometry-unit.ensures in
-    subst IsUnit (sym unit) (unit_is d area (g.met.F.Flash.is_lawful c.args.flash.now) c.requires.area.lawful)
+    let law : IsKind (g.T.SlotSectors.kind (geometry_of d area)) = g.met.T.SlotSectors.lawful (geometry_of d area) (unit_is d area (g.met.F.Flash.is_lawful c.args.flash.now) c.requires.area.lawful) in
+    subst (λ (s : Geometry). IsUnit s.unit) (sym c.geometry-geometry.ensures) (unit_is d area (g.met.F.Flash.is_lawful c.args.flash.now) c.requires.area.lawful)
 
 pub cost-requires-clause-short : goal.cost-requires-clause-short
 cost-requires-clause-short g c = c.in-Some.ensures.short
@@ -27,17 +26,16 @@ pub returns-in-Some-clause-cost : goal.returns-in-Some-clause-cost
 returns-in-Some-clause-cost g c =
     let d : Device = g.F.Flash.device c.args.flash.now in
     let area : Area = c.args.area.now in
-    let k : Kind = g.T.SlotSectors.kind (unit_of d area) in
+    let k : Kind = g.T.SlotSectors.kind (geometry_of d area) in
     let sectors : List (List ℕ) = sectors_of d area in
-    let law : IsKind (g.T.SlotSectors.kind (unit_of d area)) = g.met.T.SlotSectors.lawful (unit_of d area) (unit_is d area (g.met.F.Flash.is_lawful c.args.flash.now) c.requires.area.lawful) in
-    let unit : c.geometry-unit.result.unit ≡ unit_of d area = ap (λ (s : Geometry). s.unit) c.geometry-unit.ensures in
-    c.cost.ensures.value ∙ ap (λ (u : ℕ). (g.T.SlotSectors.kind u).cost c.in-Some.placed.len) unit ∙ ap (λ (o : Option Placed). cost_of (slots k) o) (sym c.in-Some.is ∙ c.entry_in.ensures.entry)
+    let law : IsKind (g.T.SlotSectors.kind (geometry_of d area)) = g.met.T.SlotSectors.lawful (geometry_of d area) (unit_is d area (g.met.F.Flash.is_lawful c.args.flash.now) c.requires.area.lawful) in
+    c.cost.ensures.value ∙ ap (λ (s : Geometry). (g.T.SlotSectors.kind s).cost c.in-Some.placed.len) c.geometry-geometry.ensures ∙ ap (λ (o : Option Placed). cost_of (slots k) o) (sym c.in-Some.is ∙ c.entry_in.ensures.entry)
 
 pub returns-in-None-clause-cost : goal.returns-in-None-clause-cost
 returns-in-None-clause-cost g c =
     let d : Device = g.F.Flash.device c.args.flash.now in
     let area : Area = c.args.area.now in
-    let k : Kind = g.T.SlotSectors.kind (unit_of d area) in
+    let k : Kind = g.T.SlotSectors.kind (geometry_of d area) in
     let sectors : List (List ℕ) = sectors_of d area in
-    let law : IsKind (g.T.SlotSectors.kind (unit_of d area)) = g.met.T.SlotSectors.lawful (unit_of d area) (unit_is d area (g.met.F.Flash.is_lawful c.args.flash.now) c.requires.area.lawful) in
+    let law : IsKind (g.T.SlotSectors.kind (geometry_of d area)) = g.met.T.SlotSectors.lawful (geometry_of d area) (unit_is d area (g.met.F.Flash.is_lawful c.args.flash.now) c.requires.area.lawful) in
     ap (λ (o : Option Placed). cost_of (slots k) o) (sym c.in-None.is ∙ c.entry_in.ensures.entry)

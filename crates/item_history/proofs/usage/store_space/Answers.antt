@@ -7,7 +7,7 @@ use Rattle.ring_store.specs.Standing.{IsStoreArea}
 use Rattle.ring_store.proofs.ReadFacts.{rest_on}
 use Rattle.flash_sim.specs.Device.{Device}
 use Rattle.flash_map.specs.declared.area.Area.{Area}
-use Rattle.flash_map.specs.Area.{unit_of, sector_size, sectors_of}
+use Rattle.flash_map.specs.Area.{geometry_of, sector_size, sectors_of}
 use Rattle.ring_store.specs.Kind.{Kind, IsKind}
 use Rattle.ring_store.proofs.Areas.{unit_is}
 use Rattle.item_history.specs.Usage.{stale_cost}
@@ -23,7 +23,7 @@ total_cost-total-requires-clause-rested g c =
     let d : Device = g.F.Flash.device c.args.flash.now in
     let area : Area = c.args.store.now.area in
     let lawful = g.met.F.Flash.is_lawful c.args.flash.now in
-    let law : IsKind (g.T.SlotSectors.kind (unit_of d area)) = g.met.T.SlotSectors.lawful (unit_of d area) (unit_is d area (g.met.F.Flash.is_lawful c.args.flash.now) c.requires.area.lawful) in
+    let law : IsKind (g.T.SlotSectors.kind (geometry_of d area)) = g.met.T.SlotSectors.lawful (geometry_of d area) (unit_is d area (g.met.F.Flash.is_lawful c.args.flash.now) c.requires.area.lawful) in
     let rest : AtRest (kind_on g.T.SlotSectors.kind d area).reading (sectors_of d area) (open_sector (kind_on g.T.SlotSectors.kind d area).reading (sectors_of d area)) =
     subst (AtRest (kind_on g.T.SlotSectors.kind d area).reading (sectors_of d area)) c.requires.current (rest_on g.T.SlotSectors.role g.T.SlotSectors.kind g.T.SlotSectors.kept d c.args.store.now law lawful c.requires) in
     subst (λ (a : Area). AtRest (kind_on g.T.SlotSectors.kind d a).reading (sectors_of d a) (open_sector (kind_on g.T.SlotSectors.kind d a).reading (sectors_of d a))) (sym c.area.ensures) rest
@@ -36,7 +36,7 @@ pub returns : goal.returns
 returns g c =
     let d : Device = g.F.Flash.device c.args.flash.now in
     let area : Area = c.args.store.now.area in
-    let k : Kind = g.T.SlotSectors.kind (unit_of d area) in
+    let k : Kind = g.T.SlotSectors.kind (geometry_of d area) in
     let list : List (ℕ × List ℕ) = list_on g.T.SlotSectors.kind d area in
     let all : c.total_cost-total.result ≡ copies_cost k.cost list = c.total_cost-total.ensures ∙ ap (λ (a : Area). copies_cost (kind_on g.T.SlotSectors.kind d a).cost (list_on g.T.SlotSectors.kind d a)) c.area.ensures in
     let parts = live-stale k.cost list in

@@ -1,4 +1,4 @@
-use Rattle.flash_map.specs.Area.{unit_of}
+use Rattle.flash_map.specs.Area.{geometry_of}
 use Rattle.flash_map.specs.declared.area.Role.TheVariants.{Nvs as NvsRole}
 use Rattle.nvs_gc.specs.declared.nvs.Nvs.{Nvs}
 use Rattle.nvs_gc.specs.Standing.{kept}
@@ -26,13 +26,13 @@ returns-clause-rests g c =
 
 pub returns-clause-written : goal.returns-clause-written
 returns-clause-written g c =
-    let unit = unit_of (g.F.Flash.device c.args.flash.now) c.args.area in
-    ring-changed (kind unit) (nvs-erased unit) (g.F.Flash.device c.args.flash.now) (g.F.Flash.device c.mount.new.flash) c.args.area c.mount.ensures.changed
+    let geometry = geometry_of (g.F.Flash.device c.args.flash.now) c.args.area in
+    ring-changed (kind geometry) (nvs-erased geometry) (g.F.Flash.device c.args.flash.now) (g.F.Flash.device c.mount.new.flash) c.args.area c.mount.ensures.changed
 
 pub returns-clause-at_most : goal.returns-clause-at_most
 returns-clause-at_most g c =
-    let unit = unit_of (g.F.Flash.device c.args.flash.now) c.args.area in
-    ring-mount-most (kind unit) (g.F.Flash.device c.args.flash.now) (g.F.Flash.device c.mount.new.flash) c.args.area c.requires.lawful.several
+    let geometry = geometry_of (g.F.Flash.device c.args.flash.now) c.args.area in
+    ring-mount-most (kind geometry) (g.F.Flash.device c.args.flash.now) (g.F.Flash.device c.mount.new.flash) c.args.area c.requires.lawful.several
     (nvs-frugal (g.F.Flash.device c.args.flash.now) c.args.area (g.met.F.Flash.is_lawful c.args.flash.now) c.requires.lawful) c.mount.ensures.at_most
 
 pub returns-clause-on : goal.returns-clause-on

@@ -1,4 +1,4 @@
-use Rattle.flash_map.specs.Area.{unit_of}
+use Rattle.flash_map.specs.Area.{geometry_of}
 use Rattle.flash_map.specs.declared.area.Role.TheVariants.{Zms as ZmsRole}
 use Rattle.zms_store.specs.Standing.{kept}
 use Rattle.zms_kind.specs.Kinds.{kind}
@@ -21,18 +21,18 @@ returns-clause-keeps g c =
 pub returns-clause-rests : goal.returns-clause-rests
 returns-clause-rests g c =
     ring-idle ZmsRole kind kept (λ zms. zms.store) (g.F.Flash.device c.args.flash.now) (g.F.Flash.device c.mount.new.flash) c.args.area c.mount.ensures.touches.banks
-    (zms-law (unit_of (g.F.Flash.device c.args.flash.now) c.args.area)) c.requires.lawful c.mount.result c.mount.ensures.ends
+    (zms-law (geometry_of (g.F.Flash.device c.args.flash.now) c.args.area)) c.requires.lawful c.mount.result c.mount.ensures.ends
 
 pub returns-clause-written : goal.returns-clause-written
 returns-clause-written g c =
-    let unit = unit_of (g.F.Flash.device c.args.flash.now) c.args.area in
-    ring-changed (kind unit) (zms-erased unit) (g.F.Flash.device c.args.flash.now) (g.F.Flash.device c.mount.new.flash) c.args.area c.mount.ensures.changed
+    let geometry = geometry_of (g.F.Flash.device c.args.flash.now) c.args.area in
+    ring-changed (kind geometry) (zms-erased geometry) (g.F.Flash.device c.args.flash.now) (g.F.Flash.device c.mount.new.flash) c.args.area c.mount.ensures.changed
 
 pub returns-clause-at_most : goal.returns-clause-at_most
 returns-clause-at_most g c =
-    let unit = unit_of (g.F.Flash.device c.args.flash.now) c.args.area in
-    ring-mount-most (kind unit) (g.F.Flash.device c.args.flash.now) (g.F.Flash.device c.mount.new.flash) c.args.area c.requires.lawful.several
-    (zms-frugal (g.F.Flash.device c.args.flash.now) c.args.area c.requires.lawful c.requires.serves.0) c.mount.ensures.at_most
+    let geometry = geometry_of (g.F.Flash.device c.args.flash.now) c.args.area in
+    ring-mount-most (kind geometry) (g.F.Flash.device c.args.flash.now) (g.F.Flash.device c.mount.new.flash) c.args.area c.requires.lawful.several
+    (zms-frugal (g.F.Flash.device c.args.flash.now) c.args.area c.requires.lawful c.requires.serves) c.mount.ensures.at_most
 
 pub returns-clause-on : goal.returns-clause-on
 returns-clause-on g c =

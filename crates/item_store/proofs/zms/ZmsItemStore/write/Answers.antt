@@ -1,4 +1,4 @@
-use Rattle.flash_map.specs.Area.{unit_of}
+use Rattle.flash_map.specs.Area.{geometry_of}
 use Rattle.zms_kind.specs.Kinds.{kind}
 use Rattle.item_store.proofs.ZmsSteps.{zms-frugal}
 use Rattle.item_store.proofs.RingSteps.{ring-writes_on, ring-write-most}
@@ -10,6 +10,6 @@ returns-clause-ends g c =
 
 pub returns-clause-at_most : goal.returns-clause-at_most
 returns-clause-at_most g c =
-    let unit = unit_of (g.F.Flash.device c.args.flash.now) c.args.self.now.store.area in
-    ring-write-most (kind unit) (g.F.Flash.device c.args.flash.now) (g.F.Flash.device c.write.new.flash) c.args.self.now.store.area c.requires.lawful.several
+    let geometry = geometry_of (g.F.Flash.device c.args.flash.now) c.args.self.now.store.area in
+    ring-write-most (kind geometry) (g.F.Flash.device c.args.flash.now) (g.F.Flash.device c.write.new.flash) c.args.self.now.store.area c.requires.lawful.several
     (zms-frugal (g.F.Flash.device c.args.flash.now) c.args.self.now.store.area c.requires.lawful c.requires.stands.role) c.args.id c.args.bytes.now c.write.result c.write.ensures.ends

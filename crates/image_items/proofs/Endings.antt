@@ -10,7 +10,6 @@ use Rattle.zs_host.specs.Outside.{Outside, failed}
 use Rattle.image_file.specs.declared.image.Image.{Image}
 use Rattle.image_file.specs.Format.{Plain, plain, plain_area, version_of}
 use Rattle.image_maps.specs.Held.{held}
-use Rattle.image_maps.specs.Laws.{unserved}
 use Rattle.image_plays.specs.declared.stops.Stop.{Stop}
 use Rattle.image_plays.specs.declared.stops.Stop.TheVariants.{Refused, HostFailed, NoMemory}
 use Rattle.image_plays.specs.Images.{HasAreas, begun, left}
@@ -39,7 +38,7 @@ list_same version areas d area = refl
 damage_same : (version : ℕ) (areas : List Area) (d : Device) (area : Area) → damage_in (of_bench version areas d) area ≡ damage_on (kind_of area.role) d area
 damage_same version areas d area = refl
 
-module _ (name script out : List ℕ) (outside : Outside) (banks : List Bank) (bytes : List (List ℕ)) (areas : List Area) (area : Area) (held_items : IsItemArea areas area) (served : unserved banks areas ≡ None) (lines : List Line)
+module _ (name script out : List ℕ) (outside : Outside) (banks : List Bank) (bytes : List (List ℕ)) (areas : List Area) (area : Area) (held_items : IsItemArea areas area) (lines : List Line)
     (bench bench' : Device) where
   -- the image of the play
   abbrev pub image : Plain
@@ -50,7 +49,7 @@ module _ (name script out : List ℕ) (outside : Outside) (banks : List Bank) (b
     has_areas = record { version = ap version_of (sym held_items.only); are = ap (map plain_area) (sym held_items.only) }
 
     sets : SetsItems name script outside image area lines
-    sets = record { opens = record { has = has; area_is = has_areas; role = held_items.role; served = ap (unserved banks) (sym held_items.only) ∙ served }; plays = plays }
+    sets = record { opens = record { has = has; area_is = has_areas; role = held_items.role }; plays = plays }
 
     done : (answers : List Answer) (text : List ℕ) (file : Option File)
         → IsLawful (begun image bench).banks (begun image bench).bytes → ServesItems (begun image bench) area
@@ -91,7 +90,7 @@ module _ (name script out : List ℕ) (outside : Outside) (banks : List Bank) (b
         → ItemPlayEnds name script out outside outside bench bench' (Err stop)
     stopped_at (IsDamaged damaged) shows stop is =
         subst (λ (s : Stop). ItemPlayEnds name script out outside outside bench bench' (Err s)) (sym is)
-        (inr (inr (inr (inr (record { image = image; area = area; lines = lines; sets = sets; damage = damaged; is = refl; shows = shows.0; loaded = shows.1 })))), refl)
+        (inr (inr (inr (record { image = image; area = area; lines = lines; sets = sets; damage = damaged; is = refl; shows = shows.0; loaded = shows.1 }))), refl)
     stopped_at WantsMemory stops stop is =
         subst (λ (s : Stop). ItemPlayEnds name script out outside outside bench bench' (Err s)) (sym is) (inr (began (inl stops)), refl)
 
@@ -120,20 +119,20 @@ module _ (name script out : List ℕ) (outside : Outside) (banks : List Bank) (b
 -- ---- a play that had no lines
 
 pub no_lines_end : (name script out : List ℕ) (host mid host' : Outside) (bench : Device) (held_image : Image) (area : Area) (stop : Stop)
-    → HasImage host name (plain held_image) → IsItemArea held_image.map area → unserved held_image.banks.items held_image.map ≡ None → mid ≡ host
+    → HasImage host name (plain held_image) → IsItemArea held_image.map area → mid ≡ host
     → ReadsOr {X = Vec Line} (λ lines. HasLines (ids_of area.role) (value_limit area) mid script lines.items) (LacksLines (ids_of area.role) (value_limit area) mid script) mid host' (Err stop)
     → ItemPlayEnds name script out host host' bench bench (Err stop)
-no_lines_end name script out host mid host' bench held_image area (Refused refusal) has items served same reads =
+no_lines_end name script out host mid host' bench held_image area (Refused refusal) has items same reads =
     let has_areas : HasAreas (plain held_image) (area ∷ []) = record { version = ap version_of (sym items.only); are = ap (map plain_area) (sym items.only) } in
     let lacks : LacksItemLines name script host refusal =
     record {
       image = plain held_image;
       area = area;
-      opens = record { has = has; area_is = has_areas; role = items.role; served = ap (unserved held_image.banks.items) (sym items.only) ∙ served };
+      opens = record { has = has; area_is = has_areas; role = items.role };
       lacks = subst (λ (o : Outside). LacksLines (ids_of area.role) (value_limit area) o script refusal) same reads.0;
     } in (
-      inr (inr (inr (inl (lacks, refl)))),
+      inr (inr (inl (lacks, refl))),
       reads.1 ∙ same,
     )
-no_lines_end name script out host mid host' bench held_image area HostFailed has items served same reads = (refl, reads ∙ ap failed same)
-no_lines_end name script out host mid host' bench held_image area NoMemory has items served same reads = (inl refl, reads ∙ same)
+no_lines_end name script out host mid host' bench held_image area HostFailed has items same reads = (refl, reads ∙ ap failed same)
+no_lines_end name script out host mid host' bench held_image area NoMemory has items same reads = (inl refl, reads ∙ same)

@@ -1,21 +1,17 @@
 -- Images without items, and scripts without lines.
-use Rattle.std.proofs.Common.{◌≡◌, ◌∙◌, ◌⊎◌, ℕ, List, [], ◌∷◌, length, map, Some, None, Err, inl, inr, refl, sym, ap, arith}
+use Rattle.std.proofs.Common.{◌≡◌, ◌∙◌, ℕ, List, [], ◌∷◌, length, map, Some, Err, inl, refl, sym, ap, arith}
 use Rattle.std.specs.Global.{Vec}
 use Rattle.std.specs.List.{slice_get}
 use Rattle.std.proofs.lemmas.Option.{none-some}
 use Rattle.zs_host.specs.Outside.{Outside}
 use Rattle.flash_map.specs.declared.area.Area.{Area}
-use Rattle.image_file.specs.declared.image.Image.{Image}
-use Rattle.image_file.specs.Format.{plain, plain_area}
-use Rattle.image_maps.specs.Laws.{unserved}
+use Rattle.image_file.specs.Format.{plain_area}
 use Rattle.item_lines.specs.declared.ids.Ids.{Ids}
 use Rattle.item_lines.specs.declared.line.Line.{Line}
 use Rattle.image_plays.specs.declared.stops.Stop.{Stop}
 use Rattle.image_plays.specs.declared.stops.Stop.TheVariants.{Refused, HostFailed, NoMemory}
-use Rattle.image_plays.specs.Inputs.{IsUnbuilt}
-use Rattle.image_plays.specs.Reading.{HasShortFile, LacksText, MakesOr, ReadsOr, most_script}
-use Rattle.image_items.specs.declared.opening.ItemImage.{ItemImage}
-use Rattle.image_items.specs.Inputs.{FindsNoItems, FindsNoStore, HasLines, HasNoItemArea, IsItemArea, LacksLines, has_items}
+use Rattle.image_plays.specs.Reading.{HasShortFile, LacksText, ReadsOr, most_script}
+use Rattle.image_items.specs.Inputs.{HasLines, HasNoItemArea, IsItemArea, LacksLines, has_items}
 
 -- ---- areas
 
@@ -48,13 +44,3 @@ pub no_lines : (ids : Ids) (limit : ℕ) (host host' : Outside) (name : List ℕ
 no_lines ids limit host host' name (Refused refusal) reads = (inl reads.0, reads.1)
 no_lines ids limit host host' name HostFailed reads = reads
 no_lines ids limit host host' name NoMemory reads = reads
-
--- ---- stores
-
--- an area for items on which no store works
-pub no_store : (P : ItemImage → Type 0) (image : Image) (area : Area) (stop : Stop) → IsItemArea image.map area
-    → MakesOr (λ (served : Image). (served ≡ image) × (unserved image.banks.items image.map ≡ None)) (IsUnbuilt image.banks.items image.map) (Err stop)
-    → MakesOr P (λ refusal. FindsNoItems (plain image) refusal ⊎ FindsNoStore image.banks.items image.map refusal) (Err stop)
-no_store P image area (Refused refusal) items unbuilt = inr (record { area = area; items = items; unbuilt = unbuilt })
-no_store P image area HostFailed items none = none
-no_store P image area NoMemory items none = none

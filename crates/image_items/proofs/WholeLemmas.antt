@@ -6,7 +6,7 @@ use Rattle.flash_sim.specs.Device.{Device}
 use Rattle.flash_map.specs.declared.area.Area.{Area}
 use Rattle.flash_map.specs.declared.area.Role.{Role}
 use Rattle.flash_map.specs.declared.area.Role.TheVariants.{Nvs, Zms, Fcb, Sel}
-use Rattle.flash_map.specs.Area.{unit_of}
+use Rattle.flash_map.specs.Area.{geometry_of, unit_of}
 use Rattle.item_lines.specs.declared.line.Line.{Line}
 use Rattle.item_lines.specs.declared.answer.Answer.{Answer}
 use Rattle.item_session.specs.Running.{Ran}
@@ -25,7 +25,7 @@ use Rattle.image_items.specs.Plays.{ServesItems, kind_of}
 module _ (area : Area) (lines : List Line) (answers : List Answer) (old new : Device) (lawful : IsLawful old.banks old.bytes) (blank : IsBlankOn old area) where
   by_role : (role : Role) → IsStoreArea role old.banks area → has_items role ≡ true → Ran (kind_of role) area lines answers old new → KeepsWhole (kind_of role) area lines answers old new
   by_role Nvs is has ran = history_stays_whole nvs.kind area lines answers old new (nvs_is_kind (unit_of old area) (unit_is old area lawful is.lawful)) (nvs_blank_is_fresh old area lawful is blank) ran.in_turn
-  by_role Zms is has ran = history_stays_whole zms.kind area lines answers old new (zms_is_kind (unit_of old area)) (zms_blank_is_fresh old area lawful is blank) ran.in_turn
+  by_role Zms is has ran = history_stays_whole zms.kind area lines answers old new (zms_is_kind (geometry_of old area)) (zms_blank_is_fresh old area lawful is blank) ran.in_turn
   by_role Fcb is has ran = absurd (false≢true has)
   by_role Sel is has ran = absurd (false≢true has)
 

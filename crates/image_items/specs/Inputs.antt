@@ -1,7 +1,6 @@
 -- Which image a play on items begins with and which lines it plays, or why there are none.
 use Rattle.std.specs.Prelude.{◌≡◌, ◌⊎◌, ℕ, Bool, true, false, List, [], ◌∷◌, map}
 use Rattle.zs_host.specs.Outside.{Outside}
-use Rattle.flash_sim.specs.declared.flash.Bank.{Bank}
 use Rattle.flash_map.specs.declared.area.Area.{Area}
 use Rattle.flash_map.specs.declared.area.Role.{Role}
 use Rattle.flash_map.specs.declared.area.Role.TheVariants.{Nvs, Zms, Fcb, Sel}
@@ -14,8 +13,6 @@ use Rattle.item_lines.specs.declared.line.Line.{Line}
 use Rattle.item_lines.specs.Line.{ids_end, item_forms, row_of}
 use Rattle.image_plays.specs.declared.stops.Refusal.{Refusal}
 use Rattle.image_plays.specs.declared.stops.Refusal.TheVariants.{NoItems, BadScript}
-use Rattle.image_plays.specs.Images.{HasAreas}
-use Rattle.image_plays.specs.Inputs.{IsUnbuilt}
 use Rattle.image_plays.specs.Reading.{HasImage, HasShortFile, LacksText, most_script}
 
 -- ---- an image
@@ -46,25 +43,11 @@ HasNoItemArea areas = (area : Area) → IsItemArea areas area → ⊥
 abbrev pub FindsNoItems : Plain → Refusal → Type 0
 FindsNoItems image refusal = (refusal ≡ NoItems) × HasNoItemArea image.areas
 
--- it is, and no store works on it
-pub record FindsNoStore (banks : List Bank) (areas : List Area) (refusal : Refusal) : Type 0 where
-  pub area : Area
-  pub items : IsItemArea areas area
-  pub unbuilt : IsUnbuilt banks areas refusal
-
 -- there is an image, and it has no items
 pub record LacksItems (host : Outside) (name : List ℕ) (refusal : Refusal) : Type 0 where
   pub image : Plain
   pub has : HasImage host name image
   pub finds : FindsNoItems image refusal
-
--- there is an image with an area for items, and no store works on that
-pub record LacksStore (host : Outside) (name : List ℕ) (refusal : Refusal) : Type 0 where
-  pub image : Plain
-  pub areas : List Area
-  pub has : HasImage host name image
-  pub are : HasAreas image areas
-  pub finds : FindsNoStore image.banks areas refusal
 
 -- ---- a script
 

@@ -4,12 +4,12 @@ use Rattle.std.specs.List.{flat_map}
 use Rattle.zs_host.specs.Outside.{Outside, failed}
 use Rattle.flash_sim.specs.Device.{Device, counted}
 use Rattle.flash_map.specs.declared.area.Area.{Area}
+use Rattle.flash_map.specs.declared.area.Geometry.{Geometry}
 use Rattle.flash_map.specs.declared.area.Role.{Role}
 use Rattle.flash_map.specs.declared.area.Role.TheVariants.{Nvs, Zms, Fcb, Sel}
 use Rattle.flash_map.specs.declared.faults.Damaged.{Damaged}
 use Rattle.flash_map.specs.Area.{value_limit}
 use Rattle.image_file.specs.Format.{Plain}
-use Rattle.image_maps.specs.Laws.{unserved}
 use Rattle.image_plays.specs.declared.outcome.Outcome.{Outcome}
 use Rattle.image_plays.specs.declared.stops.Refusal.{Refusal}
 use Rattle.image_plays.specs.declared.stops.Refusal.TheVariants.{BadArea}
@@ -34,7 +34,7 @@ use Rattle.ring_store.specs.Kind.{Kind}
 use Rattle.ring_store.specs.Listed.{list_on}
 use Rattle.ring_store.specs.Standing.{IsStoreArea}
 use Rattle.zms_kind.specs.Kinds as zms
-use Rattle.image_items.specs.Inputs.{HasLines, LacksItems, LacksLines, LacksStore, has_items, ids_of}
+use Rattle.image_items.specs.Inputs.{HasLines, LacksItems, LacksLines, has_items, ids_of}
 
 -- the texts of all answers
 abbrev pub texts : List Answer → List ℕ
@@ -43,7 +43,7 @@ texts answers = flat_map text_of answers
 -- ---- how an image reads
 
 -- how the sectors of an area of this role hold entries; one without items is read as one for NVS
-abbrev pub kind_of : Role → ℕ → Kind
+abbrev pub kind_of : Role → Geometry → Kind
 kind_of Nvs = nvs.kind
 kind_of Zms = zms.kind
 kind_of Fcb = nvs.kind
@@ -68,12 +68,11 @@ damage_in image area = damage_on (kind_of area.role) (flash_of image) area
 
 -- ---- what is played
 
--- IMAGE is the file of this image, which has one area alone, for NVS or ZMS, and a store works on that.
+-- IMAGE is the file of this image, which has one area alone, for NVS or ZMS.
 pub record OpensItems (name : List ℕ) (host : Outside) (image : Plain) (area : Area) : Type 0 where
   pub has : HasImage host name image
   pub area_is : HasAreas image (area ∷ [])
   pub role : has_items area.role ≡ true
-  pub served : unserved image.banks (area ∷ []) ≡ None
 
 -- That image, and the lines of SCRIPT.
 pub record SetsItems (name script : List ℕ) (host : Outside) (image : Plain) (area : Area) (lines : List Line) : Type 0 where
@@ -114,7 +113,7 @@ pub record PlaysItems (name script out : List ℕ) (host : Outside) (old new : D
 
 -- ---- refused
 
--- there is an image with items, on which a store works, and no lines
+-- there is an image with items, and no lines
 pub record LacksItemLines (name script : List ℕ) (host : Outside) (refusal : Refusal) : Type 0 where
   pub image : Plain
   pub area : Area
@@ -133,13 +132,12 @@ pub record FindsItemDamage (name script : List ℕ) (host : Outside) (old new : 
   pub shows : damage_in image area ≡ Some damage
   pub loaded : new ≡ begun image old
 
--- In the order in which they are looked at: the image; its items; a store for them; the lines; and then damage,
--- once the flash is loaded. But for damage the flash is as before.
+-- In the order in which they are looked at: the image; its items; the lines; and then damage, once the flash is
+-- loaded. But for damage the flash is as before.
 abbrev pub RefusesItems : List ℕ → List ℕ → Outside → Device → Device → Refusal → Type 0
 RefusesItems name script host old new refusal =
     (LacksImage host name refusal × (new ≡ old))
     ⊎ (LacksItems host name refusal × (new ≡ old))
-    ⊎ (LacksStore host name refusal × (new ≡ old))
     ⊎ (LacksItemLines name script host refusal × (new ≡ old))
     ⊎ FindsItemDamage name script host old new refusal
 

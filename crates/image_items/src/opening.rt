@@ -1,16 +1,15 @@
 // The image of items, and the lines of a script.
-ghost use Rattle.std.specs.Prelude.{◌≡◌, ◌⊎◌, All, IfOk, MatchOption, None};
+ghost use Rattle.std.specs.Prelude.{◌≡◌, ◌⊎◌, All, IfOk, MatchOption};
 ghost use Rattle.image_file.specs.Format.{plain};
 ghost use Rattle.image_file.specs.Lawful.{IsImage};
-ghost use Rattle.image_maps.specs.Laws.{unserved};
 ghost use Rattle.image_plays.specs.Reading.{HasImage, LacksImage, MakesOr, ReadsOr};
 ghost use Rattle.item_lines.specs.Line.{ids_end};
 ghost use Rattle.item_session.specs.Device.{IsServed};
-ghost use Rattle.image_items.specs.Inputs.{FindsNoItems, FindsNoStore, HasLines, HasNoItemArea, IsItemArea, LacksItems, LacksLines, LacksStore, has_items, ids_of};
+ghost use Rattle.image_items.specs.Inputs.{FindsNoItems, HasLines, HasNoItemArea, IsItemArea, LacksItems, LacksLines, has_items, ids_of};
 
 use flash_map::{Area, FlashMap, Role};
 use image_file::Image;
-use image_plays::{Refusal, Stop, read_image_file, read_script_text, serve};
+use image_plays::{Refusal, Stop, read_image_file, read_script_text};
 use item_lines::{Ids, Line, ScriptFault, read_script};
 use std::alloc::Global;
 use zs_host::Host;
@@ -61,27 +60,19 @@ fn item_area(areas: &FlashMap) -> Option<Area>
     }
 }
 
-// Refuses an image that is not exactly one area, for NVS or ZMS, and then one on which no store
-// works.
+// Refuses an image that is not exactly one area, for NVS or ZMS.
 fn with_items<'a>(image: Image) -> Result<ItemImage, Stop<'a>>
-    ensures { MakesOr
-        (λ opened. (opened.image ≡ image) × IsItemArea image.map opened.area
-        × (unserved image.banks.items image.map ≡ None))
-        (λ refusal. FindsNoItems (plain image) refusal
-        ⊎ FindsNoStore image.banks.items image.map refusal) result }
+    ensures { MakesOr (λ opened. (opened.image ≡ image) × IsItemArea image.map opened.area)
+        (FindsNoItems (plain image)) result }
 {
     let area = match item_area(&image.map) {
         Some(area) => area,
         None => return Err(Stop::Refused(Refusal::NoItems)),
     };
-    match serve(image) {
-        Ok(image) => Ok(ItemImage { image, area }),
-        Err(stop) => Err(stop),
-    }
+    Ok(ItemImage { image, area })
 }
 
-// The image of a file, with the area of its items, on which a store works. Nothing is printed or
-// written.
+// The image of a file, with the area of its items. Nothing is printed or written.
 pub(crate) fn open_items<'a, H: Host>(
     alloc: Global,
     name: &'a str,
@@ -90,10 +81,8 @@ pub(crate) fn open_items<'a, H: Host>(
     ensures image { let h = H.outside host.old in
         ReadsOr
         (λ opened. HasImage h name.now (plain opened.image)
-        × IsItemArea opened.image.map opened.area
-        × (unserved opened.image.banks.items opened.image.map ≡ None))
-        (λ refusal. LacksImage h name.now refusal ⊎ LacksItems h name.now refusal
-        ⊎ LacksStore h name.now refusal)
+        × IsItemArea opened.image.map opened.area)
+        (λ refusal. LacksImage h name.now refusal ⊎ LacksItems h name.now refusal)
         h (H.outside host.new) result }
     ensures lawful { IfOk result (λ opened. IsImage (plain opened.image)) }
 {

@@ -4,7 +4,6 @@ ghost use Rattle.zs_host.specs.Outside.{Outside};
 ghost use Rattle.flash_map.specs.Area.{value_limit};
 ghost use Rattle.image_file.specs.Format.{plain};
 ghost use Rattle.image_file.specs.Lawful.{IsImage};
-ghost use Rattle.image_maps.specs.Laws.{unserved};
 ghost use Rattle.image_plays.specs.Reading.{HasImage};
 ghost use Rattle.item_lines.specs.Line.{ids_end};
 ghost use Rattle.item_lines.specs.declared.line.Line.TheVariants.{Mount};
@@ -104,7 +103,6 @@ fn play_lines<'a, B: Bench>(
 ) -> Result<Outcome<'a>, Stop<'a>>
     requires image { IsImage (plain opened.image) }
     requires area { IsItemArea opened.image.map opened.area }
-    requires served { unserved opened.image.banks.items opened.image.map ≡ None }
     requires lines { let ids = ids_end (ids_of opened.area.role) in
         All (IsServed ids (value_limit opened.area)) lines.now }
     ensures { (outside : Outside) (name script : List ℕ)
@@ -139,9 +137,8 @@ fn play_lines<'a, B: Bench>(
 ///
 /// # Errors
 /// Refused where there is no image, then where it is not exactly one area, for NVS or ZMS, then where
-/// no store works on that area, then where there are no lines, then where the opening mount finds
-/// damage. The host failed: nothing was played. There was not enough memory: nothing was played, or
-/// the lines were played up to some one of them.
+/// there are no lines, then where the opening mount finds damage. The host failed: nothing was played.
+/// There was not enough memory: nothing was played, or the lines were played up to some one of them.
 pub fn play_items<'a, H: Host, B: Bench>(
     alloc: Global,
     image: &'a str,

@@ -119,4 +119,4 @@ module _ (areas : List Area) (d : Device) (blank : IsBlankFlash d) (map : IsServ
   }
 
 pub holds_nothing : BlankHoldsNothing
-holds_nothing areas d blank is served = nothing areas d blank (maps_are_served areas d is served)
+holds_nothing areas d blank is = nothing areas d blank (maps_are_served areas d is)

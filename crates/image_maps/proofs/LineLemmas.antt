@@ -1,5 +1,5 @@
 -- The values of lines that a table reads.
-use Rattle.std.proofs.Common.{◌≡◌, ◌∙◌, ◌⊎◌, inl, inr, ℕ, zero, suc, ◌<◌, ◌≤◌, List, [], ◌∷◌, length, map, Option, Some, None, refl, sym, ap, subst, arith, codes}
+use Rattle.std.proofs.Common.{◌≡◌, ◌∙◌, inl, inr, ℕ, zero, suc, ◌<◌, ◌≤◌, List, [], ◌∷◌, length, map, Some, refl, sym, ap, subst, arith, codes}
 use Rattle.std.specs.List.{All}
 use Rattle.text_parts.specs.Parts.{parts}
 use Rattle.script_lines.specs.Forms.{Form, Field, Said, SaysAll, Spells, form, form_at}

@@ -1,13 +1,12 @@
 -- The areas of an image as a map of areas.
-use Rattle.std.proofs.Common.{◌≡◌, ◌≢◌, ◌∙◌, ◌⊎◌, ◌||◌, inl, inr, ℕ, zero, suc, ◌+◌, ◌-◌, ◌<◌, ◌≤◌, Bool, true, false, not, List, [], ◌∷◌, length, map, take, get_or, slice_index_or, Option, Some, None, find, refl, sym, ap, subst, cond, arith}
+use Rattle.std.proofs.Common.{◌≡◌, ◌≢◌, ◌∙◌, ◌⊎◌, ◌||◌, inl, inr, ℕ, zero, suc, ◌+◌, ◌<◌, ◌≤◌, Bool, true, false, not, List, [], ◌∷◌, length, map, take, Option, Some, None, refl, sym, ap, subst, cond, arith}
 use Rattle.std.specs.Prelude.{unwrap_or}
-use Rattle.std.specs.List.{list_any, slice_get, count_by, range_with_len}
-use Rattle.std.specs.Option.{option_map_or}
+use Rattle.std.specs.List.{list_any, slice_get, count_by}
 use Rattle.std.proofs.lemmas.Bool.{false≢true}
 use Rattle.std.proofs.lemmas.List.{length-map}
 use Rattle.std.proofs.lemmas.List.Sums.{sum_by-cons}
 use Rattle.std.proofs.lemmas.Option.{none-some}
-use Rattle.flash_sim.specs.Bank.{IsLawful, bank_at, capacity}
+use Rattle.flash_sim.specs.Bank.{bank_at, capacity}
 use Rattle.flash_sim.specs.Device.{Device}
 use Rattle.flash_sim.specs.declared.flash.Bank.{Bank}
 use Rattle.flash_map.specs.Area.{AreApart}
@@ -21,7 +20,7 @@ use Rattle.fcb_ring.proofs.PlaceLemmas.{found_some, found_none}
 use Rattle.image_file.specs.Format.{plain_area, version_of}
 use Rattle.image_file.specs.Lawful.{HasNeeded, IsImage, area_at, is_sel, is_selector, no_area}
 use Rattle.image_file.proofs.ServingLemmas.{may_be_served}
-use Rattle.migrator.specs.Areas.{IsLawfulMap, first_store, is_store, is_store_at, selector_of, store_from, stores, target}
+use Rattle.migrator.specs.Areas.{first_store, is_store, is_store_at, selector_of, store_from, stores, target}
 use Rattle.migrator.proofs.AreaLemmas.{store-within}
 use Rattle.image_maps.specs.Held.{held}
 use Rattle.image_maps.specs.Laws.{MapsAreLawful, StaysImage}

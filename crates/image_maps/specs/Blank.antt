@@ -15,7 +15,6 @@ use Rattle.any_backend.specs.Blank.{IsBlank}
 use Rattle.any_backend.specs.ByRole.{any_damage, any_contents, any_rests}
 use Rattle.session.specs.OnMap.{IsAtRest, active_area, damage_in}
 use Rattle.image_maps.specs.Held.{held}
-use Rattle.image_maps.specs.Laws.{unserved}
 
 -- the banks with FF in each byte
 abbrev pub blank_bytes : List Bank → List (List ℕ)
@@ -51,7 +50,6 @@ pub record HoldsNothing (areas : List Area) (d : Device) : Type 0 where
   pub settings : on any_contents d (active_area areas d) ≡ empty
   pub rests : IsAtRest any_rests areas d
 
--- that of a lawful image each byte of which is FF, where a store works on each area
+-- that of a lawful image each byte of which is FF
 abbrev pub BlankHoldsNothing : Type 0
-BlankHoldsNothing = (areas : List Area) (d : Device) → IsBlankFlash d → IsImage (held areas d) → unserved d.banks areas ≡ None
-    → HoldsNothing areas d
+BlankHoldsNothing = (areas : List Area) (d : Device) → IsBlankFlash d → IsImage (held areas d) → HoldsNothing areas d

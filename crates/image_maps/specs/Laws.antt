@@ -1,15 +1,10 @@
 -- What the areas of an image are to a session.
-use Rattle.std.specs.Prelude.{◌≡◌, ◌==◌, if◌then◌else◌, ◌&&◌, ℕ, Bool, true, false, List, Option, Some, None, find}
+use Rattle.std.specs.Prelude.{◌≡◌, ◌==◌, if◌then◌else◌, ℕ, List, Some}
 use Rattle.std.specs.List.{slice_get}
-use Rattle.flash_sim.specs.Bank.{IsLawful, bank_at}
+use Rattle.flash_sim.specs.Bank.{IsLawful}
 use Rattle.flash_sim.specs.Device.{Device}
-use Rattle.flash_sim.specs.declared.flash.Bank.{Bank}
-use Rattle.flash_sim.specs.declared.flash.Kind.{Kind}
-use Rattle.flash_sim.specs.declared.flash.Kind.TheVariants.{Erasing, Rewritable}
 use Rattle.flash_map.specs.Area.{value_limit}
 use Rattle.flash_map.specs.declared.area.Area.{Area}
-use Rattle.flash_map.specs.declared.area.Role.{Role}
-use Rattle.flash_map.specs.declared.area.Role.TheVariants.{Nvs, Zms, Fcb, Sel}
 use Rattle.flash_map.specs.declared.area.TheConstants.{VALUE_LIMIT, LONG_VALUE_LIMIT}
 use Rattle.image_file.specs.Format.{version_of}
 use Rattle.image_file.specs.Lawful.{IsImage}
@@ -29,26 +24,9 @@ StaysImage = (areas : List Area) (old new : Device) → IsImage (held areas old)
 
 -- ---- stores
 
--- the only role with such areas is that of ZMS
-abbrev pub has_no_store : Role → Kind → Bool
-has_no_store Nvs kind = false
-has_no_store Zms Erasing = true
-has_no_store Zms Rewritable = false
-has_no_store Fcb kind = false
-has_no_store Sel kind = false
-
--- no store works on the area: it is for ZMS, and on a bank whose units can not be programmed again
-abbrev pub is_unserved : List Bank → Area → Bool
-is_unserved banks area = has_no_store area.role (bank_at banks area.bank).kind
-
--- the first such area
-abbrev pub unserved : List Bank → List Area → Option Area
-unserved banks areas = find (is_unserved banks) areas
-
--- a session serves the areas of an image where a store works on each
+-- a session serves the areas of an image
 abbrev pub MapsAreServed : Type 0
-MapsAreServed = (areas : List Area) (d : Device) → IsImage (held areas d) → unserved d.banks areas ≡ None
-    → IsServedMap any_serves areas d
+MapsAreServed = (areas : List Area) (d : Device) → IsImage (held areas d) → IsServedMap any_serves areas d
 
 -- ---- values
 

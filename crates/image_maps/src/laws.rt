@@ -3,8 +3,7 @@ ghost use Rattle.image_maps.specs.Blank.{AreasAreBlank, BlankHoldsNothing, Blank
 ghost use Rattle.image_maps.specs.Laws.{EachLimit, MapsAreLawful, MapsAreServed, OneLimit, StaysImage};
 ghost use Rattle.image_maps.specs.Lines.{LinesAreServed};
 
-/// The areas of an image are a lawful map, and it stays an image whatever bytes its banks hold. Where a store works on
-/// each area, a session serves the map.
+/// The areas of an image are a lawful map, and a session serves it. It stays an image whatever bytes its banks hold.
 pub fn lawful_maps()
     ensures maps { MapsAreLawful }
     ensures stays { StaysImage }
@@ -22,9 +21,8 @@ pub fn lines_fit()
     ensures { LinesAreServed }
 {}
 
-/// Where each byte of the banks is FF, so is each byte of a lawful area. A selector shows no damage there and names no area. A
-/// map whose areas a session serves shows no damage, its first store area is active and has no settings, and a mount has
-/// nothing to do.
+/// Where each byte of the banks is FF, so is each byte of a lawful area. A selector shows no damage there and names no area. The
+/// map of an image shows no damage, its first store area is active and has no settings, and a mount has nothing to do.
 pub fn blank_maps()
     ensures areas { AreasAreBlank }
     ensures selector { BlankNamesNone }

@@ -13,7 +13,6 @@ use Rattle.any_backend.specs.ByRole.{any_serves}
 use Rattle.image_file.specs.Format.{plain_area}
 use Rattle.image_file.specs.Lawful.{IsImage, is_sel}
 use Rattle.image_maps.specs.Held.{held}
-use Rattle.image_maps.specs.Laws.{unserved}
 use Rattle.image_maps.proofs.ServedLemmas.{maps_are_served}
 use Rattle.migrator.specs.Areas.{is_store, is_store_at, selector_of, stores}
 use Rattle.mirror.specs.Room.{IsMirrored}
@@ -132,15 +131,15 @@ selected_mirrored area is store = absurd (none_such area is store)
 abbrev StoresOnly : List Area → ℕ → ℕ → Type 0
 StoresOnly areas one two = (place : ℕ) → is_store_at areas place ≡ true → (place ≡ one) ⊎ (place ≡ two)
 
-module _ (d : Device) (a b c : Area) (is : IsImage (held (a ∷ b ∷ c ∷ []) d)) (served : unserved d.banks (a ∷ b ∷ c ∷ []) ≡ None) where
+module _ (d : Device) (a b c : Area) (is : IsImage (held (a ∷ b ∷ c ∷ []) d)) where
   abbrev three : List Area
   three = a ∷ b ∷ c ∷ []
 
   with_parts : (selector : Area) (one two : ℕ) → selector_of three ≡ Some selector → EachMirrored three → one ≢ two → is_store_at three one ≡ true → is_store_at three two ≡ true
       → StoresOnly three one two → IsMirrorMap any_serves three d
   with_parts selector one two selected roles apart first second only = record {
-    lawful = (maps_are_served three d is served).lawful;
-    served = (maps_are_served three d is served).served;
+    lawful = (maps_are_served three d is).lawful;
+    served = (maps_are_served three d is).served;
     roles = roles;
     selector = selector;
     selected = selected;
@@ -203,10 +202,10 @@ module _ (d : Device) (a b c : Area) (is : IsImage (held (a ∷ b ∷ c ∷ []) 
         | inr (inr of) ↦ third_selected (is_stored a a.role refl of.0) (is_stored b b.role refl of.1) (is_selected c c.role refl of.2)
       ]
 
--- the areas of an image that are a mirror, with a store for each, are one to the session
-pub is_mirror_map : (areas : List Area) (d : Device) → IsImage (held areas d) → AreMirrored areas → unserved d.banks areas ≡ None → IsMirrorMap any_serves areas d
-is_mirror_map [] d is mirrored served = let none : 0 ≡ 3 = mirrored.all in absurd (omega (arith, none))
-is_mirror_map (a ∷ []) d is mirrored served = let none : length (a ∷ []) ≡ 3 = mirrored.all in absurd (omega (arith, none))
-is_mirror_map (a ∷ b ∷ []) d is mirrored served = let none : length (a ∷ b ∷ []) ≡ 3 = mirrored.all in absurd (omega (arith, none))
-is_mirror_map (a ∷ b ∷ c ∷ []) d is mirrored served = three_mirrored d a b c is served mirrored
-is_mirror_map (a ∷ b ∷ c ∷ e ∷ areas) d is mirrored served = let none : length (a ∷ b ∷ c ∷ e ∷ areas) ≡ 3 = mirrored.all in absurd (omega (arith, none))
+-- the areas of an image that are a mirror are one to the session
+pub is_mirror_map : (areas : List Area) (d : Device) → IsImage (held areas d) → AreMirrored areas → IsMirrorMap any_serves areas d
+is_mirror_map [] d is mirrored = let none : 0 ≡ 3 = mirrored.all in absurd (omega (arith, none))
+is_mirror_map (a ∷ []) d is mirrored = let none : length (a ∷ []) ≡ 3 = mirrored.all in absurd (omega (arith, none))
+is_mirror_map (a ∷ b ∷ []) d is mirrored = let none : length (a ∷ b ∷ []) ≡ 3 = mirrored.all in absurd (omega (arith, none))
+is_mirror_map (a ∷ b ∷ c ∷ []) d is mirrored = three_mirrored d a b c is mirrored
+is_mirror_map (a ∷ b ∷ c ∷ e ∷ areas) d is mirrored = let none : length (a ∷ b ∷ c ∷ e ∷ areas) ≡ 3 = mirrored.all in absurd (omega (arith, none))

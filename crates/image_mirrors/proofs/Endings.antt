@@ -17,7 +17,6 @@ use Rattle.mirror.specs.Mounting.{IsAtRest}
 use Rattle.zs_host.specs.Outside.{Outside}
 use Rattle.image_file.specs.Format.{Plain, plain_area, version_of}
 use Rattle.image_maps.specs.Held.{held}
-use Rattle.image_maps.specs.Laws.{unserved}
 use Rattle.session.specs.OnMap.{limit_of}
 use Rattle.session_table.specs.Bench.{area_at}
 use Rattle.image_plays.specs.declared.stops.Refusal.{Refusal}
@@ -97,7 +96,7 @@ without_lines : (name script out : List ℕ) (host host' : Outside) (image : Pla
     → ReadsOr {X = Vec Line} (λ lines. HasLines (limit_of areas) host script lines.items) (LacksLines (limit_of areas) host script) host host' (Err stop)
     → MirrorPlayEnds name script out host host' bench bench (Err stop)
 without_lines name script out host host' image areas bench opens (Refused refusal) reads =
-    (inr (inr (inr (inl (record { image = image; areas = areas; opens = opens; lacks = reads.0 }, refl)))), reads.1)
+    (inr (inr (inl (record { image = image; areas = areas; opens = opens; lacks = reads.0 }, refl))), reads.1)
 without_lines name script out host host' image areas bench opens HostFailed reads = (refl, reads)
 without_lines name script out host host' image areas bench opens NoMemory reads = (inl refl, reads)
 
@@ -117,9 +116,9 @@ module _ (name script out : List ℕ) (outside : Outside) (banks : List Bank) (b
   abbrev pub image : Plain
   image = record { version = version_of areas; banks = banks; areas = map plain_area areas; bytes = bytes }
 
-  module _ (mirrored : AreMirrored areas) (served : unserved banks areas ≡ None) (has : HasImage outside name image) (plays : HasLines (limit_of areas) outside script lines) where
+  module _ (mirrored : AreMirrored areas) (has : HasImage outside name image) (plays : HasLines (limit_of areas) outside script lines) where
     sets : SetsMirror name script outside image areas lines
-    sets = record { opens = record { has = has; are = record { version = refl; are = refl }; mirrored = mirrored; served = served }; plays = plays }
+    sets = record { opens = record { has = has; are = record { version = refl; are = refl }; mirrored = mirrored }; plays = plays }
 
     done : (answers : List Answer) (whole : Bool) (text : List ℕ) (file : Option File) (map_left : IsMirrorMap any_serves areas bench')
         → Ran any_meanings areas (Mount ∷ lines) answers (opening image bench) (closing bench' whole)
@@ -177,7 +176,7 @@ module _ (name script out : List ℕ) (outside : Outside) (banks : List Bank) (b
     stops_at_mount : (fault : SessionFault) (refusal : Refusal) → RunStops any_meanings areas (Mount ∷ lines) (opening image bench) bench' fault → IsStop areas fault (Refused refusal)
         → MirrorPlayEnds name script out outside outside bench bench' (Err (Refused refusal))
     stops_at_mount fault refusal stops is = (
-      inr (inr (inr (inr (record {
+      inr (inr (inr (record {
         image = image;
         areas = areas;
         lines = lines;
@@ -188,7 +187,7 @@ module _ (name script out : List ℕ) (outside : Outside) (banks : List Bank) (b
         shows = λ none tells. stops_sound areas (Mount ∷ lines) (opening image bench) bench' fault stops
             (sym (damage_same (version_of areas) (map plain_area areas) areas (begun image bench)) ∙ none) tells;
         fits = λ fit tells. stops.fitting tells (record { settings = fit; other = λ now. absurd (false≢true now) });
-      })))),
+      }))),
       refl,
     )
 

@@ -1,7 +1,6 @@
 -- Which image a play on a mirror begins with and which lines it plays, or why there are none.
 use Rattle.std.specs.Prelude.{◌≡◌, ◌⊎◌, ℕ, Bool, true, false, List, length, map, count_by}
 use Rattle.zs_host.specs.Outside.{Outside}
-use Rattle.flash_sim.specs.declared.flash.Bank.{Bank}
 use Rattle.flash_map.specs.declared.area.Area.{Area}
 use Rattle.flash_map.specs.declared.area.Role.{Role}
 use Rattle.flash_map.specs.declared.area.Role.TheVariants.{Nvs, Zms, Fcb, Sel}
@@ -13,8 +12,6 @@ use Rattle.mirror_lines.specs.declared.line.Line.{Line}
 use Rattle.mirror_lines.specs.Line.{mirror_forms, row_of}
 use Rattle.image_plays.specs.declared.stops.Refusal.{Refusal}
 use Rattle.image_plays.specs.declared.stops.Refusal.TheVariants.{NoMirror, BadScript}
-use Rattle.image_plays.specs.Images.{HasAreas}
-use Rattle.image_plays.specs.Inputs.{IsUnbuilt}
 use Rattle.image_plays.specs.Reading.{HasImage, HasShortFile, LacksText, most_script}
 
 -- ---- an image
@@ -39,23 +36,11 @@ pub record AreMirrored (areas : List Area) : Type 0 where
 abbrev pub FindsNoMirror : Plain → Refusal → Type 0
 FindsNoMirror image refusal = (refusal ≡ NoMirror) × (¬ AreMirrored image.areas)
 
--- they are one, and no store works on one of them
-abbrev pub FindsNoStore : List Bank → List Area → Refusal → Type 0
-FindsNoStore banks areas refusal = AreMirrored areas × IsUnbuilt banks areas refusal
-
 -- there is an image, and it has no mirror
 pub record LacksMirror (host : Outside) (name : List ℕ) (refusal : Refusal) : Type 0 where
   pub image : Plain
   pub has : HasImage host name image
   pub finds : FindsNoMirror image refusal
-
--- there is an image with a mirror, and no store works on one of its areas
-pub record LacksStore (host : Outside) (name : List ℕ) (refusal : Refusal) : Type 0 where
-  pub image : Plain
-  pub areas : List Area
-  pub has : HasImage host name image
-  pub are : HasAreas image areas
-  pub finds : FindsNoStore image.banks areas refusal
 
 -- ---- a script
 

@@ -10,7 +10,6 @@ use Rattle.flash_map.specs.On.{on}
 use Rattle.backend_api.specs.Map.{Map}
 use Rattle.any_backend.specs.ByRole.{any_damage, any_contents, any_rests, any_room}
 use Rattle.image_file.specs.Format.{Plain}
-use Rattle.image_maps.specs.Laws.{unserved}
 use Rattle.session_table.specs.Bench.{area_at}
 use Rattle.session.specs.OnMap.{limit_of}
 use Rattle.mirror.specs.Trusted.{BothRead, MirrorReads, damage_shown, trusted_on}
@@ -36,7 +35,7 @@ use Rattle.image_plays.specs.declared.stops.Stop.TheVariants.{Refused, HostFaile
 use Rattle.image_plays.specs.Images.{HasAreas, begun, flash_of, left}
 use Rattle.image_plays.specs.Plays.{File, WritesLeft, file_of}
 use Rattle.image_plays.specs.Reading.{HasImage, LacksImage}
-use Rattle.image_mirrors.specs.Inputs.{AreMirrored, HasLines, LacksLines, LacksMirror, LacksStore}
+use Rattle.image_mirrors.specs.Inputs.{AreMirrored, HasLines, LacksLines, LacksMirror}
 
 -- the texts of all answers
 abbrev pub texts : List Answer → List ℕ
@@ -66,12 +65,11 @@ damage_in areas image = damage_shown any_damage areas (flash_of image)
 
 -- ---- what is played
 
--- IMAGE is the file of this image, which has a mirror, with a store for each of its areas.
+-- IMAGE is the file of this image, which has a mirror.
 pub record OpensMirror (name : List ℕ) (host : Outside) (image : Plain) (areas : List Area) : Type 0 where
   pub has : HasImage host name image
   pub are : HasAreas image areas
   pub mirrored : AreMirrored areas
-  pub served : unserved image.banks areas ≡ None
 
 -- That image, and the lines of SCRIPT.
 pub record SetsMirror (name script : List ℕ) (host : Outside) (image : Plain) (areas : List Area) (lines : List Line) : Type 0 where
@@ -172,13 +170,12 @@ pub record StopsAtMount (name script : List ℕ) (host : Outside) (old new : Dev
   pub shows : damage_in areas image ≡ None → ¬ TellsDamage fault
   pub fits : FitsImage areas image → ¬ TellsUnfit fault
 
--- In the order in which they are looked at: the image; its mirror; its stores; the lines; and then what a mount finds, once the flash is
--- loaded. But for what a mount finds the flash is as before.
+-- In the order in which they are looked at: the image; its mirror; the lines; and then what a mount finds, once the flash is loaded. But
+-- for what a mount finds the flash is as before.
 abbrev pub RefusesMirror : List ℕ → List ℕ → Outside → Device → Device → Refusal → Type 0
 RefusesMirror name script host old new refusal =
     (LacksImage host name refusal × (new ≡ old))
     ⊎ (LacksMirror host name refusal × (new ≡ old))
-    ⊎ (LacksStore host name refusal × (new ≡ old))
     ⊎ (LacksMirrorLines name script host refusal × (new ≡ old))
     ⊎ StopsAtMount name script host old new refusal
 

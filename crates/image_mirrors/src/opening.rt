@@ -1,15 +1,14 @@
 // The image of a mirror, and the lines of a script.
-ghost use Rattle.std.specs.Prelude.{◌≡◌, ◌<◌, ◌⊎◌, ◌↔◌, IsTrue, All, IfOk, None, count_by, length};
+ghost use Rattle.std.specs.Prelude.{◌≡◌, ◌<◌, ◌⊎◌, ◌↔◌, IsTrue, All, IfOk, count_by, length};
 ghost use Rattle.image_file.specs.Format.{plain};
 ghost use Rattle.image_file.specs.Lawful.{IsImage, area_at, is_selector};
-ghost use Rattle.image_maps.specs.Laws.{unserved};
 ghost use Rattle.image_plays.specs.Reading.{HasImage, LacksImage, MakesOr, ReadsOr};
 ghost use Rattle.mirror_session.specs.LineDone.{IsServed};
-ghost use Rattle.image_mirrors.specs.Inputs.{AreMirrored, FindsNoMirror, FindsNoStore, HasLines, LacksLines, LacksMirror, LacksStore, is_stored, may_mirror};
+ghost use Rattle.image_mirrors.specs.Inputs.{AreMirrored, FindsNoMirror, HasLines, LacksLines, LacksMirror, is_stored, may_mirror};
 
 use flash_map::{FlashMap, Role};
 use image_file::Image;
-use image_plays::{Refusal, Stop, read_image_file, read_script_text, serve};
+use image_plays::{Refusal, Stop, read_image_file, read_script_text};
 use mirror_lines::{Line, ScriptFault, read_script};
 use std::alloc::Global;
 use zs_host::Host;
@@ -81,26 +80,25 @@ fn are_mirrored(areas: &FlashMap) -> bool
     areas.len() == 3 && count_stored(areas) == 2 && count_selectors(areas) == 1
 }
 
-// Refuses an image without a mirror, and then one with an area on which no store works.
+// Refuses an image without a mirror.
 fn with_mirror<'a>(image: Image) -> Result<Image, Stop<'a>>
-    ensures { MakesOr (λ served. (served ≡ image) × AreMirrored image.map × (unserved image.banks.items image.map ≡ None))
-        (λ refusal. FindsNoMirror (plain image) refusal ⊎ FindsNoStore image.banks.items image.map refusal) result }
+    ensures { MakesOr (λ opened. (opened ≡ image) × AreMirrored image.map) (FindsNoMirror (plain image)) result }
 {
     if !are_mirrored(&image.map) {
         return Err(Stop::Refused(Refusal::NoMirror));
     }
-    serve(image)
+    Ok(image)
 }
 
-// The image of a file, which has a mirror, with a store for each of its areas. Nothing is printed or written.
+// The image of a file, which has a mirror. Nothing is printed or written.
 pub(crate) fn open_mirror<'a, H: Host>(
     alloc: Global,
     name: &'a str,
     host: &mut H,
 ) -> Result<Image, Stop<'a>>
     ensures image { let h = H.outside host.old in
-        ReadsOr (λ image. HasImage h name.now (plain image) × AreMirrored image.map × (unserved image.banks.items image.map ≡ None))
-        (λ refusal. LacksImage h name.now refusal ⊎ LacksMirror h name.now refusal ⊎ LacksStore h name.now refusal)
+        ReadsOr (λ image. HasImage h name.now (plain image) × AreMirrored image.map)
+        (λ refusal. LacksImage h name.now refusal ⊎ LacksMirror h name.now refusal)
         h (H.outside host.new) result }
     ensures lawful { IfOk result (λ image. IsImage (plain image)) }
 {

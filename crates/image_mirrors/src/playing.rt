@@ -1,10 +1,9 @@
 // Playing lines on the mirror of an image.
-ghost use Rattle.std.specs.Prelude.{◌≡◌, ℕ, ◌<◌, ◌∷◌, false, All, List, None};
+ghost use Rattle.std.specs.Prelude.{◌≡◌, ℕ, ◌<◌, ◌∷◌, false, All, List};
 ghost use Rattle.zs_host.specs.Outside.{Outside};
 ghost use Rattle.any_backend.specs.ByRole.{any_rests, any_serves};
 ghost use Rattle.image_file.specs.Format.{plain};
 ghost use Rattle.image_file.specs.Lawful.{IsImage};
-ghost use Rattle.image_maps.specs.Laws.{unserved};
 ghost use Rattle.image_plays.specs.Reading.{HasImage};
 ghost use Rattle.session.specs.OnMap.{limit_of};
 ghost use Rattle.mirror.specs.Trusted.{IsMirrorMap};
@@ -76,7 +75,6 @@ fn play_lines<'a, B: Bench>(
 ) -> Result<Outcome<'a>, Stop<'a>>
     requires image { IsImage (plain image) }
     requires mirrored { AreMirrored image.map }
-    requires stores { unserved image.banks.items image.map ≡ None }
     requires lines { All (IsServed (limit_of image.map)) lines.now }
     ensures { (outside : Outside) (name script : List ℕ) → HasImage outside name (plain image)
         → HasLines (limit_of image.map) outside script lines.now
@@ -106,9 +104,8 @@ fn play_lines<'a, B: Bench>(
 ///
 /// # Errors
 /// Refused where there is no image, then where it is not exactly two store areas, each for NVS or ZMS, and their selector, then where
-/// no store works on one of them, then where there are no lines, then where a mount finds damage, or settings that do not fit one
-/// of the two areas. The host failed: nothing was played. There was not enough memory: nothing was played, or the lines were played
-/// up to some one of them.
+/// there are no lines, then where a mount finds damage, or settings that do not fit one of the two areas. The host failed: nothing
+/// was played. There was not enough memory: nothing was played, or the lines were played up to some one of them.
 pub fn play_mirror<'a, H: Host, B: Bench>(
     alloc: Global,
     image: &'a str,

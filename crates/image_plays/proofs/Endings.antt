@@ -1,5 +1,5 @@
 -- How a play ends, from how its lines ended on a bench that was just loaded.
-use Rattle.std.proofs.Common.{◌≡◌, ◌⊎◌, ℕ, true, List, [], ◌∷◌, map, Option, Some, None, Result, Ok, Err, inl, inr, refl, sym, ap, subst, ◌∙◌}
+use Rattle.std.proofs.Common.{◌≡◌, ◌⊎◌, ℕ, true, List, ◌∷◌, map, Option, None, Err, inl, inr, refl, sym, ap, subst, ◌∙◌}
 use Rattle.flash_sim.specs.Device.{Device}
 use Rattle.flash_sim.specs.declared.flash.Bank.{Bank}
 use Rattle.flash_map.specs.declared.area.Area.{Area}
@@ -17,10 +17,9 @@ use Rattle.session.specs.declared.fault.SessionFault.TheVariants.{Damaged as IsD
 use Rattle.session.specs.OnMap.{IsAtRest, Ran, RunStops, damage_in, limit_of, moment}
 use Rattle.image_plays.specs.declared.plays.Play.{Play}
 use Rattle.image_maps.specs.Held.{held}
-use Rattle.image_maps.specs.Laws.{unserved}
 use Rattle.image_plays.specs.Images.{ReadsAs, begun, damage_of, left}
 use Rattle.image_plays.specs.Inputs.{BeginsWith, PlaysLines, out_of, told_by}
-use Rattle.image_plays.specs.declared.stops.Refusal.TheVariants.{BadSpec, NoFile, BadFile, Unbuilt, NoLog, NoItems, NoMirror, BadArea, Unfit, BadScript}
+use Rattle.image_plays.specs.declared.stops.Refusal.TheVariants.{BadSpec, NoFile, BadFile, NoLog, NoItems, NoMirror, BadArea, Unfit, BadScript}
 use Rattle.image_plays.specs.declared.stops.Stop.{Stop}
 use Rattle.image_plays.specs.declared.stops.Stop.TheVariants.{Refused, HostFailed, NoMemory}
 use Rattle.image_plays.specs.Plays.{File, FindsDamage, HasBegun, IsStop, PlayEnds, Plays, Sets, WritesLeft, closing, opening}
@@ -39,9 +38,9 @@ module _ (k : Stores) (kinds : List HandlerKind) (play : Play) (outside : Outsid
   abbrev pub new : Stage
   new = stage bench' registry'
 
-  module _ (begins : BeginsWith play.start outside image) (served : unserved banks areas ≡ None) (plays : PlaysLines play.source (limit_of areas) outside lines) where
+  module _ (begins : BeginsWith play.start outside image) (plays : PlaysLines play.source (limit_of areas) outside lines) where
     pub sets : Sets play outside image areas lines
-    sets = record { opens = record { begins = begins; has = record { version = refl; are = refl }; served = served }; plays = plays }
+    sets = record { opens = record { begins = begins; has = record { version = refl; are = refl } }; plays = plays }
 
     pub done : (answers : List Answer) (left_kinds : List HandlerKind) (text : List ℕ) (file : Option File)
         → Ran k.meanings k.damage areas (Mount ∷ lines) answers (opening old image kinds) (closing new left_kinds)
@@ -99,11 +98,10 @@ module _ (k : Stores) (kinds : List HandlerKind) (play : Play) (outside : Outsid
     stopped_at : (fault : SessionFault) (stop : Stop) → RunStops k.meanings k.damage areas (Mount ∷ lines) (opening old image kinds) bench' fault
         → (damage_in k.damage areas (begun image bench) ≡ None → fault ≡ WantsMemory) → IsStop areas fault stop → PlayEnds k kinds play outside outside old new (Err stop)
     stopped_at (IsDamaged place damage) (Refused (BadArea label found)) stops serves is =
-        (inr (inr (inr (subst (λ (d : Damaged). FindsDamage k kinds play outside old new label.bytes d) (sym is.1) (damaged place damage label.bytes is.0 stops serves)))), refl)
+        (inr (inr (subst (λ (d : Damaged). FindsDamage k kinds play outside old new label.bytes d) (sym is.1) (damaged place damage label.bytes is.0 stops serves))), refl)
     stopped_at (IsDamaged place damage) (Refused BadSpec) stops serves is = absurd is
     stopped_at (IsDamaged place damage) (Refused (NoFile word)) stops serves is = absurd is
     stopped_at (IsDamaged place damage) (Refused (BadFile at why)) stops serves is = absurd is
-    stopped_at (IsDamaged place damage) (Refused (Unbuilt label)) stops serves is = absurd is
     stopped_at (IsDamaged place damage) (Refused NoLog) stops serves is = absurd is
     stopped_at (IsDamaged place damage) (Refused NoItems) stops serves is = absurd is
     stopped_at (IsDamaged place damage) (Refused NoMirror) stops serves is = absurd is

@@ -1,8 +1,6 @@
 -- Answers of a run on an image have texts: the label of the active area is one, and names rise.
 use Rattle.std.proofs.Common.{◌≡◌, ℕ, zero, suc, ◌<◌, ◌≤◌, Bool, true, false, ◌&&◌, T, List, [], ◌∷◌, length, map, Option, Some, None, Ordering, Less, Equal, Greater, refl, sym, ap, subst, ◌∙◌, arith}
 use Rattle.std.specs.Prelude.{All}
-use Rattle.std.specs.List.{slice_get}
-use Rattle.std.specs.Option.{option_map_or}
 use Rattle.std.specs.Ordering.{nat_cmp, is_lt}
 use Rattle.std.specs.Cmp.Lexicographic.{slice_cmp}
 use Rattle.std.specs.FinMap.{entries, entries_sorted}
@@ -19,7 +17,7 @@ use Rattle.image_file.specs.Lawful as lawful
 use Rattle.image_maps.specs.Held.{held}
 use Rattle.image_maps.proofs.MapLemmas.{has_store}
 use Rattle.migrator.specs.Active.{active_on, active_with}
-use Rattle.migrator.specs.Areas.{is_store, is_store_at, first_store, selector_of}
+use Rattle.migrator.specs.Areas.{is_store_at, first_store, selector_of}
 use Rattle.migrator.proofs.Migration.{active-store}
 use Rattle.script_lines.specs.declared.line.Line.{Line}
 use Rattle.script_lines.specs.declared.line.Line.TheVariants.{Set, Get, Del as Delete, Register, Load, Direct, Save, Commit, RunSet, RunGet, Names, Mount, Cut, Uncut, Migrate}

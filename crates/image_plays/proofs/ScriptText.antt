@@ -4,7 +4,7 @@ use Rattle.std.specs.Global.{Vec}
 use Rattle.script_lines.specs.declared.line.Line.{Line}
 use Rattle.zs_host.specs.Outside.{Outside}
 use Rattle.image_plays.specs.declared.stops.Refusal.{Refusal}
-use Rattle.image_plays.specs.declared.stops.Refusal.TheVariants.{BadSpec, NoFile, BadFile, Unbuilt, NoLog, NoItems, NoMirror, BadArea, Unfit, BadScript}
+use Rattle.image_plays.specs.declared.stops.Refusal.TheVariants.{BadSpec, NoFile, BadFile, NoLog, NoItems, NoMirror, BadArea, Unfit, BadScript}
 use Rattle.image_plays.specs.declared.stops.Stop.{Stop}
 use Rattle.image_plays.specs.declared.stops.Stop.TheVariants.{Refused, HostFailed, NoMemory}
 use Rattle.image_plays.specs.Reading.{HasScript, HasShortFile, LacksScript, LacksText, ReadsOr, most_script}
@@ -14,7 +14,6 @@ lacks_script limit host name (NoFile word) lacks = lacks
 lacks_script limit host name (BadScript n why) lacks = inr lacks
 lacks_script limit host name BadSpec lacks = lacks
 lacks_script limit host name (BadFile at why) lacks = lacks
-lacks_script limit host name (Unbuilt label) lacks = lacks
 lacks_script limit host name NoLog lacks = lacks
 lacks_script limit host name NoItems lacks = lacks
 lacks_script limit host name NoMirror lacks = lacks

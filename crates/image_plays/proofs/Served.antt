@@ -1,6 +1,6 @@
 -- The longest value of a map of areas, and lines that it takes.
-use Rattle.std.proofs.Common.{◌≡◌, ◌≤◌, ℕ, zero, suc, ◌+◌, ◌%◌, ◌/◌, ◌^◌, ◌*◌, ◌-◌, Bool, true, false, cond, eqb, List, [], ◌∷◌, ◌++◌, length, map, Option, Some, None, refl, sym, ap, subst, ◌∙◌, arith}
-use Rattle.std.specs.Prelude.{All, IfOk, Result, Ok, Err, drop, find}
+use Rattle.std.proofs.Common.{◌≡◌, ◌≤◌, ℕ, zero, suc, ◌+◌, ◌%◌, ◌/◌, ◌^◌, Bool, true, false, cond, eqb, List, [], ◌∷◌, ◌++◌, length, Some, None, refl, ap, arith}
+use Rattle.std.specs.Prelude.{All, IfOk, Result, Ok, Err}
 use Rattle.std.specs.Global.{Vec}
 use Rattle.std.specs.List.{slice_get}
 use Rattle.std.proofs.lemmas.Bool.{false≢true}
@@ -19,9 +19,6 @@ use Rattle.image_maps.proofs.LineLemmas.{lines_are_served}
 use Rattle.image_plays.specs.declared.stops.Refusal.{Refusal}
 use Rattle.image_plays.specs.declared.stops.Stop.{Stop}
 use Rattle.image_plays.specs.Reading.{HasScript, ReadsOr}
-
-some_same : {X : Type 0} (x y : X) → Some x ≡ Some y → x ≡ y
-some_same x y e = cc
 
 -- ---- the longest value
 
@@ -90,21 +87,3 @@ pub no_label : (areas : List Area) (place : ℕ) → slice_get areas place ≡ N
 no_label [] place none = refl
 no_label (area ∷ areas) zero none = absurd (cc)
 no_label (area ∷ areas) (suc place) none = no_label areas place none
-
--- ---- the first area that a test passes, by a walk from place to place
-
-pub find_skips : (p : Area → Bool) (areas : List Area) (place : ℕ) (area : Area) → slice_get areas place ≡ Some area → p area ≡ false → find p (drop place areas) ≡ find p (drop (place + 1) areas)
-find_skips p [] place area there is = absurd (cc)
-find_skips p (first ∷ areas) zero area there is =
-    let fails : p first ≡ false = ap p (some_same first area there) ∙ is in
-    ap (λ (b : Bool). cond b (Some first) (find p areas)) fails
-find_skips p (first ∷ areas) (suc place) area there is =
-    let next : suc place + 1 ≡ suc (place + 1) = omega arith in
-    find_skips p areas place area there is ∙ ap (λ (n : ℕ). find p (drop n (first ∷ areas))) (sym next)
-
-pub find_here : (p : Area → Bool) (areas : List Area) (place : ℕ) (area : Area) → slice_get areas place ≡ Some area → p area ≡ true → find p (drop place areas) ≡ Some area
-find_here p [] place area there is = absurd (cc)
-find_here p (first ∷ areas) zero area there is =
-    let passes : p first ≡ true = ap p (some_same first area there) ∙ is in
-    ap (λ (b : Bool). cond b (Some first) (find p areas)) passes ∙ there
-find_here p (first ∷ areas) (suc place) area there is = find_here p areas place area there is

@@ -1,10 +1,7 @@
 -- Which image a play begins with and which lines it plays, or why there are none; and what it tells of the answers.
 use Rattle.std.specs.Prelude.{◌≡◌, ℕ, Option, Some, None, List, [], ◌∷◌, ◌++◌, codes}
 use Rattle.text_parts.specs.Parts.{parts}
-use Rattle.flash_sim.specs.declared.flash.Bank.{Bank}
-use Rattle.flash_map.specs.declared.area.Area.{Area}
 use Rattle.zs_host.specs.Outside.{Outside}
-use Rattle.image_maps.specs.Laws.{unserved}
 use Rattle.image_file.specs.Format.{Plain}
 use Rattle.image_file.specs.Spec.{IsSpec, FirstBad, nothing_listed}
 use Rattle.command_words.specs.declared.commands.StoreKind.{StoreKind}
@@ -23,9 +20,8 @@ use Rattle.image_plays.specs.declared.plays.Telling.TheVariants.{All, Last, Summ
 use Rattle.image_plays.specs.declared.plays.Output.{Output}
 use Rattle.image_plays.specs.declared.plays.Output.TheVariants.{Nowhere, Into}
 use Rattle.image_plays.specs.declared.stops.Refusal.{Refusal}
-use Rattle.image_plays.specs.declared.stops.Refusal.TheVariants.{BadSpec, NoFile, BadFile, Unbuilt, NoLog, NoItems, NoMirror, BadArea, Unfit, BadScript}
+use Rattle.image_plays.specs.declared.stops.Refusal.TheVariants.{BadSpec}
 use Rattle.image_plays.specs.Reading.{HasImage, LacksImage, HasScript, LacksScript}
-use Rattle.image_plays.specs.Images.{HasAreas}
 use Rattle.image_plays.specs.Texts.{texts, last_text, summary}
 
 -- SPEC describes no image: some item is the first that is not lawful
@@ -41,27 +37,6 @@ blank_spec store.Fcb = codes "bank=erasing/4/4096/4,area=fcb/main/0/0/4"
 abbrev pub BeginsWith : Start → Outside → Plain → Type 0
 BeginsWith (File name) host image = HasImage host name.now image
 BeginsWith (Blank kind) host image = IsSpec (blank_spec kind) image
-
--- no store works on this area, the first such
-abbrev pub IsUnbuilt : List Bank → List Area → Refusal → Type 0
-IsUnbuilt banks areas (Unbuilt label) = (area : Area) × (unserved banks areas ≡ Some area) × (label.bytes ≡ area.label.bytes)
-IsUnbuilt banks areas BadSpec = ⊥
-IsUnbuilt banks areas (NoFile word) = ⊥
-IsUnbuilt banks areas (BadFile at why) = ⊥
-IsUnbuilt banks areas NoLog = ⊥
-IsUnbuilt banks areas NoItems = ⊥
-IsUnbuilt banks areas NoMirror = ⊥
-IsUnbuilt banks areas (BadArea label damage) = ⊥
-IsUnbuilt banks areas (Unfit label) = ⊥
-IsUnbuilt banks areas (BadScript n why) = ⊥
-
--- there is an image, and the area with this label is the first on which no store works
-pub record HasUnbuilt (start : Start) (host : Outside) (refusal : Refusal) : Type 0 where
-  pub image : Plain
-  pub areas : List Area
-  pub begins : BeginsWith start host image
-  pub has : HasAreas image areas
-  pub unbuilt : IsUnbuilt image.banks areas refusal
 
 abbrev pub LacksStart : Start → Outside → Refusal → Type 0
 LacksStart (File name) host refusal = LacksImage host name.now refusal

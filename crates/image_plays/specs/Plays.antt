@@ -1,6 +1,6 @@
 -- What a play makes of files, print, flash and handlers.
-use Rattle.std.specs.Prelude.{◌≡◌, ◌⊎◌, ⊤, ℕ, true, Option, Some, None, Result, Ok, Err, List, [], ◌∷◌, map}
-use Rattle.flash_sim.specs.Device.{Device, counted}
+use Rattle.std.specs.Prelude.{◌≡◌, ◌⊎◌, ⊤, ℕ, true, Option, Some, None, Result, Ok, Err, List, [], ◌∷◌}
+use Rattle.flash_sim.specs.Device.{counted}
 use Rattle.flash_map.specs.declared.area.Area.{Area}
 use Rattle.flash_map.specs.declared.faults.Damaged.{Damaged}
 use Rattle.zs_host.specs.Outside.{Outside, failed}
@@ -18,13 +18,12 @@ use Rattle.session.specs.OnMap.{Ran, RunStops, IsAtRest, limit_of, moment}
 use Rattle.image_plays.specs.declared.outcome.Outcome.{Outcome}
 use Rattle.image_plays.specs.declared.outcome.OutFile.{OutFile}
 use Rattle.image_plays.specs.declared.stops.Refusal.{Refusal}
-use Rattle.image_plays.specs.declared.stops.Refusal.TheVariants.{BadSpec, NoFile, BadFile, Unbuilt, NoLog, NoItems, NoMirror, BadArea, Unfit, BadScript}
+use Rattle.image_plays.specs.declared.stops.Refusal.TheVariants.{BadSpec, NoFile, BadFile, NoLog, NoItems, NoMirror, BadArea, Unfit, BadScript}
 use Rattle.image_plays.specs.declared.stops.Stop.{Stop}
 use Rattle.image_plays.specs.declared.stops.Stop.TheVariants.{Refused, HostFailed, NoMemory}
 use Rattle.image_plays.specs.Images.{HasAreas, ReadsAs, begun, damage_of, left}
 use Rattle.image_plays.specs.declared.plays.Play.{Play}
-use Rattle.image_maps.specs.Laws.{unserved}
-use Rattle.image_plays.specs.Inputs.{HasUnbuilt, BeginsWith, LacksStart, LacksSource, PlaysLines, out_of, told_by}
+use Rattle.image_plays.specs.Inputs.{BeginsWith, LacksStart, LacksSource, PlaysLines, out_of, told_by}
 use Rattle.image_plays.specs.Stages.{Stage, Stores}
 
 -- a file's name and its bytes
@@ -48,11 +47,10 @@ pub record Builds (out spec : List ℕ) (text : List ℕ) (file : Option File) :
 
 -- ---- what is played
 
--- The image of a play, with its areas; a store works on each of them.
+-- The image of a play, with its areas.
 pub record Opens (play : Play) (host : Outside) (image : Plain) (areas : List Area) : Type 0 where
   pub begins : BeginsWith play.start host image
   pub has : HasAreas image areas
-  pub served : unserved image.banks areas ≡ None
 
 -- That image, and the lines of the play.
 pub record Sets (play : Play) (host : Outside) (image : Plain) (areas : List Area) (lines : List Line) : Type 0 where
@@ -116,7 +114,6 @@ IsDamage k kinds play host old new (BadArea label damage) = FindsDamage k kinds 
 IsDamage k kinds play host old new BadSpec = ⊥
 IsDamage k kinds play host old new (NoFile word) = ⊥
 IsDamage k kinds play host old new (BadFile at why) = ⊥
-IsDamage k kinds play host old new (Unbuilt label) = ⊥
 IsDamage k kinds play host old new NoLog = ⊥
 IsDamage k kinds play host old new NoItems = ⊥
 IsDamage k kinds play host old new NoMirror = ⊥
@@ -130,12 +127,11 @@ pub record LacksLines (play : Play) (host : Outside) (refusal : Refusal) : Type 
   pub opens : Opens play host image areas
   pub lacks : LacksSource play.source (limit_of areas) host refusal
 
--- In the order in which they are looked at: the image; its stores; the lines; and then damage, once the flash is loaded. But for
--- damage flash and handlers are as before.
+-- In the order in which they are looked at: the image; the lines; and then damage, once the flash is loaded. But for damage flash
+-- and handlers are as before.
 abbrev pub Refuses : Stores → List HandlerKind → Play → Outside → Stage → Stage → Refusal → Type 0
 Refuses k kinds play host old new refusal =
     (LacksStart play.start host refusal × (new ≡ old))
-    ⊎ (HasUnbuilt play.start host refusal × (new ≡ old))
     ⊎ (LacksLines play host refusal × (new ≡ old))
     ⊎ IsDamage k kinds play host old new refusal
 

@@ -13,7 +13,7 @@ use Rattle.image_file.specs.Format.{Plain}
 use Rattle.image_file.specs.Reading.{IsImageFile}
 use Rattle.image_file.specs.Table.{FirstFault, rows}
 use Rattle.image_plays.specs.declared.stops.Refusal.{Refusal}
-use Rattle.image_plays.specs.declared.stops.Refusal.TheVariants.{BadSpec, NoFile, BadFile, Unbuilt, NoLog, NoItems, NoMirror, BadArea, Unfit, BadScript}
+use Rattle.image_plays.specs.declared.stops.Refusal.TheVariants.{BadSpec, NoFile, BadFile, NoLog, NoItems, NoMirror, BadArea, Unfit, BadScript}
 use Rattle.image_plays.specs.declared.stops.Stop.{Stop}
 use Rattle.image_plays.specs.declared.stops.Stop.TheVariants.{Refused, HostFailed, NoMemory}
 
@@ -62,7 +62,6 @@ abbrev pub LacksImage : Outside → List ℕ → Refusal → Type 0
 LacksImage host name (NoFile word) = LacksFile host name × (word.now ≡ name)
 LacksImage host name (BadFile at why) = HasBadFile host name at why
 LacksImage host name BadSpec = ⊥
-LacksImage host name (Unbuilt label) = ⊥
 LacksImage host name NoLog = ⊥
 LacksImage host name NoItems = ⊥
 LacksImage host name NoMirror = ⊥
@@ -78,7 +77,6 @@ LacksText host name (NoFile word) = LacksFile host name × (word.now ≡ name)
 LacksText host name (BadScript n why) = HasLongFile host name most_script × (n ≡ 0) × (why ≡ line_why.Long)
 LacksText host name BadSpec = ⊥
 LacksText host name (BadFile at why) = ⊥
-LacksText host name (Unbuilt label) = ⊥
 LacksText host name NoLog = ⊥
 LacksText host name NoItems = ⊥
 LacksText host name NoMirror = ⊥
@@ -103,7 +101,6 @@ LacksScript limit host name (NoFile word) = LacksFile host name × (word.now ≡
 LacksScript limit host name (BadScript n why) = HasBadScript limit host name n why
 LacksScript limit host name BadSpec = ⊥
 LacksScript limit host name (BadFile at why) = ⊥
-LacksScript limit host name (Unbuilt label) = ⊥
 LacksScript limit host name NoLog = ⊥
 LacksScript limit host name NoItems = ⊥
 LacksScript limit host name NoMirror = ⊥

@@ -8,7 +8,7 @@ use Rattle.script_lines.specs.declared.why.LineWhy.TheVariants as line_why
 use Rattle.image_file.specs.declared.image.ImageWhy.{ImageWhy}
 use Rattle.image_file.specs.declared.image.ImageWhy.TheVariants as image_why
 use Rattle.image_plays.specs.declared.stops.Refusal.{Refusal}
-use Rattle.image_plays.specs.declared.stops.Refusal.TheVariants.{BadSpec, NoFile, BadFile, Unbuilt, NoLog, NoItems, NoMirror, BadArea, Unfit, BadScript}
+use Rattle.image_plays.specs.declared.stops.Refusal.TheVariants.{BadSpec, NoFile, BadFile, NoLog, NoItems, NoMirror, BadArea, Unfit, BadScript}
 
 abbrev pub file_why : ImageWhy → List ℕ
 file_why image_why.BadMagic = codes "BadMagic"
@@ -43,7 +43,6 @@ abbrev pub line_of : Refusal → List ℕ
 line_of BadSpec = usage_line
 line_of (NoFile word) = codes "no file: " ++ word.now ++ codes "\n"
 line_of (BadFile at reason) = codes "bad image: at " ++ decimal at ++ codes ": " ++ file_why reason ++ codes "\n"
-line_of (Unbuilt label) = codes "bad image: area " ++ label.bytes ++ codes ": Unbuilt\n"
 line_of NoLog = codes "bad image: no log\n"
 line_of NoItems = codes "bad image: no items\n"
 line_of NoMirror = codes "bad image: no mirror\n"

@@ -1,17 +1,15 @@
 // The image and the lines of a play.
-ghost use Rattle.std.specs.Prelude.{◌≡◌, ◌⊎◌, None, ◌≤◌, ◌∷◌, ◌++◌, [], All, IfOk};
+ghost use Rattle.std.specs.Prelude.{◌≡◌, ◌≤◌, ◌∷◌, ◌++◌, [], All, IfOk};
 ghost use Rattle.flash_map.specs.declared.area.TheConstants.{VALUE_LIMIT};
 ghost use Rattle.image_file.specs.Format.{plain};
 ghost use Rattle.image_file.specs.Lawful.{IsImage};
 ghost use Rattle.image_file.specs.Spec.{IsSpec};
 ghost use Rattle.session.specs.OnMap.{IsServed};
-ghost use Rattle.image_plays.specs.Inputs.{BeginsWith, HasUnbuilt, IsUnbuilt, LacksSource, LacksSpec, LacksStart, PlaysLines, blank_spec};
-ghost use Rattle.image_maps.specs.Laws.{unserved};
+ghost use Rattle.image_plays.specs.Inputs.{BeginsWith, LacksSource, LacksSpec, LacksStart, PlaysLines, blank_spec};
 ghost use Rattle.image_plays.specs.Reading.{MakesOr, ReadsOr};
 ghost use Rattle.script_lines.specs.Generator.{generated};
 ghost use Rattle.script_lines.specs.declared.line.Line.TheVariants as line;
 
-use crate::loading::unserved;
 use crate::plays::{Source, Start};
 use crate::reading::{read_image_file, read_lines};
 use crate::stops::{Refusal, Stop};
@@ -46,8 +44,11 @@ pub fn blank_image<'a>(alloc: Global, spec: &str) -> Result<Image, Stop<'a>>
     }
 }
 
-// The image that a play begins with.
-fn read_start<'a, H: Host>(
+/// The image that a play begins with. Nothing is printed or written.
+///
+/// # Errors
+/// Refused where a file is missing or no image; or the host failed, or there was not enough memory.
+pub fn open_start<'a, H: Host>(
     alloc: Global,
     start: &Start<'a>,
     host: &mut H,
@@ -59,42 +60,6 @@ fn read_start<'a, H: Host>(
     match *start {
         Start::File { name } => read_image_file(alloc, name, host),
         Start::Blank { store } => blank_image(alloc, blank_spec(store)),
-    }
-}
-
-/// The image, where a store works on each of its areas.
-///
-/// # Errors
-/// Refused where no store works on an area, the first such.
-pub fn serve<'a>(image: Image) -> Result<Image, Stop<'a>>
-    ensures { MakesOr (λ served. (served ≡ image) × (unserved image.banks.items image.map ≡ None))
-        (IsUnbuilt image.banks.items image.map) result }
-{
-    if let Some(area) = unserved(image.banks.as_slice(), &image.map) {
-        let label = area.label;
-        return Err(Stop::Refused(Refusal::Unbuilt { label }));
-    }
-    Ok(image)
-}
-
-/// The image that a play begins with, where a store works on each of its areas. Nothing is printed or written.
-///
-/// # Errors
-/// Refused where a file is missing or no image, or where no store works on an area; or the host failed, or there was not enough
-/// memory.
-pub fn open_start<'a, H: Host>(
-    alloc: Global,
-    start: &Start<'a>,
-    host: &mut H,
-) -> Result<Image, Stop<'a>>
-    ensures image { let h = H.outside host.old in
-        ReadsOr (λ image. BeginsWith start.now h (plain image) × (unserved image.banks.items image.map ≡ None))
-        (λ refusal. LacksStart start.now h refusal ⊎ HasUnbuilt start.now h refusal) h (H.outside host.new) result }
-    ensures lawful { IfOk result (λ image. IsImage (plain image)) }
-{
-    match read_start(alloc, start, host) {
-        Ok(image) => serve(image),
-        Err(stop) => Err(stop),
     }
 }
 

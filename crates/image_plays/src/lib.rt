@@ -13,7 +13,6 @@ mod stops;
 mod telling;
 
 pub use building::build;
-pub use inputs::serve;
 pub use loading::{file_left, longest_value};
 pub use outcome::{OutFile, Outcome};
 pub use playing::{label_at, play};

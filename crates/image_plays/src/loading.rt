@@ -5,41 +5,15 @@ ghost use Rattle.image_file.specs.Lawful.{IsImage};
 ghost use Rattle.migrator.specs.Areas.{first_store, is_store_at};
 ghost use Rattle.session.specs.OnMap.{limit_of};
 ghost use Rattle.image_maps.specs.Held.{held};
-ghost use Rattle.image_maps.specs.Laws.{is_unserved, unserved};
-ghost use Rattle.std.specs.Option.{option_copied};
 ghost use Rattle.image_plays.specs.Inputs.{out_of};
 ghost use Rattle.image_plays.specs.Plays.{WritesLeft, file_of};
 
 use crate::outcome::OutFile;
 use crate::plays::Output;
-use flash_map::{Area, FlashMap, Role};
-use flash_sim::{Bank, Bench, Kind, NoMemory};
+use flash_map::FlashMap;
+use flash_sim::{Bench, NoMemory};
 use image_file::write_image;
 use std::alloc::Global;
-
-// Whether no store works on the area.
-fn is_unserved(banks: &[Bank], area: &Area) -> bool
-    ensures { result ≡ is_unserved banks.now area.now }
-{
-    let kind = match banks.get(area.bank) {
-        Some(bank) => bank.kind,
-        None => Kind::Erasing,
-    };
-    area.role == Role::Zms && kind == Kind::Erasing
-}
-
-/// The first area on which no store works: one for ZMS on a bank whose units can not be programmed again.
-pub fn unserved<'a>(banks: &[Bank], areas: &'a FlashMap) -> Option<&'a Area>
-    ensures { option_copied result ≡ unserved banks.now areas.now }
-{
-    for i in 0..areas.len() {
-        let area = areas.at(i)?;
-        if is_unserved(banks, area) {
-            return Some(area);
-        }
-    }
-    None
-}
 
 /// The most bytes of a value in an image of these areas.
 pub fn longest_value(areas: &FlashMap) -> usize

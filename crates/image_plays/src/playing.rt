@@ -11,7 +11,6 @@ ghost use Rattle.session_table.specs.Bench.{area_at};
 ghost use Rattle.session.specs.declared.fault.SessionFault.TheVariants.{NoMemory as WantsMemory};
 ghost use Rattle.session.specs.OnMap.{IsAtRest, IsFresh, IsServed, IsServedMap, RunEnds, damage_in, kinds, limit_of, meanings, moment};
 ghost use Rattle.image_maps.specs.Held.{held};
-ghost use Rattle.image_maps.specs.Laws.{unserved};
 ghost use Rattle.image_plays.specs.Inputs.{BeginsWith, PlaysLines};
 ghost use Rattle.image_plays.specs.Plays.{IsStop, PlayEnds};
 ghost use Rattle.image_plays.specs.Stages.{stage, stores};
@@ -96,9 +95,8 @@ fn play_lines<'a, K: Backend, B: Bench>(
     pool: Vec<Box<dyn Handler>>,
     registry: &mut Registry,
 ) -> Result<Outcome<'a>, Stop<'a>>
-    requires serves { (areas : List area) (d : Device) → IsImage (held areas d) → unserved d.banks areas ≡ None → IsServedMap K.serves areas d }
+    requires serves { (areas : List area) (d : Device) → IsImage (held areas d) → IsServedMap K.serves areas d }
     requires image { IsImage (plain image) }
-    requires stores { unserved image.banks.items image.map ≡ None }
     requires lines { All (IsServed (limit_of image.map)) lines.now }
     requires pool { All (IsFresh state) pool.items }
     requires registry { registered state registry.old ≡ [] }
@@ -129,9 +127,8 @@ fn play_lines<'a, K: Backend, B: Bench>(
 /// printed and written. Nothing is printed or written, and files stay.
 ///
 /// # Errors
-/// Refused where there is no image, then where no store works on one of its areas, then where there are no lines, then where a
-/// mount finds damage. The host failed: nothing was played. There was not enough memory: nothing was played, or the lines were
-/// played up to some one of them.
+/// Refused where there is no image, then where there are no lines, then where a mount finds damage. The host failed: nothing was
+/// played. There was not enough memory: nothing was played, or the lines were played up to some one of them.
 pub fn play<'a, K: Backend, H: Host, B: Bench>(
     alloc: Global,
     play: &Play<'a>,
@@ -140,7 +137,7 @@ pub fn play<'a, K: Backend, H: Host, B: Bench>(
     pool: Vec<Box<dyn Handler>>,
     registry: &mut Registry,
 ) -> Result<Outcome<'a>, Stop<'a>>
-    requires serves { (areas : List area) (d : Device) → IsImage (held areas d) → unserved d.banks areas ≡ None → IsServedMap K.serves areas d }
+    requires serves { (areas : List area) (d : Device) → IsImage (held areas d) → IsServedMap K.serves areas d }
     requires pool { All (IsFresh state) pool.items }
     requires registry { registered state registry.old ≡ [] }
     ensures { let k = stores K.contents K.room K.chance K.tears K.damage K.rests in

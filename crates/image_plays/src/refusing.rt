@@ -107,10 +107,6 @@ pub fn refusal_line(alloc: Global, refusal: &Refusal<'_>) -> Result<String, Allo
             let why = file_why(*why);
             file_line(alloc, *at, why)
         }
-        Refusal::Unbuilt { label } => {
-            let label = label.as_str();
-            format!(in alloc; "bad image: area {label}: Unbuilt\n")
-        }
         Refusal::NoLog => String::from_str(alloc, "bad image: no log\n"),
         Refusal::NoItems => String::from_str(alloc, "bad image: no items\n"),
         Refusal::NoMirror => String::from_str(alloc, "bad image: no mirror\n"),

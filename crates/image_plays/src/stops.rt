@@ -22,10 +22,6 @@ pub enum Refusal<'a> {
         at: u64,
         why: ImageWhy,
     },
-    /// No store works on the area with this label, the first such.
-    Unbuilt {
-        label: ArrayString<8>,
-    },
     /// The image is not exactly one area, for FCB.
     NoLog,
     /// The image is not exactly one area, for NVS or ZMS.

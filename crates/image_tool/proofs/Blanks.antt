@@ -1,5 +1,5 @@
 -- The blank images on which generated scripts run.
-use Rattle.std.proofs.Common.{◌≡◌, ◌≤◌, ◌<◌, ◌+◌, ◌⊎◌, ℕ, zero, suc, Bool, true, false, cond, Some, None, List, [], ◌∷◌, length, map, take, replicate, arith, inl, inr, refl, sym, ap, subst, ◌∙◌}
+use Rattle.std.proofs.Common.{◌≡◌, ◌<◌, ℕ, zero, suc, false, List, [], ◌∷◌, length, take, replicate, arith, inl, inr, refl, sym, subst}
 use Rattle.std.specs.Prelude.{All, codes, count_by, slice_index_or}
 use Rattle.std.specs.Fmt.{digits}
 use Rattle.std.proofs.lemmas.List.{length-replicate}
@@ -15,14 +15,11 @@ use Rattle.flash_map.specs.declared.area.Role.{Role}
 use Rattle.flash_map.specs.declared.area.Role.TheVariants.{Nvs, Zms, Fcb}
 use Rattle.command_words.specs.declared.commands.StoreKind.{StoreKind}
 use Rattle.command_words.specs.declared.commands.StoreKind.TheVariants as store
-use Rattle.image_file.specs.Format.{Plain, plain_area}
+use Rattle.image_file.specs.Format.{Plain}
 use Rattle.image_file.specs.Lawful.{HasNeeded, IsImage, IsImageArea, IsImageBank, StandsOn, area_at, is_sel, is_selector}
 use Rattle.image_file.specs.Spec.{AddsAll, IsSpec, area_words, bank_words, nothing_listed}
-use Rattle.image_file.proofs.OneSpecLemmas.{no_bad_item, one_blank_image}
-use Rattle.image_maps.specs.Laws.{is_unserved, unserved}
-use Rattle.image_plays.specs.Images.{HasAreas}
+use Rattle.image_file.proofs.OneSpecLemmas.{no_bad_item}
 use Rattle.image_plays.specs.Inputs.{blank_spec}
-use Rattle.image_tool.specs.Blank.{BlanksAreServed}
 use Rattle.image_tool.specs.Complete.{BlanksAreLawful, BlanksAreNotRefused}
 
 -- four sectors of 4,096 bytes
@@ -139,21 +136,3 @@ blanks_are_lawful kind = (blank_of kind, spec_of kind)
 
 pub blanks_are_not_refused : BlanksAreNotRefused
 blanks_are_not_refused kind host refusal lacks = no_bad_item (blank_spec kind) (blank_of kind) lacks.1 (spec_of kind) lacks.2
-
--- ---- a store works on its one area
-
-one_served : (banks : List Bank) (area : Area) → is_unserved banks area ≡ false → (areas : List Area) → map plain_area areas ≡ area ∷ [] → unserved banks areas ≡ None
-one_served banks area is [] are = refl
-one_served banks area is (one ∷ []) are =
-    let same : plain_area one ≡ area = ap (λ (list : List Area). area_at list 0) are in
-    ap (λ (b : Bool). cond b (Some one) None) (ap (is_unserved banks) same ∙ is)
-one_served banks area is (one ∷ other ∷ areas) are = let long : length (map plain_area (one ∷ other ∷ areas)) ≡ 1 = ap length are in absurd (omega arith)
-
-served : (kind : StoreKind) (areas : List Area) → HasAreas (blank_of kind) areas → unserved (blank_of kind).banks areas ≡ None
-served store.Nvs areas has = one_served (blank_of store.Nvs).banks (blank_area Nvs) refl areas has.are
-served store.Zms areas has = one_served (blank_of store.Zms).banks (blank_area Zms) refl areas has.are
-served store.Fcb areas has = one_served (blank_of store.Fcb).banks (blank_area Fcb) refl areas has.are
-
-pub blanks_are_served : BlanksAreServed
-blanks_are_served kind image areas is =
-    subst (λ (i : Plain). HasAreas i areas → unserved i.banks areas ≡ None) (one_blank_image (blank_spec kind) (blank_of kind) image (spec_of kind) is) (served kind areas)

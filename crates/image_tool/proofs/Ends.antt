@@ -1,13 +1,12 @@
 -- How a task ends, from what was prepared and what was printed and written.
-use Rattle.std.proofs.Common.{◌≡◌, ◌⊎◌, ℕ, List, [], ◌∷◌, arith, Option, Some, None, Result, Ok, Err, inl, inr, refl, sym, ap, subst, ◌∙◌}
+use Rattle.std.proofs.Common.{◌≡◌, ℕ, List, [], ◌∷◌, arith, Option, Some, None, Result, Ok, Err, inl, inr, refl, sym, ap, subst, ◌∙◌}
 use Rattle.std.specs.Prelude.{MatchOption, slice_index}
-use Rattle.zs_host.specs.Outside.{Outside, Files, SameBut, failed, printed_more}
+use Rattle.zs_host.specs.Outside.{Outside, Files, SameBut, printed_more}
 use Rattle.handlers.specs.declared.handler.HandlerKind.{HandlerKind}
 use Rattle.image_plays.specs.declared.plays.Output.{Output}
 use Rattle.image_plays.specs.declared.plays.Output.TheVariants.{Nowhere, Into}
-use Rattle.image_plays.specs.declared.plays.Play.{Play}
 use Rattle.image_plays.specs.declared.stops.Refusal.{Refusal}
-use Rattle.image_plays.specs.declared.stops.Refusal.TheVariants.{BadSpec, NoFile, BadFile, Unbuilt, NoLog, NoItems, NoMirror, BadArea, Unfit, BadScript}
+use Rattle.image_plays.specs.declared.stops.Refusal.TheVariants.{BadSpec, NoFile, BadFile, NoLog, NoItems, NoMirror, BadArea, Unfit, BadScript}
 use Rattle.image_plays.specs.Inputs.{out_of}
 use Rattle.command_words.specs.Commands.{IsCommand, IsNoCommand, name_of, operands_of}
 use Rattle.command_words.specs.declared.commands.Command.TheVariants as command
@@ -28,7 +27,7 @@ use Rattle.image_tool.specs.declared.status.Status.TheVariants as status
 use Rattle.image_tool.specs.declared.tasks.Task.{Task}
 use Rattle.image_tool.specs.declared.tasks.Task.TheVariants.{Build, Plays, Log, Items, Mirror}
 use Rattle.image_tool.specs.Tasks.{Causes, Does, Prepares, task_of}
-use Rattle.image_tool.specs.Telling.{Delivers, DeliversOnly, PrintsFront, Reports}
+use Rattle.image_tool.specs.Telling.{Delivers, DeliversOnly, Reports}
 use Rattle.image_tool.specs.Tool.{MayWrite, OnlyFile, TaskEnds, ToolEnds, out_file, status_of}
 
 module _ (k : Stores) (kinds : List HandlerKind) (task : Task) (host host' : Outside) (old new : Stage) where
@@ -49,7 +48,6 @@ module _ (k : Stores) (kinds : List HandlerKind) (task : Task) (host host' : Out
   refused_ends BadSpec causes is = (BadSpec, causes, refl, is)
   refused_ends (NoFile word) causes is = (NoFile word, causes, refl, is)
   refused_ends (BadFile at why) causes is = (BadFile at why, causes, refl, is)
-  refused_ends (Unbuilt label) causes is = (Unbuilt label, causes, refl, is)
   refused_ends NoLog causes is = (NoLog, causes, refl, is)
   refused_ends NoItems causes is = (NoItems, causes, refl, is)
   refused_ends NoMirror causes is = (NoMirror, causes, refl, is)

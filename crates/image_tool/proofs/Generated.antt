@@ -1,5 +1,5 @@
 -- Plays on blank images.
-use Rattle.std.proofs.Common.{◌≡◌, ◌∙◌, ◌⊎◌, ℕ, List, [], ◌∷◌, map, Option, Some, None, inl, inr, refl, sym, ap, subst, arith}
+use Rattle.std.proofs.Common.{◌≡◌, ◌∙◌, ℕ, List, [], ◌∷◌, map, inl, inr, refl, sym, ap, subst, arith}
 use Rattle.std.specs.Prelude.{slice_index}
 use Rattle.std.specs.Borrow.{Bor}
 use Rattle.flash_map.specs.declared.area.Area.{Area}
@@ -9,29 +9,28 @@ use Rattle.command_words.specs.Commands.{IsCommand, name_of}
 use Rattle.command_words.specs.declared.commands.Command.{Command}
 use Rattle.command_words.specs.declared.commands.Command.TheVariants.{Build, Run, Dump, Migrate, Gen, Log, Items, Mirror}
 use Rattle.command_words.specs.declared.commands.StoreKind.{StoreKind}
-use Rattle.image_file.specs.Format.{Plain, plain_area, version_of}
+use Rattle.image_file.specs.Format.{Plain, plain_area}
 use Rattle.image_file.specs.Lawful.{IsImage}
 use Rattle.image_file.specs.Spec.{IsSpec}
 use Rattle.image_maps.specs.Blank.{HoldsNothing}
 use Rattle.image_maps.specs.Held.{held}
-use Rattle.image_maps.specs.Laws.{unserved}
 use Rattle.image_maps.proofs.BlankLemmas.{holds_nothing}
 use Rattle.image_plays.specs.declared.plays.Play.{Play}
 use Rattle.image_plays.specs.declared.plays.Start.{Start}
 use Rattle.image_plays.specs.declared.plays.Start.TheVariants.{Blank}
 use Rattle.image_plays.specs.declared.stops.Refusal.{Refusal}
-use Rattle.image_plays.specs.declared.stops.Refusal.TheVariants.{BadSpec, NoFile, BadFile, Unbuilt, NoLog, NoItems, NoMirror, BadArea, Unfit, BadScript}
-use Rattle.image_plays.specs.Images.{HasAreas, damage_of, flash_of}
-use Rattle.image_plays.specs.Inputs.{BeginsWith, HasUnbuilt, LacksStart, blank_spec}
+use Rattle.image_plays.specs.declared.stops.Refusal.TheVariants.{BadSpec, NoFile, BadFile, NoLog, NoItems, NoMirror, BadArea, Unfit, BadScript}
+use Rattle.image_plays.specs.Images.{HasAreas, flash_of}
+use Rattle.image_plays.specs.Inputs.{BeginsWith, LacksStart, blank_spec}
 use Rattle.image_plays.specs.Plays.{IsDamage, LacksLines, Refuses}
 use Rattle.image_plays.specs.Stages.{Stage}
 use Rattle.image_tool.specs.declared.status.Status.{Status}
 use Rattle.image_tool.specs.declared.status.Status.TheVariants as status
-use Rattle.image_tool.specs.Blank.{BlanksLackLinesAlone, GenIsCarriedOut, IsEmptyImage, SpecsAreEmpty}
+use Rattle.image_tool.specs.Blank.{BlanksLackLinesAlone, GenIsCarriedOut, SpecsAreEmpty}
 use Rattle.image_tool.specs.Complete.{IsCarriedOut}
 use Rattle.image_tool.specs.Tasks.{Causes, task_of}
 use Rattle.image_tool.specs.Tool.{TaskEnds, any_stores}
-use Rattle.image_tool.proofs.Blanks.{blanks_are_not_refused, blanks_are_served}
+use Rattle.image_tool.proofs.Blanks.{blanks_are_not_refused}
 
 -- ---- the image of a word
 
@@ -42,43 +41,24 @@ held_lawful image areas has is =
     (subst (λ (all : List Area). IsImage (record { version = image.version; banks = image.banks; areas = all; bytes = image.bytes })) (sym has.are) is)
 
 pub specs_are_empty : SpecsAreEmpty
-specs_are_empty word image areas is has served =
-    let nothing : HoldsNothing areas (flash_of image) = holds_nothing areas (flash_of image) is.blank (held_lawful image areas has is.lawful) served in
+specs_are_empty word image areas is has =
+    let nothing : HoldsNothing areas (flash_of image) = holds_nothing areas (flash_of image) is.blank (held_lawful image areas has is.lawful) in
     record { undamaged = nothing.undamaged; active = nothing.active; settings = nothing.settings }
 
 -- ---- plays
-
-some_none : {X : Type 0} (o : Option X) (x : X) → o ≡ Some x → o ≡ None → ⊥
-some_none o x is isnt = cc
 
 module _ (kinds : List HandlerKind) (play : Play) (kind : StoreKind) (host : Outside) (old new : Stage) (start : play.start ≡ Blank kind) where
   described : (image : Plain) → BeginsWith play.start host image → IsSpec (blank_spec kind) image
   described image begins = subst (λ (s : Start). BeginsWith s host image) start begins
 
-  works : (image : Plain) (areas : List Area) → BeginsWith play.start host image → HasAreas image areas → unserved image.banks areas ≡ None
-  works image areas begins has = blanks_are_served kind image areas (described image begins) has
-
-  built : (refusal : Refusal) → HasUnbuilt play.start host refusal → ⊥
-  built (Unbuilt label) has = some_none (unserved has.image.banks has.areas) has.unbuilt.0 has.unbuilt.1 (works has.image has.areas has.begins has.has)
-  built BadSpec has = has.unbuilt
-  built (NoFile word) has = has.unbuilt
-  built (BadFile at why) has = has.unbuilt
-  built NoLog has = has.unbuilt
-  built NoItems has = has.unbuilt
-  built NoMirror has = has.unbuilt
-  built (BadArea label damage) has = has.unbuilt
-  built (Unfit label) has = has.unbuilt
-  built (BadScript n why) has = has.unbuilt
-
   whole : (refusal : Refusal) → IsDamage any_stores kinds play host old new refusal → ⊥
   whole (BadArea label damage) finds =
       let opens = finds.sets.opens in
-      let empty = specs_are_empty (blank_spec kind) finds.image finds.areas (described finds.image opens.begins) opens.has opens.served in
+      let empty = specs_are_empty (blank_spec kind) finds.image finds.areas (described finds.image opens.begins) opens.has in
       finds.shows empty.undamaged
   whole BadSpec finds = finds
   whole (NoFile word) finds = finds
   whole (BadFile at why) finds = finds
-  whole (Unbuilt label) finds = finds
   whole NoLog finds = finds
   whole NoItems finds = finds
   whole NoMirror finds = finds
@@ -87,9 +67,8 @@ module _ (kinds : List HandlerKind) (play : Play) (kind : StoreKind) (host : Out
 
   for_lines : (refusal : Refusal) → Refuses any_stores kinds play host old new refusal → LacksLines play host refusal
   for_lines refusal (inl (lacks, _)) = absurd (blanks_are_not_refused kind host refusal (subst (λ (s : Start). LacksStart s host refusal) start lacks))
-  for_lines refusal (inr (inl (unbuilt, _))) = absurd (built refusal unbuilt)
-  for_lines refusal (inr (inr (inl (lacks, _)))) = lacks
-  for_lines refusal (inr (inr (inr damage))) = absurd (whole refusal damage)
+  for_lines refusal (inr (inl (lacks, _))) = lacks
+  for_lines refusal (inr (inr damage)) = absurd (whole refusal damage)
 
 pub blanks_lack_lines_alone : BlanksLackLinesAlone
 blanks_lack_lines_alone kinds play kind host old new refusal start refuses = for_lines kinds play kind host old new start refusal refuses

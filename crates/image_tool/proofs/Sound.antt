@@ -10,16 +10,15 @@ use Rattle.script_lines.specs.Script.{IsBadLine}
 use Rattle.script_lines.proofs.ScriptLaws.{one_script}
 use Rattle.image_file.specs.Format.{Plain}
 use Rattle.image_file.proofs.OneSpecLemmas.{no_bad_item, one_blank_image}
-use Rattle.image_maps.specs.Laws.{unserved}
 use Rattle.image_plays.specs.declared.plays.Play.{Play}
 use Rattle.image_plays.specs.declared.plays.Source.{Source}
 use Rattle.image_plays.specs.declared.plays.Source.TheVariants.{Script, Names, Migration, Generated}
 use Rattle.image_plays.specs.declared.plays.Start.{Start}
 use Rattle.image_plays.specs.declared.plays.Start.TheVariants.{File, Blank}
 use Rattle.image_plays.specs.declared.stops.Refusal.{Refusal}
-use Rattle.image_plays.specs.declared.stops.Refusal.TheVariants.{BadSpec, NoFile, BadFile, Unbuilt, NoLog, NoItems, NoMirror, BadArea, Unfit, BadScript}
+use Rattle.image_plays.specs.declared.stops.Refusal.TheVariants.{BadSpec, NoFile, BadFile, NoLog, NoItems, NoMirror, BadArea, Unfit, BadScript}
 use Rattle.image_plays.specs.Images.{HasAreas, damage_of}
-use Rattle.image_plays.specs.Inputs.{BeginsWith, HasUnbuilt, LacksSource, LacksStart, PlaysLines, blank_spec}
+use Rattle.image_plays.specs.Inputs.{BeginsWith, LacksSource, LacksStart, PlaysLines, blank_spec}
 use Rattle.image_plays.specs.Plays.{IsDamage, LacksLines, Refuses}
 use Rattle.image_plays.specs.Reading.{HasScript, LacksScript}
 use Rattle.image_plays.specs.Stages.{Stage, Stores}
@@ -30,7 +29,7 @@ use Rattle.image_tool.specs.declared.tasks.Task.TheVariants.{Build, Plays, Log, 
 use Rattle.image_tool.specs.Complete.{IsCarriedOut, IsSound, IsSoundTask, SoundIsCarriedOut}
 use Rattle.image_tool.specs.Tasks.{Causes}
 use Rattle.image_tool.specs.Tool.{TaskEnds, any_stores}
-use Rattle.image_tool.proofs.SoundFiles.{has_image, never_long, never_missing, same_file, same_image, some_none}
+use Rattle.image_tool.proofs.SoundFiles.{has_image, never_long, never_missing, same_file, same_image}
 use Rattle.image_tool.proofs.SoundLog.{log_is_not_refused}
 use Rattle.image_tool.proofs.SoundItems.{items_are_not_refused}
 use Rattle.image_tool.proofs.SoundMirror.{mirror_is_not_refused}
@@ -44,7 +43,6 @@ module _ (host : Outside) (tells : IsSome host.files) (name : List ℕ) where
   has_script limit lines (BadScript n why) has (inr (long, _, _)) = never_long host.files name _ has.text tells has.has.has has.has.short long
   has_script limit lines BadSpec has lacks = lacks
   has_script limit lines (BadFile at why) has lacks = lacks
-  has_script limit lines (Unbuilt label) has lacks = lacks
   has_script limit lines NoLog has lacks = lacks
   has_script limit lines NoItems has lacks = lacks
   has_script limit lines NoMirror has lacks = lacks
@@ -72,20 +70,6 @@ module _ (k : Stores) (kinds : List HandlerKind) (play : Play) (host : Outside) 
   same : (other : Plain) → BeginsWith play.start host other → other ≡ sound.image
   same other begins = same_start host sound.tells play.start sound.image other sound.begins begins
 
-  built : (refusal : Refusal) → HasUnbuilt play.start host refusal → ⊥
-  built (Unbuilt label) has =
-      let served = subst (λ (i : Plain). HasAreas i has.areas → unserved i.banks has.areas ≡ None) (sym (same has.image has.begins)) (sound.served has.areas) has.has in
-      some_none (unserved has.image.banks has.areas) has.unbuilt.0 has.unbuilt.1 served
-  built BadSpec has = has.unbuilt
-  built (NoFile word) has = has.unbuilt
-  built (BadFile at why) has = has.unbuilt
-  built NoLog has = has.unbuilt
-  built NoItems has = has.unbuilt
-  built NoMirror has = has.unbuilt
-  built (BadArea label damage) has = has.unbuilt
-  built (Unfit label) has = has.unbuilt
-  built (BadScript n why) has = has.unbuilt
-
   lined : (refusal : Refusal) → LacksLines play host refusal → ⊥
   lined refusal lacks =
       let has = subst (λ (i : Plain). HasAreas i lacks.areas) (same lacks.image lacks.opens.begins) lacks.opens.has in
@@ -99,7 +83,6 @@ module _ (k : Stores) (kinds : List HandlerKind) (play : Play) (host : Outside) 
   whole BadSpec finds = finds
   whole (NoFile word) finds = finds
   whole (BadFile at why) finds = finds
-  whole (Unbuilt label) finds = finds
   whole NoLog finds = finds
   whole NoItems finds = finds
   whole NoMirror finds = finds
@@ -108,9 +91,8 @@ module _ (k : Stores) (kinds : List HandlerKind) (play : Play) (host : Outside) 
 
   never_refused : (refusal : Refusal) → Refuses k kinds play host old new refusal → ⊥
   never_refused refusal (inl (lacks, _)) = has_start host sound.tells play.start sound.image refusal sound.begins lacks
-  never_refused refusal (inr (inl (unbuilt, _))) = built refusal unbuilt
-  never_refused refusal (inr (inr (inl (lacks, _)))) = lined refusal lacks
-  never_refused refusal (inr (inr (inr damage))) = whole refusal damage
+  never_refused refusal (inr (inl (lacks, _))) = lined refusal lacks
+  never_refused refusal (inr (inr damage)) = whole refusal damage
 
 -- ---- tasks
 

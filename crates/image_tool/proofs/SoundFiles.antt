@@ -9,7 +9,7 @@ use Rattle.image_file.specs.Table.{FirstFault, rows}
 use Rattle.image_file.specs.declared.image.ImageWhy.{ImageWhy}
 use Rattle.image_file.proofs.SaidLemmas.{not_both, one_image}
 use Rattle.image_plays.specs.declared.stops.Refusal.{Refusal}
-use Rattle.image_plays.specs.declared.stops.Refusal.TheVariants.{BadSpec, NoFile, BadFile, Unbuilt, NoLog, NoItems, NoMirror, BadArea, Unfit, BadScript}
+use Rattle.image_plays.specs.declared.stops.Refusal.TheVariants.{BadSpec, NoFile, BadFile, NoLog, NoItems, NoMirror, BadArea, Unfit, BadScript}
 use Rattle.image_plays.specs.Reading.{HasBadFile, HasImage, LacksImage}
 
 pub some_none : {X : Type 0} (o : Option X) (x : X) → o ≡ Some x → o ≡ None → ⊥
@@ -47,7 +47,6 @@ module _ (host : Outside) (tells : IsSome host.files) (name : List ℕ) where
   has_image image (NoFile word) has lacks = never_missing name host.files has.text tells has.has.has lacks.0
   has_image image (BadFile at why) has lacks = bad_file image at why has lacks
   has_image image BadSpec has lacks = lacks
-  has_image image (Unbuilt label) has lacks = lacks
   has_image image NoLog has lacks = lacks
   has_image image NoItems has lacks = lacks
   has_image image NoMirror has lacks = lacks

@@ -1,5 +1,5 @@
 -- A play on items that is sound is not refused.
-use Rattle.std.proofs.Common.{◌≡◌, ℕ, Bool, false, cond, List, [], ◌∷◌, Option, Some, None, inl, inr, sym, ap, subst, ◌∙◌}
+use Rattle.std.proofs.Common.{◌≡◌, ℕ, List, [], ◌∷◌, Some, inl, inr, sym, ap, subst, ◌∙◌}
 use Rattle.std.specs.Prelude.{IsSome}
 use Rattle.flash_sim.specs.Device.{Device}
 use Rattle.flash_map.specs.declared.area.Area.{Area}
@@ -13,13 +13,11 @@ use Rattle.item_lines.specs.declared.ids.Ids.{Ids}
 use Rattle.item_lines.specs.declared.line.Line.{Line}
 use Rattle.item_lines.specs.Line.{ids_end, item_forms}
 use Rattle.image_plays.specs.declared.stops.Refusal.{Refusal}
-use Rattle.image_plays.specs.declared.stops.Refusal.TheVariants.{BadSpec, NoFile, BadFile, Unbuilt, NoLog, NoItems, NoMirror, BadArea, Unfit, BadScript}
+use Rattle.image_plays.specs.declared.stops.Refusal.TheVariants.{BadSpec, NoFile, BadFile, NoLog, NoItems, NoMirror, BadArea, Unfit, BadScript}
 use Rattle.image_plays.specs.Images.{HasAreas}
 use Rattle.image_plays.specs.Reading.{HasImage, LacksText}
-use Rattle.image_maps.specs.Laws.{is_unserved, unserved}
-use Rattle.image_items.specs.Inputs.{HasBadLine, HasLines, IsItemArea, LacksItems, LacksLines, LacksStore, ids_of}
+use Rattle.image_items.specs.Inputs.{HasBadLine, HasLines, IsItemArea, LacksItems, LacksLines, ids_of}
 use Rattle.image_items.specs.Plays.{FindsItemDamage, LacksItemLines, RefusesItems, damage_in}
-use Rattle.image_items.proofs.AreaLemmas.{not_found}
 use Rattle.image_tool.specs.Complete.{IsSoundItems}
 use Rattle.image_tool.proofs.SoundFiles.{has_image, never_long, never_missing, same_file, same_image, some_none}
 
@@ -31,7 +29,6 @@ module _ (host : Outside) (tells : IsSome host.files) (name : List ℕ) (ids : I
   has_text (BadScript n why) lacks = never_long host.files name _ has.text tells has.has.has has.has.short lacks.0
   has_text BadSpec lacks = lacks
   has_text (BadFile at why) lacks = lacks
-  has_text (Unbuilt label) lacks = lacks
   has_text NoLog lacks = lacks
   has_text NoItems lacks = lacks
   has_text NoMirror lacks = lacks
@@ -82,25 +79,6 @@ module _ (name script : List ℕ) (host : Outside) (old new : Device) (sound : I
   area_of image area has is =
       same_area sound.image sound.area area sound.opens.area_is (subst (λ (i : Plain). HasAreas i (area ∷ [])) (same image has) is)
 
-  built : (refusal : Refusal) → LacksStore host name refusal → ⊥
-  built (Unbuilt label) lacks =
-      let one : Area = lacks.finds.area in
-      let are : HasAreas lacks.image (one ∷ []) = subst (HasAreas lacks.image) lacks.finds.items.only lacks.are in
-      let alike : is_unserved lacks.image.banks one ≡ is_unserved lacks.image.banks sound.area = ap (is_unserved lacks.image.banks) (sym (area_of lacks.image one lacks.has are)) in
-      let fine : is_unserved lacks.image.banks sound.area ≡ false =
-      subst (λ (i : Plain). is_unserved i.banks sound.area ≡ false) (sym (same lacks.image lacks.has)) (not_found (is_unserved sound.image.banks sound.area) sound.area None sound.opens.served) in
-      let none : unserved lacks.image.banks lacks.areas ≡ None = ap (unserved lacks.image.banks) lacks.finds.items.only ∙ ap (λ (t : Bool). cond t (Some one) None) (alike ∙ fine) in
-      some_none (unserved lacks.image.banks lacks.areas) lacks.finds.unbuilt.0 lacks.finds.unbuilt.1 none
-  built BadSpec lacks = lacks.finds.unbuilt
-  built (NoFile word) lacks = lacks.finds.unbuilt
-  built (BadFile at why) lacks = lacks.finds.unbuilt
-  built NoLog lacks = lacks.finds.unbuilt
-  built NoItems lacks = lacks.finds.unbuilt
-  built NoMirror lacks = lacks.finds.unbuilt
-  built (BadArea label damage) lacks = lacks.finds.unbuilt
-  built (Unfit label) lacks = lacks.finds.unbuilt
-  built (BadScript n why) lacks = lacks.finds.unbuilt
-
   lined : (refusal : Refusal) → LacksItemLines name script host refusal → ⊥
   lined refusal lacks =
       has_lines host sound.tells script (ids_of sound.area.role) (value_limit sound.area) sound.lines sound.reads refusal
@@ -116,6 +94,5 @@ module _ (name script : List ℕ) (host : Outside) (old new : Device) (sound : I
   pub items_are_not_refused : (refusal : Refusal) → RefusesItems name script host old new refusal → ⊥
   items_are_not_refused refusal (inl (lacks, _)) = has_image host sound.tells name sound.image refusal sound.opens.has lacks
   items_are_not_refused refusal (inr (inl (lacks, _))) = has_items refusal lacks
-  items_are_not_refused refusal (inr (inr (inl (lacks, _)))) = built refusal lacks
-  items_are_not_refused refusal (inr (inr (inr (inl (lacks, _))))) = lined refusal lacks
-  items_are_not_refused refusal (inr (inr (inr (inr finds)))) = whole refusal finds
+  items_are_not_refused refusal (inr (inr (inl (lacks, _)))) = lined refusal lacks
+  items_are_not_refused refusal (inr (inr (inr finds))) = whole refusal finds

@@ -12,7 +12,7 @@ use Rattle.script_lines.proofs.ScriptLaws.{one_script}
 use Rattle.log_lines.specs.declared.line.Line.{Line}
 use Rattle.log_lines.specs.Line.{log_forms}
 use Rattle.image_plays.specs.declared.stops.Refusal.{Refusal}
-use Rattle.image_plays.specs.declared.stops.Refusal.TheVariants.{BadSpec, NoFile, BadFile, Unbuilt, NoLog, NoItems, NoMirror, BadArea, Unfit, BadScript}
+use Rattle.image_plays.specs.declared.stops.Refusal.TheVariants.{BadSpec, NoFile, BadFile, NoLog, NoItems, NoMirror, BadArea, Unfit, BadScript}
 use Rattle.image_plays.specs.Images.{HasAreas}
 use Rattle.image_plays.specs.Reading.{HasImage, LacksText}
 use Rattle.image_logs.specs.Inputs.{HasBadLine, HasLines, IsLogArea, LacksLines, LacksLog}
@@ -28,7 +28,6 @@ module _ (host : Outside) (tells : IsSome host.files) (name : List ℕ) (limit :
   has_text (BadScript n why) lacks = never_long host.files name _ has.text tells has.has.has has.has.short lacks.0
   has_text BadSpec lacks = lacks
   has_text (BadFile at why) lacks = lacks
-  has_text (Unbuilt label) lacks = lacks
   has_text NoLog lacks = lacks
   has_text NoItems lacks = lacks
   has_text NoMirror lacks = lacks

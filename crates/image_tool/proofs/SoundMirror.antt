@@ -9,21 +9,20 @@ use Rattle.script_lines.specs.declared.why.LineWhy.{LineWhy}
 use Rattle.script_lines.specs.Script.{IsBadLine}
 use Rattle.script_lines.proofs.ScriptLaws.{one_script}
 use Rattle.image_file.specs.Format.{Plain}
-use Rattle.image_maps.specs.Laws.{unserved}
 use Rattle.mirror_lines.specs.declared.line.Line.{Line}
 use Rattle.mirror_lines.specs.Line.{mirror_forms}
 use Rattle.mirror_session.specs.declared.fault.SessionFault.{SessionFault}
 use Rattle.mirror_session.specs.declared.fault.SessionFault.TheVariants.{Damaged as IsDamaged, Unfit as IsUnfit, NoMemory as WantsMemory}
 use Rattle.mirror_session.specs.Running.{TellsUnfit}
 use Rattle.image_plays.specs.declared.stops.Refusal.{Refusal}
-use Rattle.image_plays.specs.declared.stops.Refusal.TheVariants.{BadSpec, NoFile, BadFile, Unbuilt, NoLog, NoItems, NoMirror, BadArea, Unfit, BadScript}
+use Rattle.image_plays.specs.declared.stops.Refusal.TheVariants.{BadSpec, NoFile, BadFile, NoLog, NoItems, NoMirror, BadArea, Unfit, BadScript}
 use Rattle.image_plays.specs.declared.stops.Stop.TheVariants.{Refused}
 use Rattle.image_plays.specs.Images.{HasAreas}
 use Rattle.image_plays.specs.Reading.{HasImage, LacksText}
-use Rattle.image_mirrors.specs.Inputs.{AreMirrored, HasBadLine, HasLines, LacksLines, LacksMirror, LacksStore}
+use Rattle.image_mirrors.specs.Inputs.{AreMirrored, HasBadLine, HasLines, LacksLines, LacksMirror}
 use Rattle.image_mirrors.specs.Plays.{FitsImage, IsStop, LacksMirrorLines, RefusesMirror, StopsAtMount, TellsDamage, damage_in}
 use Rattle.image_tool.specs.Complete.{IsSoundMirror}
-use Rattle.image_tool.proofs.SoundFiles.{has_image, never_long, never_missing, same_file, same_image, some_none}
+use Rattle.image_tool.proofs.SoundFiles.{has_image, never_long, never_missing, same_file, same_image}
 
 -- ---- lines
 
@@ -33,7 +32,6 @@ module _ (host : Outside) (tells : IsSome host.files) (name : List ℕ) (limit :
   has_text (BadScript n why) lacks = never_long host.files name _ has.text tells has.has.has has.has.short lacks.0
   has_text BadSpec lacks = lacks
   has_text (BadFile at why) lacks = lacks
-  has_text (Unbuilt label) lacks = lacks
   has_text NoLog lacks = lacks
   has_text NoItems lacks = lacks
   has_text NoMirror lacks = lacks
@@ -60,20 +58,6 @@ module _ (name script : List ℕ) (host : Outside) (old new : Device) (sound : I
 
   has_mirror : (refusal : Refusal) → LacksMirror host name refusal → ⊥
   has_mirror refusal lacks = lacks.finds.1 (subst (λ (i : Plain). AreMirrored i.areas) (sym (same lacks.image lacks.has)) sound.mirrored)
-
-  built : (refusal : Refusal) → LacksStore host name refusal → ⊥
-  built (Unbuilt label) lacks =
-      let served = subst (λ (i : Plain). HasAreas i lacks.areas → unserved i.banks lacks.areas ≡ None) (sym (same lacks.image lacks.has)) (sound.served lacks.areas) lacks.are in
-      some_none (unserved lacks.image.banks lacks.areas) lacks.finds.1.0 lacks.finds.1.1 served
-  built BadSpec lacks = lacks.finds.1
-  built (NoFile word) lacks = lacks.finds.1
-  built (BadFile at why) lacks = lacks.finds.1
-  built NoLog lacks = lacks.finds.1
-  built NoItems lacks = lacks.finds.1
-  built NoMirror lacks = lacks.finds.1
-  built (BadArea label damage) lacks = lacks.finds.1
-  built (Unfit label) lacks = lacks.finds.1
-  built (BadScript n why) lacks = lacks.finds.1
 
   lined : (refusal : Refusal) → LacksMirrorLines name script host refusal → ⊥
   lined refusal lacks =
@@ -104,6 +88,5 @@ module _ (name script : List ℕ) (host : Outside) (old new : Device) (sound : I
   pub mirror_is_not_refused : (refusal : Refusal) → RefusesMirror name script host old new refusal → ⊥
   mirror_is_not_refused refusal (inl (lacks, _)) = has_image host sound.tells name sound.image refusal sound.has lacks
   mirror_is_not_refused refusal (inr (inl (lacks, _))) = has_mirror refusal lacks
-  mirror_is_not_refused refusal (inr (inr (inl (lacks, _)))) = built refusal lacks
-  mirror_is_not_refused refusal (inr (inr (inr (inl (lacks, _))))) = lined refusal lacks
-  mirror_is_not_refused refusal (inr (inr (inr (inr finds)))) = whole refusal finds
+  mirror_is_not_refused refusal (inr (inr (inl (lacks, _)))) = lined refusal lacks
+  mirror_is_not_refused refusal (inr (inr (inr finds))) = whole refusal finds

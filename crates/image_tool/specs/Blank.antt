@@ -10,13 +10,11 @@ use Rattle.command_words.specs.declared.commands.Command.TheVariants.{Gen}
 use Rattle.command_words.specs.declared.commands.StoreKind.{StoreKind}
 use Rattle.image_file.specs.Format.{Plain}
 use Rattle.image_file.specs.Spec.{IsSpec}
-use Rattle.image_maps.specs.Laws.{unserved}
 use Rattle.migrator.specs.Areas.{first_store}
 use Rattle.image_plays.specs.declared.plays.Play.{Play}
 use Rattle.image_plays.specs.declared.plays.Start.TheVariants.{Blank}
 use Rattle.image_plays.specs.declared.stops.Refusal.{Refusal}
 use Rattle.image_plays.specs.Images.{HasAreas, active_of, damage_of, settings_of}
-use Rattle.image_plays.specs.Inputs.{blank_spec}
 use Rattle.image_plays.specs.Plays.{LacksLines, Refuses}
 use Rattle.image_plays.specs.Stages.{Stage}
 use Rattle.image_tool.specs.declared.status.Status.{Status}
@@ -29,17 +27,13 @@ pub record IsEmptyImage (areas : List Area) (image : Plain) : Type 0 where
   pub active : active_of areas image ≡ first_store areas
   pub settings : settings_of any_stores areas image ≡ empty
 
--- that of a lawful word, where a store works on each of its areas
+-- that of a lawful word
 abbrev pub SpecsAreEmpty : Type 0
 SpecsAreEmpty = (word : List ℕ) (image : Plain) (areas : List Area) → IsSpec word image → HasAreas image areas
-    → unserved image.banks areas ≡ None → IsEmptyImage areas image
+    → IsEmptyImage areas image
 
--- Stores work on the areas of each blank image on which a generated script runs.
-abbrev pub BlanksAreServed : Type 0
-BlanksAreServed = (kind : StoreKind) (image : Plain) (areas : List Area) → IsSpec (blank_spec kind) image → HasAreas image areas
-    → unserved image.banks areas ≡ None
-
--- A play that begins with such an image is refused for want of its lines alone: never for the image, its stores or its damage.
+-- A play that begins with the blank image of a generated script is refused for want of its lines alone: never for the image or its
+-- damage.
 abbrev pub BlanksLackLinesAlone : Type 0
 BlanksLackLinesAlone = (kinds : List HandlerKind) (play : Play) (kind : StoreKind) (host : Outside) (old new : Stage) (refusal : Refusal)
     → play.start ≡ Blank kind → Refuses any_stores kinds play host old new refusal → LacksLines play host refusal

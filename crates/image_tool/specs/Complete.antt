@@ -10,7 +10,6 @@ use Rattle.session.specs.OnMap.{limit_of}
 use Rattle.script_lines.specs.declared.line.Line.{Line}
 use Rattle.image_file.specs.Format.{Plain}
 use Rattle.image_file.specs.Spec.{IsSpec}
-use Rattle.image_maps.specs.Laws.{unserved}
 use Rattle.flash_map.specs.Area.{value_limit}
 use Rattle.item_lines.specs.declared.line.Line.{Line as ItemLine}
 use Rattle.log_lines.specs.declared.line.Line.{Line as LogLine}
@@ -35,13 +34,12 @@ use Rattle.image_tool.specs.declared.tasks.Task.TheVariants.{Build, Plays, Log, 
 use Rattle.image_tool.specs.Tasks.{task_of}
 use Rattle.image_tool.specs.Tool.{ToolEnds, any_stores}
 
--- The host tells its files, and the play begins with an image: stores work on all of its areas, it shows no damage, and there
--- are lines to play. Lists of the areas of one image differ in the unused room of their labels alone.
+-- The host tells its files, and the play begins with an image: it shows no damage, and there are lines to play. Lists of the
+-- areas of one image differ in the unused room of their labels alone.
 pub record IsSound (k : Stores) (play : Play) (host : Outside) : Type 0 where
   pub tells : IsSome host.files
   pub image : Plain
   pub begins : BeginsWith play.start host image
-  pub served : (areas : List Area) → HasAreas image areas → unserved image.banks areas ≡ None
   pub undamaged : (areas : List Area) → HasAreas image areas → damage_of k areas image ≡ None
   pub reads : (areas : List Area) → HasAreas image areas → (lines : List Line) × PlaysLines play.source (limit_of areas) host lines
 
@@ -65,14 +63,13 @@ pub record IsSoundItems (name script : List ℕ) (host : Outside) : Type 0 where
   pub lines : List ItemLine
   pub reads : HasItemLines (ids_of area.role) (value_limit area) host script lines
 
--- The host tells its files, and IMAGE is an image with a mirror: stores work on all of its areas, it shows no damage (in its
--- selector, and in the area that is read), its settings fit both areas, and SCRIPT has lines to play.
+-- The host tells its files, and IMAGE is an image with a mirror: it shows no damage (in its selector, and in the area that is
+-- read), its settings fit both areas, and SCRIPT has lines to play.
 pub record IsSoundMirror (name script : List ℕ) (host : Outside) : Type 0 where
   pub tells : IsSome host.files
   pub image : Plain
   pub has : HasImage host name image
   pub mirrored : AreMirrored image.areas
-  pub served : (areas : List Area) → HasAreas image areas → unserved image.banks areas ≡ None
   pub reads : (areas : List Area) → HasAreas image areas → (lines : List MirrorLine) × HasMirrorLines (limit_of areas) host script lines
   pub undamaged : (areas : List Area) → HasAreas image areas → mirror_damage areas image ≡ None
   pub fits : (areas : List Area) → HasAreas image areas → FitsImage areas image

@@ -1,5 +1,5 @@
 -- What a command does before anything is printed or written, and why it does not.
-use Rattle.std.specs.Prelude.{◌≡◌, ◌⊎◌, ℕ, Option, Result, Ok, Err, List, [], ◌∷◌}
+use Rattle.std.specs.Prelude.{◌≡◌, ℕ, Option, Result, Ok, Err, List}
 use Rattle.zs_host.specs.Outside.{Outside, failed}
 use Rattle.handlers.specs.declared.handler.HandlerKind.{HandlerKind}
 use Rattle.command_words.specs.declared.commands.Command.{Command}
@@ -8,7 +8,6 @@ use Rattle.image_items.specs.Plays.{PlaysItems, RefusesItems, StopsItems}
 use Rattle.image_logs.specs.Plays.{PlaysLog, RefusesLog, StopsLog}
 use Rattle.image_mirrors.specs.Plays.{PlaysMirror, RefusesMirror, StopsMirror}
 use Rattle.image_plays.specs.declared.outcome.Outcome.{Outcome}
-use Rattle.image_plays.specs.declared.plays.Play.{Play}
 use Rattle.image_plays.specs.declared.plays.Start.TheVariants.{File as FromFile, Blank}
 use Rattle.image_plays.specs.declared.plays.Source.TheVariants.{Script, Names, Migration, Generated}
 use Rattle.image_plays.specs.declared.plays.Telling.TheVariants.{All, Last, Summary}
@@ -17,7 +16,7 @@ use Rattle.image_plays.specs.declared.stops.Refusal.{Refusal}
 use Rattle.image_plays.specs.declared.stops.Stop.{Stop}
 use Rattle.image_plays.specs.declared.stops.Stop.TheVariants.{Refused, HostFailed, NoMemory}
 use Rattle.image_plays.specs.Inputs.{LacksSpec}
-use Rattle.image_plays.specs.Plays.{Builds, File, PlayEnds, Plays, Refuses, Stops, file_of}
+use Rattle.image_plays.specs.Plays.{Builds, File, Plays, Refuses, Stops, file_of}
 use Rattle.image_plays.specs.Stages.{Stage, Stores}
 use Rattle.image_tool.specs.declared.tasks.Task.{Task}
 use Rattle.image_tool.specs.declared.tasks.Task.TheVariants.{Build, Plays as ToPlay, Log, Items, Mirror}

@@ -5,7 +5,7 @@ use Rattle.handlers.specs.declared.handler.HandlerKind.{HandlerKind}
 use Rattle.command_words.specs.Commands.{IsCommand, IsNoCommand}
 use Rattle.command_words.specs.declared.commands.Command.{Command}
 use Rattle.image_plays.specs.declared.stops.Refusal.{Refusal}
-use Rattle.image_plays.specs.declared.stops.Refusal.TheVariants.{BadSpec, NoFile, BadFile, Unbuilt, NoLog, NoItems, NoMirror, BadArea, Unfit, BadScript}
+use Rattle.image_plays.specs.declared.stops.Refusal.TheVariants.{BadSpec, NoFile, BadFile, NoLog, NoItems, NoMirror, BadArea, Unfit, BadScript}
 use Rattle.image_plays.specs.Inputs.{out_of}
 use Rattle.image_plays.specs.Plays.{File}
 use Rattle.image_plays.specs.Refusals.{line_of, usage_line}
@@ -26,7 +26,6 @@ abbrev pub status_of : Refusal → Status
 status_of BadSpec = status.Usage
 status_of (NoFile word) = status.NoFile
 status_of (BadFile at reason) = status.BadImage
-status_of (Unbuilt label) = status.BadImage
 status_of NoLog = status.BadImage
 status_of NoItems = status.BadImage
 status_of NoMirror = status.BadImage

@@ -52,7 +52,6 @@ fn status_of(refusal: &Refusal<'_>) -> Status
         Refusal::BadSpec => Status::Usage,
         Refusal::NoFile { .. } => Status::NoFile,
         Refusal::BadFile { .. }
-        | Refusal::Unbuilt { .. }
         | Refusal::NoLog
         | Refusal::NoItems
         | Refusal::NoMirror

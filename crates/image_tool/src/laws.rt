@@ -1,5 +1,5 @@
 // What holds of every end of the program.
-ghost use Rattle.image_tool.specs.Blank.{BlanksAreServed, BlanksLackLinesAlone, GenIsCarriedOut, SpecsAreEmpty};
+ghost use Rattle.image_tool.specs.Blank.{BlanksLackLinesAlone, GenIsCarriedOut, SpecsAreEmpty};
 ghost use Rattle.image_tool.specs.Complete.{BlanksAreLawful, BlanksAreNotRefused, SoundIsCarriedOut};
 
 /// A command on what is sound is done, but where the host fails or memory runs out.
@@ -13,11 +13,9 @@ pub fn blanks_are_lawful()
     ensures not_refused { BlanksAreNotRefused }
 {}
 
-/// The blank image of a word, where a store works on each of its areas, shows no damage and reads as no settings. Stores work
-/// on that of each generated script.
+/// The blank image of a word shows no damage and reads as no settings.
 pub fn blanks_are_empty()
-    ensures empty { SpecsAreEmpty }
-    ensures served { BlanksAreServed }
+    ensures { SpecsAreEmpty }
 {}
 
 /// A play on a blank image is refused for its lines alone, and a generated script is carried out, but where the host fails or

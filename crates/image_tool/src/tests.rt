@@ -10,6 +10,9 @@ const NVS: &str = "bank=erasing/4/512/2,area=nvs/main/0/0/2";
 
 const ZMS: &str = "bank=rewritable/16/512/2,area=zms/main/0/0/2";
 
+// ZMS on a bank that is erased.
+const ERASED: &str = "bank=erasing/16/512/2,area=zms/main/0/0/2";
+
 const FCB: &str = "bank=erasing/4/512/2,area=fcb/main/0/0/2";
 
 // An application log of three sectors.
@@ -80,7 +83,7 @@ struct Row {
     left: &'static [(usize, u8)],
 }
 
-static ROWS: [Row; 35] = [
+static ROWS: [Row; 40] = [
     Row {
         spec: NVS,
         script: "set a 01\nget a\n",
@@ -175,6 +178,28 @@ static ROWS: [Row; 35] = [
         script: "set a 010203040506070809\n",
         commands: RUN,
         printed: "ok 0\nok 4\n",
+        left: &[],
+    },
+    // ZMS on a bank that is erased: a collection; a loss in one, and one more in the mount; what a loss left of a value stays
+    Row {
+        spec: ERASED,
+        script: "set a 11*100 \nset a 22*100 \nset a 33*100 \nset a 44*100 \n",
+        commands: RUN,
+        printed: "ok 0\nok 10\nok 8\nok 8\nok 22\n",
+        left: &[],
+    },
+    Row {
+        spec: ERASED,
+        script: "set a 11*100 \nset a 22*100 \nset a 33*100 \ncut 3\nset a 44*100 \ncut 12\nmount\nmount\nget a\n",
+        commands: RUN,
+        printed: "ok 0\nok 10\nok 8\nok 8\nok 0\nlost 3\nok 0\nlost 12\nok 2\nvalue 33*100 \n",
+        left: &[],
+    },
+    Row {
+        spec: ERASED,
+        script: "cut 3\nset a 11*100 \nmount\nset a 11*100 \nget a\n",
+        commands: RUN,
+        printed: "ok 0\nok 0\nlost 3\nok 0\nok 9\nvalue 11*100 \n",
         left: &[],
     },
     // a record that was cut checks by chance
@@ -324,6 +349,13 @@ static ROWS: [Row; 35] = [
         printed: "ok 0\nok 2\nspace 16 0 416\n",
         left: &[],
     },
+    Row {
+        spec: ERASED,
+        script: "set 1 01\nset 1 02\ndel 1\nolder 1 0\nolder 1 1\nspace\n",
+        commands: RUN_ITEMS,
+        printed: "ok 0\nok 2\nok 1\nok 1\ndeleted\nvalue 02\nspace 0 48 432\n",
+        left: &[],
+    },
     // a set that was cut adds no version
     Row {
         spec: NVS,
@@ -354,6 +386,13 @@ static ROWS: [Row; 35] = [
         script: "set a 01\ncut 0\nset a 02\nblank p\ncut 8\nmount\nblank q\nmount\nget a\n",
         commands: RUN_MIRROR,
         printed: "ok 0\nok 18\nok 0\nlost 0\nok 0\nok 0\nlost 8\nnotyet\nok 10\nvalue 01\n",
+        left: &[],
+    },
+    Row {
+        spec: "bank=erasing/16/512/6,area=zms/p/0/0/2,area=zms/q/0/2/2,area=sel/s/0/4/2",
+        script: "set a 01\ncut 0\nset a 02\nblank p\ncut 3\nmount\nmount\nget a\nnames\n",
+        commands: RUN_MIRROR,
+        printed: "ok 0\nok 6\nok 0\nlost 0\nok 0\nok 0\nlost 3\nok 6\nvalue 01\n{\"active\":\"q\",\"names\":{\"a\":\"01\"}}\n",
         left: &[],
     },
 ];
@@ -398,7 +437,7 @@ const PASSES_FENCE: &[(usize, usize, u8)] = &[
     (539, 1, 0x49),
 ];
 
-static REFUSED: [Refused; 25] = [
+static REFUSED: [Refused; 26] = [
     Refused {
         spec: NVS,
         script: "",
@@ -426,6 +465,16 @@ static REFUSED: [Refused; 25] = [
         status: 4,
         printed: "bad image: area main sector 3: TwoOpen\n",
     },
+    // no close entry can be put into a sector with an empty entry
+    Refused {
+        spec: ERASED,
+        script: "",
+        put: &[(516, 1, 0), (532, 1, 0x61), (533, 1, 1), (540, 8, 0)],
+        size: 1060,
+        command: RUN,
+        status: 4,
+        printed: "bad image: area main sector 0: Dirty\n",
+    },
     // a selector that is no ring
     Refused {
         spec: ALL,
@@ -436,15 +485,15 @@ static REFUSED: [Refused; 25] = [
         status: 4,
         printed: "bad image: area s sector 0: BadHeader\n",
     },
-    // no store works on such an area yet
+    // an area for ZMS may stand on a bank that is erased: the script is what is wrong
     Refused {
-        spec: "bank=erasing/16/512/2,area=zms/main/0/0/2",
+        spec: ERASED,
         script: "fly\n",
         put: &[],
         size: 1060,
         command: RUN,
-        status: 4,
-        printed: "bad image: area main: Unbuilt\n",
+        status: 3,
+        printed: "bad script: line 1: Unknown\n",
     },
     // no image files
     Refused {
@@ -513,7 +562,7 @@ static REFUSED: [Refused; 25] = [
         status: 4,
         printed: "bad image: no log\n",
     },
-    // an image without items, one on which no store works, and an id that NVS has not
+    // an image without items, a script that is none on a ZMS area that is erased, and an id that NVS has not
     Refused {
         spec: FCB,
         script: "fly\n",
@@ -524,13 +573,13 @@ static REFUSED: [Refused; 25] = [
         printed: "bad image: no items\n",
     },
     Refused {
-        spec: "bank=erasing/16/512/2,area=zms/main/0/0/2",
+        spec: ERASED,
         script: "fly\n",
         put: &[],
         size: 1060,
         command: RUN_ITEMS,
-        status: 4,
-        printed: "bad image: area main: Unbuilt\n",
+        status: 3,
+        printed: "bad script: line 1: Unknown\n",
     },
     Refused {
         spec: NVS,

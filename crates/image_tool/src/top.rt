@@ -1,5 +1,5 @@
 // The top call.
-ghost use Rattle.std.specs.Prelude.{◌≡◌, ℕ, [], None, All, List, map};
+ghost use Rattle.std.specs.Prelude.{◌≡◌, ℕ, [], All, List, map};
 ghost use Rattle.std.specs.String.{string_bytes};
 ghost use Rattle.flash_sim.specs.Device.{Device};
 ghost use Rattle.flash_map.specs.declared.area.Area.{Area as area};
@@ -9,7 +9,6 @@ ghost use Rattle.session.specs.OnMap.{IsFresh, IsServedMap, kinds};
 ghost use Rattle.command_words.specs.Commands.{IsCommand};
 ghost use Rattle.command_words.specs.declared.commands.Command.{Command as command};
 ghost use Rattle.image_maps.specs.Held.{held};
-ghost use Rattle.image_maps.specs.Laws.{unserved};
 ghost use Rattle.image_plays.specs.Stages.{stage, stores};
 ghost use Rattle.image_tool.specs.Tasks.{Prepares};
 ghost use Rattle.image_tool.specs.Tool.{TaskEnds, NoCommandEnds, ToolEnds, MayWrite, OnlyFile, any_stores, out_file};
@@ -38,7 +37,7 @@ fn prepare<'a, K: Backend, H: Host, B: Bench>(
     pool: Vec<Box<dyn Handler>>,
     registry: &mut Registry,
 ) -> Result<Outcome<'a>, Stop<'a>>
-    requires serves { (areas : List area) (d : Device) → IsImage (held areas d) → unserved d.banks areas ≡ None → IsServedMap K.serves areas d }
+    requires serves { (areas : List area) (d : Device) → IsImage (held areas d) → IsServedMap K.serves areas d }
     requires pool { All (IsFresh state) pool.items }
     requires registry { registered state registry.old ≡ [] }
     ensures { let k = stores K.contents K.room K.chance K.tears K.damage K.rests in
@@ -65,7 +64,7 @@ fn carry_out<K: Backend, H: Host, B: Bench>(
     pool: Vec<Box<dyn Handler>>,
     registry: &mut Registry,
 ) -> Status
-    requires serves { (areas : List area) (d : Device) → IsImage (held areas d) → unserved d.banks areas ≡ None → IsServedMap K.serves areas d }
+    requires serves { (areas : List area) (d : Device) → IsImage (held areas d) → IsServedMap K.serves areas d }
     requires pool { All (IsFresh state) pool.items }
     requires registry { registered state registry.old ≡ [] }
     ensures ends { let k = stores K.contents K.room K.chance K.tears K.damage K.rests in
@@ -98,7 +97,7 @@ fn serve<K: Backend, H: Host, B: Bench>(
     pool: Vec<Box<dyn Handler>>,
     registry: &mut Registry,
 ) -> Status
-    requires serves { (areas : List area) (d : Device) → IsImage (held areas d) → unserved d.banks areas ≡ None → IsServedMap K.serves areas d }
+    requires serves { (areas : List area) (d : Device) → IsImage (held areas d) → IsServedMap K.serves areas d }
     requires pool { All (IsFresh state) pool.items }
     requires registry { registered state registry.old ≡ [] }
     ensures ends { let k = stores K.contents K.room K.chance K.tears K.damage K.rests in

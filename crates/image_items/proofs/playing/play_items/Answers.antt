@@ -26,5 +26,5 @@ returns-in-Err-read_item_lines g c =
     let read : Reads c.ids_of-ids.result (value_limit area) mid host' c.args.script.now stop =
     subst (λ (limit : ℕ). Reads c.ids_of-ids.result limit mid host' c.args.script.now stop) c.value_limit-limit.ensures c.in-Err-read_item_lines.ensures.lines in
     no_lines_end c.args.image.now c.args.script.now c.args.out.now host mid host' (g.B.Flash.device c.args.bench.now) c.in-Ok.opened.image area stop
-    c.in-Ok.ensures.image.0.0 c.in-Ok.ensures.image.0.1 c.in-Ok.ensures.image.0.2 c.in-Ok.ensures.image.1
+    c.in-Ok.ensures.image.0.0 c.in-Ok.ensures.image.0.1 c.in-Ok.ensures.image.1
     (subst (λ (ids : Ids). Reads ids (value_limit area) mid host' c.args.script.now stop) c.ids_of-ids.ensures read)

@@ -14,7 +14,7 @@ pub run_by_role-ran-requires-clause-serves : goal.run_by_role-ran-requires-claus
 run_by_role-ran-requires-clause-serves g c =
     let bench = g.B.Flash.device c.args.bench.now in
     subst (λ (d : Device). ServesItems d c.args.opened.area) (sym c.in_ok-load.ensures.ok)
-    (serves_items c.args.opened.image.map c.args.opened.area (begun (plain c.args.opened.image) bench) c.requires.image c.requires.area c.requires.served)
+    (serves_items c.args.opened.image.map c.args.opened.area (begun (plain c.args.opened.image) bench) c.requires.image c.requires.area)
 
 pub returns-in-Err : goal.returns-in-Err
 returns-in-Err g c = λ outside name script has plays.
@@ -22,7 +22,7 @@ returns-in-Err g c = λ outside name script has plays.
     let first = g.B.Flash.device c.load.new.self in
     let bench' = g.B.Flash.device c.run_by_role-ran.new.bench in
     let image = c.args.opened.image in
-    stopped name script c.args.out.now outside image.banks.items (contents image.bytes.items) image.map c.args.opened.area c.requires.area c.requires.served c.args.lines.now bench bench' has plays first c.in_ok-load.ensures.ok
+    stopped name script c.args.out.now outside image.banks.items (contents image.bytes.items) image.map c.args.opened.area c.requires.area c.args.lines.now bench bench' has plays first c.in_ok-load.ensures.ok
     c.in-Err.fault c.stop_of.result c.in-Err.ensures.ends c.stop_of.ensures
 
 pub returns-in-Err-all_texts : goal.returns-in-Err-all_texts
@@ -31,7 +31,7 @@ returns-in-Err-all_texts g c = λ outside name script has plays.
     let first = g.B.Flash.device c.load.new.self in
     let bench' = g.B.Flash.device c.run_by_role-ran.new.bench in
     let image = c.args.opened.image in
-    wanted name script c.args.out.now outside image.banks.items (contents image.bytes.items) image.map c.args.opened.area c.requires.area c.requires.served c.args.lines.now bench bench' has plays first c.in_ok-load.ensures.ok
+    wanted name script c.args.out.now outside image.banks.items (contents image.bytes.items) image.map c.args.opened.area c.requires.area c.args.lines.now bench bench' has plays first c.in_ok-load.ensures.ok
     c.in-Ok.answers c.in-Ok.ensures.ends.1
 
 pub file_left-requires : goal.file_left-requires
@@ -46,7 +46,7 @@ returns-in-Err-file_left g c = λ outside name script has plays.
     let first = g.B.Flash.device c.load.new.self in
     let bench' = g.B.Flash.device c.run_by_role-ran.new.bench in
     let image = c.args.opened.image in
-    wanted name script c.args.out.now outside image.banks.items (contents image.bytes.items) image.map c.args.opened.area c.requires.area c.requires.served c.args.lines.now bench bench' has plays first c.in_ok-load.ensures.ok
+    wanted name script c.args.out.now outside image.banks.items (contents image.bytes.items) image.map c.args.opened.area c.requires.area c.args.lines.now bench bench' has plays first c.in_ok-load.ensures.ok
     c.in-Ok.answers c.in-Ok.ensures.ends.1
 
 pub returns : goal.returns
@@ -55,9 +55,9 @@ returns g c = λ outside name script has plays.
     let first = g.B.Flash.device c.load.new.self in
     let bench' = g.B.Flash.device c.run_by_role-ran.new.bench in
     let image = c.args.opened.image in (
-      played name script c.args.out.now outside image.banks.items (contents image.bytes.items) image.map c.args.opened.area c.requires.area c.requires.served c.args.lines.now bench bench' has plays first c.in_ok-load.ensures.ok
+      played name script c.args.out.now outside image.banks.items (contents image.bytes.items) image.map c.args.opened.area c.requires.area c.args.lines.now bench bench' has plays first c.in_ok-load.ensures.ok
           c.in-Ok.answers c.in-Ok-all_texts.text.items (file_of c.in-Ok-file_left.file) (g.met.B.Flash.is_lawful c.load.new.self)
-          (serves_items image.map c.args.opened.area (begun (plain image) bench) c.requires.image c.requires.area c.requires.served) c.in-Ok.ensures.ends.0 c.in-Ok.ensures.ends.1 c.in-Ok.ensures.undamaged c.in-Ok.ensures.rests
+          (serves_items image.map c.args.opened.area (begun (plain image) bench) c.requires.image c.requires.area) c.in-Ok.ensures.ends.0 c.in-Ok.ensures.ends.1 c.in-Ok.ensures.undamaged c.in-Ok.ensures.rests
           (c.in-Ok-all_texts.ensures ∙ ap texts c.as_slice.ensures) c.in-Ok-file_left.ensures,
       refl,
     )

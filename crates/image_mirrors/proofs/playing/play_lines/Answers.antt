@@ -21,7 +21,7 @@ pub run-ran-requires-clause-map : goal.run-ran-requires-clause-map
 run-ran-requires-clause-map g c =
     let bench = g.B.Flash.device c.args.bench.now in
     subst (λ (d : Device). IsMirrorMap any_serves c.args.image.map d) (sym c.in_ok-load.ensures.ok)
-    (is_mirror_map c.args.image.map (begun (plain c.args.image) bench) c.requires.image c.requires.mirrored c.requires.stores)
+    (is_mirror_map c.args.image.map (begun (plain c.args.image) bench) c.requires.image c.requires.mirrored)
 
 pub returns-in-Err : goal.returns-in-Err
 returns-in-Err g c = λ outside name script has plays.
@@ -29,7 +29,7 @@ returns-in-Err g c = λ outside name script has plays.
     let first = g.B.Flash.device c.load.new.self in
     let bench' = g.B.Flash.device c.run-ran.new.bench in
     let image = c.args.image in
-    stopped name script c.args.out.now outside image.banks.items (contents image.bytes.items) image.map c.args.lines.now bench bench' c.requires.mirrored c.requires.stores has plays first c.in_ok-load.ensures.ok
+    stopped name script c.args.out.now outside image.banks.items (contents image.bytes.items) image.map c.args.lines.now bench bench' c.requires.mirrored has plays first c.in_ok-load.ensures.ok
     c.in-Err.fault c.stop_of.result c.in-Err.ensures c.stop_of.ensures
 
 pub all_texts-requires : goal.all_texts-requires
@@ -44,7 +44,7 @@ returns-in-Err-all_texts g c = λ outside name script has plays.
     let first = g.B.Flash.device c.load.new.self in
     let bench' = g.B.Flash.device c.run-ran.new.bench in
     let image = c.args.image in
-    wanted name script c.args.out.now outside image.banks.items (contents image.bytes.items) image.map c.args.lines.now bench bench' c.requires.mirrored c.requires.stores has plays first c.in_ok-load.ensures.ok
+    wanted name script c.args.out.now outside image.banks.items (contents image.bytes.items) image.map c.args.lines.now bench bench' c.requires.mirrored has plays first c.in_ok-load.ensures.ok
     c.in-Ok.answers c.in-Ok.ensures.0 c.in-Ok.ensures.1
 
 pub file_left-requires : goal.file_left-requires
@@ -59,7 +59,7 @@ returns-in-Err-file_left g c = λ outside name script has plays.
     let first = g.B.Flash.device c.load.new.self in
     let bench' = g.B.Flash.device c.run-ran.new.bench in
     let image = c.args.image in
-    wanted name script c.args.out.now outside image.banks.items (contents image.bytes.items) image.map c.args.lines.now bench bench' c.requires.mirrored c.requires.stores has plays first c.in_ok-load.ensures.ok
+    wanted name script c.args.out.now outside image.banks.items (contents image.bytes.items) image.map c.args.lines.now bench bench' c.requires.mirrored has plays first c.in_ok-load.ensures.ok
     c.in-Ok.answers c.in-Ok.ensures.0 c.in-Ok.ensures.1
 
 pub returns : goal.returns
@@ -68,9 +68,9 @@ returns g c = λ outside name script has plays.
     let first = g.B.Flash.device c.load.new.self in
     let bench' = g.B.Flash.device c.run-ran.new.bench in
     let image = c.args.image in (
-      played name script c.args.out.now outside image.banks.items (contents image.bytes.items) image.map c.args.lines.now bench bench' c.requires.mirrored c.requires.stores has plays first c.in_ok-load.ensures.ok
+      played name script c.args.out.now outside image.banks.items (contents image.bytes.items) image.map c.args.lines.now bench bench' c.requires.mirrored has plays first c.in_ok-load.ensures.ok
           c.in-Ok.answers c.in-Ok.ensures.0 c.in-Ok-all_texts.text.items (file_of c.in-Ok-file_left.file)
-          (map_kept any_serves image.map (begun (plain image) bench) bench' (c.in-Ok.ensures.1.keeps.banks ∙ ap (λ (d : Device). d.banks) c.in_ok-load.ensures.ok) (is_mirror_map image.map (begun (plain image) bench) c.requires.image c.requires.mirrored c.requires.stores)) c.in-Ok.ensures.1 c.in-Ok.ensures.2
+          (map_kept any_serves image.map (begun (plain image) bench) bench' (c.in-Ok.ensures.1.keeps.banks ∙ ap (λ (d : Device). d.banks) c.in_ok-load.ensures.ok) (is_mirror_map image.map (begun (plain image) bench) c.requires.image c.requires.mirrored)) c.in-Ok.ensures.1 c.in-Ok.ensures.2
           (c.in-Ok-all_texts.ensures ∙ ap texts c.as_slice.ensures) c.in-Ok-file_left.ensures,
       refl,
     )

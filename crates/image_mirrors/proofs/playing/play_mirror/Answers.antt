@@ -21,4 +21,4 @@ returns-in-Err-read_mirror_lines g c =
     let opened = c.in-Ok.ensures.image in
     lacks_lines c.args.image.now c.args.script.now c.args.out.now host mid (g.H.Host.outside c.read_mirror_lines.new.host) (plain image) image.map (g.B.Flash.device c.args.bench.now)
     c.longest_value-limit.result c.in-Err-read_mirror_lines.stop
-    (record { has = opened.0.0; are = record { version = refl; are = refl }; mirrored = opened.0.1; served = opened.0.2 }) opened.1 c.longest_value-limit.ensures c.in-Err-read_mirror_lines.ensures.lines
+    (record { has = opened.0.0; are = record { version = refl; are = refl }; mirrored = opened.0.1 }) opened.1 c.longest_value-limit.ensures c.in-Err-read_mirror_lines.ensures.lines

@@ -15,14 +15,14 @@ pub(crate) struct Play {
     pub(crate) left: &'static [Left],
 }
 
-// Power is lost after so many units of a set, where `a` has so many bytes 11 before. How many units the next mount spends, whether
-// the loss spells another record by chance, and the value that the name has then, none where it is empty.
+// Behind these calls on a blank area power is lost in a set. After how many of its units, and how many the next mount spends
+// then, each time on a new area; whether such a loss spells another record by chance, and the value that the name has then, none
+// where it is empty.
 pub(crate) struct Cut {
-    pub(crate) held: usize,
+    pub(crate) calls: &'static [Call],
     pub(crate) name: &'static [u8],
     pub(crate) value: &'static [u8],
-    pub(crate) units: u64,
-    pub(crate) mount: u64,
+    pub(crate) losses: &'static [(u64, u64)],
     pub(crate) chance: bool,
     pub(crate) left: &'static [u8],
 }
@@ -93,20 +93,18 @@ pub(crate) static NVS: [Play; 5] = [
 
 pub(crate) static NVS_CUTS: [Cut; 2] = [
     Cut {
-        held: 0,
+        calls: &[],
         name: b"a",
         value: &[1],
-        units: 6,
-        mount: 2,
+        losses: &[(6, 2)],
         chance: false,
         left: b"",
     },
     Cut {
-        held: 256,
+        calls: &[(b"a", 0x11, 256, 72, None)],
         name: b"b",
         value: &[1; 180],
-        units: 252,
-        mount: 126,
+        losses: &[(252, 126)],
         chance: false,
         left: b"",
     },
@@ -154,33 +152,143 @@ pub(crate) static ZMS: [Play; 4] = [
     },
 ];
 
-pub(crate) static ZMS_CUTS: [Cut; 3] = [
+// The empty entry of cycle 1, which the first set puts, stays.
+pub(crate) static ZMS_CUTS: [Cut; 1] = [Cut {
+    calls: &[],
+    name: b"a",
+    value: &[1, 2, 3, 4, 5, 6, 7, 8],
+    losses: &[(0, 0), (1, 0), (2, 1)],
+    chance: false,
+    left: b"",
+}];
+
+// On a bank that is erased.
+pub(crate) static ZMS_ERASING: [Play; 7] = [
+    Play {
+        at: 0,
+        bytes: b"",
+        calls: &[
+            (b"b", 1, 1, 3, None),
+            (b"a", 1, 1, 2, None),
+            (b"b", 0, 0, 2, None),
+            (b"b/x", 0x11, 9, 3, None),
+            (b"b/x", 0x11, 9, 0, None),
+        ],
+        left: &[(b"a", 1, 1), (b"b/x", 0x11, 9)],
+    },
+    // the last set collects
+    Play {
+        at: 0,
+        bytes: b"",
+        calls: &[
+            (b"a", 0x11, 100, 10, None),
+            (b"a", 0x22, 100, 8, None),
+            (b"a", 0x33, 100, 8, None),
+            (b"a", 0x44, 100, 22, None),
+        ],
+        left: &[(b"a", 0x44, 100)],
+    },
+    Play {
+        at: 0,
+        bytes: b"",
+        calls: &[
+            (b"a", 0x11, 256, 19, None),
+            (b"b", 0x22, 256, 23, Some((288, 288))),
+            (b"a", 0, 0, 2, None),
+            (b"b", 0x22, 256, 22, None),
+        ],
+        left: &[(b"b", 0x22, 256)],
+    },
+    // the next sector is fresh: as it opens nothing is done to it
+    Play {
+        at: 1008,
+        bytes: b"\x61\x01\xFF\xFF\xFF\xFF\xFF\xFF\0\0\0\0\0\0\0\0",
+        calls: &[
+            (b"a", 0x11, 100, 10, None),
+            (b"a", 0x22, 100, 8, None),
+            (b"a", 0x33, 100, 8, None),
+            (b"a", 0x44, 100, 21, None),
+        ],
+        left: &[(b"a", 0x44, 100)],
+    },
+    // it has no entry, and a unit that was put: it is erased
+    Play {
+        at: 960,
+        bytes: b"\0\0\0\0\0\0\0\0\0\0\0\0\0\0\0\0\
+            \xFF\xFF\xFF\xFF\xFF\xFF\xFF\xFF\xFF\xFF\xFF\xFF\xFF\xFF\xFF\xFF\
+            \xFF\xFF\xFF\xFF\xFF\xFF\xFF\xFF\xFF\xFF\xFF\xFF\xFF\xFF\xFF\xFF\
+            \x61\x01\xFF\xFF\xFF\xFF\xFF\xFF\0\0\0\0\0\0\0\0",
+        calls: &[
+            (b"a", 0x11, 100, 10, None),
+            (b"a", 0x22, 100, 8, None),
+            (b"a", 0x33, 100, 8, None),
+            (b"a", 0x44, 100, 23, None),
+        ],
+        left: &[(b"a", 0x44, 100)],
+    },
+    // the open sector has no entry, and a unit right under them: there is no room, and a close with a collection makes some
+    Play {
+        at: 448,
+        bytes: b"\0\0\0\0\0\0\0\0\0\0\0\0\0\0\0\0\
+            \xFF\xFF\xFF\xFF\xFF\xFF\xFF\xFF\xFF\xFF\xFF\xFF\xFF\xFF\xFF\xFF\
+            \xFF\xFF\xFF\xFF\xFF\xFF\xFF\xFF\xFF\xFF\xFF\xFF\xFF\xFF\xFF\xFF\
+            \x61\x01\xFF\xFF\xFF\xFF\xFF\xFF\0\0\0\0\0\0\0\0",
+        calls: &[(b"a", 1, 1, 7, None)],
+        left: &[(b"a", 1, 1)],
+    },
+    // what was put under no empty entry is no entry, and it is erased before the first one
+    Play {
+        at: 464,
+        bytes: b"\xCA\x01\x01\0\x20\x29\0\x80\x61\0\0\0\0\0\0\0",
+        calls: &[(b"a", 1, 1, 4, None)],
+        left: &[(b"a", 1, 1)],
+    },
+];
+
+pub(crate) static ZMS_ERASING_CUTS: [Cut; 2] = [
     Cut {
-        held: 0,
+        calls: &[],
         name: b"a",
-        value: &[1, 2, 3, 4, 5, 6, 7, 8],
-        units: 0,
-        mount: 0,
+        value: &[0x11; 100],
+        losses: &[(0, 0), (1, 0), (3, 0), (9, 1)],
         chance: false,
         left: b"",
     },
+    // in a close and a collection: before the new sector is open, in its copies, and before the victim is emptied
     Cut {
-        held: 0,
+        calls: &[
+            (b"a", 0x11, 100, 10, None),
+            (b"a", 0x22, 100, 8, None),
+            (b"a", 0x33, 100, 8, None),
+        ],
         name: b"a",
-        value: &[1, 2, 3, 4, 5, 6, 7, 8],
-        units: 1,
-        mount: 0,
+        value: &[0x44; 100],
+        losses: &[
+            (0, 0),
+            (1, 13),
+            (2, 12),
+            (3, 14),
+            (4, 14),
+            (5, 14),
+            (6, 14),
+            (7, 14),
+            (8, 14),
+            (9, 14),
+            (10, 14),
+            (11, 14),
+            (12, 2),
+            (13, 0),
+            (14, 0),
+            (15, 0),
+            (16, 0),
+            (17, 0),
+            (18, 0),
+            (19, 0),
+            (20, 0),
+            (21, 0),
+        ],
         chance: false,
-        left: b"",
-    },
-    Cut {
-        held: 0,
-        name: b"a",
-        value: &[1, 2, 3, 4, 5, 6, 7, 8],
-        units: 2,
-        mount: 1,
-        chance: false,
-        left: b"",
+        left: &[0x33; 100],
     },
 ];
 
@@ -234,29 +342,26 @@ pub(crate) static FCB: [Play; 4] = [
 
 pub(crate) static FCB_CUTS: [Cut; 3] = [
     Cut {
-        held: 0,
+        calls: &[],
         name: b"a",
         value: &[0, 0xA4, 1, 2, 3, 4],
-        units: 3,
-        mount: 0,
+        losses: &[(3, 0)],
         chance: false,
         left: b"",
     },
     Cut {
-        held: 0,
+        calls: &[],
         name: b"a",
         value: &[0, 0xA4, 1, 2, 3, 4],
-        units: 4,
-        mount: 0,
+        losses: &[(4, 0)],
         chance: true,
         left: &[0, 0xA4, 0xFF, 0xFF, 0xFF, 0xFF],
     },
     Cut {
-        held: 0,
+        calls: &[],
         name: b"a",
         value: &[0, 0xA4, 1, 2, 3, 4],
-        units: 5,
-        mount: 0,
+        losses: &[(5, 0)],
         chance: false,
         left: b"",
     },

@@ -9,6 +9,7 @@ ghost use Rattle.any_backend.specs.Standing.{IsReady};
 use crate::counted::{CountedSim, Views};
 use crate::rows::{
     Call, Cut, FCB, FCB_CUTS, FCB_LONG, FCB_LONGER, Left, NVS, NVS_CUTS, Play, ZMS, ZMS_CUTS,
+    ZMS_ERASING, ZMS_ERASING_CUTS,
 };
 use any_backend::*;
 use arrayvec::ArrayString;
@@ -67,7 +68,7 @@ fn bed<B: Bench>(
 ) -> Result<Area, Fail>
     requires kind { HasKind role kind }
     requires unit { HasUnit role unit }
-    requires serves { serves_as role kind }
+    requires serves { serves_as role }
     requires long { vec_len image ≡ 1024 }
     ensures lawful { IfOk result (λ area. IsLawfulFor (B.device bench.new).banks area) }
     ensures serves { IfOk result (λ area. any_serves area (geometry_of (B.device bench.new) area)) }
@@ -211,6 +212,27 @@ fn shows<B: Bench, L: Ledger, R: Abort>(
     Ok(())
 }
 
+// A backend on an area, behind these calls.
+fn carried<B: Bench, L: Ledger, R: Abort>(
+    rt: &R,
+    alloc: Global,
+    bench: &mut B,
+    area: &Area,
+    calls: &[Call],
+    steps: &mut Steps<L>,
+) -> Result<AnyBackend, Fail>
+    requires lawful { IsLawfulFor (B.device bench.old).banks area.now }
+    requires serves { any_serves area.now (geometry_of (B.device bench.old) area.now) }
+    ensures ready { IfOk result (λ backend. IsReady (B.device bench.new) backend) }
+    ensures banks { OnOk result ((B.device bench.new).banks ≡ (B.device bench.old).banks) }
+{
+    let mut backend = mounted(alloc, bench, area, steps)?;
+    for call in calls {
+        agrees(rt, &mut backend, bench, call, steps)?;
+    }
+    Ok(backend)
+}
+
 // The calls one after another, a mount of what is left, and a format of it.
 fn plays<B: Bench, L: Ledger, R: Abort>(
     rt: &R,
@@ -223,10 +245,7 @@ fn plays<B: Bench, L: Ledger, R: Abort>(
     requires lawful { IsLawfulFor (B.device bench.old).banks area.now }
     requires serves { any_serves area.now (geometry_of (B.device bench.old) area.now) }
 {
-    let mut backend = mounted(alloc, bench, area, steps)?;
-    for call in play.calls {
-        agrees(rt, &mut backend, bench, call, steps)?;
-    }
+    carried(rt, alloc, bench, area, play.calls, steps)?;
     let backend = mounted(alloc, bench, area, steps)?;
     shows(rt, &backend, bench, play.left, steps)?;
     AnyBackend::format(bench, area, steps)?;
@@ -245,12 +264,13 @@ fn by_chance<B: Bench, L: Ledger>(bench: &B, area: &Area, steps: &mut Steps<L>) 
     }
 }
 
-// Loses power in a set.
+// Loses power in a set after so many units.
 fn loses<B: Bench, L: Ledger, R: Abort>(
     rt: &R,
     backend: &mut AnyBackend,
     bench: &mut B,
     cut: &Cut,
+    units: u64,
     steps: &mut Steps<L>,
 ) -> Result<(), Fail>
     requires { IsReady (B.device bench.old) backend.old }
@@ -261,20 +281,21 @@ fn loses<B: Bench, L: Ledger, R: Abort>(
         return Err(Fail::new("no value of a row"));
     }
     let start = bench.spent();
-    bench.arm(cut.units);
+    bench.arm(units);
     let lost = put(backend, bench, &name, cut.value, steps);
     assert!(rt; lost == Err(SetFault::PowerLost) && !backend.is_up());
-    assert_eq!(rt; bench.spent().saturating_sub(start), cut.units);
+    assert_eq!(rt; bench.spent().saturating_sub(start), units);
     Ok(())
 }
 
-// What the next mount spends and finds.
+// The next mount spends so many units. What it finds.
 fn finds<B: Bench, L: Ledger, R: Abort>(
     rt: &R,
     alloc: Global,
     bench: &mut B,
     area: &Area,
     cut: &Cut,
+    units: u64,
     steps: &mut Steps<L>,
 ) -> Result<(), Fail>
     requires lawful { IsLawfulFor (B.device bench.old).banks area.now }
@@ -284,7 +305,7 @@ fn finds<B: Bench, L: Ledger, R: Abort>(
     bench.restore();
     let start = bench.spent();
     let backend = mounted(alloc, bench, area, steps)?;
-    assert_eq!(rt; bench.spent().saturating_sub(start), cut.mount);
+    assert_eq!(rt; bench.spent().saturating_sub(start), units);
     let got = backend.get(bench, &Name::read(cut.name)?, steps);
     assert!(rt; got.unwrap_or(b"") == cut.left);
     Ok(())
@@ -303,12 +324,37 @@ fn of_role<B: Bench, L: Ledger, R: Abort>(
 ) -> Result<(), Fail>
     requires kind { HasKind role kind }
     requires unit { HasUnit role unit }
-    requires serves { serves_as role kind }
+    requires serves { serves_as role }
 {
     for play in rows {
         let image = image(alloc, play.at, play.bytes)?;
         let area = bed(alloc, bench, role, kind, unit, image)?;
         plays(rt, alloc, bench, &area, play, steps)?;
+    }
+    Ok(())
+}
+
+// The losses of one row, each on a new area.
+fn cuts_of_row<B: Bench, L: Ledger, R: Abort>(
+    rt: &R,
+    alloc: Global,
+    bench: &mut B,
+    role: Role,
+    kind: Kind,
+    unit: u32,
+    cut: &Cut,
+    steps: &mut Steps<L>,
+) -> Result<(), Fail>
+    requires kind { HasKind role kind }
+    requires unit { HasUnit role unit }
+    requires serves { serves_as role }
+{
+    for (units, mount) in cut.losses {
+        let image = image(alloc, 0, b"")?;
+        let area = bed(alloc, bench, role, kind, unit, image)?;
+        let mut backend = carried(rt, alloc, bench, &area, cut.calls, steps)?;
+        loses(rt, &mut backend, bench, cut, *units, steps)?;
+        finds(rt, alloc, bench, &area, cut, *mount, steps)?;
     }
     Ok(())
 }
@@ -325,15 +371,10 @@ fn cuts_of_role<B: Bench, L: Ledger, R: Abort>(
 ) -> Result<(), Fail>
     requires kind { HasKind role kind }
     requires unit { HasUnit role unit }
-    requires serves { serves_as role kind }
+    requires serves { serves_as role }
 {
     for cut in cuts {
-        let image = image(alloc, 0, b"")?;
-        let area = bed(alloc, bench, role, kind, unit, image)?;
-        let mut backend = mounted(alloc, bench, &area, steps)?;
-        carry_out(&mut backend, bench, b"a", 0x11, cut.held, steps)?;
-        loses(rt, &mut backend, bench, cut, steps)?;
-        finds(rt, alloc, bench, &area, cut, steps)?;
+        cuts_of_row(rt, alloc, bench, role, kind, unit, cut, steps)?;
     }
     Ok(())
 }
@@ -352,7 +393,7 @@ fn is_absent<B: Views, L: Ledger, R: Abort>(
 ) -> Result<(), Fail>
     requires kind { HasKind role kind }
     requires unit { HasUnit role unit }
-    requires serves { serves_as role kind }
+    requires serves { serves_as role }
 {
     let image = image(alloc, 0, b"")?;
     let area = bed(alloc, bench, role, kind, unit, image)?;
@@ -380,11 +421,22 @@ fn exercise<B: Views, L: Ledger, R: Abort>(
     let (erasing, rewritable) = (Kind::Erasing, Kind::Rewritable);
     of_role(rt, alloc, bench, nvs, erasing, 4, &NVS, &mut steps)?;
     of_role(rt, alloc, bench, zms, rewritable, 16, &ZMS, &mut steps)?;
+    of_role(rt, alloc, bench, zms, erasing, 16, &ZMS_ERASING, &mut steps)?;
     of_role(rt, alloc, bench, fcb, erasing, 4, &FCB, &mut steps)?;
     of_role(rt, alloc, bench, fcb, erasing, 8, &FCB_LONG, &mut steps)?;
     of_role(rt, alloc, bench, fcb, erasing, 16, &FCB_LONGER, &mut steps)?;
     cuts_of_role(rt, alloc, bench, nvs, erasing, 4, &NVS_CUTS, &mut steps)?;
     cuts_of_role(rt, alloc, bench, zms, rewritable, 16, &ZMS_CUTS, &mut steps)?;
+    cuts_of_role(
+        rt,
+        alloc,
+        bench,
+        zms,
+        erasing,
+        16,
+        &ZMS_ERASING_CUTS,
+        &mut steps,
+    )?;
     cuts_of_role(rt, alloc, bench, fcb, erasing, 4, &FCB_CUTS, &mut steps)?;
     is_absent(rt, alloc, bench, nvs, erasing, 4, 0, b"a", &mut steps)?;
     is_absent(rt, alloc, bench, zms, rewritable, 16, 1, b"c", &mut steps)

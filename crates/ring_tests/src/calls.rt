@@ -1,5 +1,6 @@
 // Calls of a store over any sectors, and what they answer, spend and leave.
-ghost use Rattle.std.specs.Prelude.{◌≡◌, ◌<◌, ◌≤◌, ℕ, length, IfOk, OnOk};
+ghost use Rattle.std.specs.Prelude.{◌≡◌, ◌<◌, ◌≤◌, length, IfOk, OnOk};
+ghost use Rattle.flash_map.specs.declared.area.Geometry.{Geometry};
 ghost use Rattle.ring_store.specs.Listed.{kind_on};
 ghost use Rattle.ring_store.specs.Standing.{IsStoreArea};
 ghost use Rattle.ring_store.specs.Stands.{StandsOn};
@@ -73,7 +74,7 @@ fn agrees<T: SlotSectors, B: Bench, L: Ledger, R: Abort>(
     steps: &mut Steps<L>,
 ) -> Result<(), Fail>
     requires stands { StandsOn T.role T.kind T.kept (B.device bench.old) store.old }
-    requires wide { (unit : ℕ) → 0xFFFF ≤ (T.kind unit).ids }
+    requires wide { (geometry : Geometry) → 0xFFFF ≤ (T.kind geometry).ids }
     ensures stands { OnOk result (StandsOn T.role T.kind T.kept (B.device bench.new) store.new) }
     ensures area { OnOk result (store.new.area ≡ store.old.area) }
     ensures banks { OnOk result ((B.device bench.new).banks ≡ (B.device bench.old).banks) }
@@ -102,7 +103,7 @@ pub fn plays<T: SlotSectors, B: Bench, L: Ledger, R: Abort>(
     steps: &mut Steps<L>,
 ) -> Result<(), Fail>
     requires stands { StandsOn T.role T.kind T.kept (B.device bench.old) store.old }
-    requires wide { (unit : ℕ) → 0xFFFF ≤ (T.kind unit).ids }
+    requires wide { (geometry : Geometry) → 0xFFFF ≤ (T.kind geometry).ids }
     ensures stands { OnOk result (StandsOn T.role T.kind T.kept (B.device bench.new) store.new) }
     ensures area { OnOk result (store.new.area ≡ store.old.area) }
     ensures banks { OnOk result ((B.device bench.new).banks ≡ (B.device bench.old).banks) }
@@ -211,7 +212,7 @@ pub fn write_is_cut<T: SlotSectors, B: Bench, L: Ledger, R: Abort>(
 )
     requires stands { StandsOn T.role T.kind T.kept (B.device bench.old) store.old }
     requires ordinary { id < 0xFFFF }
-    requires wide { (unit : ℕ) → 0xFFFF ≤ (T.kind unit).ids }
+    requires wide { (geometry : Geometry) → 0xFFFF ≤ (T.kind geometry).ids }
     requires some { 0 < length value.now }
     ensures banks { (B.device bench.new).banks ≡ (B.device bench.old).banks }
 {

@@ -1,4 +1,5 @@
-// Calls on three sectors of ZMS. What each spends, answers and leaves was written by another reading of the same rules.
+// Calls on three sectors of ZMS, on banks of either kind. What each spends, answers and leaves was written by another reading of
+// the same rules.
 ghost use Rattle.std.specs.Prelude.{◌≡◌, ◌+◌, ◌<◌, ◌≤◌, ◌∷◌, [], length, IfOk, OnOk};
 ghost use Rattle.flash_map.specs.declared.area.Role.TheVariants.{Zms as zms_role};
 ghost use Rattle.ring_store.specs.Standing.{IsStoreArea};
@@ -15,13 +16,6 @@ use std::process::Abort;
 use std::sync::ledger::{Blank, Ledger};
 use std::test::Fail;
 use zms_sectors::ZmsOpen;
-
-const BANK: Bank = Bank {
-    kind: Kind::Rewritable,
-    unit: 16,
-    sector: 512,
-    count: 3,
-};
 
 // A unit, and where it stands in the bank, in bytes.
 type Put = (usize, [u8; 16]);
@@ -83,6 +77,52 @@ const ON_BLANK: [Call; 17] = [
     (7, (3, 8), 1, None, (3, 8)),
 ];
 
+// The same on a bank that is erased, where a close fills nothing.
+const ON_ERASED: [Call; 17] = [
+    (1, (7, 1), 2, None, (7, 1)),
+    (1, (7, 1), 0, None, (7, 1)),
+    (1, (0, 0), 1, None, (0, 0)),
+    (1, (0, 0), 0, None, (0, 0)),
+    (5, (9, 9), 2, None, (9, 9)),
+    (2, (0, 417), 0, Some((0, 0)), (0, 0)),
+    (8, (69, 195), 14, None, (69, 195)),
+    (2, (59, 147), 13, None, (59, 147)),
+    (3, (27, 187), 13, None, (27, 187)),
+    (8, (0, 0), 1, None, (0, 0)),
+    (4, (174, 95), 14, None, (174, 95)),
+    (3, (250, 167), 12, None, (250, 167)),
+    (8, (6, 24), 3, None, (6, 24)),
+    (2, (253, 187), 28, None, (253, 187)),
+    (3, (0, 0), 1, None, (0, 0)),
+    (6, (1, 416), 33, Some((432, 400)), (0, 0)),
+    (7, (3, 8), 1, None, (3, 8)),
+];
+
+// Two sectors with no entry and a unit that was put. The next one is erased as it opens, with nothing to collect: the last write.
+const USED: [Put; 4] = [
+    (1008, EMPTY),
+    (960, [0; 16]),
+    (1520, EMPTY),
+    (1472, [0; 16]),
+];
+
+const INTO_USED: [Call; 4] = [
+    (1, (17, 100), 9, None, (17, 100)),
+    (2, (34, 100), 8, None, (34, 100)),
+    (1, (51, 100), 8, None, (51, 100)),
+    (3, (68, 150), 14, None, (68, 150)),
+];
+
+// The open sector has no entry, and two units of a value that was cut: the next value stands behind them.
+const LEFT: [Put; 3] = [(496, EMPTY), (0, [17; 16]), (16, [17; 16])];
+
+const BEHIND_LEFT: [Call; 4] = [
+    (1, (17, 100), 8, None, (17, 100)),
+    (1, (34, 100), 8, None, (34, 100)),
+    (1, (51, 100), 8, None, (51, 100)),
+    (1, (68, 100), 10, None, (68, 100)),
+];
+
 const ONE: [Call; 1] = [(7, (5, 9), 3, None, (5, 9))];
 
 // The end of that sector: a unit behind its entries, the entry, the close entry and the empty entry.
@@ -119,25 +159,45 @@ fn image_of<R: Abort>(rt: &R, alloc: Global, puts: &[Put]) -> Result<Vec<u8>, Fa
     Ok(image)
 }
 
-fn load_image<B: Bench>(alloc: Global, bench: &mut B, image: Vec<u8>) -> Result<(), Fail>
+fn load_image<B: Bench>(
+    alloc: Global,
+    bench: &mut B,
+    kind: Kind,
+    image: Vec<u8>,
+) -> Result<(), Fail>
     requires { length image.items ≡ 1536 }
-    ensures { OnOk result ((B.device bench.new).banks ≡ BANK ∷ []) }
+    ensures { OnOk result ((B.device bench.new).banks ≡
+        (record { kind = kind; unit = 16; sector = 512; count = 3 }) ∷ []) }
 {
-    let banks = vec![in alloc; BANK]?;
+    let bank = Bank {
+        kind,
+        unit: 16,
+        sector: 512,
+        count: 3,
+    };
+    let banks = vec![in alloc; bank]?;
     let bytes = vec![in alloc; image]?;
     bench.load(alloc, banks, bytes)?;
     Ok(())
 }
 
-fn load<B: Bench, R: Abort>(rt: &R, alloc: Global, bench: &mut B, puts: &[Put]) -> Result<(), Fail>
-    ensures { OnOk result ((B.device bench.new).banks ≡ BANK ∷ []) }
+fn load<B: Bench, R: Abort>(
+    rt: &R,
+    alloc: Global,
+    bench: &mut B,
+    kind: Kind,
+    puts: &[Put],
+) -> Result<(), Fail>
+    ensures { OnOk result ((B.device bench.new).banks ≡
+        (record { kind = kind; unit = 16; sector = 512; count = 3 }) ∷ []) }
 {
-    load_image(alloc, bench, image_of(rt, alloc, puts)?)
+    load_image(alloc, bench, kind, image_of(rt, alloc, puts)?)
 }
 
-// The area of all sectors.
-fn all<B: Bench>(_bench: &B) -> Area
-    requires { (B.device _bench.now).banks ≡ BANK ∷ [] }
+// The area of all sectors of such a bank.
+fn all<B: Bench>(_bench: &B, _kind: Kind) -> Area
+    requires { (B.device _bench.now).banks ≡
+        (record { kind = _kind; unit = 16; sector = 512; count = 3 }) ∷ [] }
     ensures store { IsStoreArea zms_role (B.device _bench.now).banks result }
     ensures sectors { result.sectors ≡ 3 }
 {
@@ -151,8 +211,8 @@ fn rounds<B: Bench, L: Ledger, R: Abort>(
     bench: &mut B,
     steps: &mut Steps<L>,
 ) -> Result<(), Fail> {
-    load(rt, alloc, bench, &[])?;
-    let area = all(bench);
+    load(rt, alloc, bench, Kind::Rewritable, &[])?;
+    let area = all(bench, Kind::Rewritable);
     let mut store = mounted::<ZmsOpen, B, L, R>(rt, alloc, bench, area, 0, steps)?;
     plays(rt, alloc, bench, &mut store, &ON_BLANK, steps)?;
     shows(rt, bench, &store, &[2, 4, 5, 7, 8], 416, steps);
@@ -174,13 +234,36 @@ fn after_a_cut<B: Bench, L: Ledger, R: Abort>(
     bench: &mut B,
     steps: &mut Steps<L>,
 ) -> Result<(), Fail> {
-    load(rt, alloc, bench, &CUT)?;
-    let area = all(bench);
-    let store = mounted::<ZmsOpen, B, L, R>(rt, alloc, bench, area, 5, steps)?;
-    shows(rt, bench, &store, &[3, 7, 9], 64, steps);
-    let rows = [(2, 2, 9, 9), (1, 4, 8, 0), (1, 3, 3, 1), (1, 2, 7, 1)];
-    walks(rt, bench, &store, 3, &rows, steps);
-    tells(rt, bench, &store, &AFTER_CUT, AFTER_CUT_SPACE, steps);
+    for (kind, units) in [(Kind::Rewritable, 5), (Kind::Erasing, 7)] {
+        load(rt, alloc, bench, kind, &CUT)?;
+        let area = all(bench, kind);
+        let store = mounted::<ZmsOpen, B, L, R>(rt, alloc, bench, area, units, steps)?;
+        shows(rt, bench, &store, &[3, 7, 9], 64, steps);
+        let rows = [(2, 2, 9, 9), (1, 4, 8, 0), (1, 3, 3, 1), (1, 2, 7, 1)];
+        walks(rt, bench, &store, 3, &rows, steps);
+        tells(rt, bench, &store, &AFTER_CUT, AFTER_CUT_SPACE, steps);
+    }
+    Ok(())
+}
+
+// The same calls and others on a bank that is erased.
+fn erases<B: Bench, L: Ledger, R: Abort>(
+    rt: &R,
+    alloc: Global,
+    bench: &mut B,
+    steps: &mut Steps<L>,
+) -> Result<(), Fail> {
+    let rows: [(&[Put], &[Call]); 3] = [
+        (&[], &ON_ERASED),
+        (&USED, &INTO_USED),
+        (&LEFT, &BEHIND_LEFT),
+    ];
+    for (puts, calls) in rows {
+        load(rt, alloc, bench, Kind::Erasing, puts)?;
+        let area = all(bench, Kind::Erasing);
+        let mut store = mounted::<ZmsOpen, B, L, R>(rt, alloc, bench, area, 0, steps)?;
+        plays(rt, alloc, bench, &mut store, calls, steps)?;
+    }
     Ok(())
 }
 
@@ -191,16 +274,16 @@ fn lays<B: Bench, L: Ledger, R: Abort>(
     bench: &mut B,
     steps: &mut Steps<L>,
 ) -> Result<(), Fail> {
-    load(rt, alloc, bench, &[])?;
-    let area = all(bench);
+    load(rt, alloc, bench, Kind::Rewritable, &[])?;
+    let area = all(bench, Kind::Rewritable);
     let mut store = mounted::<ZmsOpen, B, L, R>(rt, alloc, bench, area, 0, steps)?;
     plays(rt, alloc, bench, &mut store, &ONE, steps)?;
     close_is_cut(rt, bench, &mut store, 3, steps);
-    let area = all(bench);
+    let area = all(bench, Kind::Rewritable);
     let mut store = mounted::<ZmsOpen, B, L, R>(rt, alloc, bench, area, 0, steps)?;
     closes(rt, bench, &mut store, 26, steps)?;
     shows(rt, bench, &store, &[7], 32, steps);
-    let area = all(bench);
+    let area = all(bench, Kind::Rewritable);
     let sector = sector_view(bench, &area, 0, steps);
     assert!(rt; sector.starts_with(&[5, 5, 5, 5, 5, 5, 5, 5, 5, 0xFF]));
     assert!(rt; sector.ends_with(&ENDS));
@@ -215,12 +298,12 @@ fn losses<B: Bench, L: Ledger, R: Abort>(
     steps: &mut Steps<L>,
 ) -> Result<(), Fail> {
     for (plan, units) in [(5, 0), (6, 13), (17, 14), (18, 1), (31, 0)] {
-        load(rt, alloc, bench, &[])?;
-        let area = all(bench);
+        load(rt, alloc, bench, Kind::Rewritable, &[])?;
+        let area = all(bench, Kind::Rewritable);
         let mut store = mounted::<ZmsOpen, B, L, R>(rt, alloc, bench, area, 0, steps)?;
         plays(rt, alloc, bench, &mut store, &ON_BLANK[..13], steps)?;
         write_is_cut(rt, bench, &mut store, 2, &[253; 187], plan, steps);
-        let area = all(bench);
+        let area = all(bench, Kind::Rewritable);
         let store = mounted::<ZmsOpen, B, L, R>(rt, alloc, bench, area, units, steps)?;
         assert!(rt; store.get(bench, 2, steps).unwrap_or(b"") == [59; 147].as_slice());
     }
@@ -241,6 +324,7 @@ fn exercise<B: Bench, L: Ledger, R: Abort>(
     let mut steps = Steps::<L>::new(blank);
     rounds(rt, alloc, bench, &mut steps)?;
     after_a_cut(rt, alloc, bench, &mut steps)?;
+    erases(rt, alloc, bench, &mut steps)?;
     lays(rt, alloc, bench, &mut steps)?;
     losses(rt, alloc, bench, &mut steps)
 }

@@ -1,7 +1,7 @@
 // Scripts on the items of two small sectors, of NVS and of ZMS. Answers are those of an independent reading of the same scripts.
 ghost use Rattle.std.specs.Prelude.{◌≡◌, ◌<◌, ◌∷◌, [], OnOk};
 ghost use Rattle.flash_map.specs.declared.area.Role.TheVariants.{Nvs as nvs_role, Zms as zms_role};
-ghost use Rattle.flash_map.specs.Area.{unit_of};
+ghost use Rattle.flash_map.specs.Area.{geometry_of};
 ghost use Rattle.item_lines.specs.Line.{ids_end};
 ghost use Rattle.item_session.specs.Device.{TakesValues};
 ghost use Rattle.ring_store.specs.Standing.{IsStoreArea};
@@ -90,7 +90,7 @@ fn transcript<T: SlotSectors, B: Bench, L: Ledger>(
 ) -> Result<String, Fail>
     requires area { IsStoreArea T.role (B.device bench.old).banks area.now }
     requires values { TakesValues T.kind (B.device bench.old) area.now }
-    requires ids { ids_end ids ≡ (T.kind (unit_of (B.device bench.old) area.now)).ids }
+    requires ids { ids_end ids ≡ (T.kind (geometry_of (B.device bench.old) area.now)).ids }
 {
     let limit = area.value_limit() as usize;
     let lines = match read_script(alloc, script.as_bytes(), ids, limit) {

@@ -159,7 +159,7 @@ module _ (n f z s : Area) where
   pub areas-served : (d : Device) → d.banks ≡ bed_banks → (i : ℕ) (area : Area) → slice_get the_areas i ≡ Some area → is_store area ≡ true → any_serves area (geometry_of d area)
   areas-served d banks zero area at store = subst (λ (a : Area). any_serves a (geometry_of d a)) (some-same (placed n Nvs 0 0) area at) tt
   areas-served d banks (suc zero) area at store = subst (λ (a : Area). any_serves a (geometry_of d a)) (some-same (placed f Fcb 0 2) area at) tt
-  areas-served d banks (suc (suc zero)) area at store = subst (λ (a : Area). any_serves a (geometry_of d a)) (some-same (placed z Zms 1 0) area at) (ap (λ (all : List Bank). (bank_at all 1).kind) banks)
+  areas-served d banks (suc (suc zero)) area at store = subst (λ (a : Area). any_serves a (geometry_of d a)) (some-same (placed z Zms 1 0) area at) tt
   areas-served d banks (suc (suc (suc zero))) area at store = absurd (false≢true (ap is_store (some-same (placed s Sel 0 4) area at) ∙ store))
   areas-served d banks (suc (suc (suc (suc i)))) area at store = absurd (none-some area at)
 

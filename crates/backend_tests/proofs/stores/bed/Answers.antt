@@ -13,5 +13,4 @@ returns-clause-lawful g c =
 
 pub returns-clause-serves : goal.returns-clause-serves
 returns-clause-serves g c =
-    bed-serves c.args.kind c.args.unit c.args.role c.new-2.result (ap (λ (x : Area). x.role) c.new-2.ensures) (ap (λ (x : Area). x.bank) c.new-2.ensures) (ap (λ (x : Area). x.first) c.new-2.ensures) (ap (λ (x : Area). x.sectors) c.new-2.ensures) (ap (λ (x : Area). x.version) c.new-2.ensures)
-    (g.B.Flash.device c.load.new.bench) c.in_ok-load.ensures c.requires.serves
+    bed-serves (g.B.Flash.device c.load.new.bench) c.args.role c.new-2.result (ap (λ (x : Area). x.role) c.new-2.ensures) c.requires.serves

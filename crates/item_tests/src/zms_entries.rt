@@ -1,4 +1,5 @@
 // Entries and a sector as bytes.
+use flash_sim::Kind;
 use zms_cycle::*;
 
 #[test]
@@ -56,7 +57,7 @@ fn one_sector_read(rt: HostRuntime) {
     sector[48..64].copy_from_slice(&encode_zentry(&entry));
     sector[16..32].copy_from_slice(&encode_zentry(&entry));
     assert_eq!(rt;
-        read_sector(&sector),
+        read_sector(&sector, Kind::Rewritable),
         SectorState::Used {
             cycle: 1,
             closed: false,

@@ -1,5 +1,6 @@
 pub mod AppendFacts
 pub mod Areas
+pub mod AskingSteps
 pub mod BlankAreas
 pub mod CacheSteps
 pub mod EntrySteps
@@ -9,6 +10,8 @@ pub mod CopyLoop
 pub mod CostSteps
 pub mod LastIds
 pub mod LastTables
+pub mod LastsSlots
+pub mod LastsWalk
 pub mod ListSteps
 pub mod LiveSteps
 pub mod MountSteps

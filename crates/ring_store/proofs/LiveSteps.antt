@@ -92,7 +92,7 @@ usual_all id own (q ∷ qs) plain =
 -- ---- one entry
 
 module _ (k : Kind) (sectors : List (List ℕ)) (p : Placed) (later : List Placed) (at : AreBehind k sectors p later) where
-  own-last : last_placed (slots k) sectors p.id ≡ option_or (option_or (last_of (slots k) p.id later) (Some p)) (last_of (slots k) p.id at.front)
+  pub own-last : last_placed (slots k) sectors p.id ≡ option_or (option_or (last_of (slots k) p.id later) (Some p)) (last_of (slots k) p.id at.front)
   own-last =
       let own : last_of (slots k) p.id (p ∷ later) ≡ option_or (last_of (slots k) p.id later) (Some p) =
       last-append (slots k) p.id (p ∷ []) later ∙ ap (λ (t : Bool). option_or (last_of (slots k) p.id later) (cond t (Some p) None)) (eq-eqb p.id p.id refl) in

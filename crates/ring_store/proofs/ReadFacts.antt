@@ -83,7 +83,7 @@ module _ {T : Type 0} (role : Role) (kind : Geometry → Kind) (kept : Geometry 
     pub placed_within : (kind (geometry_of d store.area)).within (sector_at (sectors_of d store.area) p.sector) ≡ true
     placed_within = within_on p.sector placed_inside
 
-    placed_len : length (bytes_of (slots k) here p) ≡ p.len
+    pub placed_len : length (bytes_of (slots (kind (geometry_of d store.area))) (sectors_of d store.area) p) ≡ p.len
     placed_len = entry_long k law here p placed.listed placed_within
 
     pub value_none : p.len ≡ 0 → value_of (bytes_of (slots (kind (geometry_of d store.area))) (sectors_of d store.area) p) ≡ None

@@ -19,15 +19,15 @@ use Rattle.ring_store.proofs.LiveSteps.{key_below, key_short, some_from, usual_a
 
 -- ---- the last of an id, where one entry stands in front
 
-front-last : (id : ℕ) (p : Placed) (later : List Placed) → last_of_id id (p ∷ later) ≡ option_or (last_of_id id later) (cond (eqb p.id id) (Some p) None)
+pub front-last : (id : ℕ) (p : Placed) (later : List Placed) → last_of_id id (p ∷ later) ≡ option_or (last_of_id id later) (cond (eqb p.id id) (Some p) None)
 front-last id p later = last-append (λ (q : Placed). eqb q.id id) (p ∷ []) later
 
-front-other : (id : ℕ) (p : Placed) (later : List Placed) → eqb p.id id ≡ false → last_of_id id (p ∷ later) ≡ last_of_id id later
+pub front-other : (id : ℕ) (p : Placed) (later : List Placed) → eqb p.id id ≡ false → last_of_id id (p ∷ later) ≡ last_of_id id later
 front-other id p later other =
     front-last id p later ∙ ap (λ (t : Bool). option_or (last_of_id id later) (cond t (Some p) None)) other ∙ or-none (last_of_id id later)
 
 -- where one of its id is behind it
-front-skipped : (id : ℕ) (p : Placed) (later : List Placed) → is_some (last_of_id p.id later) ≡ true → last_of_id id later ≡ last_of_id id (p ∷ later)
+pub front-skipped : (id : ℕ) (p : Placed) (later : List Placed) → is_some (last_of_id p.id later) ≡ true → last_of_id id later ≡ last_of_id id (p ∷ later)
 front-skipped id p later some =
     elim (cases_Bool (eqb p.id id)) [
       | inl own ↦

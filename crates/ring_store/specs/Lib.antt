@@ -1,6 +1,8 @@
+pub mod Asking
 pub mod Cached
 pub mod Collecting
 pub mod Kind
+pub mod Lasts
 pub mod Latest
 pub mod Listed
 pub mod Older

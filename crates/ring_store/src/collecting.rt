@@ -16,7 +16,7 @@ ghost use Rattle.ring_store.specs.Steps.{Keeps, KeepsMarks, StopsClearing};
 ghost use Rattle.ring_store.specs.Written.{IsWritten};
 
 use crate::entry::{Placed, Redo};
-use crate::liveness::{live_in, live_slots};
+use crate::liveness::{LiveSlots, live_in, live_slots};
 use crate::sectors::SlotSectors;
 use flash_map::{Area, geometry};
 use flash_sim::{Flash, PowerLost, Steps};
@@ -87,7 +87,8 @@ fn copy_live<T: SlotSectors, F: Flash, L: Ledger>(
     ensures spends { let d = F.device flash.old in let k = T.kind (geometry_of d area.now) in OnOk result (SpendsIn d (F.device flash.new) (copies k (to_copy k.reading (sectors_of d area.now) current))) }
     ensures spends_lost { let d = F.device flash.old in let k = T.kind (geometry_of d area.now) in OnErr result (SpendsUpTo d (F.device flash.new) (copies k (to_copy k.reading (sectors_of d area.now) current))) }
 {
-    let live = live_slots(flash, area, opened, current, victim, steps);
+    let mut live = LiveSlots::new();
+    live_slots(flash, area, opened, current, victim, &mut live, steps);
     let slots = T::slots(flash, area, victim, steps);
     let first = T::first_slot();
     for slot in first..first + slots {

@@ -88,13 +88,15 @@ impl<T: SlotSectors> Store<T> {
         ensures seen { let d = F.device flash.now in let k = kind_on T.kind d self.now.area in
             HasSeen k.ids seen.new.bits seen.new.mixed (counted_in (slots k) (sectors_of d self.now.area) self.now.current place ++ behind k (sectors_of d self.now.area) self.now.current place) }
     {
-        let live = live_by(
+        let mut live = LiveSlots::new();
+        live_by(
             flash,
             &self.area,
             &self.opened,
             self.current,
             place,
             seen,
+            &mut live,
             steps,
         );
         sector_cost::<T, F, L>(flash, &self.area, place, &live, steps)

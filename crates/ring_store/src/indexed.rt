@@ -6,20 +6,25 @@ ghost use Rattle.ring_store.specs.Listed.{kind_on, items_on};
 ghost use Rattle.ring_laws.specs.NextIds.{IsNextId};
 ghost use Rattle.ring_store.specs.Stands.{StandsOn};
 
-use crate::latest::{LastSlots, last_slots};
+use crate::latest::{LastSlots, tell_last_slots};
 use crate::sectors::SlotSectors;
 use crate::store::Store;
 use flash_sim::{Flash, Steps};
 use std::sync::ledger::Ledger;
 
 impl<T: SlotSectors> Store<T> {
-    /// The last entries of ids, by one walk over the list: of 950 ids at most, the least that have bytes. The table tells of
-    /// each id where no more than 950 ids ever had bytes in the list. It does so as long as the area stays as it is.
-    pub fn last_slots<F: Flash, L: Ledger>(&self, flash: &F, steps: &mut Steps<L>) -> LastSlots
+    /// Makes a table of the last entries of ids, by one walk over the list: of 960 ids at most, the least that have bytes. It
+    /// tells of each id where no more than 960 ids ever had bytes in the list. It does so as long as the area stays as it is.
+    pub fn tell_last_slots<F: Flash, L: Ledger>(
+        &self,
+        flash: &F,
+        last: &mut LastSlots,
+        steps: &mut Steps<L>,
+    )
         requires { StandsOn T.role T.kind T.kept (F.device flash.now) self.now }
-        ensures { TellsOn T.kind (F.device flash.now) self.now.area result }
+        ensures { TellsOn T.kind (F.device flash.now) self.now.area last.new }
     {
-        last_slots(flash, &self.area, &self.opened, self.current, steps)
+        tell_last_slots(flash, &self.area, &self.opened, self.current, last, steps)
     }
 
     /// The bytes of an item, as `get` gives them, by a table of last entries. Where the table tells of the id, it is one step at

@@ -25,7 +25,7 @@ use flash_sim::{Flash, Steps};
 use std::sync::ledger::Ledger;
 
 // A table has so many entries at most, of 16 bytes each.
-const ENTRIES: usize = 950;
+const ENTRIES: usize = 960;
 
 /// Of each id below a bound the last one of some entries, where that has bytes. There is a bound only where more ids than the
 /// table has places had bytes.
@@ -51,15 +51,22 @@ fn search(entries: &[Placed], id: u32) -> Result<usize, usize>
 }
 
 impl LastSlots {
-    // Among no entries.
-    #[inline(never)]
-    fn new() -> LastSlots
+    /// Among no entries.
+    pub fn new() -> LastSlots
         ensures { (limit : ℕ) → Tells limit result [] }
     {
         LastSlots {
             entries: ArrayVec::new(),
             bound: None,
         }
+    }
+
+    // Among no entries, again.
+    fn clear(&mut self)
+        ensures { (limit : ℕ) → Tells limit self.new [] }
+    {
+        self.entries.clear();
+        self.bound = None;
     }
 
     /// Whether the table tells of an id.
@@ -386,21 +393,21 @@ fn tell_all<T: SlotSectors, F: Flash, L: Ledger>(
     tell_counting(flash, area, opened, current, oldest, last, &mut seen, steps);
 }
 
-/// The last entry of each id in the list, as far as a table tells of it. Each sector that counts is looked at once.
-#[inline(never)]
-pub fn last_slots<T: SlotSectors, F: Flash, L: Ledger>(
+/// Makes a table of the last entry of each id in the list, as far as it has room for them. What it told before is gone. Each sector
+/// that counts is looked at once.
+pub fn tell_last_slots<T: SlotSectors, F: Flash, L: Ledger>(
     flash: &F,
     area: &Area,
     opened: &T,
     current: u32,
+    last: &mut LastSlots,
     steps: &mut Steps<L>,
-) -> LastSlots
+)
     requires area { IsStoreArea T.role (F.device flash.now).banks area.now }
     requires kept { let d = F.device flash.now in opened.now ≡ T.kept (geometry_of d area.now) (sector_at (sectors_of d area.now) current) }
     requires current { let d = F.device flash.now in current ≡ open_sector (kind_on T.kind d area.now).reading (sectors_of d area.now) }
-    ensures { TellsOn T.kind (F.device flash.now) area.now result }
+    ensures { TellsOn T.kind (F.device flash.now) area.now last.new }
 {
-    let mut last = LastSlots::new();
-    tell_all(flash, area, opened, current, &mut last, steps);
-    last
+    last.clear();
+    tell_all(flash, area, opened, current, last, steps);
 }

@@ -1,6 +1,7 @@
 //! A store of items in an area of several sectors, for any sectors that hold entries in slots.
 #![tactic(auto)]
 
+mod asking;
 mod bits;
 mod cached;
 #[tactic(auto, using(flash_map::proofs::Touches::then))]
@@ -8,6 +9,7 @@ mod collecting;
 mod costs;
 mod entry;
 mod indexed;
+mod lasts;
 mod latest;
 pub mod laws;
 mod liveness;

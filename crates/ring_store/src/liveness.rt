@@ -29,7 +29,8 @@ pub struct LiveSlots {
 }
 
 impl LiveSlots {
-    fn new() -> LiveSlots
+    /// None so far.
+    pub fn new() -> LiveSlots
         ensures { (index : ℕ) → index < 2 ^ 15 → has_bit result.bits index ≡ false }
     {
         LiveSlots { bits: [0; BYTES] }
@@ -141,8 +142,8 @@ fn look_at<T: SlotSectors, F: Flash, L: Ledger>(
     }
 }
 
-/// The live entries of a sector that counts, by what was seen behind it. The ids of its own entries are noted.
-#[inline(never)]
+/// Notes the live entries of a sector that counts, by what was seen behind it; none was noted so far. The ids of its own entries are
+/// noted too.
 pub fn live_by<T: SlotSectors, F: Flash, L: Ledger>(
     flash: &F,
     area: &Area,
@@ -150,20 +151,21 @@ pub fn live_by<T: SlotSectors, F: Flash, L: Ledger>(
     current: u32,
     place: u32,
     seen: &mut Seen,
+    live: &mut LiveSlots,
     steps: &mut Steps<L>,
-) -> LiveSlots
+)
     requires area { IsStoreArea T.role (F.device flash.now).banks area.now }
     requires kept { let d = F.device flash.now in opened.now ≡ T.kept (geometry_of d area.now) (sector_at (sectors_of d area.now) current) }
     requires current { let d = F.device flash.now in current ≡ open_sector (T.kind (geometry_of d area.now)).reading (sectors_of d area.now) }
     requires inside { place < area.now.sectors }
     requires counts { let d = F.device flash.now in counts_at (kind_on T.kind d area.now).reading (sectors_of d area.now) current place ≡ true }
     requires seen { let d = F.device flash.now in let k = kind_on T.kind d area.now in HasSeen k.ids seen.old.bits seen.old.mixed (behind k (sectors_of d area.now) current place) }
+    requires none { (index : ℕ) → index < 2 ^ 15 → has_bit live.old.bits index ≡ false }
     ensures live { let d = F.device flash.now in let k = kind_on T.kind d area.now in
-        (index : ℕ) → index < k.count (sector_at (sectors_of d area.now) place) → has_bit result.bits index ≡ holds_live k (sectors_of d area.now) place (k.first + index) }
+        (index : ℕ) → index < k.count (sector_at (sectors_of d area.now) place) → has_bit live.new.bits index ≡ holds_live k (sectors_of d area.now) place (k.first + index) }
     ensures seen { let d = F.device flash.now in let k = kind_on T.kind d area.now in
         HasSeen k.ids seen.new.bits seen.new.mixed (counted_in (slots k) (sectors_of d area.now) current place ++ behind k (sectors_of d area.now) current place) }
 {
-    let mut live = LiveSlots::new();
     let first = T::first_slot();
     let mut left = T::slots(flash, area, place, steps);
     while left > 0 {
@@ -172,10 +174,9 @@ pub fn live_by<T: SlotSectors, F: Flash, L: Ledger>(
         live.put(left - 1, is);
         left -= 1;
     }
-    live
 }
 
-/// The live entries of a sector that counts.
+/// Notes the live entries of a sector that counts; none was noted so far.
 #[inline(never)]
 pub fn live_slots<T: SlotSectors, F: Flash, L: Ledger>(
     flash: &F,
@@ -183,19 +184,21 @@ pub fn live_slots<T: SlotSectors, F: Flash, L: Ledger>(
     opened: &T,
     current: u32,
     place: u32,
+    live: &mut LiveSlots,
     steps: &mut Steps<L>,
-) -> LiveSlots
+)
     requires area { IsStoreArea T.role (F.device flash.now).banks area.now }
     requires kept { let d = F.device flash.now in opened.now ≡ T.kept (geometry_of d area.now) (sector_at (sectors_of d area.now) current) }
     requires current { let d = F.device flash.now in current ≡ open_sector (T.kind (geometry_of d area.now)).reading (sectors_of d area.now) }
     requires inside { place < area.now.sectors }
     requires counts { let d = F.device flash.now in counts_at (kind_on T.kind d area.now).reading (sectors_of d area.now) current place ≡ true }
+    requires none { (index : ℕ) → index < 2 ^ 15 → has_bit live.old.bits index ≡ false }
     ensures { let d = F.device flash.now in let k = kind_on T.kind d area.now in
-        (index : ℕ) → index < k.count (sector_at (sectors_of d area.now) place) → has_bit result.bits index ≡ holds_live k (sectors_of d area.now) place (k.first + index) }
+        (index : ℕ) → index < k.count (sector_at (sectors_of d area.now) place) → has_bit live.new.bits index ≡ holds_live k (sectors_of d area.now) place (k.first + index) }
 {
     let mut seen = Seen::new();
     note_behind(flash, area, opened, current, place, &mut seen, steps);
-    live_by(flash, area, opened, current, place, &mut seen, steps)
+    live_by(flash, area, opened, current, place, &mut seen, live, steps);
 }
 
 /// The entry in a slot of a sector's list, where it is live.

@@ -10,6 +10,7 @@ ghost use Rattle.ring_laws.specs.Area.{is_closed_at, next, open_sector};
 ghost use Rattle.ring_laws.specs.Reading.{is_sound};
 ghost use Rattle.ring_laws.specs.Live.{last_in, bytes_of};
 ghost use Rattle.ring_store.specs.Kind.{Kind, IsKind, placed_at, slots, fits};
+ghost use Rattle.ring_store.specs.Lasts.{AreOthers};
 ghost use Rattle.ring_store.specs.Listed.{IsListedOn, IsWithinOn};
 ghost use Rattle.ring_store.specs.Standing.{IsStoreArea, SpendsIn, SpendsUpTo};
 ghost use Rattle.ring_store.specs.Steps.{Keeps, KeepsMarks, LeavesRoom, Begins, Adds, Marks, Closes, Clears, StopsClearing};
@@ -112,6 +113,20 @@ pub trait SlotSectors: Copy {
         requires kept { let d = F.device flash.now in self.now ≡ kept (geometry_of d area.now) (sector_at (sectors_of d area.now) place) }
         ensures { let d = F.device flash.now in result ≡ (kind (geometry_of d area.now)).free (sector_at (sectors_of d area.now) place) };
 
+    /// How many slots the list of the sector has of which this is kept.
+    fn own_slots<F: Flash, L: Ledger>(
+        &self,
+        flash: &F,
+        area: &Area,
+        place: u32,
+        steps: &mut Steps<L>,
+    ) -> u32
+        requires area { IsStoreArea role (F.device flash.now).banks area.now }
+        requires inside { place < area.now.sectors }
+        requires kept { let d = F.device flash.now in self.now ≡ kept (geometry_of d area.now) (sector_at (sectors_of d area.now) place) }
+        ensures value { let d = F.device flash.now in result ≡ (kind (geometry_of d area.now)).count (sector_at (sectors_of d area.now) place) }
+        ensures few { result ≤ 2 ^ 15 };
+
     /// How many slots the list of a sector has.
     fn slots<F: Flash, L: Ledger>(flash: &F, area: &Area, place: u32, steps: &mut Steps<L>) -> u32
         requires area { IsStoreArea role (F.device flash.now).banks area.now }
@@ -180,6 +195,42 @@ pub trait SlotSectors: Copy {
         requires inside { place < area.now.sectors }
         ensures { let d = F.device flash.now in let k = kind (geometry_of d area.now) in
             result ≡ option_map (placed_at place) (last_in (slots k) place id ((slots k).entries (sector_at (sectors_of d area.now) place))) };
+
+    /// How many slots of a sector's list have to be looked at for the ids from `least` to `most`: those behind them have no
+    /// entry of these.
+    fn reach<F: Flash, L: Ledger>(
+        flash: &F,
+        area: &Area,
+        place: u32,
+        least: u32,
+        most: u32,
+        steps: &mut Steps<L>,
+    ) -> u32
+        requires area { IsStoreArea role (F.device flash.now).banks area.now }
+        requires inside { place < area.now.sectors }
+        ensures few { let d = F.device flash.now in
+            result ≤ (kind (geometry_of d area.now)).count (sector_at (sectors_of d area.now) place) }
+        ensures small { result ≤ 2 ^ 15 }
+        ensures others { let d = F.device flash.now in let k = kind (geometry_of d area.now) in
+            let b = sector_at (sectors_of d area.now) place in AreOthers k b result (k.count b) least most };
+
+    /// The same for the first so many slots of the list.
+    fn reach_of<F: Flash, L: Ledger>(
+        flash: &F,
+        area: &Area,
+        place: u32,
+        slots: u32,
+        least: u32,
+        most: u32,
+        steps: &mut Steps<L>,
+    ) -> u32
+        requires area { IsStoreArea role (F.device flash.now).banks area.now }
+        requires inside { place < area.now.sectors }
+        requires listed { let d = F.device flash.now in
+            slots ≤ (kind (geometry_of d area.now)).count (sector_at (sectors_of d area.now) place) }
+        ensures few { result ≤ slots }
+        ensures others { let d = F.device flash.now in
+            AreOthers (kind (geometry_of d area.now)) (sector_at (sectors_of d area.now) place) result slots least most };
 
     // ---- steps in the open sector
 

@@ -83,7 +83,7 @@ fn put_noted<T: SlotSectors, F: Flash, L: Ledger>(
 {
     put(flash, area, opened, current, id, bytes, steps)?;
     let first = T::first_slot();
-    let count = T::slots(flash, area, current, steps);
+    let count = opened.own_slots(flash, area, current, steps);
     let slot = first + count - 1;
     cache.note(id, current, slot);
     Ok(())

@@ -166,24 +166,24 @@ returns-clause-spends g c =
     let done = copying_end (g.T.SlotSectors.kind (geometry_of a area)) law a d area place (c.loop-slot.slot - c.first_slot-first.result) c.requires.collecting large all c.loop-slot.invariant.copying in
     done.1
 
-pub live_slots-live-requires-clause-current : goal.live_slots-live-requires-clause-current
-live_slots-live-requires-clause-current g c =
+pub live_slots-requires-clause-current : goal.live_slots-requires-clause-current
+live_slots-requires-clause-current g c =
     let a : Device = g.F.Flash.device c.args.flash.now in
     let area : Area = c.args.area.now in
     let place : ℕ = c.args.current in
     let law : IsKind (g.T.SlotSectors.kind (geometry_of a area)) = g.met.T.SlotSectors.lawful (geometry_of a area) (unit_is a area (g.met.F.Flash.is_lawful c.args.flash.now) c.requires.area.lawful) in
     sym (reads (g.T.SlotSectors.kind (geometry_of a area)).reading (sectors_of a area) place (inr (inl c.requires.collecting))).0
 
-pub live_slots-live-requires-clause-inside : goal.live_slots-live-requires-clause-inside
-live_slots-live-requires-clause-inside g c =
+pub live_slots-requires-clause-inside : goal.live_slots-requires-clause-inside
+live_slots-requires-clause-inside g c =
     let a : Device = g.F.Flash.device c.args.flash.now in
     let area : Area = c.args.area.now in
     let place : ℕ = c.args.current in
     let law : IsKind (g.T.SlotSectors.kind (geometry_of a area)) = g.met.T.SlotSectors.lawful (geometry_of a area) (unit_is a area (g.met.F.Flash.is_lawful c.args.flash.now) c.requires.area.lawful) in
     let within = next_within a area place c.requires.collecting.ring.within in omega (arith, c.requires.victim)
 
-pub live_slots-live-requires-clause-counts : goal.live_slots-live-requires-clause-counts
-live_slots-live-requires-clause-counts g c =
+pub live_slots-requires-clause-counts : goal.live_slots-requires-clause-counts
+live_slots-requires-clause-counts g c =
     let a : Device = g.F.Flash.device c.args.flash.now in
     let area : Area = c.args.area.now in
     let place : ℕ = c.args.current in
@@ -208,4 +208,8 @@ copy_slot-requires-clause-live g c =
     let count : c.slots-slots.result ≡ (g.T.SlotSectors.kind (geometry_of a area)).count (sector_at (sectors_of a area) c.args.victim) = c.slots-slots.ensures.value in
     let back : (g.T.SlotSectors.kind (geometry_of a area)).first + (c.loop-slot.slot - c.first_slot-first.result) ≡ c.loop-slot.slot = omega arith in
     live_flag g.T.SlotSectors.kind g.T.SlotSectors.role a d area place c.args.victim c.first_slot-first.result c.loop-slot.slot law (g.met.F.Flash.is_lawful c.args.flash.now) c.requires.area c.requires.collecting c.requires.victim first_is (omega arith) kept.copying c.has-is.result
-    (c.has-is.ensures ∙ c.live_slots-live.ensures (c.loop-slot.slot - c.first_slot-first.result) (omega arith) ∙ ap (holds_live (g.T.SlotSectors.kind (geometry_of a area)) (sectors_of a area) c.args.victim) back)
+    (c.has-is.ensures ∙ c.live_slots.ensures (c.loop-slot.slot - c.first_slot-first.result) (omega arith) ∙ ap (holds_live (g.T.SlotSectors.kind (geometry_of a area)) (sectors_of a area) c.args.victim) back)
+
+pub live_slots-requires-clause-none : goal.live_slots-requires-clause-none
+live_slots-requires-clause-none g c =
+    c.new-live.ensures

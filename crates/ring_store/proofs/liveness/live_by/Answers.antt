@@ -26,7 +26,7 @@ loop-left-init g c =
     record {
       within = omega arith;
       seen = subst (HasSeen k.ids c.args.seen.now.bits c.args.seen.now.mixed) (later_none k law sectors c.args.current c.args.place ∙ ap (later_at k law sectors c.args.current c.args.place) (sym count)) c.requires.seen;
-      dead = λ index under. c.new-live.ensures index (omega (arith, c.slots-left.ensures.few));
+      dead = λ index under. c.requires.none index (omega (arith, c.slots-left.ensures.few));
       live = λ index from under. absurd (omega arith);
     }
 

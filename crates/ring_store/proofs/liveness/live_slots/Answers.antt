@@ -29,3 +29,7 @@ returns g c =
     let k : Kind = g.T.SlotSectors.kind (geometry_of d area) in
     let sectors : List (List ℕ) = sectors_of d area in
     c.live_by.ensures.live
+
+pub live_by-requires-clause-none : goal.live_by-requires-clause-none
+live_by-requires-clause-none g c =
+    c.requires.none

@@ -8,16 +8,16 @@ use Rattle.ring_store.proofs.CacheSteps.{cache-put, entry-behind}
 use Rattle.ring_store.proofs.RoomFacts.{inside}
 use Rattle.ring_store.proofs.writing.put_noted.Goals as goal
 
-pub slots-count-requires-clause-area : goal.slots-count-requires-clause-area
-slots-count-requires-clause-area g c = c.in_ok-put.ensures.stands.area
+pub own_slots-count-requires-clause-area : goal.own_slots-count-requires-clause-area
+own_slots-count-requires-clause-area g c = c.in_ok-put.ensures.stands.area
 
-pub slots-count-requires-clause-inside : goal.slots-count-requires-clause-inside
-slots-count-requires-clause-inside g c =
+pub own_slots-count-requires-clause-inside : goal.own_slots-count-requires-clause-inside
+own_slots-count-requires-clause-inside g c =
     inside g.T.SlotSectors.role g.T.SlotSectors.kind g.T.SlotSectors.kept (g.F.Flash.device c.put.new.flash) c.args.area.now c.args.current c.put.new.opened c.in_ok-put.ensures.stands
 
 pub overflow_add-slot : goal.overflow_add-slot
 overflow_add-slot g c =
-    omega (arith, c.slots-count.ensures.few, c.first_slot-first.ensures.small)
+    omega (arith, c.own_slots-count.ensures.few, c.first_slot-first.ensures.small)
 
 pub overflow_sub-slot : goal.overflow_sub-slot
 overflow_sub-slot g c =
@@ -27,9 +27,9 @@ overflow_sub-slot g c =
     let d : Device = g.F.Flash.device c.put.new.flash in
     let did = c.in_ok-put.ensures in
     let first = c.first_slot-first.ensures.value (geometry_of d area) in
-    let count = c.slots-count.ensures.value in
-    let at : c.first_slot-first.result + c.slots-count.result ≡ (g.T.SlotSectors.kind (geometry_of d area)).first + (g.T.SlotSectors.kind (geometry_of d area)).count (sector_at (sectors_of d area) c.args.current) = omega arith in
-    let there = entry-behind g.T.SlotSectors.kind a d area c.args.current c.args.id (length c.args.bytes.now) did.touches.banks did.entry (c.first_slot-first.result + c.slots-count.result) at in
+    let count = c.own_slots-count.ensures.value in
+    let at : c.first_slot-first.result + c.own_slots-count.result ≡ (g.T.SlotSectors.kind (geometry_of d area)).first + (g.T.SlotSectors.kind (geometry_of d area)).count (sector_at (sectors_of d area) c.args.current) = omega arith in
+    let there = entry-behind g.T.SlotSectors.kind a d area c.args.current c.args.id (length c.args.bytes.now) did.touches.banks did.entry (c.first_slot-first.result + c.own_slots-count.result) at in
     omega arith
 
 pub returns-clause-cached : goal.returns-clause-cached
@@ -40,12 +40,15 @@ returns-clause-cached g c =
     let d : Device = g.F.Flash.device c.put.new.flash in
     let did = c.in_ok-put.ensures in
     let first = c.first_slot-first.ensures.value (geometry_of d area) in
-    let count = c.slots-count.ensures.value in
-    let at : c.first_slot-first.result + c.slots-count.result ≡ (g.T.SlotSectors.kind (geometry_of d area)).first + (g.T.SlotSectors.kind (geometry_of d area)).count (sector_at (sectors_of d area) c.args.current) = omega arith in
-    cache-put g.T.SlotSectors.kind a d area c.args.current c.args.id (length c.args.bytes.now) did.touches.banks did.entry c.args.cache.now c.requires.cached c.note.new.self (c.first_slot-first.result + c.slots-count.result) at c.note.ensures
+    let count = c.own_slots-count.ensures.value in
+    let at : c.first_slot-first.result + c.own_slots-count.result ≡ (g.T.SlotSectors.kind (geometry_of d area)).first + (g.T.SlotSectors.kind (geometry_of d area)).count (sector_at (sectors_of d area) c.args.current) = omega arith in
+    cache-put g.T.SlotSectors.kind a d area c.args.current c.args.id (length c.args.bytes.now) did.touches.banks did.entry c.args.cache.now c.requires.cached c.note.new.self (c.first_slot-first.result + c.own_slots-count.result) at c.note.ensures
 
 pub returns-in_err-put-clause-written : goal.returns-in_err-put-clause-written
 returns-in_err-put-clause-written g c = c.in_err-put.ensures.written
 
 pub returns-clause-written : goal.returns-clause-written
 returns-clause-written g c = c.in_ok-put.ensures.written
+
+pub own_slots-count-requires-clause-kept : goal.own_slots-count-requires-clause-kept
+own_slots-count-requires-clause-kept g c = c.in_ok-put.ensures.stands.opened

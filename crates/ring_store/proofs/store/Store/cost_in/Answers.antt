@@ -7,8 +7,8 @@ use Rattle.ring_store.specs.Kind.{Kind, IsKind}
 use Rattle.ring_store.proofs.Areas.{unit_is}
 use Rattle.ring_store.proofs.store.Store.cost_in.Goals as goal
 
-pub live_by-live-requires-clause-counts : goal.live_by-live-requires-clause-counts
-live_by-live-requires-clause-counts g c =
+pub live_by-requires-clause-counts : goal.live_by-requires-clause-counts
+live_by-requires-clause-counts g c =
     let d : Device = g.F.Flash.device c.args.flash.now in
     let area : Area = c.args.self.now.area in
     let k : Kind = g.T.SlotSectors.kind (geometry_of d area) in
@@ -24,3 +24,7 @@ sector_cost-requires-clause-within g c =
     let sectors : List (List ℕ) = sectors_of d area in
     let law : IsKind (g.T.SlotSectors.kind (geometry_of d area)) = g.met.T.SlotSectors.lawful (geometry_of d area) (unit_is d area (g.met.F.Flash.is_lawful c.args.flash.now) c.requires.stands.area.lawful) in
     within_on g.T.SlotSectors.role g.T.SlotSectors.kind g.T.SlotSectors.kept d c.args.self.now law (g.met.F.Flash.is_lawful c.args.flash.now) c.requires.stands c.args.place c.requires.inside
+
+pub live_by-requires-clause-none : goal.live_by-requires-clause-none
+live_by-requires-clause-none g c =
+    c.new-live.ensures

@@ -87,8 +87,12 @@ impl ItemStore for Nvs {
         Nvs::may_hold(self, id as u16)
     }
 
-    fn index<F: Flash, L: Ledger>(&self, flash: &F, steps: &mut Steps<L>) -> LastSlots {
-        Nvs::last_slots(self, flash, steps)
+    fn new_index() -> LastSlots {
+        LastSlots::new()
+    }
+
+    fn tell<F: Flash, L: Ledger>(&self, flash: &F, index: &mut LastSlots, steps: &mut Steps<L>) {
+        Nvs::tell_last_slots(self, flash, index, steps)
     }
 
     fn get_by<'a, F: Flash, L: Ledger>(
@@ -99,6 +103,31 @@ impl ItemStore for Nvs {
         steps: &mut Steps<L>,
     ) -> Option<&'a [u8]> {
         Nvs::get_by(self, flash, index, id as u16, steps)
+    }
+
+    fn id_of<F: Flash, L: Ledger>(
+        &self,
+        flash: &F,
+        least: u32,
+        most: u32,
+        bytes: &[u8],
+        steps: &mut Steps<L>,
+    ) -> Option<u32> {
+        match Nvs::id_of(self, flash, least as u16, most as u16, bytes, steps) {
+            Some(id) => Some(u32::from(id)),
+            None => None,
+        }
+    }
+
+    fn next_of<'a, F: Flash, L: Ledger>(
+        &self,
+        flash: &'a F,
+        least: u32,
+        most: u32,
+        after: Option<&[u8]>,
+        steps: &mut Steps<L>,
+    ) -> Option<&'a [u8]> {
+        Nvs::next_of(self, flash, least as u16, most as u16, after, steps)
     }
 
     fn write<F: Flash, L: Ledger>(

@@ -1,5 +1,5 @@
 // The trait of a store of items.
-ghost use Rattle.std.specs.Prelude.{◌≡◌, ◌^◌, ◌<◌, ◌≤◌, ◌∷◌, [], ℕ, Bool, List, length, replicate, true, false, is_err, Option, None, option_map, IfOk, IfSome};
+ghost use Rattle.std.specs.Prelude.{◌≡◌, ◌+◌, ◌^◌, ◌<◌, ◌≤◌, ◌∷◌, [], ℕ, Bool, List, length, replicate, true, false, is_err, Option, None, option_map, IfOk, IfSome};
 ghost use Rattle.std.specs.FinMap as finite;
 ghost use Rattle.flash_sim.specs.Bank.{IsLawful};
 ghost use Rattle.flash_sim.specs.Device.{Device};
@@ -11,6 +11,7 @@ ghost use Rattle.flash_map.specs.Faults.{mount_lost, write_lost};
 ghost use Rattle.flash_map.specs.Lawful.{IsLawfulFor};
 ghost use Rattle.flash_map.specs.Spending.{SpendsAtMost};
 ghost use Rattle.flash_map.specs.Touches.{Touches};
+ghost use Rattle.pair_laws.specs.Bytes.{IsIdOf, IsNextOf};
 ghost use Rattle.pair_laws.specs.Items.{Items};
 ghost use Rattle.backend_api.specs.Ends.{MountEnds};
 ghost use Rattle.backend_api.specs.Room.{removal_units};
@@ -105,11 +106,15 @@ pub trait ItemStore: Drop {
         ensures { (d : Device) → IsLawful d.banks d.bytes → IsLawfulFor d.banks (mounted_on self.now) → StandsOn mounted_on stands d self.now
             → result ≡ false → finite.get (on contents d (mounted_on self.now)) id ≡ None };
 
-    /// Where the items stand, by one walk over the store's entries at most. It tells so as long as the area stays as it is.
-    fn index<F: Flash, L: Ledger>(&self, flash: &F, steps: &mut Steps<L>) -> Self::Index
+    /// An index that tells of nothing yet.
+    fn new_index() -> Self::Index;
+
+    /// Makes an index of where the items stand, by one walk over the store's entries at most. It tells so as long as the area
+    /// stays as it is. What it told before is gone.
+    fn tell<F: Flash, L: Ledger>(&self, flash: &F, index: &mut Self::Index, steps: &mut Steps<L>)
         requires lawful { IsLawfulFor (F.device flash.now).banks (mounted_on self.now) }
         requires stands { StandsOn mounted_on stands (F.device flash.now) self.now }
-        ensures { HoldsOn (tells result) (F.device flash.now) (mounted_on self.now) };
+        ensures { HoldsOn (tells index.new) (F.device flash.now) (mounted_on self.now) };
 
     /// The bytes of an item, as `get` gives them, by what the index tells.
     fn get_by<'a, F: Flash, L: Ledger>(
@@ -124,6 +129,41 @@ pub trait ItemStore: Drop {
         requires tells { HoldsOn (tells index.now) (F.device flash.now) (mounted_on self.now) }
         requires known { is_id id }
         ensures { option_map (λ bytes. bytes.now) result ≡ finite.get (on contents (F.device flash.now) (mounted_on self.now)) id };
+
+    /// The id of an item that has these bytes, of the ids from `least` to `most`, no more than 0x1_0020. It is one walk over the
+    /// store's entries at most, and makes no index.
+    fn id_of<F: Flash, L: Ledger>(
+        &self,
+        flash: &F,
+        least: u32,
+        most: u32,
+        bytes: &[u8],
+        steps: &mut Steps<L>,
+    ) -> Option<u32>
+        requires lawful { IsLawfulFor (F.device flash.now).banks (mounted_on self.now) }
+        requires stands { StandsOn mounted_on stands (F.device flash.now) self.now }
+        requires least { is_id least }
+        requires most { is_id most }
+        requires range { most < least + 0x1_0020 }
+        ensures { IsIdOf least most (on contents (F.device flash.now) (mounted_on self.now)) bytes.now result };
+
+    /// The least bytes of an item that are greater than `after`, or the least of all, of the ids from `least` to `most`, no more
+    /// than 0x1_0020. It is one walk over the store's entries, and makes no index.
+    fn next_of<'a, F: Flash, L: Ledger>(
+        &self,
+        flash: &'a F,
+        least: u32,
+        most: u32,
+        after: Option<&[u8]>,
+        steps: &mut Steps<L>,
+    ) -> Option<&'a [u8]>
+        requires lawful { IsLawfulFor (F.device flash.now).banks (mounted_on self.now) }
+        requires stands { StandsOn mounted_on stands (F.device flash.now) self.now }
+        requires least { is_id least }
+        requires most { is_id most }
+        requires range { most < least + 0x1_0020 }
+        ensures { IsNextOf least most (on contents (F.device flash.now) (mounted_on self.now))
+            (option_map (λ other. other.now) after.entry) (option_map (λ bytes. bytes.now) result) };
 
     /// Sets an item. Bytes that the item has already are not programmed again.
     ///

@@ -77,8 +77,12 @@ impl ItemStore for Zms {
         Zms::may_hold(self, id)
     }
 
-    fn index<F: Flash, L: Ledger>(&self, flash: &F, steps: &mut Steps<L>) -> LastSlots {
-        Zms::last_slots(self, flash, steps)
+    fn new_index() -> LastSlots {
+        LastSlots::new()
+    }
+
+    fn tell<F: Flash, L: Ledger>(&self, flash: &F, index: &mut LastSlots, steps: &mut Steps<L>) {
+        Zms::tell_last_slots(self, flash, index, steps)
     }
 
     fn get_by<'a, F: Flash, L: Ledger>(
@@ -89,6 +93,28 @@ impl ItemStore for Zms {
         steps: &mut Steps<L>,
     ) -> Option<&'a [u8]> {
         Zms::get_by(self, flash, index, id, steps)
+    }
+
+    fn id_of<F: Flash, L: Ledger>(
+        &self,
+        flash: &F,
+        least: u32,
+        most: u32,
+        bytes: &[u8],
+        steps: &mut Steps<L>,
+    ) -> Option<u32> {
+        Zms::id_of(self, flash, least, most, bytes, steps)
+    }
+
+    fn next_of<'a, F: Flash, L: Ledger>(
+        &self,
+        flash: &'a F,
+        least: u32,
+        most: u32,
+        after: Option<&[u8]>,
+        steps: &mut Steps<L>,
+    ) -> Option<&'a [u8]> {
+        Zms::next_of(self, flash, least, most, after, steps)
     }
 
     fn write<F: Flash, L: Ledger>(

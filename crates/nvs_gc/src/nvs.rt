@@ -7,6 +7,7 @@ ghost use Rattle.flash_map.specs.Faults.{mount_lost, write_lost};
 ghost use Rattle.flash_map.specs.Spending.{SpendsBetween};
 ghost use Rattle.flash_map.specs.Touches.{Touches};
 ghost use Rattle.flash_map.specs.Area.{sectors_of};
+ghost use Rattle.pair_laws.specs.Bytes.{IsIdOf, IsNextOf};
 ghost use Rattle.ring_laws.specs.NextIds.{IsNextId};
 ghost use Rattle.nvs_kind.specs.Kinds.{kind};
 ghost use Rattle.ring_store.specs.Cached.{latest_on};
@@ -175,14 +176,19 @@ impl Nvs {
         self.store.may_hold(id as u32)
     }
 
-    /// The last entries of ids, by one walk over the list: of 950 ids at most, the least that have bytes. The
-    /// table tells of each id where no more than 950 ids ever had bytes in the list. It does so as long as the
-    /// area stays as it is.
-    pub fn last_slots<F: Flash, L: Ledger>(&self, flash: &F, steps: &mut Steps<L>) -> LastSlots
+    /// Makes a table of the last entries of ids, by one walk over the list: of 960 ids at most, the least that
+    /// have bytes. It tells of each id where no more than 960 ids ever had bytes in the list. It does so as long
+    /// as the area stays as it is.
+    pub fn tell_last_slots<F: Flash, L: Ledger>(
+        &self,
+        flash: &F,
+        last: &mut LastSlots,
+        steps: &mut Steps<L>,
+    )
         requires { StandsOn (F.device flash.now) self.now }
-        ensures { TellsOn kind (F.device flash.now) self.now.store.area result }
+        ensures { TellsOn kind (F.device flash.now) self.now.store.area last.new }
     {
-        self.store.last_slots(flash, steps)
+        self.store.tell_last_slots(flash, last, steps)
     }
 
     /// The bytes of an item, as `get` gives them, by a table of last entries. Where the table tells of the id,
@@ -255,6 +261,43 @@ impl Nvs {
             IfSome result (IsPlacedOn kind d store.area store.current) }
     {
         self.store.walk(flash, after, steps)
+    }
+
+    /// The id of an item that has these bytes, of the ids from `least` to `most`; any of them where several have.
+    /// It is one walk over the list at most, from its newest entry back.
+    pub fn id_of<F: Flash, L: Ledger>(
+        &self,
+        flash: &F,
+        least: u16,
+        most: u16,
+        bytes: &[u8],
+        steps: &mut Steps<L>,
+    ) -> Option<u16>
+        requires { StandsOn (F.device flash.now) self.now }
+        ensures { IsIdOf least most (items_on (F.device flash.now) self.now.store.area) bytes.now result }
+    {
+        narrowed(
+            self.store
+                .id_of(flash, least as u32, most as u32, bytes, steps),
+        )
+    }
+
+    /// The least bytes of an item that are greater than `after`, or the least of all, of the ids from `least` to
+    /// `most`. It is one walk over the list.
+    pub fn next_of<'a, F: Flash, L: Ledger>(
+        &self,
+        flash: &'a F,
+        least: u16,
+        most: u16,
+        after: Option<&[u8]>,
+        steps: &mut Steps<L>,
+    ) -> Option<&'a [u8]>
+        requires { StandsOn (F.device flash.now) self.now }
+        ensures { IsNextOf least most (items_on (F.device flash.now) self.now.store.area)
+            (option_map (λ other. other.now) after.entry) (option_map (λ bytes. bytes.now) result) }
+    {
+        self.store
+            .next_of(flash, least as u32, most as u32, after, steps)
     }
 
     /// What all items cost, in bytes: the bytes of each, padded, and its entry.

@@ -1,10 +1,10 @@
 -- The last entry of an id in a sector of NVS, in the words of a store of items.
-use Rattle.std.proofs.Common.{◌≡◌, ℕ, ◌+◌, ◌-◌, ◌*◌, ◌^◌, ◌<◌, ◌≤◌, Bool, false, cond, eqb, List, [], ◌∷◌, length, map, Option, Some, None, get_or, refl, sym, ap, subst, ◌∙◌, inl, inr, arith}
-use Rattle.std.specs.Prelude.{fold, slice_range}
+use Rattle.std.proofs.Common.{◌≡◌, ℕ, ◌+◌, ◌-◌, ◌*◌, ◌^◌, ◌<◌, ◌≤◌, Bool, false, cond, eqb, leb, ◌⊎◌, List, [], ◌∷◌, length, map, Option, Some, None, get_or, refl, sym, ap, subst, ◌∙◌, inl, inr, arith}
+use Rattle.std.specs.Prelude.{fold, slice_range, IfSome}
 use Rattle.std.specs.Option.{option_map}
 use Rattle.std.specs.List.{filter_map, range_with_len}
 use Rattle.std.specs.Int.{w16, from_le_bytes}
-use Rattle.std.proofs.lemmas.Bool.{cases_Bool, ne_eqb}
+use Rattle.std.proofs.lemmas.Bool.{cases_Bool, cases_lt, ne_eqb, and_left, and_right, lt-leb}
 use Rattle.std.proofs.lemmas.List.{take_all}
 use Rattle.std.proofs.lemmas.List.Edits.{get_or-between}
 use Rattle.flash_map.specs.Units.{IsUnit}
@@ -13,7 +13,9 @@ use Rattle.ring_laws.specs.Slots.{Slot}
 use Rattle.ring_laws.proofs.LiveLemmas.{option_cases, some_none}
 use Rattle.ring_store.specs.declared.entry.Entry.{Entry}
 use Rattle.ring_store.specs.Kind.{placed_at, slots, entries as kind_entries}
+use Rattle.ring_store.specs.Lasts.{in_range, IsOther, AreOthers}
 use Rattle.ring_store.proofs.ReadLemmas as own
+use Rattle.nvs_store.specs.declared.entry.Entry.{Entry as NvsEntry}
 use Rattle.nvs_store.specs.declared.scan.Placed.{Placed as NvsPlaced}
 use Rattle.nvs_store.specs.Entries.{entry_of as entry_from}
 use Rattle.nvs_store.specs.Geometry.{slot_size}
@@ -23,6 +25,7 @@ use Rattle.nvs_store.proofs.FoundLemmas.{few_slots}
 use Rattle.nvs_store.proofs.EntryBytes.{decoded_cases, counting_entry-is}
 use Rattle.nvs_store.proofs.NvsEntries.{are_nvs}
 use Rattle.nvs_store.proofs.SlotReads.{slot_widths, slot_at-parts}
+use Rattle.nvs_store.proofs.WantedSlots.{counting_cases}
 use Rattle.nvs_kind.specs.Kinds.{entry_of, placed_of, placed_bytes, kind_in}
 use Rattle.nvs_kind.proofs.KindLemmas.{slot_is}
 
@@ -93,3 +96,56 @@ module _ (unit : ℕ) (b : List ℕ) (is-unit : IsUnit unit) (small : (k : ℕ) 
     -- no entry has an id of more than two bytes
     pub none-large : last_in (slots (kind_in unit)) place id (kind_entries (kind_in unit) b) ≡ None
     none-large = none_among (range_with_len 1 (length (used_slots unit b)))
+
+-- ---- the id that a slot names
+
+slot_byte : (unit : ℕ) (b : List ℕ) (n start k : ℕ) → IsUnit unit → start + (n + 1) * slot_size unit ≡ length b → k < 8 → get_or (slot_at unit b n).bytes k 0 ≡ get_or b (start + k) 0
+slot_byte unit b n start k is-unit at lt =
+    let wide = (slot_widths unit is-unit).no_less in
+    let same : length b - (n + 1) * slot_size unit ≡ start = omega (arith, at) in
+    ap (λ (xs : List ℕ). get_or xs k 0) (slot_at-parts unit b n).1
+    ∙ get_or-between b (length b - (n + 1) * slot_size unit) (length b - (n + 1) * slot_size unit + slot_size unit) k 0 (omega arith)
+    ∙ ap (λ (s : ℕ). get_or b (s + k) 0) same
+
+-- the bytes from a slot's start on name the id that the slot names
+pub named_from : (unit : ℕ) (b : List ℕ) (n start : ℕ) → IsUnit unit → start + (n + 1) * slot_size unit ≡ length b → (entry_from (slice_range b start (start + 8))).id ≡ (entry_from (slot_at unit b n).bytes).id
+named_from unit b n start is-unit at =
+    ids (slice_range (slice_range b start (start + 8)) 0 2) (slice_range (slot_at unit b n).bytes 0 2)
+    (get_or-between (slice_range b start (start + 8)) 0 2 0 0 (omega arith) ∙ get_or-between b start (start + 8) 0 0 (omega arith)
+    ∙ sym (get_or-between (slot_at unit b n).bytes 0 2 0 0 (omega arith) ∙ slot_byte unit b n start 0 is-unit at (omega arith)))
+    (get_or-between (slice_range b start (start + 8)) 0 2 1 0 (omega arith) ∙ get_or-between b start (start + 8) 1 0 (omega arith)
+    ∙ sym (get_or-between (slot_at unit b n).bytes 0 2 1 0 (omega arith) ∙ slot_byte unit b n start 1 is-unit at (omega arith)))
+  where
+    ids : (xs ys : List ℕ) → get_or xs 0 0 ≡ get_or ys 0 0 → get_or xs 1 0 ≡ get_or ys 1 0 → from_le_bytes w16 xs ≡ from_le_bytes w16 ys
+    ids xs ys low high = omega (arith, low, high)
+
+-- an entry has the id that its slot names
+pub named : (unit : ℕ) (b : List ℕ) (slot id : ℕ) → id ≡ (entry_from (slot_at unit b slot).bytes).id → IfSome ((kind_in unit).in_slot b slot) (λ e. e.id ≡ id)
+named unit b slot id is =
+    elim (counting_cases unit (slot_at unit b slot)) [
+      | inl none ↦ subst (λ (o : Option NvsPlaced). IfSome (option_map entry_of o) (λ e. e.id ≡ id)) (sym none) tt
+      | inr (f, some, same) ↦ subst (λ (o : Option NvsPlaced). IfSome (option_map entry_of o) (λ e. e.id ≡ id)) (sym some) (ap (λ (e : NvsEntry). e.id) same ∙ sym is)
+    ]
+
+-- so a slot that names an id out of a range has no entry of that range
+pub other_named : (unit : ℕ) (b : List ℕ) (least most slot id : ℕ) → id ≡ (entry_from (slot_at unit b slot).bytes).id → in_range least most id ≡ false → IsOther least most ((kind_in unit).in_slot b slot)
+other_named unit b least most slot id is other =
+    elim (counting_cases unit (slot_at unit b slot)) [
+      | inl none ↦ subst (λ (o : Option NvsPlaced). IsOther least most (option_map entry_of o)) (sym none) tt
+      | inr (f, some, same) ↦
+          let own : f.entry.id ≡ id = ap (λ (e : NvsEntry). e.id) same ∙ sym is in
+          subst (λ (o : Option NvsPlaced). IsOther least most (option_map entry_of o)) (sym some) (ap (in_range least most) own ∙ other)
+    ]
+
+-- the code's test of a range
+pub out_of_range : (least most id : ℕ) → ((least ≤ id) × (most < id)) ⊎ (id < least) → in_range least most id ≡ false
+out_of_range least most id (inl (_, past)) = and_right (leb least id) (leb id most) (lt-leb id most past)
+out_of_range least most id (inr before) = and_left (leb least id) (leb id most) (lt-leb least id before)
+
+-- one slot more
+pub others_more : (unit : ℕ) (b : List ℕ) (least most left slots : ℕ) → 0 < left → IsOther least most ((kind_in unit).in_slot b left) → AreOthers (kind_in unit) b left slots least most → AreOthers (kind_in unit) b (left - 1) slots least most
+others_more unit b least most left slots some one others slot low high =
+    elim (cases_lt left slot) [
+      | inl lt ↦ others slot (omega arith) high
+      | inr ge ↦ let same : left ≡ slot = omega arith in subst (λ (n : ℕ). IsOther least most ((kind_in unit).in_slot b n)) same one
+    ]

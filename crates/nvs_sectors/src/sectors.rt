@@ -1,5 +1,5 @@
 // What is kept of the open sector, and the calls on sectors.
-ghost use Rattle.std.specs.Prelude.{◌≡◌, ℕ, ◌+◌, ◌*◌, ◌^◌, ◌<◌, ◌≤◌, IfSome, Some, List, length};
+ghost use Rattle.std.specs.Prelude.{◌≡◌, ℕ, ◌+◌, ◌*◌, ◌^◌, ◌<◌, ◌≤◌, IfSome, Some, List, length, slice_range};
 ghost use Rattle.std.specs.Option.{option_map};
 ghost use Rattle.flash_map.specs.declared.area.Role.TheVariants.{Nvs as nvs_role};
 ghost use Rattle.flash_map.specs.Area.{geometry_of, unit_of, sector_size, sectors_of, sector_bytes};
@@ -12,6 +12,7 @@ ghost use Rattle.nvs_store.specs.Scans.{IsInArea};
 ghost use Rattle.nvs_kind.specs.Kinds.{placed_of, ReadsAs, kind_in, kind};
 ghost use Rattle.nvs_kind.proofs.KindLemmas.{nvs_is_kind};
 ghost use Rattle.ring_store.specs.Kind.{placed_at, slots};
+ghost use Rattle.ring_store.specs.Lasts.{AreOthers};
 ghost use Rattle.ring_store.specs.Standing.{IsStoreArea};
 
 use flash_map::{Area, Damaged, Geometry, area_erase, geometry, sector_view};
@@ -104,15 +105,16 @@ fn bytes_in(bytes: &[u8], unit: u32, slot: u32) -> &[u8]
     }
 }
 
-// The id that a slot's bytes have where an entry has its own. Their CRC is not looked at.
-fn id_of(slot: &[u8]) -> u16
-    requires { 8 ≤ length slot.now }
-    ensures { result ≡ (fields_of slot.now).id }
+// The id that the bytes from this place on have where an entry there has its own. Their CRC is not looked at.
+fn id_at(bytes: &[u8], start: usize) -> u32
+    requires { start + 8 ≤ length bytes.now }
+    ensures value { result ≡ (fields_of (slice_range bytes.now start (start + 8))).id }
+    ensures small { result < 2 ^ 16 }
 {
-    u16::from_le_bytes([slot[0], slot[1]])
+    u16::from_le_bytes([bytes[start], bytes[start + 1]]) as u32
 }
 
-// The same of a slot of a sector with these bytes.
+// The id of a slot of a sector with these bytes.
 fn named_id(bytes: &[u8], unit: u32, slot: u32) -> u32
     requires unit { IsUnit unit }
     requires short { length bytes.now ≤ 2 ^ 15 }
@@ -121,9 +123,30 @@ fn named_id(bytes: &[u8], unit: u32, slot: u32) -> u32
     ensures small { result < 2 ^ 16 }
 {
     let size = slot_size(unit);
-    let start = bytes.len() - ((slot + 1) * size) as usize;
-    let id = id_of(&bytes[start..start + size as usize]);
-    id as u32
+    id_at(bytes, bytes.len() - ((slot + 1) * size) as usize)
+}
+
+// How many of the first so many slots of a sector with these bytes have to be looked at for the ids from `least` to `most`. The
+// ids that slots name are read, from the last slot up.
+fn reach_in(bytes: &[u8], unit: u32, slots: u32, least: u32, most: u32) -> u32
+    requires unit { IsUnit unit }
+    requires short { length bytes.now ≤ 2 ^ 15 }
+    requires inside { (slots + 1) * slot_size unit ≤ length bytes.now }
+    ensures few { result ≤ slots }
+    ensures others { AreOthers (kind_in unit) bytes.now result slots least most }
+{
+    let size = slot_size(unit);
+    let mut start = bytes.len() - ((slots + 1) * size) as usize;
+    let mut left = slots;
+    while left > 0 {
+        let id = id_at(bytes, start);
+        if least <= id && id <= most {
+            return left;
+        }
+        start += size as usize;
+        left -= 1;
+    }
+    0
 }
 
 impl SlotSectors for NvsOpen {
@@ -204,6 +227,17 @@ impl SlotSectors for NvsOpen {
         self.low.saturating_sub(self.data_end)
     }
 
+    fn own_slots<F: Flash, L: Ledger>(
+        &self,
+        flash: &F,
+        area: &Area,
+        place: u32,
+        steps: &mut Steps<L>,
+    ) -> u32 {
+        let unit = geometry(flash, area).unit;
+        used_count(sector_view(flash, area, place, steps), unit)
+    }
+
     fn slots<F: Flash, L: Ledger>(flash: &F, area: &Area, place: u32, steps: &mut Steps<L>) -> u32 {
         let unit = geometry(flash, area).unit;
         used_count(sector_view(flash, area, place, steps), unit)
@@ -257,6 +291,38 @@ impl SlotSectors for NvsOpen {
     ) -> Option<Placed> {
         let unit = geometry(flash, area).unit;
         last_of(sector_view(flash, area, place, steps), unit, place, id)
+    }
+
+    fn reach<F: Flash, L: Ledger>(
+        flash: &F,
+        area: &Area,
+        place: u32,
+        least: u32,
+        most: u32,
+        steps: &mut Steps<L>,
+    ) -> u32 {
+        let unit = geometry(flash, area).unit;
+        let bytes = sector_view(flash, area, place, steps);
+        reach_in(bytes, unit, used_count(bytes, unit), least, most)
+    }
+
+    fn reach_of<F: Flash, L: Ledger>(
+        flash: &F,
+        area: &Area,
+        place: u32,
+        slots: u32,
+        least: u32,
+        most: u32,
+        steps: &mut Steps<L>,
+    ) -> u32 {
+        let unit = geometry(flash, area).unit;
+        reach_in(
+            sector_view(flash, area, place, steps),
+            unit,
+            slots,
+            least,
+            most,
+        )
     }
 
     fn begin<F: Flash, L: Ledger>(

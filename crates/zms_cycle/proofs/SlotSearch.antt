@@ -90,18 +90,18 @@ none_listed b blank =
 
 -- ---- a search that goes over the slots once
 
--- with one slot more, the slots behind the last that names the id name others
-pub reach_step : (id : ℕ) (b : List ℕ) (slot reach new : ℕ) (named : Bool) → 2 ≤ slot → named ≡ names id (slot_of b slot) → new ≡ cond named (slot - 1) reach → reach + 2 ≤ slot → ((k : ℕ) → reach + 2 ≤ k → k < slot → names id (slot_of b k) ≡ false)
-    → (new + 2 ≤ slot + 1) × ((k : ℕ) → new + 2 ≤ k → k < slot + 1 → names id (slot_of b k) ≡ false)
-reach_step id b slot reach new true from is at low before =
+-- with one slot more, the slots behind the last that names an id of the range name others
+pub reach_step : (least most : ℕ) (b : List ℕ) (slot reach new : ℕ) (named : Bool) → 2 ≤ slot → named ≡ names least most (slot_of b slot) → new ≡ cond named (slot - 1) reach → reach + 2 ≤ slot → ((k : ℕ) → reach + 2 ≤ k → k < slot → names least most (slot_of b k) ≡ false)
+    → (new + 2 ≤ slot + 1) × ((k : ℕ) → new + 2 ≤ k → k < slot + 1 → names least most (slot_of b k) ≡ false)
+reach_step least most b slot reach new true from is at low before =
     let here : new ≡ slot - 1 = at in
     (omega arith, λ k over lt. absurd (omega arith))
-reach_step id b slot reach new false from is at low before =
+reach_step least most b slot reach new false from is at low before =
     let same : new ≡ reach = at in (
       omega arith,
       λ k over lt. elim (cases_lt k slot) [
         | inl below ↦ before k (omega arith) below
-        | inr ge ↦ let e : slot ≡ k = omega arith in subst (λ (j : ℕ). names id (slot_of b j) ≡ false) e (sym is)
+        | inr ge ↦ let e : slot ≡ k = omega arith in subst (λ (j : ℕ). names least most (slot_of b j) ≡ false) e (sym is)
       ],
     )
 

@@ -1,8 +1,8 @@
--- What a search for an id reads of a slot before its CRC.
-use Rattle.std.specs.Prelude.{ℕ, Bool, ◌==◌}
+-- What a search for the ids of a range reads of a slot before its CRC.
+use Rattle.std.specs.Prelude.{ℕ, Bool, ◌&&◌, nat_le}
 use Rattle.ring_laws.specs.Slots.{Slot}
 use Rattle.zms_cycle.specs.Entries.{entry_of}
 
--- The slot has this id where an entry has its own, whether it checks or not.
-abbrev pub names : ℕ → Slot → Bool
-names id slot = (entry_of slot.bytes).id == id
+-- The slot has an id from `least` to `most` where an entry has its own, whether it checks or not.
+abbrev pub names : ℕ → ℕ → Slot → Bool
+names least most slot = nat_le least (entry_of slot.bytes).id && nat_le (entry_of slot.bytes).id most

@@ -22,4 +22,4 @@ pub use reading::{
     FIRST, Found, SLOT, SectorState, TAIL, TAIL_AT, can_close, capacity, cost, data_len, entry_in,
     is_fresh, listed_entry, offset_of, read_sector, state,
 };
-pub use searching::{has_close, listed_slots, reach_in};
+pub use searching::{has_close, listed_slots, reach_in, reach_within};

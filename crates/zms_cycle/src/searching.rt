@@ -1,5 +1,6 @@
-// What a look-up reads of a sector: how long its list is, whether it is closed, and how far it has to be read for an id.
-ghost use Rattle.std.specs.Prelude.{◌≡◌, ℕ, ◌+◌, ◌*◌, ◌^◌, ◌<◌, ◌≤◌, ◌==◌, false, length, Some, if◌then◌else◌};
+// What a look-up reads of a sector: how long its list is, whether it is closed, and how far it has to be read for the ids of a
+// range.
+ghost use Rattle.std.specs.Prelude.{◌≡◌, ℕ, ◌+◌, ◌*◌, ◌^◌, ◌<◌, ◌≤◌, ◌&&◌, nat_le, false, length, Some, if◌then◌else◌};
 ghost use Rattle.ring_laws.specs.Slots.{used_slots};
 ghost use Rattle.zms_cycle.specs.Entries.{entry_of};
 ghost use Rattle.zms_cycle.specs.Searches.{names};
@@ -30,12 +31,13 @@ pub fn listed_slots(sector: &[u8]) -> u32
     }
 }
 
-// Whether a slot's bytes have this id where an entry has its own. Their CRC is not looked at.
-fn names(slot: &[u8], id: u32) -> bool
+// Whether a slot's bytes have an id from `least` to `most` where an entry has its own. Their CRC is not looked at.
+fn names(slot: &[u8], least: u32, most: u32) -> bool
     requires { length slot.now ≡ 16 }
-    ensures { result ≡ ((entry_of slot.now).id == id) }
+    ensures { result ≡ (nat_le least (entry_of slot.now).id && nat_le (entry_of slot.now).id most) }
 {
-    u32::from_le_bytes([slot[4], slot[5], slot[6], slot[7]]) == id
+    let id = u32::from_le_bytes([slot[4], slot[5], slot[6], slot[7]]);
+    least <= id && id <= most
 }
 
 // The newer of two numbers, if it is one.
@@ -45,13 +47,13 @@ fn newer(is_one: bool, newer: u32, older: u32) -> u32
     if is_one { newer } else { older }
 }
 
-// How many slots from slot 2 on have to be read for an id: up to the last one that names it, above the first that names
-// another cycle. No CRC is looked at.
-fn reach_of(sector: &[u8], cycle: u8, id: u32) -> u32
+// How many slots from slot 2 on have to be read for the ids from `least` to `most`: up to the last one that names one of
+// them, above the first that names another cycle. No CRC is looked at.
+fn reach_of(sector: &[u8], cycle: u8, least: u32, most: u32) -> u32
     requires long { 48 ≤ length sector.now }
     requires short { length sector.now ≤ 2 ^ 15 }
     ensures fits { (result + 2) * 16 ≤ length sector.now }
-    ensures others { (k : ℕ) → result + 2 ≤ k → k < length (used_slots (is_valid (Some cycle)) 2 16 sector.now) + 2 → names id (slot_of sector.now k) ≡ false }
+    ensures others { (k : ℕ) → result + 2 ≤ k → k < length (used_slots (is_valid (Some cycle)) 2 16 sector.now) + 2 → names least most (slot_of sector.now k) ≡ false }
 {
     let count = sector.len() as u32 / SLOT;
     let mut reach = 0;
@@ -60,20 +62,38 @@ fn reach_of(sector: &[u8], cycle: u8, id: u32) -> u32
         if bytes[1] != cycle {
             return reach;
         }
-        reach = newer(names(bytes, id), slot - 1, reach);
+        reach = newer(names(bytes, least, most), slot - 1, reach);
     }
     reach
 }
 
-/// How many slots of a sector's list have to be read for an id: those behind them name other ids.
-pub fn reach_in(sector: &[u8], id: u32) -> u32
+/// How many slots of a sector's list have to be read for the ids from `least` to `most`: those behind them name other ids.
+pub fn reach_in(sector: &[u8], least: u32, most: u32) -> u32
     requires long { 48 ≤ length sector.now }
     requires short { length sector.now ≤ 2 ^ 15 }
     ensures within { result ≤ length (valid_slots sector.now) }
-    ensures others { (k : ℕ) → result + 2 ≤ k → k < length (valid_slots sector.now) + 2 → names id (slot_of sector.now k) ≡ false }
+    ensures others { (k : ℕ) → result + 2 ≤ k → k < length (valid_slots sector.now) + 2 → names least most (slot_of sector.now k) ≡ false }
 {
     match cycle_of(sector) {
-        Some(cycle) => valid_within(sector, cycle, reach_of(sector, cycle, id)),
+        Some(cycle) => valid_within(sector, cycle, reach_of(sector, cycle, least, most)),
         None => 0,
     }
+}
+
+/// How many of the first so many slots from slot 2 on have to be read for the ids from `least` to `most`: those behind them
+/// name other ids. It looks from the last one back, at no CRC.
+pub fn reach_within(sector: &[u8], slots: u32, least: u32, most: u32) -> u32
+    requires short { length sector.now ≤ 2 ^ 15 }
+    requires inside { (slots + 2) * 16 ≤ length sector.now }
+    ensures few { result ≤ slots }
+    ensures others { (k : ℕ) → result + 2 ≤ k → k < slots + 2 → names least most (slot_of sector.now k) ≡ false }
+{
+    let mut reach = slots;
+    while reach > 0 {
+        if names(slot_of(sector, reach + 1), least, most) {
+            return reach;
+        }
+        reach -= 1;
+    }
+    reach
 }

@@ -12,7 +12,7 @@ use Rattle.ring_laws.specs.Reading.{is_sound as ring_sound}
 use Rattle.pair_laws.specs.Rounds.{stored_cost}
 use Rattle.ring_store.specs.Steps.{new_entry, Keeps, KeepsMarks, LeavesRoom, Begins, Adds, Marks, Closes, Clears, StopsClearing}
 use Rattle.zms_cycle.specs.Changes.{KeepsList, KeepsSlots, AddsPair, MarksDone, Closes as zms_closes, Empties, StopsEmptying}
-use Rattle.zms_cycle.specs.Sector.{slot_of, cycle_of, valid_slots, is_closed, has_gc_done, entries, cost, capacity, free, fits, is_sound, pairs}
+use Rattle.zms_cycle.specs.Sector.{slot_of, cycle_of, valid_slots, is_closed, has_gc_done, entries, cost, capacity, low, free, fits, is_sound, pairs}
 use Rattle.zms_cycle.proofs.Frames.{data_len-short}
 use Rattle.zms_kind.specs.Area.{reading, is_begun, may_close, is_unused, is_clean}
 use Rattle.zms_kind.proofs.Roomy.{IsRoomy, no_cycle, empties_unused, empties_clean, clean_blank, unused_clean, not_clean_cycle, roomy_of, ring_sound_of, ring_same, may_same}
@@ -122,10 +122,9 @@ module _ (geometry : Geometry) (b e : List ℕ) (wide : 512 ≤ length b) where
       ∙ ap (λ (es : List Entry). es ++ entry_of h.found ∷ []) (sym (entries_are geometry b))
       ∙ ap (λ (x : Entry). kind_entries (kind geometry) b ++ x ∷ []) (entry_by (entry_of h.found) (2 + length (valid_slots b)) id (length bytes) (omega arith) h.entry_id h.entry_len)
 
-  one_slot : (id : ℕ) (bytes : List ℕ) → AddsPair geometry.kind b e id bytes → length (valid_slots e) ≡ length (valid_slots b) + 1
-  one_slot id bytes h =
-      let lower = h.lower in
-      let long = h.long in
+  -- one slot more
+  pub one_slot : length e ≡ length b → low e + 16 ≡ low b → length (valid_slots e) ≡ length (valid_slots b) + 1
+  one_slot long lower =
       let old_inside = slots_inside b wide in
       let inside = slots_inside e (omega arith) in
       omega arith
@@ -138,7 +137,7 @@ module _ (geometry : Geometry) (b e : List ℕ) (wide : 512 ≤ length b) where
         list = record { list = h.list; gc_done = h.gc_done; closed = h.closed };
         long = h.long;
         entry = adds_entry id bytes h;
-        count = one_slot id bytes h;
+        count = one_slot h.long h.lower;
         ready = and_true (is_some (cycle_of e)) (is_sound e && may_close geometry.kind e) (ap (λ (x : Option ℕ). is_some x) h.cycle ∙ some_here (cycle_of b) h.found.entry.cycle h.of_cycle)
             (and_true (is_sound e) (may_close geometry.kind e) h.sound (may_same geometry.kind b e h.cycle h.closed h.close_slot ∙ may));
         free = omega arith;
@@ -208,14 +207,21 @@ is_there from p is =
     some_same : (x y : Placed) → Some x ≡ Some y → x ≡ y
     some_same x y e = cc
 
+-- the pair in its slot has the length that it tells
+pub copied_len : (from : List ℕ) (p : Placed) → is_sound from ≡ true → 2 ≤ p.slot → p.slot < 2 + length (valid_slots from) → option_map (placed_at p.sector) (option_map entry_of (entry_in (slot_of from p.slot))) ≡ Some p → length (pair_at from p.slot).1 ≡ p.len
+copied_len from p sound first listed is =
+    let t = is_there from p is in
+    let pair : pair_at from p.slot ≡ (t.found.entry.id, value_of from t.found.entry) = ap (λ (o : Option Found). option_map_or (pair_of from) o (0, [])) t.read in
+    let long = bytes_len from p.slot t.found sound first (omega arith) (read_room from p.slot first (omega arith)) t.read in
+    ap (λ (q : ℕ × List ℕ). length q.1) pair ∙ long ∙ sym t.len
+
 pub adds_copy : (geometry : Geometry) (b e from : List ℕ) (p : Placed) → 512 ≤ length b → is_sound from ≡ true → 2 ≤ p.slot → p.slot < 2 + length (valid_slots from) → option_map (placed_at p.sector) (option_map entry_of (entry_in (slot_of from p.slot))) ≡ Some p → may_close geometry.kind b ≡ true → cost p.len + 48 ≤ free geometry.kind b
     → AddsPair geometry.kind b e (pair_at from p.slot).0 (pair_at from p.slot).1 → Adds (kind geometry) b e p.id (option_map_or (λ f. value_of from f.entry) (entry_in (slot_of from p.slot)) [])
 adds_copy geometry b e from p wide sound first listed is may room h =
     let t = is_there from p is in
     let bytes : option_map_or (λ f. value_of from f.entry) (entry_in (slot_of from p.slot)) [] ≡ value_of from t.found.entry = ap (λ (o : Option Found). option_map_or (λ f. value_of from f.entry) o []) t.read in
     let pair : pair_at from p.slot ≡ (t.found.entry.id, value_of from t.found.entry) = ap (λ (o : Option Found). option_map_or (pair_of from) o (0, [])) t.read in
-    let long = bytes_len from p.slot t.found sound first (omega arith) (read_room from p.slot first (omega arith)) t.read in
-    let own_len : cost (length (value_of from t.found.entry)) ≡ cost p.len = ap cost (long ∙ sym t.len) in
+    let own_len : cost (length (value_of from t.found.entry)) ≡ cost p.len = ap cost (sym (ap (λ (q : ℕ × List ℕ). length q.1) pair) ∙ copied_len from p sound first listed is) in
     let put : AddsPair geometry.kind b e t.found.entry.id (value_of from t.found.entry) = subst (λ (q : ℕ × List ℕ). AddsPair geometry.kind b e q.0 q.1) pair h in
     subst (λ (bs : List ℕ). Adds (kind geometry) b e p.id bs) (sym bytes)
     (subst (λ (i : ℕ). Adds (kind geometry) b e i (value_of from t.found.entry)) (sym t.id) (adds geometry b e wide t.found.entry.id (value_of from t.found.entry) may (omega arith) put))

@@ -182,7 +182,7 @@ pub fn find_in(sector: &[u8], place: u32, id: u32) -> Option<Placed>
     ensures listed { IfSome result (λ p. IsListed sector.now p) }
     ensures sector { IfSome result (λ p. p.sector ≡ place) }
 {
-    let mut count = reach_in(sector, id);
+    let mut count = reach_in(sector, id, id);
     while count > 0 {
         if let Some(found) = listed_entry(sector, count + 1) {
             if found.entry.id == id {

@@ -1,9 +1,9 @@
 // What is kept of the open sector, and the calls on sectors.
-ghost use Rattle.std.specs.Prelude.{◌≡◌, ◌+◌, ◌*◌, ◌^◌, ◌<◌, ◌≤◌, ℕ, IfSome, List, length, Some};
+ghost use Rattle.std.specs.Prelude.{◌≡◌, ◌+◌, ◌*◌, ◌^◌, ◌<◌, ◌≤◌, ℕ, IfSome, List, length, Some, is_some, not, ◌-◌, min};
 ghost use Rattle.std.specs.Option.{option_map};
 ghost use Rattle.flash_map.specs.declared.area.Role.TheVariants.{Zms as zms_role};
 ghost use Rattle.zms_cycle.specs.Entries.{entry_of as fields_of, offset_of};
-ghost use Rattle.zms_cycle.specs.Sector.{slot_of, entry_in, has_gc_done, value_of};
+ghost use Rattle.zms_cycle.specs.Sector.{slot_of, cycle_of, data_end, entry_in, has_gc_done, valid_slots, value_of};
 ghost use Rattle.zms_kind.specs.Kinds.{entry_of, kind};
 ghost use Rattle.zms_kind.proofs.KindLemmas.{zms_is_kind};
 ghost use Rattle.ring_store.specs.Kind.{placed_at};
@@ -14,14 +14,20 @@ use ring_store::{Placed, SlotSectors};
 use std::sync::ledger::Ledger;
 use zms_cycle::{
     FIRST, Found, SLOT, TAIL, TAIL_AT, capacity, close, copy_entry, cost, empty_sector, has_close,
-    listed_entry, listed_slots, offset_of, put_done, put_entry,
+    listed_entry, listed_slots, offset_of, put_done, put_entry, reach_in, reach_within,
 };
 use zms_kind::{find_in, is_clean, marks_at, scan};
 
-/// What is kept of an open sector.
+/// What is kept of an open sector, so that no step has to read its list for it.
 #[derive(Clone, Copy, Debug, PartialEq, Eq)]
 pub struct ZmsOpen {
     gc_done: bool,
+    // it has no cycle yet
+    blank: bool,
+    // how many slots its list has
+    slots: u32,
+    // where the next value goes, in bytes; the last number of 32 bits stands for all above it
+    data_end: u32,
 }
 
 // The entry in this sector, without what is its store's own.
@@ -77,7 +83,7 @@ impl SlotSectors for ZmsOpen {
 
     ghost kind = { kind };
 
-    ghost kept = { λ geometry b. record { gc_done = has_gc_done b } };
+    ghost kept = { λ geometry b. record { gc_done = has_gc_done b; blank = not (is_some (cycle_of b)); slots = length (valid_slots b); data_end = min (data_end geometry.kind b) (2 ^ 32 - 1) } };
 
     fn first_slot() -> u32 {
         2
@@ -131,8 +137,12 @@ impl SlotSectors for ZmsOpen {
         place: u32,
         steps: &mut Steps<L>,
     ) -> ZmsOpen {
+        let marks = marks_at(flash, area, place, steps);
         ZmsOpen {
-            gc_done: marks_at(flash, area, place, steps).gc_done,
+            gc_done: marks.gc_done,
+            blank: marks.blank,
+            slots: marks.slots,
+            data_end: marks.data_end,
         }
     }
 
@@ -144,13 +154,22 @@ impl SlotSectors for ZmsOpen {
         &self,
         flash: &F,
         area: &Area,
-        place: u32,
-        steps: &mut Steps<L>,
+        _place: u32,
+        _steps: &mut Steps<L>,
     ) -> u32 {
-        let marks = marks_at(flash, area, place, steps);
-        let used = (FIRST + marks.slots) * SLOT;
+        let used = (FIRST + self.slots) * SLOT;
         let size = geometry(flash, area).sector;
-        size.saturating_sub(used).saturating_sub(marks.data_end)
+        size.saturating_sub(used).saturating_sub(self.data_end)
+    }
+
+    fn own_slots<F: Flash, L: Ledger>(
+        &self,
+        _flash: &F,
+        _area: &Area,
+        _place: u32,
+        _steps: &mut Steps<L>,
+    ) -> u32 {
+        self.slots
     }
 
     fn slots<F: Flash, L: Ledger>(flash: &F, area: &Area, place: u32, steps: &mut Steps<L>) -> u32 {
@@ -211,6 +230,29 @@ impl SlotSectors for ZmsOpen {
         }
     }
 
+    fn reach<F: Flash, L: Ledger>(
+        flash: &F,
+        area: &Area,
+        place: u32,
+        least: u32,
+        most: u32,
+        steps: &mut Steps<L>,
+    ) -> u32 {
+        reach_in(sector_view(flash, area, place, steps), least, most)
+    }
+
+    fn reach_of<F: Flash, L: Ledger>(
+        flash: &F,
+        area: &Area,
+        place: u32,
+        slots: u32,
+        least: u32,
+        most: u32,
+        steps: &mut Steps<L>,
+    ) -> u32 {
+        reach_within(sector_view(flash, area, place, steps), slots, least, most)
+    }
+
     fn begin<F: Flash, L: Ledger>(
         &mut self,
         flash: &mut F,
@@ -218,11 +260,16 @@ impl SlotSectors for ZmsOpen {
         place: u32,
         steps: &mut Steps<L>,
     ) -> Result<(), PowerLost> {
-        if !marks_at(flash, area, place, steps).blank {
+        if !self.blank {
             return Ok(());
         }
         empty_sector(flash, area, place, steps)?;
-        self.gc_done = false;
+        *self = ZmsOpen {
+            gc_done: false,
+            blank: false,
+            slots: 0,
+            data_end: 0,
+        };
         Ok(())
     }
 
@@ -235,7 +282,10 @@ impl SlotSectors for ZmsOpen {
         bytes: &[u8],
         steps: &mut Steps<L>,
     ) -> Result<(), PowerLost> {
-        put_entry(flash, area, place, id, bytes, steps)
+        put_entry(flash, area, place, id, bytes, steps)?;
+        self.slots += 1;
+        self.data_end += cost(bytes.len() as u16) - SLOT;
+        Ok(())
     }
 
     fn copy<F: Flash, L: Ledger>(
@@ -246,7 +296,10 @@ impl SlotSectors for ZmsOpen {
         from: &Placed,
         steps: &mut Steps<L>,
     ) -> Result<(), PowerLost> {
-        copy_entry(flash, area, place, from.sector, from.slot, steps)
+        copy_entry(flash, area, place, from.sector, from.slot, steps)?;
+        self.slots += 1;
+        self.data_end += cost(from.len as u16) - SLOT;
+        Ok(())
     }
 
     fn mark_done<F: Flash, L: Ledger>(
@@ -258,6 +311,7 @@ impl SlotSectors for ZmsOpen {
     ) -> Result<(), PowerLost> {
         put_done(flash, area, place, steps)?;
         self.gc_done = true;
+        self.slots += 1;
         Ok(())
     }
 

@@ -4,6 +4,7 @@ ghost use Rattle.std.specs.FinMap as map;
 ghost use Rattle.flash_sim.specs.Bank.{IsLawful};
 ghost use Rattle.flash_sim.specs.Device.{Device};
 ghost use Rattle.flash_map.specs.Area.{sectors_of, sector_at};
+ghost use Rattle.pair_laws.specs.Bytes.{IsIdOf, IsNextOf};
 ghost use Rattle.ring_laws.specs.NextIds.{IsNextId};
 ghost use Rattle.ring_store.specs.Cached.{latest_on};
 ghost use Rattle.ring_store.specs.Latest.{IsTold, TellsOn};
@@ -77,14 +78,19 @@ impl Zms {
         self.store.may_hold(id)
     }
 
-    /// The last entries of ids, by one walk over the list: of 950 ids at most, the least that have bytes. The
-    /// table tells of each id where no more than 950 ids ever had bytes in the list. It does so as long as the
-    /// area stays as it is.
-    pub fn last_slots<F: Flash, L: Ledger>(&self, flash: &F, steps: &mut Steps<L>) -> LastSlots
+    /// Makes a table of the last entries of ids, by one walk over the list: of 960 ids at most, the least that
+    /// have bytes. It tells of each id where no more than 960 ids ever had bytes in the list. It does so as long
+    /// as the area stays as it is.
+    pub fn tell_last_slots<F: Flash, L: Ledger>(
+        &self,
+        flash: &F,
+        last: &mut LastSlots,
+        steps: &mut Steps<L>,
+    )
         requires { StandsOn (F.device flash.now) self.now }
-        ensures { TellsOn kind (F.device flash.now) self.now.store.area result }
+        ensures { TellsOn kind (F.device flash.now) self.now.store.area last.new }
     {
-        self.store.last_slots(flash, steps)
+        self.store.tell_last_slots(flash, last, steps)
     }
 
     /// The bytes of an item, as `get` gives them, by a table of last entries. Where the table tells of the id,
@@ -138,6 +144,42 @@ impl Zms {
         ensures all { last.now.bound ≡ None → steps.new ≡ steps.old }
     {
         self.store.next_by(flash, last, after, steps)
+    }
+
+    /// The id of an item that has these bytes, of the ids from `least` to `most`, no more than
+    /// 0x1_0020; any of them where several have.
+    /// It is one walk over the list at most, from its newest entry back.
+    pub fn id_of<F: Flash, L: Ledger>(
+        &self,
+        flash: &F,
+        least: u32,
+        most: u32,
+        bytes: &[u8],
+        steps: &mut Steps<L>,
+    ) -> Option<u32>
+        requires stands { StandsOn (F.device flash.now) self.now }
+        requires range { most < least + 0x1_0020 }
+        ensures { IsIdOf least most (items_on (F.device flash.now) self.now.store.area) bytes.now result }
+    {
+        self.store.id_of(flash, least, most, bytes, steps)
+    }
+
+    /// The least bytes of an item that are greater than `after`, or the least of all, of the ids from `least` to
+    /// `most`, no more than 0x1_0020. It is one walk over the list.
+    pub fn next_of<'a, F: Flash, L: Ledger>(
+        &self,
+        flash: &'a F,
+        least: u32,
+        most: u32,
+        after: Option<&[u8]>,
+        steps: &mut Steps<L>,
+    ) -> Option<&'a [u8]>
+        requires stands { StandsOn (F.device flash.now) self.now }
+        requires range { most < least + 0x1_0020 }
+        ensures { IsNextOf least most (items_on (F.device flash.now) self.now.store.area)
+            (option_map (λ other. other.now) after.entry) (option_map (λ bytes. bytes.now) result) }
+    {
+        self.store.next_of(flash, least, most, after, steps)
     }
 
     /// What all items cost, in bytes: the value of each, padded, and its entry.

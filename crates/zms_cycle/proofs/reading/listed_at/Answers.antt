@@ -1,4 +1,4 @@
-use Rattle.std.proofs.Common.{◌≡◌, ◌∙◌, Some, ap, sym}
+use Rattle.std.proofs.Common.{◌∙◌, Some, ap, sym}
 use Rattle.zms_cycle.specs.declared.entry.ZEntry.{ZEntry}
 use Rattle.zms_cycle.specs.Entries.{entry_of}
 use Rattle.zms_cycle.proofs.SlotSearch.{listed_decodes, listed_inside}

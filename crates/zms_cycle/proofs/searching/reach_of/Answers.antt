@@ -1,4 +1,4 @@
-use Rattle.std.proofs.Common.{ℕ, eqb, List, Some, ap, ◌∙◌, arith}
+use Rattle.std.proofs.Common.{ℕ, leb, ◌&&◌, List, Some, ap, ◌∙◌, arith}
 use Rattle.std.specs.Prelude.{slice_index}
 use Rattle.ring_laws.proofs.SlotCounts.{used_count_fits}
 use Rattle.zms_cycle.specs.Entries.{entry_of}
@@ -21,8 +21,8 @@ returns-then-bytes-cycle-clause-others c = λ k over lt.
 
 pub loop-slot-preserved : goal.loop-slot-preserved
 loop-slot-preserved c =
-    let named = c.names.ensures ∙ ap (λ (xs : List ℕ). eqb (entry_of xs).id c.args.id) c.slot_of-bytes.ensures.bytes in
-    let step = reach_step c.args.id c.args.sector.now c.loop-slot.slot c.loop-slot.reach c.newer-reach.result c.names.result (omega arith) named c.newer-reach.ensures c.loop-slot.invariant.within c.loop-slot.invariant.others in
+    let named = c.names.ensures ∙ ap (λ (xs : List ℕ). leb c.args.least (entry_of xs).id && leb (entry_of xs).id c.args.most) c.slot_of-bytes.ensures.bytes in
+    let step = reach_step c.args.least c.args.most c.args.sector.now c.loop-slot.slot c.loop-slot.reach c.newer-reach.result c.names.result (omega arith) named c.newer-reach.ensures c.loop-slot.invariant.within c.loop-slot.invariant.others in
     record { within = step.0; others = step.1 }
 
 pub returns-clause-fits : goal.returns-clause-fits

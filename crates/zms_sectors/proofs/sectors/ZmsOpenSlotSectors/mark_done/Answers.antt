@@ -1,11 +1,12 @@
-use Rattle.std.proofs.Common.{ℕ, List}
+use Rattle.std.proofs.Common.{◌≡◌, ◌≤◌, ℕ, List, length, arith}
 use Rattle.flash_sim.specs.Device.{Device}
 use Rattle.flash_map.specs.declared.area.Area.{Area}
 use Rattle.flash_map.specs.declared.area.Geometry.{Geometry}
-use Rattle.flash_map.specs.Area.{geometry_of, sectors_of, sector_at}
-use Rattle.ring_store.proofs.Areas.{large_there}
+use Rattle.flash_map.specs.Area.{geometry_of, sectors_of, sector_at, sector_size}
+use Rattle.ring_store.proofs.Areas.{large_there, size_there}
 use Rattle.zms_kind.proofs.StepLemmas.{ready_may, marks}
 use Rattle.flash_map.specs.declared.area.Role.TheVariants.{Zms as zms_role}
+use Rattle.zms_sectors.proofs.OpenLemmas.{kept_few, kept_marked}
 use Rattle.zms_sectors.proofs.sectors.ZmsOpenSlotSectors.mark_done.Goals as goal
 
 pub returns-clause-marks : goal.returns-clause-marks
@@ -17,3 +18,21 @@ returns-clause-marks g c =
     let wide = large_there zms_role a area (g.met.F.Flash.is_lawful c.args.flash.now) c.requires.area c.args.place c.requires.inside in
     let e : Device = g.F.Flash.device c.put_done.new.flash in
     marks u (sector_at (sectors_of a area) c.args.place) (sector_at (sectors_of e area) c.args.place) wide (ready_may u.kind (sector_at (sectors_of a area) c.args.place) c.requires.ready) c.requires.room c.in_ok-put_done.ensures.ok
+
+pub overflow_add-self : goal.overflow_add-self
+overflow_add-self g c =
+    let a : Device = g.F.Flash.device c.args.flash.now in
+    let area : Area = c.args.area.now in
+    let u : Geometry = geometry_of a area in
+    let size : length (sector_at (sectors_of a area) c.args.place) ≡ sector_size a area = size_there zms_role a area (g.met.F.Flash.is_lawful c.args.flash.now) c.requires.area c.args.place c.requires.inside in
+    let few : c.args.self.now.slots ≤ length (sector_at (sectors_of a area) c.args.place) = kept_few u (sector_at (sectors_of a area) c.args.place) c.args.self.now c.requires.kept in
+    omega (arith, c.requires.area.lawful.at_most)
+
+pub returns-clause-kept : goal.returns-clause-kept
+returns-clause-kept g c =
+    let a : Device = g.F.Flash.device c.args.flash.now in
+    let area : Area = c.args.area.now in
+    let u : Geometry = geometry_of a area in
+    let wide = large_there zms_role a area (g.met.F.Flash.is_lawful c.args.flash.now) c.requires.area c.args.place c.requires.inside in
+    let e : Device = g.F.Flash.device c.put_done.new.flash in
+    kept_marked u (sector_at (sectors_of a area) c.args.place) c.args.self.now c.requires.kept (sector_at (sectors_of e area) c.args.place) wide c.in_ok-put_done.ensures.ok

@@ -1,15 +1,15 @@
-use Rattle.std.proofs.Common.{ℕ, List, length, inl}
-use Rattle.std.proofs.lemmas.Result.{on_ok_weaker, on_err_weaker}
+use Rattle.std.proofs.Common.{◌≡◌, ◌+◌, ◌^◌, ◌≤◌, length, inl, arith}
 use Rattle.flash_sim.specs.Device.{Device}
 use Rattle.flash_map.specs.declared.area.Area.{Area}
 use Rattle.flash_map.specs.declared.area.Geometry.{Geometry}
-use Rattle.flash_map.specs.Area.{geometry_of, sectors_of, sector_at}
-use Rattle.ring_store.proofs.Areas.{large_there}
+use Rattle.flash_map.specs.Area.{geometry_of, sectors_of, sector_at, sector_size}
+use Rattle.flash_map.proofs.PieceLemmas.{on_err}
+use Rattle.ring_store.proofs.Areas.{large_there, size_there}
 use Rattle.zms_kind.proofs.StepLemmas.{ready_may, keeps, adds, fits_cost, put_sound}
 use Rattle.flash_map.specs.declared.area.Role.TheVariants.{Zms as zms_role}
-use Rattle.ring_store.proofs.CopyLoop.{either}
 use Rattle.zms_cycle.specs.Changes.{left_over}
-use Rattle.zms_cycle.specs.Sector.{data_len}
+use Rattle.zms_cycle.specs.Sector.{data_len, cost, free}
+use Rattle.zms_sectors.proofs.OpenLemmas.{cost_above, kept_few, end_room, kept_added}
 use Rattle.zms_sectors.proofs.RoomLemmas.{put_room}
 use Rattle.zms_sectors.proofs.sectors.ZmsOpenSlotSectors.put.Goals as goal
 
@@ -18,39 +18,93 @@ returns-clause-adds g c =
     let a : Device = g.F.Flash.device c.args.flash.now in
     let area : Area = c.args.area.now in
     let u : Geometry = geometry_of a area in
-    let b : List ℕ = sector_at (sectors_of a area) c.args.place in
     let wide = large_there zms_role a area (g.met.F.Flash.is_lawful c.args.flash.now) c.requires.area c.args.place c.requires.inside in
     let e : Device = g.F.Flash.device c.put_entry.new.flash in
-    on_ok_weaker c.put_entry.result (λ h. adds u (sector_at (sectors_of a area) c.args.place) (sector_at (sectors_of e area) c.args.place) wide c.args.id c.args.bytes.now (ready_may u.kind (sector_at (sectors_of a area) c.args.place) c.requires.ready) (fits_cost u (sector_at (sectors_of a area) c.args.place) (sector_at (sectors_of e area) c.args.place) wide (length c.args.bytes.now) c.requires.fits) h) c.put_entry.ensures.ok
-
-pub returns-clause-lost : goal.returns-clause-lost
-returns-clause-lost g c =
-    let a : Device = g.F.Flash.device c.args.flash.now in
-    let area : Area = c.args.area.now in
-    let u : Geometry = geometry_of a area in
-    let b : List ℕ = sector_at (sectors_of a area) c.args.place in
-    let wide = large_there zms_role a area (g.met.F.Flash.is_lawful c.args.flash.now) c.requires.area c.args.place c.requires.inside in
-    let e : Device = g.F.Flash.device c.put_entry.new.flash in
-    on_err_weaker c.put_entry.result (λ h. inl (keeps u (sector_at (sectors_of a area) c.args.place) (sector_at (sectors_of e area) c.args.place) wide (left_over u.kind (data_len (length c.args.bytes.now))) h)) c.put_entry.ensures.lost
-
-pub returns-clause-room_lost : goal.returns-clause-room_lost
-returns-clause-room_lost g c =
-    let a : Device = g.F.Flash.device c.args.flash.now in
-    let area : Area = c.args.area.now in
-    let u : Geometry = geometry_of a area in
-    let e : Device = g.F.Flash.device c.put_entry.new.flash in
-    on_err_weaker c.put_entry.result
-    (λ h. put_room u (sector_at (sectors_of a area) c.args.place) (sector_at (sectors_of e area) c.args.place) (length c.args.bytes.now) h)
-    c.put_entry.ensures.lost
+    adds u (sector_at (sectors_of a area) c.args.place) (sector_at (sectors_of e area) c.args.place) wide c.args.id c.args.bytes.now (ready_may u.kind (sector_at (sectors_of a area) c.args.place) c.requires.ready)
+    (fits_cost u (sector_at (sectors_of a area) c.args.place) (sector_at (sectors_of e area) c.args.place) wide (length c.args.bytes.now) c.requires.fits) c.in_ok-put_entry.ensures.ok
 
 pub returns-clause-sound : goal.returns-clause-sound
 returns-clause-sound g c =
     let a : Device = g.F.Flash.device c.args.flash.now in
     let area : Area = c.args.area.now in
     let u : Geometry = geometry_of a area in
-    let b : List ℕ = sector_at (sectors_of a area) c.args.place in
     let wide = large_there zms_role a area (g.met.F.Flash.is_lawful c.args.flash.now) c.requires.area c.args.place c.requires.inside in
     let e : Device = g.F.Flash.device c.put_entry.new.flash in
-    λ sound. either c.put_entry.result
-    (on_ok_weaker c.put_entry.result (λ h. put_sound u (sector_at (sectors_of a area) c.args.place) (sector_at (sectors_of e area) c.args.place) wide c.args.id c.args.bytes.now c.requires.fits h sound) c.put_entry.ensures.ok)
-    (on_err_weaker c.put_entry.result (λ h. (keeps u (sector_at (sectors_of a area) c.args.place) (sector_at (sectors_of e area) c.args.place) wide (left_over u.kind (data_len (length c.args.bytes.now))) h).sound sound) c.put_entry.ensures.lost)
+    put_sound u (sector_at (sectors_of a area) c.args.place) (sector_at (sectors_of e area) c.args.place) wide c.args.id c.args.bytes.now c.requires.fits c.in_ok-put_entry.ensures.ok
+
+pub returns-in_err-put_entry-clause-lost : goal.returns-in_err-put_entry-clause-lost
+returns-in_err-put_entry-clause-lost g c =
+    let a : Device = g.F.Flash.device c.args.flash.now in
+    let area : Area = c.args.area.now in
+    let u : Geometry = geometry_of a area in
+    let wide = large_there zms_role a area (g.met.F.Flash.is_lawful c.args.flash.now) c.requires.area c.args.place c.requires.inside in
+    let e : Device = g.F.Flash.device c.put_entry.new.flash in
+    on_err c.from_residual.result (inl (keeps u (sector_at (sectors_of a area) c.args.place) (sector_at (sectors_of e area) c.args.place) wide (left_over u.kind (data_len (length c.args.bytes.now))) c.in_err-put_entry.ensures.lost))
+
+pub returns-in_err-put_entry-clause-room_lost : goal.returns-in_err-put_entry-clause-room_lost
+returns-in_err-put_entry-clause-room_lost g c =
+    let a : Device = g.F.Flash.device c.args.flash.now in
+    let area : Area = c.args.area.now in
+    let u : Geometry = geometry_of a area in
+    let e : Device = g.F.Flash.device c.put_entry.new.flash in
+    on_err c.from_residual.result (put_room u (sector_at (sectors_of a area) c.args.place) (sector_at (sectors_of e area) c.args.place) (length c.args.bytes.now) c.in_err-put_entry.ensures.lost)
+
+pub returns-in_err-put_entry-clause-sound : goal.returns-in_err-put_entry-clause-sound
+returns-in_err-put_entry-clause-sound g c =
+    let a : Device = g.F.Flash.device c.args.flash.now in
+    let area : Area = c.args.area.now in
+    let u : Geometry = geometry_of a area in
+    let wide = large_there zms_role a area (g.met.F.Flash.is_lawful c.args.flash.now) c.requires.area c.args.place c.requires.inside in
+    let e : Device = g.F.Flash.device c.put_entry.new.flash in
+    (keeps u (sector_at (sectors_of a area) c.args.place) (sector_at (sectors_of e area) c.args.place) wide (left_over u.kind (data_len (length c.args.bytes.now))) c.in_err-put_entry.ensures.lost).sound
+
+pub overflow_cast-bytes : goal.overflow_cast-bytes
+overflow_cast-bytes g c =
+    let a : Device = g.F.Flash.device c.args.flash.now in
+    let area : Area = c.args.area.now in
+    let u : Geometry = geometry_of a area in
+    let size : length (sector_at (sectors_of a area) c.args.place) ≡ sector_size a area = size_there zms_role a area (g.met.F.Flash.is_lawful c.args.flash.now) c.requires.area c.args.place c.requires.inside in
+    let wide = large_there zms_role a area (g.met.F.Flash.is_lawful c.args.flash.now) c.requires.area c.args.place c.requires.inside in
+    let room : cost (length c.args.bytes.now) ≤ free u.kind (sector_at (sectors_of a area) c.args.place) = fits_cost u (sector_at (sectors_of a area) c.args.place) (sector_at (sectors_of a area) c.args.place) wide (length c.args.bytes.now) c.requires.fits in
+    let above : length c.args.bytes.now ≤ cost (length c.args.bytes.now) = cost_above (length c.args.bytes.now) in
+    omega (arith, c.requires.area.lawful.at_most)
+
+pub overflow_add-self : goal.overflow_add-self
+overflow_add-self g c =
+    let a : Device = g.F.Flash.device c.args.flash.now in
+    let area : Area = c.args.area.now in
+    let u : Geometry = geometry_of a area in
+    let size : length (sector_at (sectors_of a area) c.args.place) ≡ sector_size a area = size_there zms_role a area (g.met.F.Flash.is_lawful c.args.flash.now) c.requires.area c.args.place c.requires.inside in
+    let few : c.args.self.now.slots ≤ length (sector_at (sectors_of a area) c.args.place) = kept_few u (sector_at (sectors_of a area) c.args.place) c.args.self.now c.requires.kept in
+    omega (arith, c.requires.area.lawful.at_most)
+
+pub overflow_sub-self : goal.overflow_sub-self
+overflow_sub-self g c =
+    let price = c.cost.ensures.value in
+    omega arith
+
+pub overflow_add-self-2 : goal.overflow_add-self-2
+overflow_add-self-2 g c =
+    let a : Device = g.F.Flash.device c.args.flash.now in
+    let area : Area = c.args.area.now in
+    let u : Geometry = geometry_of a area in
+    let size : length (sector_at (sectors_of a area) c.args.place) ≡ sector_size a area = size_there zms_role a area (g.met.F.Flash.is_lawful c.args.flash.now) c.requires.area c.args.place c.requires.inside in
+    let wide = large_there zms_role a area (g.met.F.Flash.is_lawful c.args.flash.now) c.requires.area c.args.place c.requires.inside in
+    let small : length (sector_at (sectors_of a area) c.args.place) ≤ 2 ^ 15 = omega (arith, c.requires.area.lawful.at_most) in
+    let room : cost (length c.args.bytes.now) ≤ free u.kind (sector_at (sectors_of a area) c.args.place) = fits_cost u (sector_at (sectors_of a area) c.args.place) (sector_at (sectors_of a area) c.args.place) wide (length c.args.bytes.now) c.requires.fits in
+    let price = c.cost.ensures.value in
+    let end : c.args.self.now.data_end + cost (length c.args.bytes.now) ≤ length (sector_at (sectors_of a area) c.args.place) = end_room u (sector_at (sectors_of a area) c.args.place) c.args.self.now c.requires.kept small (cost (length c.args.bytes.now)) (omega arith) room in
+    omega arith
+
+pub returns-clause-kept : goal.returns-clause-kept
+returns-clause-kept g c =
+    let a : Device = g.F.Flash.device c.args.flash.now in
+    let area : Area = c.args.area.now in
+    let u : Geometry = geometry_of a area in
+    let size : length (sector_at (sectors_of a area) c.args.place) ≡ sector_size a area = size_there zms_role a area (g.met.F.Flash.is_lawful c.args.flash.now) c.requires.area c.args.place c.requires.inside in
+    let wide = large_there zms_role a area (g.met.F.Flash.is_lawful c.args.flash.now) c.requires.area c.args.place c.requires.inside in
+    let small : length (sector_at (sectors_of a area) c.args.place) ≤ 2 ^ 15 = omega (arith, c.requires.area.lawful.at_most) in
+    let e : Device = g.F.Flash.device c.put_entry.new.flash in
+    let room : cost (length c.args.bytes.now) ≤ free u.kind (sector_at (sectors_of a area) c.args.place) = fits_cost u (sector_at (sectors_of a area) c.args.place) (sector_at (sectors_of a area) c.args.place) wide (length c.args.bytes.now) c.requires.fits in
+    let price : c.cost.result ≡ cost (length c.args.bytes.now) = c.cost.ensures.value in
+    kept_added u (sector_at (sectors_of a area) c.args.place) c.args.self.now c.requires.kept (sector_at (sectors_of e area) c.args.place) wide small c.args.id c.args.bytes.now c.cost.result price (omega arith) c.in_ok-put_entry.ensures.ok

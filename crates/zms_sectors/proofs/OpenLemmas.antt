@@ -1,0 +1,93 @@
+-- What is kept of the open sector of a ZMS area, and what each step in it makes of that.
+use Rattle.std.proofs.Common.{◌≡◌, ℕ, ◌+◌, ◌-◌, ◌^◌, ◌<◌, ◌≤◌, min, Bool, true, false, not, leb, List, length, Option, sym, ap, ◌∙◌, inl, inr, arith}
+use Rattle.std.specs.Prelude.{is_some}
+use Rattle.std.proofs.lemmas.Bool.{cases_Bool, leb-true}
+use Rattle.flash_sim.specs.declared.flash.Kind.{Kind as BankKind}
+use Rattle.flash_map.specs.declared.area.Geometry.{Geometry}
+use Rattle.ring_laws.specs.Slots.{Slot}
+use Rattle.zms_cycle.specs.Changes.{AddsPair, MarksDone, Empties}
+use Rattle.zms_cycle.specs.Sector.{cycle_of, valid_slots, has_gc_done, data_len, cost, data_end, free}
+use Rattle.zms_cycle.proofs.Frames.{pad, data_len-long}
+use Rattle.zms_kind.proofs.Sectors.{few_slots}
+use Rattle.zms_kind.proofs.StepLemmas.{one_slot}
+use Rattle.zms_sectors.specs.declared.sectors.ZmsOpen.{ZmsOpen}
+
+-- what is kept of a sector
+abbrev pub open_of : BankKind → List ℕ → ZmsOpen
+open_of bank b = record { gc_done = has_gc_done b; blank = not (is_some (cycle_of b)); slots = length (valid_slots b); data_end = min (data_end bank b) (2 ^ 32 - 1) }
+
+pub kept_is : (bank : BankKind) (b : List ℕ) (done blank : Bool) (count end : ℕ) → done ≡ has_gc_done b → blank ≡ not (is_some (cycle_of b)) → count ≡ length (valid_slots b) → end ≡ min (data_end bank b) (2 ^ 32 - 1)
+    → ◌≡◌ {A = ZmsOpen} (record { gc_done = done; blank = blank; slots = count; data_end = end }) (record { gc_done = has_gc_done b; blank = not (is_some (cycle_of b)); slots = length (valid_slots b); data_end = min (data_end bank b) (2 ^ 32 - 1) })
+kept_is bank b done blank count end done-is blank-is count-is end-is =
+    ap (λ (x : Bool). record { gc_done = x; blank = blank; slots = count; data_end = end }) done-is
+    ∙ ap (λ (x : Bool). record { gc_done = has_gc_done b; blank = x; slots = count; data_end = end }) blank-is
+    ∙ ap (λ (x : ℕ). record { gc_done = has_gc_done b; blank = not (is_some (cycle_of b)); slots = x; data_end = end }) count-is
+    ∙ ap (λ (x : ℕ). record { gc_done = has_gc_done b; blank = not (is_some (cycle_of b)); slots = length (valid_slots b); data_end = x }) end-is
+
+-- a value costs no less than its bytes
+pub cost_above : (len : ℕ) → len ≤ cost len
+cost_above len =
+    elim (cases_Bool (leb len 8)) [
+      | inl short ↦ let few = leb-true len 8 short in omega arith
+      | inr long ↦ let some = data_len-long len long in let units = (pad len).0 in omega arith
+    ]
+
+module _ (geometry : Geometry) (b : List ℕ) (opened : ZmsOpen) (kept : opened ≡ open_of geometry.kind b) where
+  pub kept_done : opened.gc_done ≡ has_gc_done b
+  kept_done = ap (λ (o : ZmsOpen). o.gc_done) kept
+
+  pub kept_blank : opened.blank ≡ not (is_some (cycle_of b))
+  kept_blank = ap (λ (o : ZmsOpen). o.blank) kept
+
+  pub kept_slots : opened.slots ≡ length (valid_slots b)
+  kept_slots = ap (λ (o : ZmsOpen). o.slots) kept
+
+  pub kept_end : opened.data_end ≡ min (data_end geometry.kind b) (2 ^ 32 - 1)
+  kept_end = ap (λ (o : ZmsOpen). o.data_end) kept
+
+  pub kept_few : opened.slots ≤ length b
+  kept_few = let few = few_slots b in let at = kept_slots in omega arith
+
+  -- where some bytes are free, its data ends in the sector
+  module _ (small : length b ≤ 2 ^ 15) (price : ℕ) (some : 0 < price) (room : price ≤ free geometry.kind b) where
+    pub end_is : opened.data_end ≡ data_end geometry.kind b
+    end_is = let at = kept_end in omega arith
+
+    pub end_room : opened.data_end + price ≤ length b
+    end_room = let at = end_is in omega arith
+
+  -- one entry more
+  pub kept_added : (e : List ℕ) → 512 ≤ length b → length b ≤ 2 ^ 15 → (id : ℕ) (bytes : List ℕ) (price : ℕ) → price ≡ cost (length bytes) → price ≤ free geometry.kind b → AddsPair geometry.kind b e id bytes
+      → ◌≡◌ {A = ZmsOpen} (record { gc_done = opened.gc_done; blank = opened.blank; slots = opened.slots + 1; data_end = opened.data_end + (price - 16) }) (open_of geometry.kind e)
+  kept_added e wide small id bytes price is room h =
+      let end : opened.data_end ≡ data_end geometry.kind b = end_is small price (omega arith) room in
+      let within : opened.data_end + price ≤ length b = end_room small price (omega arith) room in
+      let grown : data_end geometry.kind e ≡ data_end geometry.kind b + data_len (length bytes) = h.grown in
+      let count : length (valid_slots e) ≡ length (valid_slots b) + 1 = one_slot geometry b e wide h.long h.lower in
+      let slots = kept_slots in
+      kept_is geometry.kind e opened.gc_done opened.blank (opened.slots + 1) (opened.data_end + (price - 16))
+      (kept_done ∙ sym h.gc_done)
+      (kept_blank ∙ ap (λ (o : Option ℕ). not (is_some o)) (sym h.cycle))
+      (omega arith)
+      (omega arith)
+
+  -- gc-done
+  pub kept_marked : (e : List ℕ) → 512 ≤ length b → MarksDone geometry.kind b e
+      → ◌≡◌ {A = ZmsOpen} (record { gc_done = true; blank = opened.blank; slots = opened.slots + 1; data_end = opened.data_end }) (open_of geometry.kind e)
+  kept_marked e wide h =
+      let count : length (valid_slots e) ≡ length (valid_slots b) + 1 = one_slot geometry b e wide h.long h.lower in
+      let slots = kept_slots in
+      kept_is geometry.kind e true opened.blank (opened.slots + 1) opened.data_end
+      (sym h.gc_done)
+      (kept_blank ∙ ap (λ (o : Option ℕ). not (is_some o)) (sym h.cycle))
+      (omega arith)
+      (kept_end ∙ ap (λ (n : ℕ). min n (2 ^ 32 - 1)) (sym h.same_end))
+
+-- a sector that was emptied
+pub kept_emptied : (bank : BankKind) (b e : List ℕ) → Empties bank b e → ◌≡◌ {A = ZmsOpen} (record { gc_done = false; blank = false; slots = 0; data_end = 0 }) (open_of bank e)
+kept_emptied bank b e h =
+    kept_is bank e false false 0 0
+    (sym h.gc_done)
+    (ap (λ (o : Option ℕ). not (is_some o)) (sym h.cycle))
+    (ap (λ (ss : List Slot). length ss) (sym h.slots))
+    (ap (λ (n : ℕ). min n (2 ^ 32 - 1)) (sym h.same_end))

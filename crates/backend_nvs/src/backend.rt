@@ -5,7 +5,6 @@ ghost use Rattle.item_store.specs.NvsStore.{nvs_damage, nvs_items, nvs_price, nv
 ghost use Rattle.backend_nvs.specs.Numbers.{settings_of, nvs_room};
 ghost use Rattle.backend_nvs.specs.Standing.{Stands, Rests, stands-rest, reads_settings};
 
-use crate::names::next_name;
 use crate::numbers::NvsNumbers;
 use crate::putting::set_value;
 use backend_api::{Backend, SetFault};
@@ -13,7 +12,7 @@ use flash_map::{Area, MountFault, area_format};
 use flash_sim::{Flash, Loss, PowerLost, Steps};
 use item_store::ItemStore;
 use nvs_gc::Nvs;
-use pair_store::{delete_name, mount_store, value_of};
+use pair_store::{delete_name, mount_store, next_name, value_of};
 use setting_name::Name;
 use std::alloc::Global;
 use std::sync::ledger::Ledger;
@@ -101,7 +100,7 @@ impl Backend for NvsBackend {
         after: Option<&Name>,
         steps: &mut Steps<L>,
     ) -> Option<Name> {
-        next_name(&self.store, flash, after, steps)
+        next_name::<NvsNumbers, Nvs, F, L>(&self.store, flash, after, steps)
     }
 
     fn format<F: Flash, L: Ledger>(

@@ -4,7 +4,6 @@
 mod backend;
 mod kept;
 mod lookup;
-mod names;
 mod numbers;
 mod putting;
 

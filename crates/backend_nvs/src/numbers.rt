@@ -4,11 +4,11 @@ ghost use Rattle.std.proofs.Common.{refl};
 ghost use Rattle.flash_map.specs.Area.{value_limit};
 ghost use Rattle.backend_nvs.specs.declared.lookup.TheConstants.{TOP};
 
-use crate::lookup::STEP;
+use crate::lookup::{FIRST, LIMIT, STEP};
 use crate::{kept, lookup, putting};
 use flash_sim::{Flash, Steps};
 use item_store::ItemStore;
-use pair_store::Numbers;
+use pair_store::{Ids, Numbers};
 use setting_name::Name;
 use std::sync::ledger::Ledger;
 
@@ -40,14 +40,15 @@ impl Numbers for NvsNumbers {
         STEP
     }
 
-    fn place_of<S: ItemStore, F: Flash, L: Ledger>(
-        store: &S,
-        flash: &F,
-        index: &S::Index,
-        name: &Name,
-        steps: &mut Steps<L>,
-    ) -> Option<u32> {
-        lookup::place_of(store, flash, index, name, steps)
+    fn homes_of(_name: &Name) -> Ids {
+        NvsNumbers::all_homes()
+    }
+
+    fn all_homes() -> Ids {
+        Ids {
+            least: FIRST,
+            most: FIRST + (LIMIT - 1),
+        }
     }
 
     fn may_have<S: ItemStore, F: Flash, L: Ledger>(

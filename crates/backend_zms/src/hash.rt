@@ -7,7 +7,7 @@ const BASIS: u32 = 2_166_136_261;
 // What the hash is multiplied by at each byte.
 const PRIME: u32 = 16_777_619;
 // The bits of the hash that are the group of a name.
-const GROUP_BITS: u32 = 0xFFF0;
+pub(crate) const GROUP_BITS: u32 = 0xFFF0;
 /// How many ids of names a group has.
 pub const GROUP_SIZE: u32 = 16;
 /// The first id of a name.

@@ -12,10 +12,10 @@ ghost use Rattle.pair_store.specs.Looking.{HasIds};
 ghost use Rattle.backend_zms.specs.declared.hash.TheConstants.{GROUP_BITS};
 ghost use Rattle.backend_zms.specs.Numbers.{numbers_in, top, too_many, zms-numbers, zms-within, no-count, stored-one};
 
-use crate::hash::{FIRST, GROUP_SIZE, STEP, first_of};
+use crate::hash::{FIRST, GROUP_BITS, GROUP_SIZE, STEP, first_of};
 use flash_sim::{Flash, Steps};
 use item_store::ItemStore;
-use pair_store::{Numbers, is_at, is_free, name_in};
+use pair_store::{Ids, Numbers, is_at, is_free, name_in};
 use setting_name::Name;
 use std::sync::ledger::Ledger;
 
@@ -47,14 +47,19 @@ impl Numbers for ZmsNumbers {
         STEP
     }
 
-    fn place_of<S: ItemStore, F: Flash, L: Ledger>(
-        store: &S,
-        flash: &F,
-        index: &S::Index,
-        name: &Name,
-        steps: &mut Steps<L>,
-    ) -> Option<u32> {
-        place_of(store, flash, index, name, steps)
+    fn homes_of(name: &Name) -> Ids {
+        let first = first_of(name.bytes());
+        Ids {
+            least: first,
+            most: first + (GROUP_SIZE - 1),
+        }
+    }
+
+    fn all_homes() -> Ids {
+        Ids {
+            least: FIRST,
+            most: FIRST + GROUP_BITS + (GROUP_SIZE - 1),
+        }
     }
 
     fn may_have<S: ItemStore, F: Flash, L: Ledger>(
@@ -87,7 +92,7 @@ impl Numbers for ZmsNumbers {
 }
 
 // Where the name stands that counts, if it has a value: at the least id of its group.
-pub(crate) fn place_of<S: ItemStore, F: Flash, L: Ledger>(
+fn place_of<S: ItemStore, F: Flash, L: Ledger>(
     store: &S,
     flash: &F,
     index: &S::Index,

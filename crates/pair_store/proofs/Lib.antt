@@ -4,8 +4,8 @@ pub mod FormatSteps
 pub mod ItemSteps
 pub mod LookupSteps
 pub mod NewSteps
-pub mod NextSteps
 pub mod OtherSteps
+pub mod PlaceSteps
 pub mod PutSteps
 pub mod RemovalUnits
 pub mod RemovedSteps
@@ -14,4 +14,3 @@ pub mod SoFar
 pub mod SpendSteps
 pub mod StopSteps
 pub mod StraySteps
-pub mod WalkSteps

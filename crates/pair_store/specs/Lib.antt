@@ -1,5 +1,5 @@
 pub mod Ends
-pub mod Least
+pub mod Homes
 pub mod Looking
 pub mod Putting
 pub mod Strays

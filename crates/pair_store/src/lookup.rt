@@ -6,7 +6,7 @@ ghost use Rattle.setting_name.specs.Name.{IsName};
 ghost use Rattle.flash_map.specs.Area.{value_limit};
 ghost use Rattle.flash_map.specs.Lawful.{IsLawfulFor};
 ghost use Rattle.flash_map.specs.On.{on, HoldsOn, StandsOn};
-ghost use Rattle.item_pairs.specs.Pairs.{settings_in};
+ghost use Rattle.item_pairs.specs.Pairs.{settings_in, HasNoStrays, IsPlaceOf};
 ghost use Rattle.pair_store.specs.Ends.{IsFree};
 ghost use Rattle.pair_store.specs.Looking.{is_value, HasIds, StandsHere};
 
@@ -87,8 +87,26 @@ pub fn is_free<S: ItemStore, F: Flash, L: Ledger>(
     store.get_by(flash, index, second, steps).is_none()
 }
 
-/// The value of a name; none where it has no value. Where that can be told without an index, none is made.
-#[inline(never)]
+/// Where the setting of a name stands, if the name has a value. No item may be a stray. It is one walk over the store's entries at
+/// most, and makes no index.
+pub fn standing_place<N: Numbers, S: ItemStore, F: Flash, L: Ledger>(
+    store: &S,
+    flash: &F,
+    name: &Name,
+    steps: &mut Steps<L>,
+) -> Option<u32>
+    requires ids { HasIds N.top S.is_id }
+    requires lawful { IsLawfulFor (F.device flash.now).banks (S.mounted_on store.now) }
+    requires stands { StandsOn S.mounted_on S.stands (F.device flash.now) store.now }
+    requires clean { let area = S.mounted_on store.now in HasNoStrays (N.numbers area) (on S.contents (F.device flash.now) area) }
+    ensures { let area = S.mounted_on store.now in IsPlaceOf (N.numbers area) (on S.contents (F.device flash.now) area) name.now result }
+{
+    let ids = N::homes_of(name);
+    store.id_of(flash, ids.least, ids.most, name.bytes(), steps)
+}
+
+/// The value of a name; none where it has no value. No item may be a stray. Where the name can have no item by what the store
+/// keeps in memory, the entries are not gone over. No index is made.
 pub fn value_of<'a, N: Numbers, S: ItemStore, F: Flash, L: Ledger>(
     store: &S,
     flash: &'a F,
@@ -98,12 +116,12 @@ pub fn value_of<'a, N: Numbers, S: ItemStore, F: Flash, L: Ledger>(
     requires ids { HasIds N.top S.is_id }
     requires lawful { IsLawfulFor (F.device flash.now).banks (S.mounted_on store.now) }
     requires stands { StandsOn S.mounted_on S.stands (F.device flash.now) store.now }
+    requires clean { let area = S.mounted_on store.now in HasNoStrays (N.numbers area) (on S.contents (F.device flash.now) area) }
     ensures { let area = S.mounted_on store.now in option_map (λ bytes. bytes.now) result ≡ finite.get (settings_in (N.numbers area) (on S.contents (F.device flash.now) area)) name.now }
 {
     if !N::may_have(store, flash, name, steps) {
         return None;
     }
-    let index = store.index(flash, steps);
-    let place = N::place_of(store, flash, &index, name, steps)?;
-    store.get_by(flash, &index, place + N::step(), steps)
+    let place = standing_place::<N, S, F, L>(store, flash, name, steps)?;
+    store.get(flash, place + N::step(), steps)
 }

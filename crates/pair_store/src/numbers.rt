@@ -9,9 +9,11 @@ ghost use Rattle.backend_api.specs.Map.{Map};
 ghost use Rattle.item_pairs.specs.Numbering.{Numbering, IsNumbering};
 ghost use Rattle.item_pairs.specs.PairRoom.{IsCountCost};
 ghost use Rattle.item_pairs.specs.Pairs.{settings_in, IsKept, IsPlaceOf, HasNoStrays};
+ghost use Rattle.pair_store.specs.Homes.{AreOfNames, HasHomes, HasAllHomes};
 ghost use Rattle.pair_store.specs.Looking.{HasIds};
 ghost use Rattle.pair_store.specs.Putting.{room_in};
 
+use crate::homes::Ids;
 use flash_sim::{Flash, Steps};
 use item_store::ItemStore;
 use setting_name::Name;
@@ -35,19 +37,15 @@ pub trait Numbers {
     fn step() -> u32
         ensures { (area : area_type) → (numbers area).step ≡ result };
 
-    /// Where the name stands that counts, if it has a value.
-    fn place_of<S: ItemStore, F: Flash, L: Ledger>(
-        store: &S,
-        flash: &F,
-        index: &S::Index,
-        name: &Name,
-        steps: &mut Steps<L>,
-    ) -> Option<u32>
-        requires ids { HasIds top S.is_id }
-        requires lawful { IsLawfulFor (F.device flash.now).banks (S.mounted_on store.now) }
-        requires stands { StandsOn S.mounted_on S.stands (F.device flash.now) store.now }
-        requires tells { HoldsOn (S.tells index.now) (F.device flash.now) (S.mounted_on store.now) }
-        ensures { let area = S.mounted_on store.now in IsPlaceOf (numbers area) (on S.contents (F.device flash.now) area) name.now result };
+    /// The ids at which a name may stand.
+    fn homes_of(name: &Name) -> Ids
+        ensures ids { (area : area_type) → AreOfNames (numbers area) top result }
+        ensures homes { (area : area_type) → HasHomes (numbers area) name.now result };
+
+    /// The ids at which any name may stand.
+    fn all_homes() -> Ids
+        ensures ids { (area : area_type) → AreOfNames (numbers area) top result }
+        ensures homes { (area : area_type) → HasAllHomes (numbers area) result };
 
     /// Whether a name may have a value: where it answers `false`, the name has none. It makes no index.
     fn may_have<S: ItemStore, F: Flash, L: Ledger>(

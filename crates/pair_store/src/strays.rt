@@ -23,7 +23,6 @@ use std::sync::ledger::Ledger;
 ///
 /// # Errors
 /// `PowerLost`, only where the id has an item: it is as before, or gone. The settings are as before, and each item that is kept.
-#[inline(never)]
 pub fn remove_if_stray<N: Numbers, S: ItemStore, F: Flash, L: Ledger>(
     store: &mut S,
     flash: &mut F,
@@ -64,7 +63,7 @@ pub fn remove_if_stray<N: Numbers, S: ItemStore, F: Flash, L: Ledger>(
         return Ok(());
     }
     store.delete(flash, id, steps)?;
-    *index = store.index(flash, steps);
+    store.tell(flash, index, steps);
     Ok(())
 }
 
@@ -76,7 +75,6 @@ pub fn remove_if_stray<N: Numbers, S: ItemStore, F: Flash, L: Ledger>(
 /// `PowerLost`: the settings are as before, and each item that is kept. There is an id below which no stray is left, and above
 /// which every item is as before; its own item is as before, or gone.
 #[tactic(auto, using(flash_map::proofs::Touches::then))]
-#[inline(never)]
 pub fn remove_strays<N: Numbers, S: ItemStore, F: Flash, L: Ledger>(
     store: &mut S,
     flash: &mut F,
@@ -103,7 +101,8 @@ pub fn remove_strays<N: Numbers, S: ItemStore, F: Flash, L: Ledger>(
     ensures stands { is_err result ≡ false → StandsOn S.mounted_on S.stands (F.device flash.new) store.new }
     ensures clean { let area = S.mounted_on store.old in is_err result ≡ false → HasNoStrays (N.numbers area) (on S.contents (F.device flash.new) area) }
 {
-    let mut index = store.index(flash, steps);
+    let mut index = S::new_index();
+    store.tell(flash, &mut index, steps);
     let mut at = store.next_by(flash, &index, None, steps);
     while let Some(id) = at {
         remove_if_stray::<N, S, F, L>(store, flash, &mut index, id, steps)?;

@@ -14,6 +14,7 @@ ghost use Rattle.item_pairs.specs.Pairs.{settings_in, HasNoStrays, IsAt};
 ghost use Rattle.pair_store.specs.Ends.{AltersTwo, DeletesPair, PutsPair};
 ghost use Rattle.pair_store.specs.Looking.{HasIds};
 
+use crate::lookup::standing_place;
 use crate::numbers::Numbers;
 use flash_map::WriteFault;
 use flash_sim::{Flash, PowerLost, Steps};
@@ -55,7 +56,6 @@ pub fn delete_pair<S: ItemStore, F: Flash, L: Ledger>(
 ///
 /// # Errors
 /// `PowerLost`: the settings are as before, or without the name.
-#[inline(never)]
 pub fn delete_name<N: Numbers, S: ItemStore, F: Flash, L: Ledger>(
     store: &mut S,
     flash: &mut F,
@@ -81,8 +81,7 @@ pub fn delete_name<N: Numbers, S: ItemStore, F: Flash, L: Ledger>(
     ensures clean { let area = S.mounted_on store.old in is_err result ≡ false → HasNoStrays (N.numbers area) (on S.contents (F.device flash.new) area) }
     ensures down { is_err result ≡ true → S.runs store.new ≡ false }
 {
-    let index = store.index(flash, steps);
-    match N::place_of(store, flash, &index, name, steps) {
+    match standing_place::<N, S, F, L>(store, flash, name, steps) {
         Some(place) => delete_pair(store, flash, place, place + N::step(), steps),
         None => Ok(()),
     }

@@ -10,8 +10,8 @@ use Rattle.flash_sim.specs.Device.{Device}
 use Rattle.flash_sim.specs.declared.flash.Loss.{Loss}
 use Rattle.flash_sim.specs.declared.flash.PowerLost.{PowerLost as Lost}
 use Rattle.backend_api.specs.Commands.{Command, Put, Del, applied, all_applied, StopsAt}
-use Rattle.backend_api.specs.Ends.{SpendsSome, Sets, SetEnds, DeleteEnds, set_lost}
-use Rattle.backend_api.specs.Map.{Map}
+use Rattle.backend_api.specs.Ends.{SpendsSome, Sets, SetEnds, FindsNoSpace, DeleteEnds, set_lost}
+use Rattle.backend_api.specs.Map.{Map, IsStored}
 use Rattle.backend_api.specs.Room.{Room}
 use Rattle.backend_api.specs.declared.backend.SetFault.{SetFault}
 use Rattle.backend_api.specs.declared.backend.SetFault.TheVariants.{NoSpace as SetNoSpace, TooManyNames as SetTooMany, PowerLost as SetLost}
@@ -118,6 +118,27 @@ module _ (room : Room) (sectors : ℕ) (chance : Loss → Bool) (tears : Command
   set_refused T name value SetTooMany isnt ends cut kept =
       (refl, record { split = at_one (Put name value) isnt; carried = carries_nothing (kept ends.1) ends.1; too_many = ap (λ (m : Map). room.too_many m name) (kept ends.1) ∙ ends.0 })
   set_refused T name value SetLost isnt ends cut kept = (refl, record { split = at_one (Put name value) isnt; free = (ends.0, tt); stops = λ on. cut on refl })
+
+  -- a set of any value
+  pub set_ends : {T : Type 0} (x : T) (name value : List ℕ) → (new ≡ old → after ≡ before) → Sets room old new before after name value
+      → (count : ℕ) × CarryEnds true room sectors chance tears old new before after (due before (Put name value ∷ [])) count (Ok x)
+  set_ends x name value kept ends = elim (cases_Bool (is_idle before (Put name value))) [
+    | inl is ↦ (0, idle_ends x (Put name value) is kept (ends.same (stored_value value (get before name) is)))
+    | inr isnt ↦ (1, set_done x name value isnt ends)
+  ]
+
+  -- a value that is there already is not refused for want of room, and no power is lost
+  not_idle : (name value : List ℕ) → ¬ IsStored before name value → is_idle before (Put name value) ≡ false
+  not_idle name value other = elim (cases_Bool (is_idle before (Put name value))) [ inl is ↦ absurd (other (stored_value value (get before name) is)) | inr isnt ↦ isnt ]
+
+  pub set_full : (T : Type 0) (name value : List ℕ) (need live : ℕ) → FindsNoSpace room sectors before after name value need live → (new ≡ old → after ≡ before)
+      → (count : ℕ) × CarryEnds {T = T} true room sectors chance tears old new before after (due before (Put name value ∷ [])) count (Err (NoSpace need live))
+  set_full T name value need live ends kept = (0, set_refused T name value (SetNoSpace need live) (not_idle name value ends.other) ends (λ on lost. absurd (cc)) kept)
+
+  pub set_cut : (T : Type 0) (name value : List ℕ) → SetEnds {T = Unit {0}} room sectors old new before after name value (Err SetLost)
+      → (old.is_on ≡ true → StopsAt chance (tears (Put name value)) (Put name value) new before after) → (new ≡ old → after ≡ before)
+      → (count : ℕ) × CarryEnds {T = T} true room sectors chance tears old new before after (due before (Put name value ∷ [])) count (Err PowerLost)
+  set_cut T name value ends cut kept = (0, set_refused T name value SetLost (not_idle name value ends.1) ends (λ on lost. cut on) kept)
 
   -- a delete
   pub delete_ends : (name : List ℕ) (result : Result (Unit {0}) Lost) → DeleteEnds old new before after name result

@@ -71,10 +71,7 @@ impl<K: Backend> Settings<K> {
                 Err(_) => Err(SaveFault::PowerLost),
             }
         } else {
-            match put(&mut self.backend, flash, name, value, steps) {
-                Ok(_) => Ok(()),
-                Err(fault) => Err(fault),
-            }
+            store(&mut self.backend, flash, name, value, steps)
         }
     }
 
@@ -107,6 +104,42 @@ impl<K: Backend> Settings<K> {
             Ok(()) => Ok(()),
             Err(_) => Err(DeleteFault::PowerLost),
         }
+    }
+}
+
+// Gives a name a value that is not empty, by a backend that is up. The backend leaves an equal value as it is, so that the name is
+// looked up once.
+fn store<K: Backend, F: Flash, L: Ledger>(
+    backend: &mut K,
+    flash: &mut F,
+    name: &Name,
+    value: &[u8],
+    steps: &mut Steps<L>,
+) -> Result<(), SaveFault>
+    requires lawful { IsLawfulFor (F.device flash.old).banks (K.mounted_on backend.old) }
+    requires stands { StandsOn K.mounted_on K.stands (F.device flash.old) backend.old }
+    requires some { 0 < length value.now }
+    requires short { length value.now ≤ value_limit (K.mounted_on backend.old) }
+
+    ensures touches { Touches (K.mounted_on backend.old ∷ []) (F.device flash.old) (F.device flash.new) (save_lost result) }
+    ensures area { K.mounted_on backend.new ≡ K.mounted_on backend.old }
+    ensures ends { (count : ℕ) × CarryEndsOn K.room K.contents K.chance K.tears true (K.mounted_on backend.old) (F.device flash.old) (F.device flash.new) (Put name.now value.now ∷ []) count result }
+    ensures at_most { let d = F.device flash.old in SpendsAtMost d (F.device flash.new) (most_units (geometry_of d (K.mounted_on backend.old))) }
+    ensures sound { on K.damage (F.device flash.new) (K.mounted_on backend.old) ≡ None }
+    ensures stands { save_lost result ≡ false → StandsOn K.mounted_on K.stands (F.device flash.new) backend.new }
+    ensures down { save_lost result ≡ true → K.runs backend.new ≡ false }
+{
+    match backend.set(flash, name, value, steps) {
+        Ok(()) => Ok(()),
+        Err(SetFault::TooManyNames) => {
+            if is_stored(backend, flash, name, value, steps) {
+                Ok(())
+            } else {
+                Err(SaveFault::TooManyNames)
+            }
+        }
+        Err(SetFault::NoSpace { need, live }) => Err(SaveFault::NoSpace { need, live }),
+        Err(SetFault::PowerLost) => Err(SaveFault::PowerLost),
     }
 }
 

@@ -1,17 +1,17 @@
-use Rattle.std.proofs.Common.{refl}
-use Rattle.flash_map.specs.Area.{value_limit}
+use Rattle.std.proofs.Common.{◌+◌, ◌<◌, arith}
 use Rattle.flash_map.specs.On.{on}
-use Rattle.backend_zms.proofs.GroupLemmas.{group-full, group-free}
+use Rattle.pair_store.proofs.LookupSteps.{at-known}
+use Rattle.backend_zms.specs.Numbers.{numbers_in, zms-within}
 use Rattle.backend_zms.proofs.putting.set_value.Goals as goal
 
--- there is an id left
-pub put_new-requires-clause-few : goal.put_new-requires-clause-few
-put_new-requires-clause-few g c =
-    let area = g.S.ItemStore.mounted_on c.args.store.now in
-    group-free (value_limit area) (on g.S.ItemStore.contents (g.F.Flash.device c.args.flash.now) area) c.args.name.now c.requires.clean c.in-Some-free_place.free c.in-Some-free_place.ensures.place
+-- the ids of a setting
+pub overflow_add-place : goal.overflow_add-place
+overflow_add-place g c =
+    let own = g.S.ItemStore.mounted_on c.args.store.now in
+    let low : c.in-Some.place + 0x40000000 < 0xFFFFFFFF = at-known (numbers_in own) (on g.S.ItemStore.contents (g.F.Flash.device c.args.flash.now) own) c.args.name.now c.in-Some.place c.in-Some.ensures 0xFFFFFFFF (λ count. zms-within) in
+    omega arith
 
--- there is none
-pub returns-clause-ends : goal.returns-clause-ends
-returns-clause-ends g c =
-    let area = g.S.ItemStore.mounted_on c.args.store.now in
-    (group-full (value_limit area) (on g.S.ItemStore.contents (g.F.Flash.device c.args.flash.now) area) c.args.name.now c.requires.clean c.in-None.ensures.place c.in-None-free_place.ensures.place, refl)
+pub change_value-requires-clause-known : goal.change_value-requires-clause-known
+change_value-requires-clause-known g c =
+    let own = g.S.ItemStore.mounted_on c.args.store.now in
+    c.requires.ids.all (c.in-Some.place + 0x40000000) (at-known (numbers_in own) (on g.S.ItemStore.contents (g.F.Flash.device c.args.flash.now) own) c.args.name.now c.in-Some.place c.in-Some.ensures 0xFFFFFFFF (λ count. zms-within))

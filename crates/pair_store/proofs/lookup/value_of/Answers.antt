@@ -26,4 +26,4 @@ returns g c =
     let items : Items = on g.S.ItemStore.contents (g.F.Flash.device c.args.flash.now) area in
     let value = at-value n items c.args.name.now c.in_ok-place.place c.in_ok-place.ensures in
     let stored : get items (c.in_ok-place.place + c.step.result) ≡ Some value.0 = subst (λ (k : ℕ). get items (c.in_ok-place.place + k) ≡ Some value.0) (c.step.ensures area) value.1 in
-    c.get_by.ensures ∙ stored ∙ sym (get-at n items c.args.name.now value.0 c.in_ok-place.place c.in_ok-place.ensures value.1)
+    c.get.ensures ∙ stored ∙ sym (get-at n items c.args.name.now value.0 c.in_ok-place.place c.in_ok-place.ensures value.1)

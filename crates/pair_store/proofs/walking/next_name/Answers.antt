@@ -1,41 +1,57 @@
-use Rattle.std.proofs.Common.{ℕ, List, Option, Some, sym, subst}
+use Rattle.std.proofs.Common.{rules, ◌≡◌, ℕ, List, Option, Some, None, Bor, ap, subst, ◌∙◌}
 use Rattle.std.specs.Option.{option_map}
-use Rattle.std.proofs.lemmas.Option.{IfSome_then}
+use Rattle.std.proofs.lemmas.Bool.{false≢true}
 use Rattle.flash_map.specs.declared.area.Area.{Area}
 use Rattle.flash_map.specs.On.{on}
+use Rattle.pair_laws.specs.Bytes.{IsNextOf}
 use Rattle.pair_laws.specs.Items.{Items}
-use Rattle.pair_store.specs.Walking.{IsBetweenAt}
-use Rattle.pair_store.proofs.SoFar.{IsLeastBefore}
-use Rattle.pair_store.proofs.WalkSteps.{names-start, names-step, names-end}
+use Rattle.item_pairs.specs.Numbering.{Numbering}
+use Rattle.pair_store.specs.declared.homes.Ids.{Ids}
+use Rattle.pair_store.proofs.PlaceSteps.{next-found, next-lawful}
 use Rattle.pair_store.proofs.walking.next_name.Goals as goal
 
-pub loop-at-init : goal.loop-at-init
-loop-at-init g c =
-    let area : Area = g.S.ItemStore.mounted_on c.args.store.now in
-    record {
-      least = names-start (g.N.Numbers.numbers area) (on g.S.ItemStore.contents (g.F.Flash.device c.args.flash.now) area) (option_map (λ name. name.now) c.args.after) c.next_by-at.result c.next_by-at.ensures.next;
-      known = IfSome_then c.next_by-at.result c.next_by-at.ensures.known (λ id is. c.requires.ids.only id is);
-    }
+pub next_of-requires-clause-least : goal.next_of-requires-clause-least
+next_of-requires-clause-least g c = c.requires.ids.all c.all_homes-ids.result.least (c.all_homes-ids.ensures.ids (g.S.ItemStore.mounted_on c.args.store.now)).least
 
-pub loop-at-preserved : goal.loop-at-preserved
-loop-at-preserved g c =
-    let area : Area = g.S.ItemStore.mounted_on c.args.store.now in
-    let items : Items = on g.S.ItemStore.contents (g.F.Flash.device c.args.flash.now) area in
-    let after : Option (List ℕ) = option_map (λ name. name.now) c.args.after in
-    let so_far : IsLeastBefore (g.N.Numbers.numbers area) items after (Some c.in-Some.id) c.loop-at.least =
-    subst (λ (o : Option ℕ). IsLeastBefore (g.N.Numbers.numbers area) items after o c.loop-at.least) c.in-Some.is c.loop-at.invariant.least in
-    let between : IsBetweenAt (g.N.Numbers.numbers area) items after c.loop-at.least c.in-Some.id c.name_between-name.result =
-    subst (λ (o : Option (List ℕ)). IsBetweenAt (g.N.Numbers.numbers area) items after o c.in-Some.id c.name_between-name.result) c.as_ref-before.ensures.value c.name_between-name.ensures in
-    record {
-      least = subst (λ (o : Option (List ℕ)). IsLeastBefore (g.N.Numbers.numbers area) items after c.next_by-at-in-Some.result o) (sym c.or-least.ensures)
-          (names-step (g.N.Numbers.numbers area) items after c.in-Some.id c.next_by-at-in-Some.result c.next_by-at-in-Some.ensures.next c.loop-at.least c.name_between-name.result so_far between);
-      known = IfSome_then c.next_by-at-in-Some.result c.next_by-at-in-Some.ensures.known (λ id is. c.requires.ids.only id is);
-    }
+pub next_of-requires-clause-most : goal.next_of-requires-clause-most
+next_of-requires-clause-most g c = c.requires.ids.all c.all_homes-ids.result.most (c.all_homes-ids.ensures.ids (g.S.ItemStore.mounted_on c.args.store.now)).most
 
-pub returns : goal.returns
-returns g c =
+pub next_of-requires-clause-range : goal.next_of-requires-clause-range
+next_of-requires-clause-range g c = (c.all_homes-ids.ensures.ids (g.S.ItemStore.mounted_on c.args.store.now)).few
+
+pub returns-in_err-next_of : goal.returns-in_err-next_of
+returns-in_err-next_of g c =
     let area : Area = g.S.ItemStore.mounted_on c.args.store.now in
+    let n : Numbering = g.N.Numbers.numbers area in
     let items : Items = on g.S.ItemStore.contents (g.F.Flash.device c.args.flash.now) area in
+    let ids : Ids = c.all_homes-ids.result in
     let after : Option (List ℕ) = option_map (λ name. name.now) c.args.after in
-    names-end (g.N.Numbers.numbers area) items after (g.met.N.Numbers.is_numbering area) c.requires.clean c.loop-at.least
-    (subst (λ (o : Option ℕ). IsLeastBefore (g.N.Numbers.numbers area) items after o c.loop-at.least) c.in_default.is c.loop-at.invariant.least)
+    let same : option_map {T = Bor (List ℕ)} {U = List ℕ} (λ other. other.now) c.map-after.result ≡ option_map {T = Bor (List ℕ)} {U = List ℕ} (λ name. name.now) c.args.after = search rules in
+    let next : IsNextOf ids.least ids.most items after None = subst (λ (o : Option (List ℕ)). IsNextOf ids.least ids.most items o None) same c.in_err-next_of.ensures in
+    c.from_residual.ensures
+    ∙ next-found n (g.met.N.Numbers.is_numbering area) items c.requires.clean g.N.Numbers.top ids (c.all_homes-ids.ensures.ids area) (c.all_homes-ids.ensures.homes area) after None next
+
+pub returns-in-Ok : goal.returns-in-Ok
+returns-in-Ok g c =
+    let area : Area = g.S.ItemStore.mounted_on c.args.store.now in
+    let n : Numbering = g.N.Numbers.numbers area in
+    let items : Items = on g.S.ItemStore.contents (g.F.Flash.device c.args.flash.now) area in
+    let ids : Ids = c.all_homes-ids.result in
+    let after : Option (List ℕ) = option_map (λ name. name.now) c.args.after in
+    let text : List ℕ = c.in_ok-next_of.field-0.now in
+    let same : option_map {T = Bor (List ℕ)} {U = List ℕ} (λ other. other.now) c.map-after.result ≡ option_map {T = Bor (List ℕ)} {U = List ℕ} (λ name. name.now) c.args.after = search rules in
+    let next : IsNextOf ids.least ids.most items after (Some text) = subst (λ (o : Option (List ℕ)). IsNextOf ids.least ids.most items o (Some text)) same c.in_ok-next_of.ensures in
+    ap (λ (t : List ℕ). Some t) c.in-Ok.ensures.reads.0
+    ∙ next-found n (g.met.N.Numbers.is_numbering area) items c.requires.clean g.N.Numbers.top ids (c.all_homes-ids.ensures.ids area) (c.all_homes-ids.ensures.homes area) after (Some text) next
+
+pub returns-in-Err : goal.returns-in-Err
+returns-in-Err g c =
+    let area : Area = g.S.ItemStore.mounted_on c.args.store.now in
+    let n : Numbering = g.N.Numbers.numbers area in
+    let items : Items = on g.S.ItemStore.contents (g.F.Flash.device c.args.flash.now) area in
+    let ids : Ids = c.all_homes-ids.result in
+    let after : Option (List ℕ) = option_map (λ name. name.now) c.args.after in
+    let text : List ℕ = c.in_ok-next_of.field-0.now in
+    let same : option_map {T = Bor (List ℕ)} {U = List ℕ} (λ other. other.now) c.map-after.result ≡ option_map {T = Bor (List ℕ)} {U = List ℕ} (λ name. name.now) c.args.after = search rules in
+    let next : IsNextOf ids.least ids.most items after (Some text) = subst (λ (o : Option (List ℕ)). IsNextOf ids.least ids.most items o (Some text)) same c.in_ok-next_of.ensures in
+    absurd (false≢true (c.in-Err.ensures.names.1 (next-lawful n (g.met.N.Numbers.is_numbering area) items c.requires.clean g.N.Numbers.top ids (c.all_homes-ids.ensures.ids area) (c.all_homes-ids.ensures.homes area) after text next)))

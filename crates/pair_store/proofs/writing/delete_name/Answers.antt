@@ -36,8 +36,8 @@ returns-in-Some-clause-clean g c = λ kept.
     let area : Area = g.S.ItemStore.mounted_on c.args.store.now in
     delete-clean (g.N.Numbers.numbers area) (g.met.N.Numbers.is_numbering area) (on g.S.ItemStore.contents d area) c.requires.clean c.args.name.now c.in-Some.place c.in-Some.ensures (on g.S.ItemStore.contents e area) c.delete_pair.result kept (subst (λ (k : ℕ). DeletesPair (on g.S.ItemStore.contents d area) (on g.S.ItemStore.contents e area) c.in-Some.place (c.in-Some.place + k) c.delete_pair.result) (sym (c.step.ensures area)) c.delete_pair.ensures.ends)
 
-pub returns-clause-ends : goal.returns-clause-ends
-returns-clause-ends g c =
+pub returns-in-None-clause-ends : goal.returns-in-None-clause-ends
+returns-in-None-clause-ends g c =
     let d : Device = g.F.Flash.device c.args.flash.now in
     let area : Area = g.S.ItemStore.mounted_on c.args.store.now in
     delete-absent d (g.N.Numbers.numbers area) (on g.S.ItemStore.contents d area) c.args.name.now c.in-None.ensures
@@ -54,5 +54,5 @@ returns-in-Some-clause-others g c = λ place at.
     subst (λ (k : ℕ). AltersTwo before after k (k + n.step)) same
     (subst (λ (k : ℕ). AltersTwo before after c.in-Some.place (c.in-Some.place + k)) (sym (c.step.ensures area)) (deletes-alters before after c.in-Some.place (c.in-Some.place + c.step.result) c.delete_pair.result c.delete_pair.ensures.ends))
 
-pub returns-clause-others : goal.returns-clause-others
-returns-clause-others g c = λ place at id one two. refl
+pub returns-in-None-clause-others : goal.returns-in-None-clause-others
+returns-in-None-clause-others g c = λ place at id one two. refl

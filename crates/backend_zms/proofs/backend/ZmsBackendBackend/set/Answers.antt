@@ -1,4 +1,3 @@
-use Rattle.std.proofs.Common.{refl}
 use Rattle.backend_zms.proofs.BackendSteps.{fits-area}
 use Rattle.backend_zms.proofs.backend.ZmsBackendBackend.set.Goals as goal
 

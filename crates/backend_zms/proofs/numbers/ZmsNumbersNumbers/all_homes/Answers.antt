@@ -1,0 +1,20 @@
+use Rattle.std.proofs.Common.{◌+◌, ◌<◌, ◌≤◌, arith}
+use Rattle.backend_zms.specs.Numbers.{places}
+use Rattle.backend_zms.proofs.GroupLemmas.{all-places}
+use Rattle.backend_zms.proofs.numbers.ZmsNumbersNumbers.all_homes.Goals as goal
+
+pub returns-clause-ids : goal.returns-clause-ids
+returns-clause-ids g area = record {
+  from = omega arith;
+  to = omega arith;
+  least = omega arith;
+  most = omega arith;
+  few = omega arith;
+}
+
+pub returns-clause-homes : goal.returns-clause-homes
+returns-clause-homes g area = λ items place inside.
+    let all = all-places in
+    let from : 0x80000000 ≤ place = inside.from in
+    let to : place < 0x80000000 + places = inside.to in
+    record { from = from; to = omega arith }

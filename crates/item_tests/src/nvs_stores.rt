@@ -7,6 +7,7 @@ use flash_map::{Area, Role, WriteFault, sector_view};
 use flash_sim::{Bank, Bench, FlatSim, Kind, PowerLost, Steps};
 use item_history::{Older, Space, nvs_older, nvs_space};
 use nvs_gc::*;
+use ring_store::LastSlots;
 use std::alloc::Global;
 use std::marker::Brand;
 use std::process::Abort;
@@ -163,14 +164,18 @@ fn one_item<B: Bench, L: Ledger, R: Abort>(
     assert_eq!(rt; nvs.live_cost(bench, steps), cost);
     let first = nvs.next_id(bench, None, steps);
     assert_eq!(rt; (first, nvs.next_id(bench, first, steps)), (Some(id), None));
-    let last = nvs.last_slots(bench, steps);
+    let mut last = LastSlots::new();
+    nvs.tell_last_slots(bench, &mut last, steps);
     assert_eq!(rt; nvs.next_by(bench, &last, None, steps), first);
 }
 
-// Behind a collection the item has one older version, and the area this room.
+// Behind a collection the item is found by its bytes and has one older version, and the area this room.
 fn told<B: Bench, L: Ledger, R: Abort>(rt: &R, bench: &B, nvs: &Nvs, steps: &mut Steps<L>)
     requires stands { StandsOn (B.device bench.now) nvs.now }
 {
+    assert_eq!(rt; nvs.id_of(bench, 0, 9, &[0x55; 100], steps), Some(1));
+    assert_eq!(rt; nvs.id_of(bench, 0, 9, &[0x44; 100], steps), None);
+    assert!(rt; matches!(nvs.next_of(bench, 0, 9, None, steps), Some([0x55, ..])));
     assert!(rt; matches!(nvs_older(nvs, bench, 1, 1, steps), Older::Value([0x44, ..])));
     assert!(rt; matches!(nvs_older(nvs, bench, 1, 2, steps), Older::Gone));
     let space = Space {

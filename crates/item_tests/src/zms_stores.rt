@@ -7,6 +7,7 @@ use arrayvec::ArrayString;
 use flash_map::{Area, Damaged, MountFault, Role, Why, WriteFault, sector_view};
 use flash_sim::{Bank, Bench, FlatSim, Kind, Steps};
 use item_history::{Older, Space, zms_older, zms_space};
+use ring_store::LastSlots;
 use std::alloc::Global;
 use std::marker::Brand;
 use std::process::Abort;
@@ -262,7 +263,8 @@ fn walks<B: Bench, L: Ledger, R: Abort>(rt: &R, bench: &B, zms: &Zms, steps: &mu
 fn ids<B: Bench, L: Ledger, R: Abort>(rt: &R, bench: &B, zms: &Zms, steps: &mut Steps<L>)
     requires stands { StandsOn (B.device bench.now) zms.now }
 {
-    let last = zms.last_slots(bench, steps);
+    let mut last = LastSlots::new();
+    zms.tell_last_slots(bench, &mut last, steps);
     let mut after = None;
     for id in [3, 7, 9] {
         assert_eq!(rt; zms.next_by(bench, &last, after, steps), Some(id));
@@ -271,6 +273,16 @@ fn ids<B: Bench, L: Ledger, R: Abort>(rt: &R, bench: &B, zms: &Zms, steps: &mut 
     }
     assert_eq!(rt; zms.next_id(bench, after, steps), None);
     assert_eq!(rt; zms.live_cost(bench, steps), 64);
+}
+
+// An item by its bytes, none by bytes that were overwritten; and the least bytes behind others, of ids up to 8.
+fn asks<B: Bench, L: Ledger, R: Abort>(rt: &R, bench: &B, zms: &Zms, steps: &mut Steps<L>)
+    requires stands { StandsOn (B.device bench.now) zms.now }
+{
+    assert_eq!(rt; zms.id_of(bench, 0, 9, &[65], steps), Some(3));
+    assert_eq!(rt; zms.id_of(bench, 0, 9, &[17, 18], steps), None);
+    assert!(rt; matches!(zms.next_of(bench, 0, 8, None, steps), Some([33])));
+    assert!(rt; matches!(zms.next_of(bench, 0, 8, Some(&[33]), steps), Some([65])));
 }
 
 // Mounting copies a value with its entry, marks the copy and empties two sectors.
@@ -287,6 +299,7 @@ fn reads<B: Bench, L: Ledger, R: Abort>(
     assert_eq!(rt; zms.area().sectors, 3);
     walks(rt, bench, &zms, steps);
     ids(rt, bench, &zms, steps);
+    asks(rt, bench, &zms, steps);
     Ok(())
 }
 

@@ -8,7 +8,7 @@ ghost use Rattle.ring_store.specs.Stands.{StandsOn};
 use crate::counted::Views;
 use flash_map::{Area, WriteFault};
 use flash_sim::{Bench, PowerLost, Steps};
-use ring_store::{Placed, SlotSectors, Store};
+use ring_store::{LastSlots, Placed, SlotSectors, Store};
 use std::alloc::Global;
 use std::process::Abort;
 use std::sync::ledger::Ledger;
@@ -125,7 +125,8 @@ pub fn shows<T: SlotSectors, B: Bench, L: Ledger, R: Abort>(
 )
     requires { StandsOn T.role T.kind T.kept (B.device bench.now) store.now }
 {
-    let last = store.last_slots(bench, steps);
+    let mut last = LastSlots::new();
+    store.tell_last_slots(bench, &mut last, steps);
     let mut after = None;
     for id in ids {
         assert_eq!(rt; store.next_by(bench, &last, after, steps), Some(*id));
@@ -134,6 +135,23 @@ pub fn shows<T: SlotSectors, B: Bench, L: Ledger, R: Abort>(
     }
     assert_eq!(rt; store.next_id(bench, after, steps), None);
     assert_eq!(rt; store.live_cost(bench, steps), cost);
+}
+
+/// The item of an id up to 9 has these bytes. No item has the other ones, which are less, and none is between the two.
+pub fn asks<T: SlotSectors, B: Bench, L: Ledger, R: Abort>(
+    rt: &R,
+    bench: &B,
+    store: &Store<T>,
+    id: u32,
+    bytes: &[u8],
+    gone: &[u8],
+    steps: &mut Steps<L>,
+)
+    requires { StandsOn T.role T.kind T.kept (B.device bench.now) store.now }
+{
+    assert_eq!(rt; store.id_of(bench, 0, 9, bytes, steps), Some(id));
+    assert_eq!(rt; store.id_of(bench, 0, 9, gone, steps), None);
+    assert!(rt; store.next_of(bench, 0, 9, Some(gone), steps).unwrap_or(b"") == bytes);
 }
 
 /// The entries from the newest to the oldest: the sector, the slot, the id, and the length of the value.

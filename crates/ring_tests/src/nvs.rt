@@ -4,7 +4,7 @@ ghost use Rattle.flash_map.specs.declared.area.Role.TheVariants.{Nvs as nvs_role
 ghost use Rattle.ring_store.specs.Standing.{IsStoreArea};
 
 use crate::calls::{
-    Call, close_is_cut, closes, looks_up, mounted, plays, shows, walks, write_is_cut,
+    Call, asks, close_is_cut, closes, looks_up, mounted, plays, shows, walks, write_is_cut,
 };
 use crate::counted::{CountedSim, Views};
 use crate::history::{Told, tells};
@@ -126,6 +126,7 @@ fn rounds<B: Bench, L: Ledger, R: Abort>(
     let area = both(bench);
     assert!(rt; sector_view(bench, &area, 1, steps).ends_with(&ENDS));
     shows(rt, bench, &store, &[1], 108, steps);
+    asks(rt, bench, &store, 1, &[0x55; 100], &[0x44; 100], steps);
     let rows = [(1, 3, 1, 100), (1, 1, 1, 100)];
     walks(rt, bench, &store, 2, &rows, steps);
     tells(rt, bench, &store, &COLLECTED, COLLECTED_SPACE, steps);

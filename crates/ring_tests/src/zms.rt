@@ -4,7 +4,7 @@ ghost use Rattle.std.specs.Prelude.{◌≡◌, ◌+◌, ◌<◌, ◌≤◌, ◌�
 ghost use Rattle.flash_map.specs.declared.area.Role.TheVariants.{Zms as zms_role};
 ghost use Rattle.ring_store.specs.Standing.{IsStoreArea};
 
-use crate::calls::{Call, close_is_cut, closes, mounted, plays, shows, walks, write_is_cut};
+use crate::calls::{Call, asks, close_is_cut, closes, mounted, plays, shows, walks, write_is_cut};
 use crate::history::{Told, tells};
 use arrayvec::ArrayString;
 use flash_map::{Area, Role, sector_view};
@@ -239,6 +239,7 @@ fn after_a_cut<B: Bench, L: Ledger, R: Abort>(
         let area = all(bench, kind);
         let store = mounted::<ZmsOpen, B, L, R>(rt, alloc, bench, area, units, steps)?;
         shows(rt, bench, &store, &[3, 7, 9], 64, steps);
+        asks(rt, bench, &store, 3, &[65], &[49], steps);
         let rows = [(2, 2, 9, 9), (1, 4, 8, 0), (1, 3, 3, 1), (1, 2, 7, 1)];
         walks(rt, bench, &store, 3, &rows, steps);
         tells(rt, bench, &store, &AFTER_CUT, AFTER_CUT_SPACE, steps);

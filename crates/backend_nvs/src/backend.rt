@@ -12,7 +12,7 @@ use flash_map::{Area, MountFault, area_format};
 use flash_sim::{Flash, Loss, PowerLost, Steps};
 use item_store::ItemStore;
 use nvs_gc::Nvs;
-use pair_store::{delete_name, mount_store, next_name, value_of};
+use pair_store::{delete_name, mount_store, next_name, standing_value};
 use setting_name::Name;
 use std::alloc::Global;
 use std::sync::ledger::Ledger;
@@ -72,7 +72,7 @@ impl Backend for NvsBackend {
         name: &Name,
         steps: &mut Steps<L>,
     ) -> Option<&'a [u8]> {
-        value_of::<NvsNumbers, Nvs, F, L>(&self.store, flash, name, steps)
+        standing_value::<NvsNumbers, Nvs, F, L>(&self.store, flash, name, steps)
     }
 
     fn set<F: Flash, L: Ledger>(

@@ -10,7 +10,7 @@ use backend_api::{Backend, SetFault};
 use flash_map::{Area, MountFault, area_format};
 use flash_sim::{Flash, Loss, PowerLost, Steps};
 use item_store::ItemStore;
-use pair_store::{delete_name, mount_store, next_name, value_of};
+use pair_store::{delete_name, mount_store, next_name, standing_value};
 use setting_name::Name;
 use std::alloc::Global;
 use std::sync::ledger::Ledger;
@@ -71,7 +71,7 @@ impl Backend for ZmsBackend {
         name: &Name,
         steps: &mut Steps<L>,
     ) -> Option<&'a [u8]> {
-        value_of::<ZmsNumbers, Zms, F, L>(&self.store, flash, name, steps)
+        standing_value::<ZmsNumbers, Zms, F, L>(&self.store, flash, name, steps)
     }
 
     fn set<F: Flash, L: Ledger>(

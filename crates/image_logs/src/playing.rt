@@ -103,6 +103,7 @@ fn play_lines<'a, B: Bench>(
 /// Refused where there is no image, then where it is not exactly one area, for FCB, then where there are no lines, then where
 /// the opening mount finds damage. The host failed: nothing was played. There was not enough memory: nothing was played, or the
 /// lines were played up to some one of them.
+#[inline(never)]
 pub fn play_log<'a, H: Host, B: Bench>(
     alloc: Global,
     image: &'a str,

@@ -106,6 +106,7 @@ fn play_lines<'a, B: Bench>(
 /// Refused where there is no image, then where it is not exactly two store areas, each for NVS or ZMS, and their selector, then where
 /// there are no lines, then where a mount finds damage, or settings that do not fit one of the two areas. The host failed: nothing
 /// was played. There was not enough memory: nothing was played, or the lines were played up to some one of them.
+#[inline(never)]
 pub fn play_mirror<'a, H: Host, B: Bench>(
     alloc: Global,
     image: &'a str,

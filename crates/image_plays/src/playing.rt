@@ -129,6 +129,7 @@ fn play_lines<'a, K: Backend, B: Bench>(
 /// # Errors
 /// Refused where there is no image, then where there are no lines, then where a mount finds damage. The host failed: nothing was
 /// played. There was not enough memory: nothing was played, or the lines were played up to some one of them.
+#[inline(never)]
 pub fn play<'a, K: Backend, H: Host, B: Bench>(
     alloc: Global,
     play: &Play<'a>,

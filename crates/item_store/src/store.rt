@@ -106,11 +106,10 @@ pub trait ItemStore: Drop {
         ensures { (d : Device) → IsLawful d.banks d.bytes → IsLawfulFor d.banks (mounted_on self.now) → StandsOn mounted_on stands d self.now
             → result ≡ false → finite.get (on contents d (mounted_on self.now)) id ≡ None };
 
-    /// An index that tells of nothing yet.
+    /// An index for `tell` to fill.
     fn new_index() -> Self::Index;
 
-    /// Makes an index of where the items stand, by one walk over the store's entries at most. It tells so as long as the area
-    /// stays as it is. What it told before is gone.
+    /// Makes an index of where the items stand. It tells so as long as the area stays as it is. What it told before is gone.
     fn tell<F: Flash, L: Ledger>(&self, flash: &F, index: &mut Self::Index, steps: &mut Steps<L>)
         requires lawful { IsLawfulFor (F.device flash.now).banks (mounted_on self.now) }
         requires stands { StandsOn mounted_on stands (F.device flash.now) self.now }

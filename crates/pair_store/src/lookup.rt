@@ -107,7 +107,7 @@ pub fn standing_place<N: Numbers, S: ItemStore, F: Flash, L: Ledger>(
 
 /// The value of a name; none where it has no value. No item may be a stray. Where the name can have no item by what the store
 /// keeps in memory, the entries are not gone over. No index is made.
-pub fn value_of<'a, N: Numbers, S: ItemStore, F: Flash, L: Ledger>(
+pub fn standing_value<'a, N: Numbers, S: ItemStore, F: Flash, L: Ledger>(
     store: &S,
     flash: &'a F,
     name: &Name,

@@ -159,7 +159,7 @@ pub still-full : (limit : ℕ) (old new : LastSlots) (before : List Placed) (p :
     → TellsBelow limit new (before ++ p ∷ []) → Tells limit new (before ++ p ∷ [])
 still-full limit old new before p tells same below = record {
   below = below;
-  full = λ bound is. had-push 961 bound before p (tells.full bound (sym same ∙ is));
+  full = λ bound is. had-push 801 bound before p (tells.full bound (sym same ∙ is));
 }
 
 -- ---- a table
@@ -195,7 +195,7 @@ tells-passed limit last before p small untold tells =
 
 -- an entry of which it tells, in place of those of its id
 pub tells-put : (limit : ℕ) (old new : LastSlots) (before : List Placed) (p : Placed) (xs mid ys : List Placed) → p.id < limit → IsTold old.bound p.id → TellsBelow limit old before
-    → old.entries.items ≡ xs ++ (mid ++ ys) → new.entries.items ≡ xs ++ (held p ++ ys) → new.bound ≡ old.bound → length new.entries.items ≤ 960
+    → old.entries.items ≡ xs ++ (mid ++ ys) → new.entries.items ≡ xs ++ (held p ++ ys) → new.bound ≡ old.bound → length new.entries.items ≤ 800
     → All (λ q. q.id < p.id) xs → All (λ q. q.id ≡ p.id) mid → All (λ q. p.id < q.id) ys → TellsBelow limit new (before ++ p ∷ [])
 tells-put limit old new before p xs mid ys small told tells was is same few less own greater =
     let rises : Rises (xs ++ (mid ++ ys)) = subst (λ (l : List Placed). Rises l) was tells.rises in

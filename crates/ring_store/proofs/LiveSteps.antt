@@ -1,5 +1,5 @@
 -- Which entries are live, by what was seen behind them.
-use Rattle.std.proofs.Common.{◌≡◌, ℕ, zero, suc, ◌+◌, ◌-◌, ◌^◌, ◌<◌, ◌≤◌, min, Bool, true, false, not, ◌&&◌, ◌||◌, cond, eqb, ltb, List, [], ◌∷◌, ◌++◌, length, map, Option, Some, None, refl, sym, ap, subst, ◌∙◌, inl, inr, append_assoc, arith}
+use Rattle.std.proofs.Common.{◌≡◌, ℕ, zero, suc, ◌+◌, ◌-◌, ◌*◌, ◌/◌, ◌%◌, ◌^◌, ◌<◌, ◌≤◌, min, Bool, true, false, not, ◌&&◌, ◌||◌, cond, eqb, ltb, List, [], ◌∷◌, ◌++◌, length, map, Option, Some, None, refl, sym, ap, subst, ◌∙◌, inl, inr, append_assoc, arith}
 use Rattle.std.specs.Prelude.{is_some, IfSome, fold}
 use Rattle.std.specs.List.{All, filter_map, flat_map, list_any, range_with_len}
 use Rattle.std.specs.Option.{option_and_then, option_map, option_or, option_to_list}
@@ -29,13 +29,22 @@ use Rattle.ring_store.proofs.CopyLoop.{are}
 
 -- ---- ids of a key
 
-pub key_below : (id : ℕ) → key_of id < 2 ^ 17
+long_below : (id : ℕ) → id / 0x4000_0000 % 2 * 0x8000 + id % 0x1_0000 / 0x10 * 8 + id % 8 < 2 ^ 16
+long_below id = omega arith
+
+by_length : (id : ℕ) (t : Bool) → cond t (id % 0x1_0000) (id / 0x4000_0000 % 2 * 0x8000 + id % 0x1_0000 / 0x10 * 8 + id % 8) < 2 ^ 16
+by_length id true = omega arith
+by_length id false = long_below id
+
+pub key_below : (id : ℕ) → key_of id < 2 ^ 16
 unfolding key_of
-key_below id = omega arith
+key_below id = by_length id (ltb id 0x8000_0000)
 
 pub key_short : (id : ℕ) → id < 2 ^ 16 → key_of id ≡ id
 unfolding key_of
-key_short id short = omega arith
+key_short id short =
+    let lower : id < 0x8000_0000 = omega arith in
+    ap (λ (t : Bool). cond t (id % 0x1_0000) (id / 0x4000_0000 % 2 * 0x8000 + id % 0x1_0000 / 0x10 * 8 + id % 8)) (lt-ltb id 0x8000_0000 lower) ∙ (let own : id % 0x1_0000 ≡ id = omega arith in own)
 
 or-left : (a b : Bool) → (a || b) ≡ false → a ≡ false
 or-left true b e = e

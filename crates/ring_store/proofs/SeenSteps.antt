@@ -72,11 +72,11 @@ set_others bytes n inside m other =
 
 -- ---- one entry more
 
-pub seen_none : (limit : ℕ) → HasSeen limit (replicate 0x4000 0) false []
-seen_none limit = record { bit = λ key below. no_bit 0x4000 key (omega arith); others = refl; known = All-nil (λ (p : Placed). p.id < limit) }
+pub seen_none : (limit : ℕ) → HasSeen limit (replicate 0x2000 0) false []
+seen_none limit = record { bit = λ key below. no_bit 0x2000 key (omega arith); others = refl; known = All-nil (λ (p : Placed). p.id < limit) }
 
 abbrev pub Noted : List ℕ → List ℕ → ℕ → Type 0
-Noted old new id = (key : ℕ) → key < 2 ^ 17 → has_bit new key ≡ (has_bit old key || eqb (key_of id) key)
+Noted old new id = (key : ℕ) → key < 2 ^ 16 → has_bit new key ≡ (has_bit old key || eqb (key_of id) key)
 
 pub seen_push : (limit : ℕ) (old new : List ℕ) (mixed more : Bool) (before : List Placed) (p : Placed) → p.id < limit → Noted old new p.id → more ≡ (mixed || is_other p) → HasSeen limit old mixed before → HasSeen limit new more (before ++ p ∷ [])
 seen_push limit old new mixed more before p small noted is seen = record {

@@ -40,7 +40,7 @@ pub record TellsBelow (limit : ℕ) (last : LastSlots) (placed : List Placed) : 
   pub told : (id : ℕ) → IsTold last.bound id → last_of_id id last.entries.items ≡ with_bytes (last_of_id id placed)
   pub within : All (λ p. IsTold last.bound p.id) last.entries.items
   pub rises : Rises last.entries.items
-  pub few : length last.entries.items ≤ 960
+  pub few : length last.entries.items ≤ 800
   pub known : All (λ p. p.id < limit) placed
 
 -- Among these entries are some with bytes, of so many different ids, none above the greatest.
@@ -52,11 +52,11 @@ pub record HadBytes (ids greatest : ℕ) (placed : List Placed) : Type 0 where
   pub bytes : All (λ p. ¬ (p.len ≡ 0)) entries
   pub among : All (Contains placed) entries
 
--- So does a table of 960 places. It has a bound only where more ids than it has places had bytes, none of them above that bound;
+-- So does a table of 800 places. It has a bound only where more ids than it has places had bytes, none of them above that bound;
 -- otherwise it tells of each id.
 pub record Tells (limit : ℕ) (last : LastSlots) (placed : List Placed) : Type 0 where
   pub below : TellsBelow limit last placed
-  pub full : (bound : ℕ) → last.bound ≡ Some bound → HadBytes 961 bound placed
+  pub full : (bound : ℕ) → last.bound ≡ Some bound → HadBytes 801 bound placed
 
 -- the table tells of the entries of an area
 abbrev pub TellsOn : (Geometry → Kind) → Device → Area → LastSlots → Type 0

@@ -1,5 +1,5 @@
 -- Which ids some entries have, as far as a set of bits tells: a bit for each key of ids.
-use Rattle.std.specs.Prelude.{◌≡◌, ℕ, ◌+◌, ◌*◌, ◌/◌, ◌%◌, ◌^◌, ◌<◌, Bool, not, List, length, slice_index, is_some, ◌==◌, ◌∷◌, ◌++◌}
+use Rattle.std.specs.Prelude.{◌≡◌, ℕ, ◌+◌, ◌*◌, ◌/◌, ◌%◌, ◌^◌, ◌<◌, if◌then◌else◌, nat_lt, Bool, not, List, length, slice_index, is_some, ◌==◌, ◌∷◌, ◌++◌}
 use Rattle.std.specs.Int.{bit_at}
 use Rattle.std.specs.List.{All, flat_map, list_any}
 use Rattle.ring_laws.specs.Live.{all_placed, counted_in, live_in}
@@ -7,13 +7,14 @@ use Rattle.ring_laws.specs.RoundParts.{places_after}
 use Rattle.ring_store.specs.declared.entry.Placed.{Placed}
 use Rattle.ring_store.specs.Kind.{Kind, slots}
 
--- The key of an id, a number of 17 bits. Ids that differ in bit 30 or in their low 16 bits have keys of their own.
+-- The key of an id, a number of 16 bits: of an id without bit 31 its low 16 bits, of one with it bit 30, bits 4 to 15 and bits 0
+-- to 2. So each id of 16 bits has a key of its own, and so have the first eight names and the first eight values of a hash group.
 unfoldable pub key_of : ℕ → ℕ
-key_of id = id / 0x4000_0000 % 2 * 0x1_0000 + id % 0x1_0000
+key_of id = if nat_lt id 0x8000_0000 then id % 0x1_0000 else id / 0x4000_0000 % 2 * 0x8000 + id % 0x1_0000 / 0x10 * 8 + id % 8
 
 -- The usual id of a key: it has bit 31 and the bits of the key, and no others. No id of 16 bits is one.
 unfoldable pub usual_id : ℕ → ℕ
-usual_id key = 0x8000_0000 + key / 0x1_0000 * 0x4000_0000 + key % 0x1_0000
+usual_id key = 0x8000_0000 + key / 0x8000 * 0x4000_0000 + key % 0x8000 / 8 * 0x10 + key % 8
 
 -- the entry has another id than the usual one of its key
 abbrev pub is_other : Placed → Bool
@@ -26,7 +27,7 @@ has_bit bytes n = bit_at (slice_index bytes (n / 8)) (n % 8) == 1
 -- The bits are those of the keys of these entries' ids, which are below a limit; `mixed` says whether one of them is
 -- another one than the usual one of its key.
 pub record HasSeen (limit : ℕ) (bits : List ℕ) (mixed : Bool) (placed : List Placed) : Type 0 where
-  pub bit : (key : ℕ) → key < 2 ^ 17 → has_bit bits key ≡ list_any (λ p. key_of p.id == key) placed
+  pub bit : (key : ℕ) → key < 2 ^ 16 → has_bit bits key ≡ list_any (λ p. key_of p.id == key) placed
   pub others : mixed ≡ list_any is_other placed
   pub known : All (λ p. p.id < limit) placed
 

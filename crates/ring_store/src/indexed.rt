@@ -13,8 +13,9 @@ use flash_sim::{Flash, Steps};
 use std::sync::ledger::Ledger;
 
 impl<T: SlotSectors> Store<T> {
-    /// Makes a table of the last entries of ids, by one walk over the list: of 960 ids at most, the least that have bytes. It
-    /// tells of each id where no more than 960 ids ever had bytes in the list. It does so as long as the area stays as it is.
+    /// Makes a table of the last entries of ids, by one walk over the list, and by a search for each id that shares its key: of 800
+    /// ids at most, the least that have bytes. It tells of each id where no more than 800 ids ever had bytes in the list. It does
+    /// so as long as the area stays as it is.
     pub fn tell_last_slots<F: Flash, L: Ledger>(
         &self,
         flash: &F,

@@ -1,4 +1,5 @@
-// The last entries of ids, by one walk over the list of an area, from its newest entry to its oldest.
+// The last entries of ids, by one walk over the list of an area, from its newest entry to its oldest. Where an id is not the usual
+// one of its key, the list is searched for it besides.
 ghost use Rattle.std.specs.Prelude.{◌≡◌, ◌+◌, ◌<◌, ◌≤◌, ◌++◌, ◌∷◌, ◌^◌, ◌&&◌, ◌==◌, ℕ, List, [], true, false, None, Some, is_some, length};
 ghost use Rattle.std.specs.Option.{option_map, option_to_list};
 ghost use Rattle.std.specs.List.Sorted.{IsSearchInRange};
@@ -25,7 +26,7 @@ use flash_sim::{Flash, Steps};
 use std::sync::ledger::Ledger;
 
 // A table has so many entries at most, of 16 bytes each.
-const ENTRIES: usize = 960;
+const ENTRIES: usize = 800;
 
 /// Of each id below a bound the last one of some entries, where that has bytes. There is a bound only where more ids than the
 /// table has places had bytes.

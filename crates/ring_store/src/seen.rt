@@ -14,24 +14,28 @@ use flash_sim::{Flash, Steps};
 use std::sync::ledger::Ledger;
 
 // A bit for each key of ids.
-const BYTES: usize = 0x4000;
+const BYTES: usize = 0x2000;
 
-// The key of an id, a number of 17 bits.
+// The key of an id, a number of 16 bits.
 #[tactic(auto, unfolding(crate::specs::Seen::key_of))]
 fn key_of(id: u32) -> u32
     ensures key { result ≡ key_of id }
-    ensures below { result < 2 ^ 17 }
+    ensures below { result < 2 ^ 16 }
 {
-    id / 0x4000_0000 % 2 * 0x1_0000 + id % 0x1_0000
+    if id < 0x8000_0000 {
+        id % 0x1_0000
+    } else {
+        id / 0x4000_0000 % 2 * 0x8000 + id % 0x1_0000 / 0x10 * 8 + id % 8
+    }
 }
 
 // The id of a key, where ids are long, that has bit 31 and the bits of the key, and no others.
 #[tactic(auto, unfolding(crate::specs::Seen::usual_id))]
 fn usual_id(key: u32) -> u32
-    requires { key < 2 ^ 17 }
+    requires { key < 2 ^ 16 }
     ensures { result ≡ usual_id key }
 {
-    0x8000_0000 + key / 0x1_0000 * 0x4000_0000 + key % 0x1_0000
+    0x8000_0000 + key / 0x8000 * 0x4000_0000 + key % 0x8000 / 8 * 0x10 + key % 8
 }
 
 /// Which keys the ids of some entries have.
@@ -71,7 +75,7 @@ impl Seen {
 
     /// Adds an id.
     pub fn add(&mut self, id: u32)
-        ensures bits { (key : ℕ) → key < 2 ^ 17 → has_bit self.new.bits key ≡ (has_bit self.old.bits key || (key_of id == key)) }
+        ensures bits { (key : ℕ) → key < 2 ^ 16 → has_bit self.new.bits key ≡ (has_bit self.old.bits key || (key_of id == key)) }
         ensures mixed { self.new.mixed ≡ (self.old.mixed || not (id == usual_id (key_of id))) }
     {
         let key = key_of(id);

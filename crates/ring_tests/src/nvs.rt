@@ -215,6 +215,21 @@ fn look_ups<B: Views, L: Ledger, R: Abort>(
     Ok(())
 }
 
+// The same behind a round: the cache has the place of the last value put.
+fn look_up_behind_a_round<B: Views, L: Ledger, R: Abort>(
+    rt: &R,
+    alloc: Global,
+    bench: &mut B,
+    steps: &mut Steps<L>,
+) -> Result<(), Fail> {
+    load_blank(alloc, bench, 1024)?;
+    let area = both(bench);
+    let mut store = mounted::<NvsOpen, B, L, R>(rt, alloc, bench, area, 0, steps)?;
+    plays(rt, alloc, bench, &mut store, &ROUNDS[..5], steps)?;
+    looks_up(rt, bench, &store, 1, &[0x55; 100], 2, steps);
+    Ok(())
+}
+
 // With a counter of steps.
 fn exercise<B: Bench, L: Ledger, R: Abort>(
     rt: &R,
@@ -252,7 +267,8 @@ fn count<B: Views, L: Ledger, R: Abort>(
     requires some { 0 < L.parts }
 {
     let mut steps = Steps::<L>::new(blank);
-    look_ups(rt, alloc, bench, &mut steps)
+    look_ups(rt, alloc, bench, &mut steps)?;
+    look_up_behind_a_round(rt, alloc, bench, &mut steps)
 }
 
 #[test]

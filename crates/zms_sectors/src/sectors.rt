@@ -18,7 +18,7 @@ use zms_cycle::{
 };
 use zms_kind::{find_in, is_clean, marks_at, scan};
 
-/// What is kept of an open sector, so that no step has to read its list for it.
+/// What is kept of an open sector: what is free in it is known with no look at its list.
 #[derive(Clone, Copy, Debug, PartialEq, Eq)]
 pub struct ZmsOpen {
     gc_done: bool,

@@ -5,7 +5,7 @@ use Rattle.flash_map.specs.On.{on}
 use Rattle.pair_laws.specs.Items.{Items}
 use Rattle.item_pairs.specs.Numbering.{Numbering}
 use Rattle.item_pairs.proofs.NameLemmas.{get-at, get-nowhere, at-value}
-use Rattle.pair_store.proofs.lookup.value_of.Goals as goal
+use Rattle.pair_store.proofs.lookup.standing_value.Goals as goal
 
 pub returns-then-not-may_have : goal.returns-then-not-may_have
 returns-then-not-may_have g c =

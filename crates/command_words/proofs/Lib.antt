@@ -1,4 +1,5 @@
 pub mod CommandLemmas
+pub mod FormTable
 pub mod FormWalk
 pub mod FoundLemmas
 pub mod OperandWalk

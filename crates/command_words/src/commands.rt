@@ -15,7 +15,7 @@ pub enum StoreKind {
 }
 
 /// A command of `image_tool`, with its operands as they were written. No word among them is empty or begins with `-`.
-#[derive(Clone, Copy, Debug, PartialEq, Eq)]
+#[derive(Clone, Copy)]
 pub enum Command<'a> {
     /// Writes the blank image of the specification `spec` into the file `out`.
     Build {

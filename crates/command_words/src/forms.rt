@@ -7,8 +7,25 @@ ghost use Rattle.command_words.specs.Forms.{form, image_tool};
 use clap::{Arg, Command};
 use std::alloc::{AllocError, Global};
 
+// Each form by its name, with the names of its operands in the order in which they are written.
+const FORMS: [(&str, &[&str]); 8] = [
+    ("build", &["OUT", "SPEC"]),
+    ("run", &["IMAGE", "SCRIPT", "OUT"]),
+    ("dump", &["IMAGE"]),
+    ("migrate", &["IMAGE", "OUT"]),
+    ("gen", &["OUT", "BACKEND", "N"]),
+    ("log", &["IMAGE", "SCRIPT", "OUT"]),
+    ("items", &["IMAGE", "SCRIPT", "OUT"]),
+    ("mirror", &["IMAGE", "SCRIPT", "OUT"]),
+];
+
 // The form of one command: its name, and the names of its operands.
-fn form<'a>(alloc: Global, name: &'a str, operands: &[&'a str]) -> Result<Command<'a>, AllocError>
+#[inline(never)]
+fn form<'a>(
+    alloc: Global,
+    name: &'static str,
+    operands: &'static [&'static str],
+) -> Result<Command<'a>, AllocError>
     ensures shape { IfOk result (λ command. shape_of command ≡ form name.entry.now (map (λ s. s.now) operands.now)) }
     ensures local { IfOk result (λ command. (fields_of command).has_globals ≡ false) }
 {
@@ -19,26 +36,15 @@ fn form<'a>(alloc: Global, name: &'a str, operands: &[&'a str]) -> Result<Comman
     Ok(command)
 }
 
-// The program with its forms. Its words are read without the program's own name.
+// The program with its forms. Its words are read without the program's own name. A command of `clap` takes up much of the stack,
+// so the calls that move one about end before its words are read.
+#[inline(never)]
 pub fn image_tool<'a>(alloc: Global) -> Result<Command<'a>, AllocError>
     ensures { IfOk result (λ command. app_of command ≡ image_tool) }
 {
-    let build = form(alloc, "build", &["OUT", "SPEC"])?;
-    let run = form(alloc, "run", &["IMAGE", "SCRIPT", "OUT"])?;
-    let dump = form(alloc, "dump", &["IMAGE"])?;
-    let migrate = form(alloc, "migrate", &["IMAGE", "OUT"])?;
-    let generate = form(alloc, "gen", &["OUT", "BACKEND", "N"])?;
-    let log = form(alloc, "log", &["IMAGE", "SCRIPT", "OUT"])?;
-    let items = form(alloc, "items", &["IMAGE", "SCRIPT", "OUT"])?;
-    let mirror = form(alloc, "mirror", &["IMAGE", "SCRIPT", "OUT"])?;
-    Command::new(alloc, "image_tool")
-        .no_binary_name(true)
-        .subcommand(build)?
-        .subcommand(run)?
-        .subcommand(dump)?
-        .subcommand(migrate)?
-        .subcommand(generate)?
-        .subcommand(log)?
-        .subcommand(items)?
-        .subcommand(mirror)
+    let mut tool = Command::new(alloc, "image_tool").no_binary_name(true);
+    for (name, operands) in &FORMS {
+        tool = tool.subcommand(form(alloc, name, operands)?)?;
+    }
+    Ok(tool)
 }

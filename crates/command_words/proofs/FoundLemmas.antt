@@ -18,7 +18,7 @@ use Rattle.clap.specs.declared.parser.matches.SubCommand.{SubCommand}
 use Rattle.clap.specs.declared.parser.matches.Found.{Found}
 use Rattle.clap.proofs.WalkLemmas.{first_value-rows}
 use Rattle.command_words.specs.Commands.{name_of, operands_of, store_word}
-use Rattle.command_words.specs.Forms.{IsFound, IsNoneFound, form, operand_names, operand_rule, values_at}
+use Rattle.command_words.specs.Forms.{AreNoWords, IsFound, IsNoneFound, form, operand_names, operand_rule, values_at}
 use Rattle.command_words.specs.Operands.{IsNoLineCount, IsNoStoreWord}
 use Rattle.command_words.specs.declared.commands.Command.{Command}
 use Rattle.command_words.specs.declared.commands.Command.TheVariants.{Build, Run, Dump, Migrate, Gen, Log, Items, Mirror}
@@ -42,7 +42,7 @@ pub apart : (a b : Text) → bytes_eq a b ≡ false → a ≢ b
 apart a b differ same = let equal : bytes_eq a b ≡ true = (bytes_eq-Decides a b).1 same in cc
 
 -- names of which one has no value are not the names of words
-lacks_one : (id : Text) (names : List Text) (rows : List Row) (words : List Text) → list_any (λ name. bytes_eq name id) names ≡ true → first_of id rows ≡ None
+pub lacks_one : (id : Text) (names : List Text) (rows : List Row) (words : List Text) → list_any (λ name. bytes_eq name id) names ≡ true → first_of id rows ≡ None
     → map (λ name. first_of name rows) names ≡ map (λ word. Some word) words → ⊥
 lacks_one id [] rows words among none values = cc
 lacks_one id (name ∷ names) rows [] among none values = cc
@@ -71,6 +71,10 @@ pub found_values : (name : Text) (rows : List Row) (c : Command) → IsFound (So
 found_values name rows c f =
     let same = same_found (Some (name, rows)) name (name_of c) rows f.rows refl f.at in
     (same.0, ap₂ (λ n rows. values_at (operand_names n) rows) same.0 same.1 ∙ f.values)
+
+-- a form without all of its operands is no command
+pub lacks_words : (name : Text) (rows : List Row) → AreNoWords (values_at (operand_names name) rows) → IsNoneFound (Some (name, rows))
+lacks_words name rows none c f = none (operands_of c) (found_values name rows c f).1
 
 -- a name that no form has is no command
 pub other_name : (name : Text) (rows : List Row) → name ≢ codes "build" → name ≢ codes "run" → name ≢ codes "dump" → name ≢ codes "migrate" → name ≢ codes "gen" → name ≢ codes "log" → name ≢ codes "items" → name ≢ codes "mirror"

@@ -46,6 +46,18 @@ operand_names name = option_map_or (λ f. f.1) (find (λ f. bytes_eq f.0 name) f
 abbrev pub values_at : List Text → List Row → List (Option Text)
 values_at names rows = map (λ name. first_of name rows) names
 
+-- the operands of a command that runs a script on an image
+abbrev pub script_names : List Text
+script_names = codes "IMAGE" ∷ codes "SCRIPT" ∷ codes "OUT" ∷ []
+
+-- the values are all there, and are these words
+abbrev pub AreWords : List (Option Text) → List Text → Type 0
+AreWords values words = values ≡ map (λ word. Some word) words
+
+-- one of the values is not there
+abbrev pub AreNoWords : List (Option Text) → Type 0
+AreNoWords values = (words : List Text) → ¬ AreWords values words
+
 -- what was found is the command: its name, and its operands under their names
 pub record IsFound (found : Option (Text × List Row)) (command : Command) : Type 0 where
   pub rows : List Row

@@ -20,7 +20,6 @@ const FORMS: [(&str, &[&str]); 8] = [
 ];
 
 // The form of one command: its name, and the names of its operands.
-#[inline(never)]
 fn form<'a>(
     alloc: Global,
     name: &'static str,

@@ -1,13 +1,25 @@
 // The command that a parse found.
-ghost use Rattle.std.specs.Prelude.{◌≡◌, Some, IfOk, codes};
+ghost use Rattle.std.specs.Prelude.{◌≡◌, [], ◌∷◌, Some, IfOk, MatchOption, codes};
 ghost use Rattle.clap.specs.Walk.{rows_of};
 ghost use Rattle.clap.specs.Words.{found_of, subcommand_rows_of};
-ghost use Rattle.command_words.specs.Forms.{FindsIn};
+ghost use Rattle.command_words.specs.Forms.{AreNoWords, AreWords, FindsIn, script_names, values_at};
 
 use crate::commands::Command;
 use crate::operands::{line_count, store_kind};
 use clap::ArgMatches;
 use std::alloc::{AllocError, Global};
+
+// The image, the script and the file to write, of a command that runs a script on an image.
+fn script_operands<'a>(operands: &ArgMatches<'a>) -> Option<(&'a str, &'a str, &'a str)>
+    ensures { let values = values_at script_names (rows_of (found_of operands.now)) in
+        MatchOption result (AreNoWords values) (λ o. AreWords values (o.0.now ∷ o.1.now ∷ o.2.now ∷ [])) }
+{
+    Some((
+        operands.get_str("IMAGE")?,
+        operands.get_str("SCRIPT")?,
+        operands.get_str("OUT")?,
+    ))
+}
 
 fn found_build<'a>(operands: &ArgMatches<'a>) -> Option<Command<'a>>
     ensures { FindsIn (Some (codes "build", rows_of (found_of operands.now))) result }
@@ -21,11 +33,8 @@ fn found_build<'a>(operands: &ArgMatches<'a>) -> Option<Command<'a>>
 fn found_run<'a>(operands: &ArgMatches<'a>) -> Option<Command<'a>>
     ensures { FindsIn (Some (codes "run", rows_of (found_of operands.now))) result }
 {
-    Some(Command::Run {
-        image: operands.get_str("IMAGE")?,
-        script: operands.get_str("SCRIPT")?,
-        out: operands.get_str("OUT")?,
-    })
+    let (image, script, out) = script_operands(operands)?;
+    Some(Command::Run { image, script, out })
 }
 
 fn found_dump<'a>(operands: &ArgMatches<'a>) -> Option<Command<'a>>
@@ -72,31 +81,22 @@ fn found_gen<'a>(
 fn found_log<'a>(operands: &ArgMatches<'a>) -> Option<Command<'a>>
     ensures { FindsIn (Some (codes "log", rows_of (found_of operands.now))) result }
 {
-    Some(Command::Log {
-        image: operands.get_str("IMAGE")?,
-        script: operands.get_str("SCRIPT")?,
-        out: operands.get_str("OUT")?,
-    })
+    let (image, script, out) = script_operands(operands)?;
+    Some(Command::Log { image, script, out })
 }
 
 fn found_items<'a>(operands: &ArgMatches<'a>) -> Option<Command<'a>>
     ensures { FindsIn (Some (codes "items", rows_of (found_of operands.now))) result }
 {
-    Some(Command::Items {
-        image: operands.get_str("IMAGE")?,
-        script: operands.get_str("SCRIPT")?,
-        out: operands.get_str("OUT")?,
-    })
+    let (image, script, out) = script_operands(operands)?;
+    Some(Command::Items { image, script, out })
 }
 
 fn found_mirror<'a>(operands: &ArgMatches<'a>) -> Option<Command<'a>>
     ensures { FindsIn (Some (codes "mirror", rows_of (found_of operands.now))) result }
 {
-    Some(Command::Mirror {
-        image: operands.get_str("IMAGE")?,
-        script: operands.get_str("SCRIPT")?,
-        out: operands.get_str("OUT")?,
-    })
+    let (image, script, out) = script_operands(operands)?;
+    Some(Command::Mirror { image, script, out })
 }
 
 /// The command that a parse found, if it found one.

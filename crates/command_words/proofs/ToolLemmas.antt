@@ -12,11 +12,11 @@ use Rattle.clap.specs.Simple.{App, HasMatchesOf, Shape, built, built_leaf, inher
 use Rattle.clap.specs.Faults.{fault_of, is_simple_and_free}
 use Rattle.clap.proofs.OnLiterals.{clap_on_literals}
 use Rattle.command_words.specs.Commands.{IsCommand, IsNoCommand, asks_for_help, is_operand, name_of, operands_of}
-use Rattle.command_words.specs.Forms.{FindsIn, IsFound, form, image_tool, operand_names, values_at}
+use Rattle.command_words.specs.Forms.{FindsIn, IsFound, form, image_tool, operand_names, script_names, values_at}
 use Rattle.command_words.specs.declared.commands.Command.{Command}
 use Rattle.command_words.specs.declared.commands.Command.TheVariants.{Build, Run, Dump, Migrate, Gen, Log, Items, Mirror}
 use Rattle.command_words.proofs.OperandWalk.{first_of_all, rest_of_all}
-use Rattle.command_words.proofs.FormWalk.{IsEntered, began_with, entered_form, fault_of_form, fault_of_operands, operand_rows, operands_fault, rows_of_operands, takes_one}
+use Rattle.command_words.proofs.FormWalk.{IsEntered, began_with, entered_form, fault_of_form, fault_of_operands, operand_rows, operands_fault, rows_of_operands, takes_one, top_fault}
 
 pub free_tool : is_simple_and_free image_tool ≡ true
 free_tool = refl
@@ -32,16 +32,20 @@ built_form s = built_leaf (inherited image_tool.top s)
 abbrev form_for : Command → Shape
 form_for c = built_form (form (name_of c) (operand_names (name_of c)))
 
+quiet_tool : top_fault (built image_tool).top ≡ []
+unfolding clap_on_literals
+quiet_tool = refl
+
 entered_for : (c : Command) → IsEntered (built image_tool) (form_for c)
 unfolding clap_on_literals
-entered_for (Build out spec) = record { met = refl; no_help = refl; form = refl; quiet = refl }
-entered_for (Run image script out) = record { met = refl; no_help = refl; form = refl; quiet = refl }
-entered_for (Dump image) = record { met = refl; no_help = refl; form = refl; quiet = refl }
-entered_for (Migrate image out) = record { met = refl; no_help = refl; form = refl; quiet = refl }
-entered_for (Gen out backend n) = record { met = refl; no_help = refl; form = refl; quiet = refl }
-entered_for (Log image script out) = record { met = refl; no_help = refl; form = refl; quiet = refl }
-entered_for (Items image script out) = record { met = refl; no_help = refl; form = refl; quiet = refl }
-entered_for (Mirror image script out) = record { met = refl; no_help = refl; form = refl; quiet = refl }
+entered_for (Build out spec) = record { met = refl; no_help = refl; form = refl; quiet = quiet_tool }
+entered_for (Run image script out) = record { met = refl; no_help = refl; form = refl; quiet = quiet_tool }
+entered_for (Dump image) = record { met = refl; no_help = refl; form = refl; quiet = quiet_tool }
+entered_for (Migrate image out) = record { met = refl; no_help = refl; form = refl; quiet = quiet_tool }
+entered_for (Gen out backend n) = record { met = refl; no_help = refl; form = refl; quiet = quiet_tool }
+entered_for (Log image script out) = record { met = refl; no_help = refl; form = refl; quiet = quiet_tool }
+entered_for (Items image script out) = record { met = refl; no_help = refl; form = refl; quiet = quiet_tool }
+entered_for (Mirror image script out) = record { met = refl; no_help = refl; form = refl; quiet = quiet_tool }
 
 named_for : (c : Command) → (form_for c).name ≡ name_of c
 named_for c = refl
@@ -56,17 +60,21 @@ ones_for (Log image script out) = refl
 ones_for (Items image script out) = refl
 ones_for (Mirror image script out) = refl
 
+script_taken : (name image script out : Text) → operands_fault (built_form (form name script_names)) (image ∷ script ∷ out ∷ []) ≡ []
+unfolding clap_on_literals
+script_taken name image script out = refl
+
 -- the form takes its operands
 taken_for : (c : Command) → operands_fault (form_for c) (operands_of c) ≡ []
 unfolding clap_on_literals
 taken_for (Build out spec) = refl
-taken_for (Run image script out) = refl
+taken_for (Run image script out) = script_taken (codes "run") image.now script.now out.now
 taken_for (Dump image) = refl
 taken_for (Migrate image out) = refl
 taken_for (Gen out backend n) = refl
-taken_for (Log image script out) = refl
-taken_for (Items image script out) = refl
-taken_for (Mirror image script out) = refl
+taken_for (Log image script out) = script_taken (codes "log") image.now script.now out.now
+taken_for (Items image script out) = script_taken (codes "items") image.now script.now out.now
+taken_for (Mirror image script out) = script_taken (codes "mirror") image.now script.now out.now
 
 -- words that a form takes are the values of its operands, in their order
 abbrev ReadsAll : Text → List Text → Type 0
@@ -80,13 +88,13 @@ build_read (a ∷ []) none = cc
 build_read (a ∷ b ∷ []) none = refl
 build_read (a ∷ b ∷ c ∷ more) none = cc
 
-run_read : ReadsAll (codes "run") (codes "IMAGE" ∷ codes "SCRIPT" ∷ codes "OUT" ∷ [])
+script_read : (name : Text) → ReadsAll name script_names
 unfolding clap_on_literals
-run_read [] none = cc
-run_read (a ∷ []) none = cc
-run_read (a ∷ b ∷ []) none = cc
-run_read (a ∷ b ∷ c ∷ []) none = refl
-run_read (a ∷ b ∷ c ∷ d ∷ more) none = cc
+script_read name [] none = cc
+script_read name (a ∷ []) none = cc
+script_read name (a ∷ b ∷ []) none = cc
+script_read name (a ∷ b ∷ c ∷ []) none = refl
+script_read name (a ∷ b ∷ c ∷ d ∷ more) none = cc
 
 dump_read : ReadsAll (codes "dump") (codes "IMAGE" ∷ [])
 unfolding clap_on_literals
@@ -109,40 +117,16 @@ gen_read (a ∷ b ∷ []) none = cc
 gen_read (a ∷ b ∷ c ∷ []) none = refl
 gen_read (a ∷ b ∷ c ∷ d ∷ more) none = cc
 
-log_read : ReadsAll (codes "log") (codes "IMAGE" ∷ codes "SCRIPT" ∷ codes "OUT" ∷ [])
-unfolding clap_on_literals
-log_read [] none = cc
-log_read (a ∷ []) none = cc
-log_read (a ∷ b ∷ []) none = cc
-log_read (a ∷ b ∷ c ∷ []) none = refl
-log_read (a ∷ b ∷ c ∷ d ∷ more) none = cc
-
-items_read : ReadsAll (codes "items") (codes "IMAGE" ∷ codes "SCRIPT" ∷ codes "OUT" ∷ [])
-unfolding clap_on_literals
-items_read [] none = cc
-items_read (a ∷ []) none = cc
-items_read (a ∷ b ∷ []) none = cc
-items_read (a ∷ b ∷ c ∷ []) none = refl
-items_read (a ∷ b ∷ c ∷ d ∷ more) none = cc
-
-mirror_read : ReadsAll (codes "mirror") (codes "IMAGE" ∷ codes "SCRIPT" ∷ codes "OUT" ∷ [])
-unfolding clap_on_literals
-mirror_read [] none = cc
-mirror_read (a ∷ []) none = cc
-mirror_read (a ∷ b ∷ []) none = cc
-mirror_read (a ∷ b ∷ c ∷ []) none = refl
-mirror_read (a ∷ b ∷ c ∷ d ∷ more) none = cc
-
 read_for : (c : Command) (words : List Text) → operands_fault (form_for c) words ≡ []
     → values_at (operand_names (name_of c)) (operand_rows (form_for c) words) ≡ map (λ word. Some word) words
 read_for (Build out spec) words none = build_read words none
-read_for (Run image script out) words none = run_read words none
+read_for (Run image script out) words none = script_read (codes "run") words none
 read_for (Dump image) words none = dump_read words none
 read_for (Migrate image out) words none = migrate_read words none
 read_for (Gen out backend n) words none = gen_read words none
-read_for (Log image script out) words none = log_read words none
-read_for (Items image script out) words none = items_read words none
-read_for (Mirror image script out) words none = mirror_read words none
+read_for (Log image script out) words none = script_read (codes "log") words none
+read_for (Items image script out) words none = script_read (codes "items") words none
+read_for (Mirror image script out) words none = script_read (codes "mirror") words none
 
 -- ---- both ways
 

@@ -4,7 +4,8 @@ use Rattle.std.specs.Prelude.{slice_range}
 use Rattle.std.proofs.Math.Nat.{mul-le-mul_right, le_of_mul-le-mul_right}
 use Rattle.std.proofs.lemmas.Bool.{cases_eq, cases_lt}
 use Rattle.std.proofs.lemmas.Nat.{div_below, div-add-mod'}
-use Rattle.std.proofs.lemmas.List.{places, same_lists, length-replicate, get_or_append_left, get_or_push}
+use Rattle.std.proofs.lemmas.List.{places, same_lists, length-replicate, length-set, length-take-le, take-append-le, take-take, get_or_append_left, get_or_push, get_or-set_other}
+use Rattle.std.proofs.lemmas.Grind.{get_or-set_at}
 use Rattle.flash_sim.specs.Device.{overwritten}
 use Rattle.flash_sim.specs.Sparse.{shown, IsShaped}
 use Rattle.flash_sim.proofs.Shown.{Fit, IsApart, length-shown, part_shown, shown_apart, shown_write, shown_set, shown_push, unchanged}
@@ -66,6 +67,35 @@ module _ (size : ℕ) (buffer starts : List ℕ) (shape : IsShaped size buffer s
               | inr above ↦ let more : s + 1 ≤ t = omega arith in inr (omega (arith, own, mul-le-mul_right size more))
             ]
       ]
+
+  -- bytes behind the shared sector
+  pub written-shaped : (at : ℕ) (new : List ℕ) → size ≤ at → at + length new ≤ length buffer → IsShaped size (overwritten buffer at new) starts
+  written-shaped at new behind fits =
+      let front : length (take at buffer) ≡ at = length-take-le at buffer (omega arith) in
+      record {
+        some = shape.some;
+        long = length-put buffer at new fits ∙ shape.long;
+        blank = take-append-le size (take at buffer) (new ++ drop (at + length new) buffer) (omega arith) ∙ take-take size at buffer behind ∙ shape.blank;
+        own = shape.own;
+      }
+
+  -- a sector whose place is filled with FF
+  pub taken-shaped : (s place : ℕ) → s < length starts → place ≡ (s + 1) * size → IsShaped size (overwritten buffer place (replicate size 255)) (set starts s place)
+  taken-shaped s place lt is =
+      let ff : List ℕ = replicate size 255 in
+      let long : length ff ≡ size = length-replicate size 255 in
+      let fits = place-fits s lt in
+      let base = written-shaped place ff (omega arith) (omega arith) in
+      let many = length-set starts s place in
+      record {
+        some = shape.some;
+        long = base.long ∙ ap (λ (n : ℕ). (n + 1) * size) (sym many);
+        blank = base.blank;
+        own = λ t below other. elim (cases_eq t s) [
+          | inl here ↦ get_or-set_at starts s t place 0 here lt ∙ is ∙ ap (λ (k : ℕ). (k + 1) * size) (sym here)
+          | inr apart ↦ let same = get_or-set_other starts s t place 0 apart in same ∙ shape.own t (omega arith) (λ e. other (same ∙ e))
+        ];
+      }
 
   pub write-is : (offset place : ℕ) (new : List ℕ) → offset / size < length starts → place ≡ (offset / size + 1) * size → get_or starts (offset / size) 0 ≡ place → offset % size + length new ≤ size
       → shown size (overwritten buffer (place + offset % size) new) starts ≡ overwritten (shown size buffer starts) offset new
@@ -150,3 +180,28 @@ module _ (size i : ℕ) (bytes starts : List ℕ) (start : ℕ) (some : 0 < size
             let same : get_or (starts ++ start ∷ []) s 0 ≡ start = ap (λ (k : ℕ). get_or (starts ++ start ∷ []) k 0) at ∙ get_or_push starts start 0 i count in
             same ∙ own (λ e. other (same ∙ e)) ∙ ap (λ (k : ℕ). (k + 1) * size) (sym at)
       ]
+
+-- the buffer and starts of as many sectors as these bytes are
+pub made-shaped : (size count : ℕ) (bytes buffer starts : List ℕ) → 0 < size → length bytes ≡ count * size → length starts ≡ count → buffer ≡ replicate size 255 ++ bytes
+    → ((s : ℕ) → s < length starts → (get_or starts s 0 ≡ 0 → ⊥) → get_or starts s 0 ≡ (s + 1) * size) → IsShaped size buffer starts
+made-shaped size count bytes buffer starts some whole many is own =
+    let ff : List ℕ = replicate size 255 in
+    let front : length ff ≡ size = length-replicate size 255 in
+    let both : length buffer ≡ length ff + length bytes = ap (λ (l : List ℕ). length l) is ∙ length-append ff bytes in
+    let long : length buffer ≡ (count + 1) * size = omega arith in
+    record {
+      some = some;
+      long = long ∙ ap (λ (n : ℕ). (n + 1) * size) (sym many);
+      blank = ap (λ (l : List ℕ). take size l) is ∙ front_of (replicate size 255) bytes size (sym front);
+      own = own;
+    }
+
+-- the next place in that buffer
+pub next-place : (size count i : ℕ) (bytes buffer : List ℕ) → length bytes ≡ count * size → buffer ≡ replicate size 255 ++ bytes → i < count → (i + 1) * size + size ≤ length buffer
+next-place size count i bytes buffer whole is lt =
+    let ff : List ℕ = replicate size 255 in
+    let front : length ff ≡ size = length-replicate size 255 in
+    let long : length buffer ≡ length ff + length bytes = ap (λ (l : List ℕ). length l) is ∙ length-append ff bytes in
+    let more : i + 1 ≤ count = omega arith in
+    let up = mul-le-mul_right size more in
+    omega arith

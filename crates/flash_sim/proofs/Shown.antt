@@ -7,7 +7,7 @@ use Rattle.flash_sim.specs.Sparse.{shown}
 
 -- Lists after a write.
 
-length-overwritten : (old : List ℕ) (at : ℕ) (new : List ℕ) → at + length new ≤ length old → length (overwritten old at new) ≡ length old
+pub length-overwritten : (old : List ℕ) (at : ℕ) (new : List ℕ) → at + length new ≤ length old → length (overwritten old at new) ≡ length old
 length-overwritten old at new fits = omega (arith, length-append {A = ℕ}, length-take {A = ℕ}, length-drop {A = ℕ})
 
 in_front : (piece rest : List ℕ) (at : ℕ) (new : List ℕ) → at + length new ≤ length piece → overwritten (piece ++ rest) at new ≡ overwritten piece at new ++ rest

@@ -1,9 +1,10 @@
 -- One row of a registry.
-use Rattle.std.proofs.Common.{◌≡◌, ℕ, zero, suc, ◌+◌, ◌<◌, List, [], ◌∷◌, ◌++◌, Bool, true, false, ◌||◌, length, length-append, refl, sym, ap, subst, ◌∙◌, arith, map, get_or, set, below_more}
+use Rattle.std.proofs.Common.{◌≡◌, ℕ, zero, suc, ◌+◌, ◌<◌, ◌≤◌, Some, None, List, [], ◌∷◌, ◌++◌, Bool, true, false, ◌||◌, length, length-append, refl, sym, ap, subst, ◌∙◌, arith, map, get_or, set, below_more}
 use Rattle.std.proofs.lemmas.List.{get_or-map, map-set, length-map, map-append, get_or_append_left, get_or_push}
 use Rattle.std.proofs.lemmas.Slice.Eq.{bytes_eq-Decides}
 use Rattle.std.proofs.Math.Seq.{map-set_same}
-use Rattle.std.specs.Prelude.{Result, Ok, Err}
+use Rattle.std.proofs.lemmas.Option.{slice_get-map, slice_get_read, slice_get_past}
+use Rattle.std.specs.Prelude.{Result, option_map, slice_get}
 use Rattle.std.specs.Str.{bytes_eq}
 use Rattle.handlers.specs.declared.handler.SetRefusal.{SetRefusal}
 use Rattle.handlers.specs.declared.registry.Row.{Row}
@@ -17,6 +18,15 @@ module _ {B : Type 0} (state : B → HandlerState) where
 
   pub row_there : (rows : List (Row B)) (i : ℕ) (old : Row B) → i < length rows → old ≡ get_or rows i old → get_or (map (row_of state) rows) i nobody ≡ row_of state old
   row_there rows i old lt is = get_or-map (row_of state) rows i old nobody lt ∙ ap (row_of state) (sym is)
+
+  -- the row at a place, and a place behind the last one
+  pub row_found : (rows read : List (Row B)) (i : ℕ) (row : Row B) → read ≡ rows → i < length read → row ≡ get_or read i row → Some (row_of state row) ≡ slice_get (map (row_of state) rows) i
+  row_found rows read i row same lt is =
+      sym (ap (λ (l : List (Row B)). slice_get (map (row_of state) l) i) (sym same) ∙ slice_get-map (row_of state) read i ∙ ap (option_map (row_of state)) (slice_get_read read (length read) i row refl lt is))
+
+  pub row_missing : (rows read : List (Row B)) (i : ℕ) → read ≡ rows → length read ≤ i → None ≡ slice_get (map (row_of state) rows) i
+  row_missing rows read i same le =
+      sym (ap (λ (l : List (Row B)). slice_get (map (row_of state) l) i) (sym same) ∙ slice_get-map (row_of state) read i ∙ ap (option_map (row_of state)) (slice_get_past read i le))
 
   pub state_there : (rows : List (Row B)) (i : ℕ) (old : Row B) → i < length rows → old ≡ get_or rows i old → state_at (map (row_of state) rows) i ≡ state old.handler
   state_there rows i old lt is = ap (λ r. r.state) (row_there rows i old lt is)

@@ -1,6 +1,7 @@
 pub mod Appending
 pub mod Appends
 pub mod Blank
+pub mod CallFacts
 pub mod Cuts
 pub mod EntryBytes
 mod Examples

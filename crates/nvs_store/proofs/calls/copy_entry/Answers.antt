@@ -1,18 +1,20 @@
-use Rattle.std.proofs.Common.{◌≡◌, ℕ, ◌-◌, ◌/◌, ◌<◌, List, [], ◌∷◌, length, sym, ap, subst, ◌∙◌, arith}
+use Rattle.std.proofs.Common.{◌≡◌, ℕ, ◌+◌, ◌-◌, ◌/◌, ◌<◌, ◌≤◌, Bool, List, [], ◌∷◌, length, sym, ap, subst, ◌∙◌, arith}
 use Rattle.flash_sim.specs.Bank.{bank_at}
 use Rattle.flash_sim.specs.Device.{Device}
 use Rattle.flash_sim.specs.declared.flash.Bank.{Bank}
 use Rattle.flash_map.specs.declared.area.Area.{Area}
 use Rattle.flash_map.specs.declared.area.Geometry.{Geometry}
-use Rattle.flash_map.specs.Area.{unit_of, sector_size, sectors_of, sector_bytes, Writes, WritesPart}
+use Rattle.flash_map.specs.Area.{IsLawfulArea, unit_of, sector_size, sectors_of, sector_bytes, Writes, WritesPart}
 use Rattle.flash_map.specs.Pieces.{CanProgramAll}
 use Rattle.flash_map.specs.Spending.{Spends, SpendsAtMost}
+use Rattle.flash_map.specs.Touches.{Touches}
 use Rattle.flash_map.specs.Units.{IsUnit, padded, padded_bytes}
 use Rattle.flash_map.proofs.CopyLemmas.{length-source}
 use Rattle.flash_map.proofs.PieceLemmas.{on_err, within_then, within_most}
 use Rattle.flash_map.specs.declared.copies.TheConstants.{COPY_PIECE}
 use Rattle.flash_map.specs.declared.pieces.TheConstants.{PIECE}
 use Rattle.flash_map.proofs.Places.{length-sector}
+use Rattle.flash_map.proofs.Touches.{then}
 use Rattle.ring_laws.specs.Area.{open_sector}
 use Rattle.flash_map.specs.Area.{sector_at}
 use Rattle.ring_laws.proofs.Stays.{open_within}
@@ -25,6 +27,7 @@ use Rattle.nvs_store.specs.Scans.{reading, found_bytes, scan_at, scan_of, AddsPa
 use Rattle.nvs_store.proofs.Appending.{open_is, scan_there, pair_used, scan_added}
 use Rattle.ring_laws.proofs.AreaReads.{length-sectors}
 use Rattle.nvs_store.proofs.Putting.{can_data, data_cut, data_most, can_entry_after, pair_image, pair_put, entry_cut, pair_spent, pair_most}
+use Rattle.nvs_store.proofs.CallFacts.{data-under, not_ok, short-in, slot-under}
 use Rattle.nvs_store.proofs.SlotReads.{slot_widths}
 use Rattle.nvs_store.proofs.Views.{unit_is}
 use Rattle.nvs_store.proofs.Room.{HasRoom, IsNext}
@@ -433,3 +436,72 @@ returns-clause-image g c =
     let written : Writes m last area place (low unit b - slot_size unit) (padded_bytes (unit_of m area) (encoded e)) =
     subst (λ (offset : ℕ). Writes m last area place offset (padded_bytes (unit_of m area) (encoded e))) at (subst (λ (xs : List ℕ). Writes m last area place (c.args.scan.now.low - c.slot_size.result) (padded_bytes (unit_of m area) xs)) c.encode_entry-bytes.ensures c.in_ok-program_padded.ensures.ok) in
     pair_image a area lawful is_area place has_sector m bytes room one.touches.banks first_part last c.args.from.now.entry.id c.args.scan.now.data_end c.args.from.now.entry.len end (sym len) written
+
+pub overflow_sub-slot : goal.overflow_sub-slot
+overflow_sub-slot g c =
+    let unit : ℕ = unit_of (g.F.Flash.device c.args.flash.now) c.args.area.now in
+    slot-under (slot_size unit) (padded unit c.args.from.now.entry.len) c.args.scan.now.low c.args.scan.now.data_end c.slot_size.result c.slot_size.ensures.at_least
+    (c.slot_size.ensures.size ∙ ap (λ (x : Geometry). slot_size x.unit) c.geometry-unit.ensures) c.requires.free
+
+pub copy_padded-requires-clause-short : goal.copy_padded-requires-clause-short
+copy_padded-requires-clause-short g c =
+    (short-in c.args.from.now.entry.offset c.args.from.now.entry.len (sector_size (g.F.Flash.device c.args.flash.now) c.args.area.now) c.requires.inside c.requires.lawful.at_most).0
+
+pub returns-in_err-copy_padded-clause-touches : goal.returns-in_err-copy_padded-clause-touches
+returns-in_err-copy_padded-clause-touches g c =
+    subst (λ (lost : Bool). Touches (c.args.area.now ∷ []) (g.F.Flash.device c.args.flash.now) (g.F.Flash.device c.copy_padded.new.flash) lost) (sym c.from_residual.ensures.0)
+    c.in_err-copy_padded.ensures.touches
+
+pub returns-in_err-copy_padded-clause-ok : goal.returns-in_err-copy_padded-clause-ok
+returns-in_err-copy_padded-clause-ok g c = not_ok _ c.from_residual.result c.from_residual.ensures.0
+
+pub returns-in_err-copy_padded-clause-image : goal.returns-in_err-copy_padded-clause-image
+returns-in_err-copy_padded-clause-image g c = not_ok _ c.from_residual.result c.from_residual.ensures.0
+
+pub returns-in_err-copy_padded-clause-scan : goal.returns-in_err-copy_padded-clause-scan
+returns-in_err-copy_padded-clause-scan g c = not_ok _ c.from_residual.result c.from_residual.ensures.0
+
+pub returns-in_err-copy_padded-clause-spent : goal.returns-in_err-copy_padded-clause-spent
+returns-in_err-copy_padded-clause-spent g c = not_ok _ c.from_residual.result c.from_residual.ensures.0
+
+pub returns-in_err-program_padded-clause-touches : goal.returns-in_err-program_padded-clause-touches
+returns-in_err-program_padded-clause-touches g c =
+    subst (λ (lost : Bool). Touches (c.args.area.now ∷ []) (g.F.Flash.device c.args.flash.now) (g.F.Flash.device c.program_padded.new.flash) lost) (sym c.from_residual-in_err-program_padded.ensures.0)
+    (then c.in_ok-copy_padded.ensures.touches c.in_err-program_padded.ensures.touches)
+
+pub returns-in_err-program_padded-clause-ok : goal.returns-in_err-program_padded-clause-ok
+returns-in_err-program_padded-clause-ok g c = not_ok _ c.from_residual-in_err-program_padded.result c.from_residual-in_err-program_padded.ensures.0
+
+pub returns-in_err-program_padded-clause-image : goal.returns-in_err-program_padded-clause-image
+returns-in_err-program_padded-clause-image g c = not_ok _ c.from_residual-in_err-program_padded.result c.from_residual-in_err-program_padded.ensures.0
+
+pub returns-in_err-program_padded-clause-scan : goal.returns-in_err-program_padded-clause-scan
+returns-in_err-program_padded-clause-scan g c = not_ok _ c.from_residual-in_err-program_padded.result c.from_residual-in_err-program_padded.ensures.0
+
+pub returns-in_err-program_padded-clause-spent : goal.returns-in_err-program_padded-clause-spent
+returns-in_err-program_padded-clause-spent g c = not_ok _ c.from_residual-in_err-program_padded.result c.from_residual-in_err-program_padded.ensures.0
+
+pub program_padded-requires-clause-lawful : goal.program_padded-requires-clause-lawful
+program_padded-requires-clause-lawful g c =
+    subst (λ (banks : List Bank). IsLawfulArea banks c.args.area.now) (sym c.in_ok-copy_padded.ensures.touches.banks) c.requires.lawful.in_bank
+
+pub padded-requires-clause-unit : goal.padded-requires-clause-unit
+padded-requires-clause-unit g c =
+    subst (λ (x : Geometry). IsUnit x.unit) (sym c.geometry-unit.ensures)
+    (unit_is (g.F.Flash.device c.args.flash.now) c.args.area.now (g.met.F.Flash.is_lawful c.args.flash.now) c.requires.lawful.in_bank)
+
+pub padded-requires-clause-len : goal.padded-requires-clause-len
+padded-requires-clause-len g c =
+    (short-in c.args.from.now.entry.offset c.args.from.now.entry.len (sector_size (g.F.Flash.device c.args.flash.now) c.args.area.now) c.requires.inside c.requires.lawful.at_most).1
+
+pub overflow_add-scan : goal.overflow_add-scan
+overflow_add-scan g c =
+    let unit : ℕ = unit_of (g.F.Flash.device c.args.flash.now) c.args.area.now in
+    let below : c.args.scan.now.data_end + c.padded.result ≤ c.args.scan.now.low =
+    data-under (slot_size unit) (padded unit c.args.from.now.entry.len) c.args.scan.now.low c.args.scan.now.data_end c.slot_size.result c.padded.result c.slot_size.ensures.at_least
+    (c.slot_size.ensures.size ∙ ap (λ (x : Geometry). slot_size x.unit) c.geometry-unit.ensures)
+    (c.padded.ensures.value ∙ ap (λ (x : Geometry). padded x.unit c.args.from.now.entry.len) c.geometry-unit.ensures) c.requires.free in
+    omega arith
+
+pub returns-clause-touches : goal.returns-clause-touches
+returns-clause-touches g c = then c.in_ok-copy_padded.ensures.touches c.in_ok-program_padded.ensures.touches

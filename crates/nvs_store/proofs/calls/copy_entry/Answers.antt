@@ -27,8 +27,7 @@ use Rattle.nvs_store.specs.Scans.{reading, found_bytes, scan_at, scan_of, AddsPa
 use Rattle.nvs_store.proofs.Appending.{open_is, scan_there, pair_used, scan_added}
 use Rattle.ring_laws.proofs.AreaReads.{length-sectors}
 use Rattle.nvs_store.proofs.Putting.{can_data, data_cut, data_most, can_entry_after, pair_image, pair_put, entry_cut, pair_spent, pair_most}
-use Rattle.nvs_store.proofs.CallFacts.{data-under, not_ok, short-in, slot-under}
-use Rattle.nvs_store.proofs.SlotReads.{slot_widths}
+use Rattle.nvs_store.proofs.CallFacts.{data-under, not_ok, room-in, short-in, slot-under}
 use Rattle.nvs_store.proofs.Views.{unit_is}
 use Rattle.nvs_store.proofs.Room.{HasRoom, IsNext}
 use Rattle.nvs_store.proofs.calls.copy_entry.Goals as goal
@@ -55,10 +54,9 @@ overflow_cast-entry g c =
     let is-unit : IsUnit unit = unit_is a area lawful is_area in
     let long : length b ≡ sector_size a area = length-sector a area lawful is_area place has_sector in
     let source_long : length (sector_bytes a area c.args.from.now.sector) ≡ sector_size a area = length-sector a area lawful is_area c.args.from.now.sector c.requires.has_source in
-    let len : length bytes ≡ c.args.from.now.entry.len = length-source a area (record { sector = c.args.from.now.sector; offset = c.args.from.now.entry.offset; len = c.args.from.now.entry.len }) (omega (arith, c.requires.inside, source_long)) in
+    let len : length bytes ≡ c.args.from.now.entry.len = length-source a area (record { sector = c.args.from.now.sector; offset = c.args.from.now.entry.offset; len = c.args.from.now.entry.len }) (subst (λ (n : ℕ). c.args.from.now.entry.offset + c.args.from.now.entry.len ≤ n) (sym source_long) c.requires.inside) in
     let rounded : padded unit (length bytes) ≡ padded unit c.args.from.now.entry.len = ap (padded unit) len in
-    let widths = slot_widths unit is-unit in
-    let room : HasRoom unit b (length bytes) = record { is_unit = is-unit; short = omega (arith, long, c.requires.lawful.at_most); room = omega (arith, c.requires.free) } in
+    let room : HasRoom unit b (length bytes) = room-in unit b (length bytes) c.args.from.now.entry.len (sector_size a area) c.args.scan.now.low c.args.scan.now.data_end is-unit long c.requires.lawful.at_most lowest end len c.requires.free in
     let fits_in = room.room in
     omega arith
 
@@ -84,10 +82,9 @@ copy_padded-requires-clause-can g c =
     let is-unit : IsUnit unit = unit_is a area lawful is_area in
     let long : length b ≡ sector_size a area = length-sector a area lawful is_area place has_sector in
     let source_long : length (sector_bytes a area c.args.from.now.sector) ≡ sector_size a area = length-sector a area lawful is_area c.args.from.now.sector c.requires.has_source in
-    let len : length bytes ≡ c.args.from.now.entry.len = length-source a area (record { sector = c.args.from.now.sector; offset = c.args.from.now.entry.offset; len = c.args.from.now.entry.len }) (omega (arith, c.requires.inside, source_long)) in
+    let len : length bytes ≡ c.args.from.now.entry.len = length-source a area (record { sector = c.args.from.now.sector; offset = c.args.from.now.entry.offset; len = c.args.from.now.entry.len }) (subst (λ (n : ℕ). c.args.from.now.entry.offset + c.args.from.now.entry.len ≤ n) (sym source_long) c.requires.inside) in
     let rounded : padded unit (length bytes) ≡ padded unit c.args.from.now.entry.len = ap (padded unit) len in
-    let widths = slot_widths unit is-unit in
-    let room : HasRoom unit b (length bytes) = record { is_unit = is-unit; short = omega (arith, long, c.requires.lawful.at_most); room = omega (arith, c.requires.free) } in
+    let room : HasRoom unit b (length bytes) = room-in unit b (length bytes) c.args.from.now.entry.len (sector_size a area) c.args.scan.now.low c.args.scan.now.data_end is-unit long c.requires.lawful.at_most lowest end len c.requires.free in
     subst (λ (offset : ℕ). CanProgramAll a area place offset (padded_bytes unit bytes)) (sym end) (can_data a area lawful is_area place has_sector bytes room)
 
 pub returns-in_err-copy_padded-clause-lost : goal.returns-in_err-copy_padded-clause-lost
@@ -112,10 +109,9 @@ returns-in_err-copy_padded-clause-lost g c =
     let is-unit : IsUnit unit = unit_is a area lawful is_area in
     let long : length b ≡ sector_size a area = length-sector a area lawful is_area place has_sector in
     let source_long : length (sector_bytes a area c.args.from.now.sector) ≡ sector_size a area = length-sector a area lawful is_area c.args.from.now.sector c.requires.has_source in
-    let len : length bytes ≡ c.args.from.now.entry.len = length-source a area (record { sector = c.args.from.now.sector; offset = c.args.from.now.entry.offset; len = c.args.from.now.entry.len }) (omega (arith, c.requires.inside, source_long)) in
+    let len : length bytes ≡ c.args.from.now.entry.len = length-source a area (record { sector = c.args.from.now.sector; offset = c.args.from.now.entry.offset; len = c.args.from.now.entry.len }) (subst (λ (n : ℕ). c.args.from.now.entry.offset + c.args.from.now.entry.len ≤ n) (sym source_long) c.requires.inside) in
     let rounded : padded unit (length bytes) ≡ padded unit c.args.from.now.entry.len = ap (padded unit) len in
-    let widths = slot_widths unit is-unit in
-    let room : HasRoom unit b (length bytes) = record { is_unit = is-unit; short = omega (arith, long, c.requires.lawful.at_most); room = omega (arith, c.requires.free) } in
+    let room : HasRoom unit b (length bytes) = room-in unit b (length bytes) c.args.from.now.entry.len (sector_size a area) c.args.scan.now.low c.args.scan.now.data_end is-unit long c.requires.lawful.at_most lowest end len c.requires.free in
     let m : Device = g.F.Flash.device c.copy_padded.new.flash in
     on_err c.from_residual.result
     (data_cut a area lawful is_area place has_sector m c.args.from.now.entry.id bytes room (subst (λ (offset : ℕ). WritesPart a m area place offset (padded_bytes unit bytes)) end c.in_err-copy_padded.ensures.lost))
@@ -146,10 +142,9 @@ returns-in_err-copy_padded-clause-spent_at_most g c =
     let is-unit : IsUnit unit = unit_is a area lawful is_area in
     let long : length b ≡ sector_size a area = length-sector a area lawful is_area place has_sector in
     let source_long : length (sector_bytes a area c.args.from.now.sector) ≡ sector_size a area = length-sector a area lawful is_area c.args.from.now.sector c.requires.has_source in
-    let len : length bytes ≡ c.args.from.now.entry.len = length-source a area (record { sector = c.args.from.now.sector; offset = c.args.from.now.entry.offset; len = c.args.from.now.entry.len }) (omega (arith, c.requires.inside, source_long)) in
+    let len : length bytes ≡ c.args.from.now.entry.len = length-source a area (record { sector = c.args.from.now.sector; offset = c.args.from.now.entry.offset; len = c.args.from.now.entry.len }) (subst (λ (n : ℕ). c.args.from.now.entry.offset + c.args.from.now.entry.len ≤ n) (sym source_long) c.requires.inside) in
     let rounded : padded unit (length bytes) ≡ padded unit c.args.from.now.entry.len = ap (padded unit) len in
-    let widths = slot_widths unit is-unit in
-    let room : HasRoom unit b (length bytes) = record { is_unit = is-unit; short = omega (arith, long, c.requires.lawful.at_most); room = omega (arith, c.requires.free) } in
+    let room : HasRoom unit b (length bytes) = room-in unit b (length bytes) c.args.from.now.entry.len (sector_size a area) c.args.scan.now.low c.args.scan.now.data_end is-unit long c.requires.lawful.at_most lowest end len c.requires.free in
     let m : Device = g.F.Flash.device c.copy_padded.new.flash in
     let costs : cost unit (length bytes) / unit ≡ cost unit c.args.from.now.entry.len / unit = ap (λ (n : ℕ). cost unit n / unit) len in
     on_err c.from_residual.result
@@ -177,10 +172,9 @@ program_padded-requires-clause-can g c =
     let is-unit : IsUnit unit = unit_is a area lawful is_area in
     let long : length b ≡ sector_size a area = length-sector a area lawful is_area place has_sector in
     let source_long : length (sector_bytes a area c.args.from.now.sector) ≡ sector_size a area = length-sector a area lawful is_area c.args.from.now.sector c.requires.has_source in
-    let len : length bytes ≡ c.args.from.now.entry.len = length-source a area (record { sector = c.args.from.now.sector; offset = c.args.from.now.entry.offset; len = c.args.from.now.entry.len }) (omega (arith, c.requires.inside, source_long)) in
+    let len : length bytes ≡ c.args.from.now.entry.len = length-source a area (record { sector = c.args.from.now.sector; offset = c.args.from.now.entry.offset; len = c.args.from.now.entry.len }) (subst (λ (n : ℕ). c.args.from.now.entry.offset + c.args.from.now.entry.len ≤ n) (sym source_long) c.requires.inside) in
     let rounded : padded unit (length bytes) ≡ padded unit c.args.from.now.entry.len = ap (padded unit) len in
-    let widths = slot_widths unit is-unit in
-    let room : HasRoom unit b (length bytes) = record { is_unit = is-unit; short = omega (arith, long, c.requires.lawful.at_most); room = omega (arith, c.requires.free) } in
+    let room : HasRoom unit b (length bytes) = room-in unit b (length bytes) c.args.from.now.entry.len (sector_size a area) c.args.scan.now.low c.args.scan.now.data_end is-unit long c.requires.lawful.at_most lowest end len c.requires.free in
     let e : Entry = record { id = c.args.from.now.entry.id; offset = c.args.scan.now.data_end; len = c.args.from.now.entry.len; part = 255 } in
     let follows : IsNext unit b e bytes = record { ordinary = c.requires.ordinary; place = end; long = sym len } in
     let width : c.slot_size.result ≡ slot_size unit = c.slot_size.ensures.size ∙ ap (λ (x : Geometry). slot_size x.unit) c.geometry-unit.ensures in
@@ -214,10 +208,9 @@ returns-in_err-program_padded-clause-lost g c =
     let is-unit : IsUnit unit = unit_is a area lawful is_area in
     let long : length b ≡ sector_size a area = length-sector a area lawful is_area place has_sector in
     let source_long : length (sector_bytes a area c.args.from.now.sector) ≡ sector_size a area = length-sector a area lawful is_area c.args.from.now.sector c.requires.has_source in
-    let len : length bytes ≡ c.args.from.now.entry.len = length-source a area (record { sector = c.args.from.now.sector; offset = c.args.from.now.entry.offset; len = c.args.from.now.entry.len }) (omega (arith, c.requires.inside, source_long)) in
+    let len : length bytes ≡ c.args.from.now.entry.len = length-source a area (record { sector = c.args.from.now.sector; offset = c.args.from.now.entry.offset; len = c.args.from.now.entry.len }) (subst (λ (n : ℕ). c.args.from.now.entry.offset + c.args.from.now.entry.len ≤ n) (sym source_long) c.requires.inside) in
     let rounded : padded unit (length bytes) ≡ padded unit c.args.from.now.entry.len = ap (padded unit) len in
-    let widths = slot_widths unit is-unit in
-    let room : HasRoom unit b (length bytes) = record { is_unit = is-unit; short = omega (arith, long, c.requires.lawful.at_most); room = omega (arith, c.requires.free) } in
+    let room : HasRoom unit b (length bytes) = room-in unit b (length bytes) c.args.from.now.entry.len (sector_size a area) c.args.scan.now.low c.args.scan.now.data_end is-unit long c.requires.lawful.at_most lowest end len c.requires.free in
     let e : Entry = record { id = c.args.from.now.entry.id; offset = c.args.scan.now.data_end; len = c.args.from.now.entry.len; part = 255 } in
     let follows : IsNext unit b e bytes = record { ordinary = c.requires.ordinary; place = end; long = sym len } in
     let width : c.slot_size.result ≡ slot_size unit = c.slot_size.ensures.size ∙ ap (λ (x : Geometry). slot_size x.unit) c.geometry-unit.ensures in
@@ -257,10 +250,9 @@ returns-in_err-program_padded-clause-spent_at_most g c =
     let is-unit : IsUnit unit = unit_is a area lawful is_area in
     let long : length b ≡ sector_size a area = length-sector a area lawful is_area place has_sector in
     let source_long : length (sector_bytes a area c.args.from.now.sector) ≡ sector_size a area = length-sector a area lawful is_area c.args.from.now.sector c.requires.has_source in
-    let len : length bytes ≡ c.args.from.now.entry.len = length-source a area (record { sector = c.args.from.now.sector; offset = c.args.from.now.entry.offset; len = c.args.from.now.entry.len }) (omega (arith, c.requires.inside, source_long)) in
+    let len : length bytes ≡ c.args.from.now.entry.len = length-source a area (record { sector = c.args.from.now.sector; offset = c.args.from.now.entry.offset; len = c.args.from.now.entry.len }) (subst (λ (n : ℕ). c.args.from.now.entry.offset + c.args.from.now.entry.len ≤ n) (sym source_long) c.requires.inside) in
     let rounded : padded unit (length bytes) ≡ padded unit c.args.from.now.entry.len = ap (padded unit) len in
-    let widths = slot_widths unit is-unit in
-    let room : HasRoom unit b (length bytes) = record { is_unit = is-unit; short = omega (arith, long, c.requires.lawful.at_most); room = omega (arith, c.requires.free) } in
+    let room : HasRoom unit b (length bytes) = room-in unit b (length bytes) c.args.from.now.entry.len (sector_size a area) c.args.scan.now.low c.args.scan.now.data_end is-unit long c.requires.lawful.at_most lowest end len c.requires.free in
     let e : Entry = record { id = c.args.from.now.entry.id; offset = c.args.scan.now.data_end; len = c.args.from.now.entry.len; part = 255 } in
     let follows : IsNext unit b e bytes = record { ordinary = c.requires.ordinary; place = end; long = sym len } in
     let m : Device = g.F.Flash.device c.copy_padded.new.flash in
@@ -295,10 +287,9 @@ returns-clause-ok g c =
     let is-unit : IsUnit unit = unit_is a area lawful is_area in
     let long : length b ≡ sector_size a area = length-sector a area lawful is_area place has_sector in
     let source_long : length (sector_bytes a area c.args.from.now.sector) ≡ sector_size a area = length-sector a area lawful is_area c.args.from.now.sector c.requires.has_source in
-    let len : length bytes ≡ c.args.from.now.entry.len = length-source a area (record { sector = c.args.from.now.sector; offset = c.args.from.now.entry.offset; len = c.args.from.now.entry.len }) (omega (arith, c.requires.inside, source_long)) in
+    let len : length bytes ≡ c.args.from.now.entry.len = length-source a area (record { sector = c.args.from.now.sector; offset = c.args.from.now.entry.offset; len = c.args.from.now.entry.len }) (subst (λ (n : ℕ). c.args.from.now.entry.offset + c.args.from.now.entry.len ≤ n) (sym source_long) c.requires.inside) in
     let rounded : padded unit (length bytes) ≡ padded unit c.args.from.now.entry.len = ap (padded unit) len in
-    let widths = slot_widths unit is-unit in
-    let room : HasRoom unit b (length bytes) = record { is_unit = is-unit; short = omega (arith, long, c.requires.lawful.at_most); room = omega (arith, c.requires.free) } in
+    let room : HasRoom unit b (length bytes) = room-in unit b (length bytes) c.args.from.now.entry.len (sector_size a area) c.args.scan.now.low c.args.scan.now.data_end is-unit long c.requires.lawful.at_most lowest end len c.requires.free in
     let e : Entry = record { id = c.args.from.now.entry.id; offset = c.args.scan.now.data_end; len = c.args.from.now.entry.len; part = 255 } in
     let follows : IsNext unit b e bytes = record { ordinary = c.requires.ordinary; place = end; long = sym len } in
     let width : c.slot_size.result ≡ slot_size unit = c.slot_size.ensures.size ∙ ap (λ (x : Geometry). slot_size x.unit) c.geometry-unit.ensures in
@@ -337,10 +328,9 @@ returns-clause-scan g c =
     let is-unit : IsUnit unit = unit_is a area lawful is_area in
     let long : length b ≡ sector_size a area = length-sector a area lawful is_area place has_sector in
     let source_long : length (sector_bytes a area c.args.from.now.sector) ≡ sector_size a area = length-sector a area lawful is_area c.args.from.now.sector c.requires.has_source in
-    let len : length bytes ≡ c.args.from.now.entry.len = length-source a area (record { sector = c.args.from.now.sector; offset = c.args.from.now.entry.offset; len = c.args.from.now.entry.len }) (omega (arith, c.requires.inside, source_long)) in
+    let len : length bytes ≡ c.args.from.now.entry.len = length-source a area (record { sector = c.args.from.now.sector; offset = c.args.from.now.entry.offset; len = c.args.from.now.entry.len }) (subst (λ (n : ℕ). c.args.from.now.entry.offset + c.args.from.now.entry.len ≤ n) (sym source_long) c.requires.inside) in
     let rounded : padded unit (length bytes) ≡ padded unit c.args.from.now.entry.len = ap (padded unit) len in
-    let widths = slot_widths unit is-unit in
-    let room : HasRoom unit b (length bytes) = record { is_unit = is-unit; short = omega (arith, long, c.requires.lawful.at_most); room = omega (arith, c.requires.free) } in
+    let room : HasRoom unit b (length bytes) = room-in unit b (length bytes) c.args.from.now.entry.len (sector_size a area) c.args.scan.now.low c.args.scan.now.data_end is-unit long c.requires.lawful.at_most lowest end len c.requires.free in
     let e : Entry = record { id = c.args.from.now.entry.id; offset = c.args.scan.now.data_end; len = c.args.from.now.entry.len; part = 255 } in
     let follows : IsNext unit b e bytes = record { ordinary = c.requires.ordinary; place = end; long = sym len } in
     let width : c.slot_size.result ≡ slot_size unit = c.slot_size.ensures.size ∙ ap (λ (x : Geometry). slot_size x.unit) c.geometry-unit.ensures in
@@ -383,10 +373,9 @@ returns-clause-spent g c =
     let is-unit : IsUnit unit = unit_is a area lawful is_area in
     let long : length b ≡ sector_size a area = length-sector a area lawful is_area place has_sector in
     let source_long : length (sector_bytes a area c.args.from.now.sector) ≡ sector_size a area = length-sector a area lawful is_area c.args.from.now.sector c.requires.has_source in
-    let len : length bytes ≡ c.args.from.now.entry.len = length-source a area (record { sector = c.args.from.now.sector; offset = c.args.from.now.entry.offset; len = c.args.from.now.entry.len }) (omega (arith, c.requires.inside, source_long)) in
+    let len : length bytes ≡ c.args.from.now.entry.len = length-source a area (record { sector = c.args.from.now.sector; offset = c.args.from.now.entry.offset; len = c.args.from.now.entry.len }) (subst (λ (n : ℕ). c.args.from.now.entry.offset + c.args.from.now.entry.len ≤ n) (sym source_long) c.requires.inside) in
     let rounded : padded unit (length bytes) ≡ padded unit c.args.from.now.entry.len = ap (padded unit) len in
-    let widths = slot_widths unit is-unit in
-    let room : HasRoom unit b (length bytes) = record { is_unit = is-unit; short = omega (arith, long, c.requires.lawful.at_most); room = omega (arith, c.requires.free) } in
+    let room : HasRoom unit b (length bytes) = room-in unit b (length bytes) c.args.from.now.entry.len (sector_size a area) c.args.scan.now.low c.args.scan.now.data_end is-unit long c.requires.lawful.at_most lowest end len c.requires.free in
     let e : Entry = record { id = c.args.from.now.entry.id; offset = c.args.scan.now.data_end; len = c.args.from.now.entry.len; part = 255 } in
     let follows : IsNext unit b e bytes = record { ordinary = c.requires.ordinary; place = end; long = sym len } in
     let m : Device = g.F.Flash.device c.copy_padded.new.flash in
@@ -421,10 +410,9 @@ returns-clause-image g c =
     let is-unit : IsUnit unit = unit_is a area lawful is_area in
     let long : length b ≡ sector_size a area = length-sector a area lawful is_area place has_sector in
     let source_long : length (sector_bytes a area c.args.from.now.sector) ≡ sector_size a area = length-sector a area lawful is_area c.args.from.now.sector c.requires.has_source in
-    let len : length bytes ≡ c.args.from.now.entry.len = length-source a area (record { sector = c.args.from.now.sector; offset = c.args.from.now.entry.offset; len = c.args.from.now.entry.len }) (omega (arith, c.requires.inside, source_long)) in
+    let len : length bytes ≡ c.args.from.now.entry.len = length-source a area (record { sector = c.args.from.now.sector; offset = c.args.from.now.entry.offset; len = c.args.from.now.entry.len }) (subst (λ (n : ℕ). c.args.from.now.entry.offset + c.args.from.now.entry.len ≤ n) (sym source_long) c.requires.inside) in
     let rounded : padded unit (length bytes) ≡ padded unit c.args.from.now.entry.len = ap (padded unit) len in
-    let widths = slot_widths unit is-unit in
-    let room : HasRoom unit b (length bytes) = record { is_unit = is-unit; short = omega (arith, long, c.requires.lawful.at_most); room = omega (arith, c.requires.free) } in
+    let room : HasRoom unit b (length bytes) = room-in unit b (length bytes) c.args.from.now.entry.len (sector_size a area) c.args.scan.now.low c.args.scan.now.data_end is-unit long c.requires.lawful.at_most lowest end len c.requires.free in
     let e : Entry = record { id = c.args.from.now.entry.id; offset = c.args.scan.now.data_end; len = c.args.from.now.entry.len; part = 255 } in
     let width : c.slot_size.result ≡ slot_size unit = c.slot_size.ensures.size ∙ ap (λ (x : Geometry). slot_size x.unit) c.geometry-unit.ensures in
     let at : c.args.scan.now.low - c.slot_size.result ≡ low unit b - slot_size unit = omega arith in

@@ -1,16 +1,20 @@
-use Rattle.std.proofs.Common.{◌≡◌, ◌+◌, ◌-◌, ◌<◌, ℕ, inl, inr, sym, ap, subst, ◌∙◌, arith}
+use Rattle.std.proofs.Common.{◌≡◌, ◌+◌, ◌-◌, ◌<◌, ℕ, Bool, List, [], ◌∷◌, inl, inr, sym, ap, subst, ◌∙◌, arith}
 use Rattle.flash_sim.specs.Device.{Device}
+use Rattle.flash_sim.specs.declared.flash.Bank.{Bank}
 use Rattle.flash_map.specs.declared.area.Area.{Area}
 use Rattle.flash_map.specs.Area.{geometry_of, sectors_of, sector_at}
+use Rattle.flash_map.specs.Touches.{Touches}
 use Rattle.flash_map.proofs.PieceLemmas.{on_err}
+use Rattle.flash_map.proofs.Touches.{then}
 use Rattle.ring_laws.specs.Area.{next}
 use Rattle.ring_store.specs.Kind.{IsKind}
+use Rattle.ring_store.specs.Standing.{IsStoreArea}
 use Rattle.ring_store.proofs.Areas.{unit_is, large_there}
 use Rattle.ring_store.proofs.CopyLoop.{IsCopying, copying_start, copying_end}
 use Rattle.ring_laws.proofs.RingSteps.{reads}
 use Rattle.ring_store.specs.Seen.{holds_live}
 use Rattle.ring_store.proofs.LiveSteps.{victim_counts}
-use Rattle.ring_store.proofs.SlotFacts.{live_flag, current_within, next_within, opens, within, room, inside, one_more, one_lost, one_most, kept_after}
+use Rattle.ring_store.proofs.SlotFacts.{live_flag, current_within, next_within, opens, within, room, inside, apart, listed_there, ready, closed, not_done, source, kept_there, one_more, one_lost, one_most, kept_after}
 use Rattle.ring_store.proofs.collecting.copy_live.Goals as goal
 
 pub slots-slots-requires-clause-inside : goal.slots-slots-requires-clause-inside
@@ -213,3 +217,109 @@ copy_slot-requires-clause-live g c =
 pub live_slots-requires-clause-none : goal.live_slots-requires-clause-none
 live_slots-requires-clause-none g c =
     c.new-live.ensures
+
+pub copy_slot-requires-clause-other : goal.copy_slot-requires-clause-other
+copy_slot-requires-clause-other g c =
+    let a : Device = g.F.Flash.device c.args.flash.now in
+    let area : Area = c.args.area.now in
+    let place : ℕ = c.args.current in
+    let law : IsKind (g.T.SlotSectors.kind (geometry_of a area)) = g.met.T.SlotSectors.lawful (geometry_of a area) (unit_is a area (g.met.F.Flash.is_lawful c.args.flash.now) c.requires.area.lawful) in
+    let d : Device = g.F.Flash.device c.loop-slot.flash in
+    let first_is = c.first_slot-first.ensures.value (geometry_of a area) in
+    let kept = c.loop-slot.invariant in
+    let more : c.loop-slot.slot < c.first_slot-first.result + (g.T.SlotSectors.kind (geometry_of a area)).count (sector_at (sectors_of a area) (next (sectors_of a area) place)) =
+    (let count : c.slots-slots.result ≡ (g.T.SlotSectors.kind (geometry_of a area)).count (sector_at (sectors_of a area) (next (sectors_of a area) place)) = c.slots-slots.ensures.value ∙ ap (λ (v : ℕ). (g.T.SlotSectors.kind (geometry_of a area)).count (sector_at (sectors_of a area) v)) c.requires.victim in omega arith) in
+    apart g.T.SlotSectors.kind g.T.SlotSectors.role a d area place c.args.victim c.first_slot-first.result c.loop-slot.slot law (g.met.F.Flash.is_lawful c.args.flash.now) c.requires.area c.requires.collecting c.requires.victim first_is (omega arith) kept.copying
+
+pub copy_slot-requires-clause-listed : goal.copy_slot-requires-clause-listed
+copy_slot-requires-clause-listed g c =
+    let a : Device = g.F.Flash.device c.args.flash.now in
+    let area : Area = c.args.area.now in
+    let place : ℕ = c.args.current in
+    let law : IsKind (g.T.SlotSectors.kind (geometry_of a area)) = g.met.T.SlotSectors.lawful (geometry_of a area) (unit_is a area (g.met.F.Flash.is_lawful c.args.flash.now) c.requires.area.lawful) in
+    let d : Device = g.F.Flash.device c.loop-slot.flash in
+    let first_is = c.first_slot-first.ensures.value (geometry_of a area) in
+    let kept = c.loop-slot.invariant in
+    let more : c.loop-slot.slot < c.first_slot-first.result + (g.T.SlotSectors.kind (geometry_of a area)).count (sector_at (sectors_of a area) (next (sectors_of a area) place)) =
+    (let count : c.slots-slots.result ≡ (g.T.SlotSectors.kind (geometry_of a area)).count (sector_at (sectors_of a area) (next (sectors_of a area) place)) = c.slots-slots.ensures.value ∙ ap (λ (v : ℕ). (g.T.SlotSectors.kind (geometry_of a area)).count (sector_at (sectors_of a area) v)) c.requires.victim in omega arith) in
+    listed_there g.T.SlotSectors.kind g.T.SlotSectors.role a d area place c.args.victim c.first_slot-first.result c.loop-slot.slot law (g.met.F.Flash.is_lawful c.args.flash.now) c.requires.area c.requires.collecting c.requires.victim first_is (omega arith) kept.copying more
+
+pub copy_slot-requires-clause-ready : goal.copy_slot-requires-clause-ready
+copy_slot-requires-clause-ready g c =
+    let a : Device = g.F.Flash.device c.args.flash.now in
+    let area : Area = c.args.area.now in
+    let place : ℕ = c.args.current in
+    let law : IsKind (g.T.SlotSectors.kind (geometry_of a area)) = g.met.T.SlotSectors.lawful (geometry_of a area) (unit_is a area (g.met.F.Flash.is_lawful c.args.flash.now) c.requires.area.lawful) in
+    let d : Device = g.F.Flash.device c.loop-slot.flash in
+    let first_is = c.first_slot-first.ensures.value (geometry_of a area) in
+    let kept = c.loop-slot.invariant in
+    let more : c.loop-slot.slot < c.first_slot-first.result + (g.T.SlotSectors.kind (geometry_of a area)).count (sector_at (sectors_of a area) (next (sectors_of a area) place)) =
+    (let count : c.slots-slots.result ≡ (g.T.SlotSectors.kind (geometry_of a area)).count (sector_at (sectors_of a area) (next (sectors_of a area) place)) = c.slots-slots.ensures.value ∙ ap (λ (v : ℕ). (g.T.SlotSectors.kind (geometry_of a area)).count (sector_at (sectors_of a area) v)) c.requires.victim in omega arith) in
+    ready g.T.SlotSectors.kind g.T.SlotSectors.role a d area place c.args.victim c.first_slot-first.result c.loop-slot.slot law (g.met.F.Flash.is_lawful c.args.flash.now) c.requires.area c.requires.collecting c.requires.victim first_is (omega arith) kept.copying
+
+pub copy_slot-requires-clause-collecting : goal.copy_slot-requires-clause-collecting
+copy_slot-requires-clause-collecting g c =
+    let a : Device = g.F.Flash.device c.args.flash.now in
+    let area : Area = c.args.area.now in
+    let place : ℕ = c.args.current in
+    let law : IsKind (g.T.SlotSectors.kind (geometry_of a area)) = g.met.T.SlotSectors.lawful (geometry_of a area) (unit_is a area (g.met.F.Flash.is_lawful c.args.flash.now) c.requires.area.lawful) in
+    let d : Device = g.F.Flash.device c.loop-slot.flash in
+    let first_is = c.first_slot-first.ensures.value (geometry_of a area) in
+    let kept = c.loop-slot.invariant in
+    let more : c.loop-slot.slot < c.first_slot-first.result + (g.T.SlotSectors.kind (geometry_of a area)).count (sector_at (sectors_of a area) (next (sectors_of a area) place)) =
+    (let count : c.slots-slots.result ≡ (g.T.SlotSectors.kind (geometry_of a area)).count (sector_at (sectors_of a area) (next (sectors_of a area) place)) = c.slots-slots.ensures.value ∙ ap (λ (v : ℕ). (g.T.SlotSectors.kind (geometry_of a area)).count (sector_at (sectors_of a area) v)) c.requires.victim in omega arith) in
+    closed g.T.SlotSectors.kind g.T.SlotSectors.role a d area place c.args.victim c.first_slot-first.result c.loop-slot.slot law (g.met.F.Flash.is_lawful c.args.flash.now) c.requires.area c.requires.collecting c.requires.victim first_is (omega arith) kept.copying
+
+pub copy_slot-requires-clause-not_done : goal.copy_slot-requires-clause-not_done
+copy_slot-requires-clause-not_done g c =
+    let a : Device = g.F.Flash.device c.args.flash.now in
+    let area : Area = c.args.area.now in
+    let place : ℕ = c.args.current in
+    let law : IsKind (g.T.SlotSectors.kind (geometry_of a area)) = g.met.T.SlotSectors.lawful (geometry_of a area) (unit_is a area (g.met.F.Flash.is_lawful c.args.flash.now) c.requires.area.lawful) in
+    let d : Device = g.F.Flash.device c.loop-slot.flash in
+    let first_is = c.first_slot-first.ensures.value (geometry_of a area) in
+    let kept = c.loop-slot.invariant in
+    let more : c.loop-slot.slot < c.first_slot-first.result + (g.T.SlotSectors.kind (geometry_of a area)).count (sector_at (sectors_of a area) (next (sectors_of a area) place)) =
+    (let count : c.slots-slots.result ≡ (g.T.SlotSectors.kind (geometry_of a area)).count (sector_at (sectors_of a area) (next (sectors_of a area) place)) = c.slots-slots.ensures.value ∙ ap (λ (v : ℕ). (g.T.SlotSectors.kind (geometry_of a area)).count (sector_at (sectors_of a area) v)) c.requires.victim in omega arith) in
+    not_done g.T.SlotSectors.kind g.T.SlotSectors.role a d area place c.args.victim c.first_slot-first.result c.loop-slot.slot law (g.met.F.Flash.is_lawful c.args.flash.now) c.requires.area c.requires.collecting c.requires.victim first_is (omega arith) kept.copying
+
+pub copy_slot-requires-clause-source : goal.copy_slot-requires-clause-source
+copy_slot-requires-clause-source g c =
+    let a : Device = g.F.Flash.device c.args.flash.now in
+    let area : Area = c.args.area.now in
+    let place : ℕ = c.args.current in
+    let law : IsKind (g.T.SlotSectors.kind (geometry_of a area)) = g.met.T.SlotSectors.lawful (geometry_of a area) (unit_is a area (g.met.F.Flash.is_lawful c.args.flash.now) c.requires.area.lawful) in
+    let d : Device = g.F.Flash.device c.loop-slot.flash in
+    let first_is = c.first_slot-first.ensures.value (geometry_of a area) in
+    let kept = c.loop-slot.invariant in
+    let more : c.loop-slot.slot < c.first_slot-first.result + (g.T.SlotSectors.kind (geometry_of a area)).count (sector_at (sectors_of a area) (next (sectors_of a area) place)) =
+    (let count : c.slots-slots.result ≡ (g.T.SlotSectors.kind (geometry_of a area)).count (sector_at (sectors_of a area) (next (sectors_of a area) place)) = c.slots-slots.ensures.value ∙ ap (λ (v : ℕ). (g.T.SlotSectors.kind (geometry_of a area)).count (sector_at (sectors_of a area) v)) c.requires.victim in omega arith) in
+    source g.T.SlotSectors.kind g.T.SlotSectors.role a d area place c.args.victim c.first_slot-first.result c.loop-slot.slot law (g.met.F.Flash.is_lawful c.args.flash.now) c.requires.area c.requires.collecting c.requires.victim first_is (omega arith) kept.copying
+
+pub copy_slot-requires-clause-kept : goal.copy_slot-requires-clause-kept
+copy_slot-requires-clause-kept g c =
+    let a : Device = g.F.Flash.device c.args.flash.now in
+    let area : Area = c.args.area.now in
+    let place : ℕ = c.args.current in
+    let law : IsKind (g.T.SlotSectors.kind (geometry_of a area)) = g.met.T.SlotSectors.lawful (geometry_of a area) (unit_is a area (g.met.F.Flash.is_lawful c.args.flash.now) c.requires.area.lawful) in
+    let d : Device = g.F.Flash.device c.loop-slot.flash in
+    let first_is = c.first_slot-first.ensures.value (geometry_of a area) in
+    let kept = c.loop-slot.invariant in
+    let more : c.loop-slot.slot < c.first_slot-first.result + (g.T.SlotSectors.kind (geometry_of a area)).count (sector_at (sectors_of a area) (next (sectors_of a area) place)) =
+    (let count : c.slots-slots.result ≡ (g.T.SlotSectors.kind (geometry_of a area)).count (sector_at (sectors_of a area) (next (sectors_of a area) place)) = c.slots-slots.ensures.value ∙ ap (λ (v : ℕ). (g.T.SlotSectors.kind (geometry_of a area)).count (sector_at (sectors_of a area) v)) c.requires.victim in omega arith) in
+    kept_there g.T.SlotSectors.kind g.T.SlotSectors.role a d area place c.args.victim c.first_slot-first.result c.loop-slot.slot law (g.met.F.Flash.is_lawful c.args.flash.now) c.requires.area c.requires.collecting c.requires.victim first_is (omega arith) kept.copying g.T.SlotSectors.kept c.loop-slot.opened kept.kept
+
+pub copy_slot-requires-clause-area : goal.copy_slot-requires-clause-area
+copy_slot-requires-clause-area g c =
+    subst (λ (banks : List Bank). IsStoreArea g.T.SlotSectors.role banks c.args.area.now) (sym c.loop-slot.invariant.copying.touches.banks) c.requires.area
+
+pub returns-clause-touches : goal.returns-clause-touches
+returns-clause-touches g c = c.loop-slot.invariant.copying.touches
+
+pub returns-clause-kept : goal.returns-clause-kept
+returns-clause-kept g c = c.loop-slot.invariant.kept
+
+pub returns-in_err-copy_slot-clause-touches : goal.returns-in_err-copy_slot-clause-touches
+returns-in_err-copy_slot-clause-touches g c =
+    subst (λ (lost : Bool). Touches (c.args.area.now ∷ []) (g.F.Flash.device c.args.flash.now) (g.F.Flash.device c.copy_slot.new.flash) lost) (sym c.from_residual.ensures.0)
+    (then c.loop-slot.invariant.copying.touches c.in_err-copy_slot.ensures.touches)

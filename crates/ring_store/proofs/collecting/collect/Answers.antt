@@ -1,21 +1,24 @@
-use Rattle.std.proofs.Common.{◌≡◌, ℕ, ◌∙◌, inl}
+use Rattle.std.proofs.Common.{◌≡◌, ℕ, Bool, true, false, List, [], ◌∷◌, sym, ap, subst, ◌∙◌, inl}
 use Rattle.std.proofs.lemmas.Result.{on_ok_weaker, on_err_weaker}
 use Rattle.flash_sim.specs.Device.{Device}
+use Rattle.flash_sim.specs.declared.flash.Bank.{Bank}
 use Rattle.flash_map.specs.declared.area.Area.{Area}
-use Rattle.flash_map.specs.Area.{geometry_of, sectors_of}
+use Rattle.flash_map.specs.Area.{geometry_of, sector_at, sectors_of}
+use Rattle.flash_map.specs.Touches.{Touches}
 use Rattle.flash_map.proofs.PieceLemmas.{on_err}
 use Rattle.flash_map.proofs.Touches.{then}
 use Rattle.ring_laws.specs.Area.{next}
 use Rattle.ring_laws.proofs.AreaReads.{next_there}
 use Rattle.ring_laws.specs.Forms.{to_copy}
 use Rattle.ring_store.specs.Kind.{Kind, IsKind}
+use Rattle.ring_store.specs.Standing.{IsStoreArea}
 use Rattle.ring_store.specs.Spending.{both, copies}
 use Rattle.ring_store.proofs.Areas.{unit_is, stopped-keeps}
 use Rattle.ring_store.proofs.CopyLoop.{either}
 use Rattle.ring_store.proofs.ListSteps.{stopped-list}
 use Rattle.ring_store.proofs.Ranges.{first-lost}
 use Rattle.ring_store.proofs.SlotFacts.{current_within}
-use Rattle.ring_store.proofs.CallFacts.{mark_opened, mark_has_room, mark_lost, mark_lost_list, mark_spends_lost, cleared, cleared_keeps, clear_lost, clear_lost_list, spends_all, spends_all_lost}
+use Rattle.ring_store.proofs.CallFacts.{to_geometry, from_geometry, mark_opened, mark_collecting, mark_has_room, mark_lost, mark_lost_list, mark_spends_lost, cleared, cleared_keeps, clear_lost, clear_lost_list, open_same, spends_all, spends_all_lost}
 use Rattle.ring_store.proofs.WrittenSteps.{stopped-written}
 use Rattle.ring_store.proofs.WrittenFacts.{mark_cut-written, clear-written}
 use Rattle.ring_store.proofs.collecting.collect.Goals as goal
@@ -225,3 +228,84 @@ returns-clause-list_lost g c =
     let z : Device = g.F.Flash.device c.clear.new.flash in
     let at : c.next-victim.result ≡ next (sectors_of a area) place = c.next-victim.ensures.value ∙ next_there a area place in
     on_err_weaker c.clear.result (λ keeps. clear_lost_list g.T.SlotSectors.kind g.T.SlotSectors.role a area place law (g.met.F.Flash.is_lawful c.args.flash.now) c.requires.area c.requires.collecting d did.touches.banks did.copies e both.banks marked.only marked.marks c.next-victim.result at z c.clear.ensures.only keeps) c.clear.ensures.lost
+
+pub mark_done-requires-clause-area : goal.mark_done-requires-clause-area
+mark_done-requires-clause-area g c =
+    subst (λ (banks : List Bank). IsStoreArea g.T.SlotSectors.role banks c.args.area.now) (sym c.in_ok-copy_live.ensures.touches.banks) c.requires.area
+
+pub mark_done-requires-clause-inside : goal.mark_done-requires-clause-inside
+mark_done-requires-clause-inside g c =
+    current_within (g.F.Flash.device c.args.flash.now) c.args.area.now c.args.current c.requires.collecting.ring.within
+
+pub mark_done-requires-clause-kept : goal.mark_done-requires-clause-kept
+mark_done-requires-clause-kept g c =
+    let a : Device = g.F.Flash.device c.args.flash.now in
+    let area : Area = c.args.area.now in
+    let place : ℕ = c.args.current in
+    let d : Device = g.F.Flash.device c.copy_live.new.flash in
+    let did = c.in_ok-copy_live.ensures in
+    from_geometry (λ u. c.copy_live.new.opened ≡ g.T.SlotSectors.kept u (sector_at (sectors_of d area) place)) a d area did.touches.banks did.kept
+
+pub mark_done-requires-clause-ready : goal.mark_done-requires-clause-ready
+mark_done-requires-clause-ready g c =
+    let a : Device = g.F.Flash.device c.args.flash.now in
+    let area : Area = c.args.area.now in
+    let place : ℕ = c.args.current in
+    let d : Device = g.F.Flash.device c.copy_live.new.flash in
+    let did = c.in_ok-copy_live.ensures in
+    from_geometry (λ u. (g.T.SlotSectors.kind u).is_ready (sector_at (sectors_of d area) place) ≡ true) a d area did.touches.banks did.copies.ready
+
+pub mark_done-requires-clause-collecting : goal.mark_done-requires-clause-collecting
+mark_done-requires-clause-collecting g c =
+    let a : Device = g.F.Flash.device c.args.flash.now in
+    let area : Area = c.args.area.now in
+    let place : ℕ = c.args.current in
+    let law : IsKind (g.T.SlotSectors.kind (geometry_of a area)) = g.met.T.SlotSectors.lawful (geometry_of a area) (unit_is a area (g.met.F.Flash.is_lawful c.args.flash.now) c.requires.area.lawful) in
+    let d : Device = g.F.Flash.device c.copy_live.new.flash in
+    let did = c.in_ok-copy_live.ensures in
+    mark_collecting g.T.SlotSectors.kind g.T.SlotSectors.role a area place law (g.met.F.Flash.is_lawful c.args.flash.now) c.requires.area c.requires.collecting d did.touches.banks did.copies
+
+pub mark_done-requires-clause-not_done : goal.mark_done-requires-clause-not_done
+mark_done-requires-clause-not_done g c =
+    let a : Device = g.F.Flash.device c.args.flash.now in
+    let area : Area = c.args.area.now in
+    let place : ℕ = c.args.current in
+    let d : Device = g.F.Flash.device c.copy_live.new.flash in
+    let did = c.in_ok-copy_live.ensures in
+    from_geometry (λ u. (g.T.SlotSectors.kind u).reading.has_gc_done (sector_at (sectors_of d area) place) ≡ false) a d area did.touches.banks did.copies.gc_done
+
+pub clear-requires-clause-area : goal.clear-requires-clause-area
+clear-requires-clause-area g c =
+    subst (λ (banks : List Bank). IsStoreArea g.T.SlotSectors.role banks c.args.area.now) (sym (c.in_ok-mark_done.ensures.touches.banks ∙ c.in_ok-copy_live.ensures.touches.banks)) c.requires.area
+
+pub clear-requires-clause-inside : goal.clear-requires-clause-inside
+clear-requires-clause-inside g c = c.next-victim.ensures.within
+
+pub returns-in_err-copy_live-clause-touches : goal.returns-in_err-copy_live-clause-touches
+returns-in_err-copy_live-clause-touches g c =
+    subst (λ (lost : Bool). Touches (c.args.area.now ∷ []) (g.F.Flash.device c.args.flash.now) (g.F.Flash.device c.copy_live.new.flash) lost) (sym c.from_residual.ensures.0)
+    c.in_err-copy_live.ensures.touches
+
+pub returns-in_err-mark_done-clause-touches : goal.returns-in_err-mark_done-clause-touches
+returns-in_err-mark_done-clause-touches g c =
+    subst (λ (lost : Bool). Touches (c.args.area.now ∷ []) (g.F.Flash.device c.args.flash.now) (g.F.Flash.device c.mark_done.new.flash) lost) (sym c.from_residual-in_err-mark_done.ensures.0)
+    (then c.in_ok-copy_live.ensures.touches c.in_err-mark_done.ensures.touches)
+
+pub returns-clause-kept : goal.returns-clause-kept
+returns-clause-kept g c =
+    let a : Device = g.F.Flash.device c.args.flash.now in
+    let area : Area = c.args.area.now in
+    let place : ℕ = c.args.current in
+    let law : IsKind (g.T.SlotSectors.kind (geometry_of a area)) = g.met.T.SlotSectors.lawful (geometry_of a area) (unit_is a area (g.met.F.Flash.is_lawful c.args.flash.now) c.requires.area.lawful) in
+    let d : Device = g.F.Flash.device c.copy_live.new.flash in
+    let did = c.in_ok-copy_live.ensures in
+    let e : Device = g.F.Flash.device c.mark_done.new.flash in
+    let both = then did.touches c.in_ok-mark_done.ensures.touches in
+    let marked = c.in_ok-mark_done.ensures in
+    let z : Device = g.F.Flash.device c.clear.new.flash in
+    let at : c.next-victim.result ≡ next (sectors_of a area) place = c.next-victim.ensures.value ∙ next_there a area place in
+    let own : sector_at (sectors_of z area) place ≡ sector_at (sectors_of e area) place =
+    open_same g.T.SlotSectors.kind g.T.SlotSectors.role a area place law (g.met.F.Flash.is_lawful c.args.flash.now) c.requires.area c.requires.collecting d did.touches.banks did.copies e both.banks marked.only marked.marks c.next-victim.result at z c.clear.ensures.only in
+    let here : c.mark_done.new.self ≡ g.T.SlotSectors.kept (geometry_of a area) (sector_at (sectors_of e area) place) =
+    to_geometry (λ u. c.mark_done.new.self ≡ g.T.SlotSectors.kept u (sector_at (sectors_of e area) place)) a d area did.touches.banks marked.kept in
+    on_ok_weaker c.clear.result (λ clears. here ∙ ap (λ (b : List ℕ). g.T.SlotSectors.kept (geometry_of a area) b) (sym own)) c.clear.ensures.clears

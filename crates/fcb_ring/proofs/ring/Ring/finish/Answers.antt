@@ -1,7 +1,10 @@
-use Rattle.std.proofs.Common.{◌∙◌, ℕ, List, length, cond, inl, inr, refl, sym, ap, subst, arith}
+use Rattle.std.proofs.Common.{◌≡◌, ◌∙◌, ◌∷◌, [], true, false, Result, Ok, Err, OnOk, ℕ, List, length, cond, inl, inr, refl, sym, ap, subst, arith}
 use Rattle.std.specs.Prelude.{count_by}
 use Rattle.flash_sim.specs.Device.{counted}
 use Rattle.flash_map.specs.Area.{unit_of, sector_size, sectors_of}
+use Rattle.std.specs.Result.{IsErr}
+use Rattle.flash_map.specs.Touches.{Touches}
+use Rattle.flash_map.proofs.Touches.{then}
 use Rattle.flash_map.proofs.Plans.{counted_counted}
 use Rattle.fcb_ring.specs.SectorStates.{is_torn}
 use Rattle.fcb_ring.specs.declared.ring.Stage.TheVariants.{Ready}
@@ -11,9 +14,96 @@ use Rattle.fcb_ring.proofs.AreaLemmas.{has_size, count-sectors, area_after}
 use Rattle.flash_map.proofs.FormatLemmas.{on_err, spends_then}
 use Rattle.fcb_ring.proofs.MountLemmas.{mends_all, not-due}
 use Rattle.fcb_ring.proofs.CollectLemmas.{erase-lost}
+use Rattle.fcb_ring.proofs.AppendLemmas.{is_err_by}
 use Rattle.fcb_ring.proofs.FinishLemmas.{with_unit, after_erases, place-within, mended-has, finished, mounted-is, due-is, newest-place}
 use Rattle.fcb_ring.specs.Rings.{turned}
 use Rattle.fcb_ring.proofs.ring.Ring.finish.Goals as goal
+
+not_ok : {T E : Type 0} (P : Type 0) (r : Result T E) → IsErr r → OnOk r P
+not_ok P (Ok x) e = absurd (clash e)
+  where
+    clash : false ≡ true → ⊥
+    clash e = cc
+not_ok P (Err e) is = tt
+
+pub returns-in_err-erase_torn-clause-touches : goal.returns-in_err-erase_torn-clause-touches
+returns-in_err-erase_torn-clause-touches g c =
+    is_err_by c.from_residual.result (Touches (c.args.self.now.area ∷ []) (g.F.Flash.device c.args.flash.now) (g.F.Flash.device c.erase_torn.new.flash)) c.from_residual.ensures.0
+    c.in_err-erase_torn.ensures.touches
+
+pub returns-in_err-erase_torn-clause-area : goal.returns-in_err-erase_torn-clause-area
+returns-in_err-erase_torn-clause-area g c = refl
+
+pub returns-in_err-erase_torn-clause-reserve : goal.returns-in_err-erase_torn-clause-reserve
+returns-in_err-erase_torn-clause-reserve g c = refl
+
+pub returns-in_err-erase_torn-clause-stands : goal.returns-in_err-erase_torn-clause-stands
+returns-in_err-erase_torn-clause-stands g c = not_ok _ c.from_residual.result c.from_residual.ensures.0
+
+pub returns-in_err-erase_torn-clause-ready : goal.returns-in_err-erase_torn-clause-ready
+returns-in_err-erase_torn-clause-ready g c = not_ok _ c.from_residual.result c.from_residual.ensures.0
+
+pub returns-in_err-erase_torn-clause-erased : goal.returns-in_err-erase_torn-clause-erased
+returns-in_err-erase_torn-clause-erased g c = not_ok _ c.from_residual.result c.from_residual.ensures.0
+
+pub returns-in_err-erase_torn-clause-units : goal.returns-in_err-erase_torn-clause-units
+returns-in_err-erase_torn-clause-units g c = not_ok _ c.from_residual.result c.from_residual.ensures.0
+
+pub returns-in_err-erase_torn-clause-down : goal.returns-in_err-erase_torn-clause-down
+returns-in_err-erase_torn-clause-down g c = on_err c.from_residual.result refl
+
+pub returns-in_err-erase_if-clause-touches : goal.returns-in_err-erase_if-clause-touches
+returns-in_err-erase_if-clause-touches g c =
+    is_err_by c.from_residual-in_err-erase_if.result (Touches (c.args.self.now.area ∷ []) (g.F.Flash.device c.args.flash.now) (g.F.Flash.device c.erase_if.new.flash)) c.from_residual-in_err-erase_if.ensures.0
+    (then c.in_ok-erase_torn.ensures.touches c.in_err-erase_if.ensures.touches)
+
+pub returns-in_err-erase_if-clause-area : goal.returns-in_err-erase_if-clause-area
+returns-in_err-erase_if-clause-area g c = refl
+
+pub returns-in_err-erase_if-clause-reserve : goal.returns-in_err-erase_if-clause-reserve
+returns-in_err-erase_if-clause-reserve g c = refl
+
+pub returns-in_err-erase_if-clause-stands : goal.returns-in_err-erase_if-clause-stands
+returns-in_err-erase_if-clause-stands g c = not_ok _ c.from_residual-in_err-erase_if.result c.from_residual-in_err-erase_if.ensures.0
+
+pub returns-in_err-erase_if-clause-ready : goal.returns-in_err-erase_if-clause-ready
+returns-in_err-erase_if-clause-ready g c = not_ok _ c.from_residual-in_err-erase_if.result c.from_residual-in_err-erase_if.ensures.0
+
+pub returns-in_err-erase_if-clause-erased : goal.returns-in_err-erase_if-clause-erased
+returns-in_err-erase_if-clause-erased g c = not_ok _ c.from_residual-in_err-erase_if.result c.from_residual-in_err-erase_if.ensures.0
+
+pub returns-in_err-erase_if-clause-units : goal.returns-in_err-erase_if-clause-units
+returns-in_err-erase_if-clause-units g c = not_ok _ c.from_residual-in_err-erase_if.result c.from_residual-in_err-erase_if.ensures.0
+
+pub returns-in_err-erase_if-clause-down : goal.returns-in_err-erase_if-clause-down
+returns-in_err-erase_if-clause-down g c = on_err c.from_residual-in_err-erase_if.result refl
+
+pub returns-clause-touches : goal.returns-clause-touches
+returns-clause-touches g c = then c.in_ok-erase_torn.ensures.touches c.in_ok-erase_if.ensures.touches
+
+pub returns-clause-area : goal.returns-clause-area
+returns-clause-area g c = refl
+
+pub returns-clause-reserve : goal.returns-clause-reserve
+returns-clause-reserve g c = refl
+
+pub returns-clause-ready : goal.returns-clause-ready
+returns-clause-ready g c = refl
+
+pub returns-clause-down : goal.returns-clause-down
+returns-clause-down g c = tt
+
+pub returns-clause-part : goal.returns-clause-part
+returns-clause-part g c = tt
+
+pub returns-clause-bound : goal.returns-clause-bound
+returns-clause-bound g c = tt
+
+pub erase_torn-requires : goal.erase_torn-requires
+erase_torn-requires g c = c.requires.stands.area
+
+pub place-newest-requires-clause-area : goal.place-newest-requires-clause-area
+place-newest-requires-clause-area g c = c.requires.stands.area.lawful.few
 
 pub place-newest-requires-clause-oldest : goal.place-newest-requires-clause-oldest
 place-newest-requires-clause-oldest g c =

@@ -1,5 +1,5 @@
 -- Carrying out commands, one after the other.
-use Rattle.std.proofs.Common.{◌≡◌, ℕ, Bool, true, false, cond, List, [], ◌∷◌, ◌++◌, length, Option, Some, None, Result, Ok, Err, inl, inr, refl, sym, ap, subst, ◌∙◌, arith}
+use Rattle.std.proofs.Common.{◌≡◌, ◌==◌, ℕ, Bool, true, false, true≢false, cond, List, [], ◌∷◌, ◌++◌, length, Option, Some, None, Result, Ok, Err, inl, inr, refl, sym, ap, subst, ◌∙◌, arith}
 use Rattle.std.specs.Prelude.{fold, is_none, is_err}
 use Rattle.std.specs.Option.{option_map_or}
 use Rattle.std.specs.Str.{bytes_eq}
@@ -154,9 +154,9 @@ module _ (room : Room) (sectors : ℕ) (chance : Loss → Bool) (tears : Command
       (0, (refl, record { split = at_one (Del name) isnt; free = (refl, tt); stops = λ on. cut on refl }))
 
 -- the command that a name and a value stand for
-pub command_put : (name value : List ℕ) → (length value ≡ 0 → ⊥) → command_of name value ≡ Put name value
-command_put name [] some = absurd (some refl)
-command_put name (b ∷ bytes) some = refl
+pub command_some : (name value : List ℕ) → (length value == 0) ≡ false → command_of name value ≡ Put name value
+command_some name [] some = absurd (true≢false some)
+command_some name (b ∷ bytes) some = refl
 
 pub command_del : (name value : List ℕ) → length value ≡ 0 → command_of name value ≡ Del name
 command_del name [] none = refl

@@ -1,3 +1,4 @@
+pub mod CallLemmas
 pub mod CarryLemmas
 pub mod CommitLemmas
 pub mod OfferLemmas

@@ -1,9 +1,13 @@
-use Rattle.std.proofs.Common.{◌+◌, ◌<◌, List, Ok, Err, length, drop, option_map, refl, sym, subst}
+use Rattle.std.proofs.Common.{◌≡◌, ◌+◌, ◌<◌, ◌≤◌, List, Ok, Err, length, drop, option_map, refl, sym, subst, arith}
+use Rattle.std.proofs.lemmas.List.{length-map}
+use Rattle.flash_sim.specs.Device.{Device}
+use Rattle.flash_sim.specs.declared.flash.Bank.{Bank}
+use Rattle.flash_map.specs.Lawful.{IsLawfulFor}
 use Rattle.flash_map.specs.Area.{geometry_of, sectors_of, value_limit}
 use Rattle.backend_api.specs.Commands.{Command, puts_of}
 use Rattle.handlers.specs.Registry.{registered}
 use Rattle.settings_core.specs.Saving.{exported, AreLawful, CarriesOn}
-use Rattle.settings_core.proofs.SaveLemmas.{handlers_more, handlers_rest}
+use Rattle.settings_core.proofs.SaveLemmas.{handlers_more, handlers_rest, handlers_all}
 use Rattle.settings_core.proofs.SequenceLemmas.{no_carries, carries_on, stops_more}
 use Rattle.settings_core.proofs.saving.save_all.Goals as goal
 
@@ -36,3 +40,35 @@ returns-in-Err g c =
     c.save_at.new.backend (g.F.Flash.device c.args.flash.now) (g.F.Flash.device c.save_at.new.flash) l c.args.pairs.now c.save_at.new.pairs (Err c.in-Err.fault))
     (handlers_rest key handlers c.loop-i.i lt)
     (stops_more (puts_of (exported key (drop (c.loop-i.i + 1) handlers))) (carries_on c.loop-i.invariant c.in-Err.ensures))
+
+pub save_at-requires-clause-lawful : goal.save_at-requires-clause-lawful
+save_at-requires-clause-lawful g c =
+    let e : Device = g.F.Flash.device c.loop-i.flash in
+    subst (λ a. IsLawfulFor e.banks a) (sym c.loop-i.invariant.area_is)
+    (subst (λ (banks : List Bank). IsLawfulFor banks (g.K.Backend.mounted_on c.args.backend.now)) (sym c.loop-i.invariant.touches.banks) c.requires.lawful)
+
+pub save_at-requires-clause-stands : goal.save_at-requires-clause-stands
+save_at-requires-clause-stands g c = c.loop-i.invariant.goes_on refl
+
+pub save_at-requires-clause-within : goal.save_at-requires-clause-within
+save_at-requires-clause-within g c = subst (λ n. c.loop-i.i < n) c.len.ensures c.loop-i-test.true
+
+pub returns : goal.returns
+returns g c =
+    let handlers = registered (λ b. (goal.Handler-dyn g (b.vtable, b.value)).state b.value) c.args.registry.now in
+    let key = option_map (λ name. name.now) c.args.subtree in
+    let past : length handlers ≤ c.loop-i.i = subst (λ n. n ≤ c.loop-i.i) c.len.ensures c.loop-i-test.false in
+    subst (λ (l : List Command). CarriesOn {T = Unit {0}} g.K.Backend.mounted_on g.K.Backend.stands g.K.Backend.runs g.K.Backend.damage g.K.Backend.room g.K.Backend.contents g.K.Backend.chance g.K.Backend.tears (g.K.Backend.mounted_on c.args.backend.now)
+    c.loop-i.backend (g.F.Flash.device c.args.flash.now) (g.F.Flash.device c.loop-i.flash) l c.args.pairs.now c.loop-i.pairs (Ok tt))
+    (handlers_all key handlers c.loop-i.i past)
+    c.loop-i.invariant
+
+pub loop-i-smaller : goal.loop-i-smaller
+loop-i-smaller g c =
+    let handlers = registered (λ b. (goal.Handler-dyn g (b.vtable, b.value)).state b.value) c.args.registry.now in
+    let rows : length handlers ≡ length c.args.registry.now.rows.items = length-map c.args.registry.now.rows.items _ in
+    let lt : c.loop-i.i < length handlers = subst (λ n. c.loop-i.i < n) c.len.ensures c.loop-i-test.true in
+    omega (arith, lt, rows)
+
+pub overflow_add-i : goal.overflow_add-i
+overflow_add-i g c = omega (arith, c.loop-i-test.true, c.len.type_inv)

@@ -3,17 +3,26 @@ use Rattle.std.proofs.Common.{◌*◌, None}
 use Rattle.backend_api.specs.Room.{most_units}
 use Rattle.std.specs.FinMap as maps
 use Rattle.flash_map.proofs.SpendingLemmas.{most_weaker}
-use Rattle.flash_map.specs.Area.{geometry_of}
+use Rattle.flash_sim.specs.declared.flash.Bank.{Bank}
+use Rattle.flash_map.specs.declared.area.Area.{Area}
+use Rattle.flash_map.specs.Area.{geometry_of, AreApart}
+use Rattle.flash_map.specs.Lawful.{IsLawfulFor}
+use Rattle.flash_map.specs.Touches.{Touches}
+use Rattle.flash_map.proofs.Touches.{then}
+use Rattle.backend_api.specs.Ends.{set_lost}
 use Rattle.migrator.proofs.Spent.{put-all}
 use Rattle.migrator.proofs.Copies.{copying-most, copying-refused}
-use Rattle.std.proofs.Common.{ℕ, List, Option, Some, refl, ap, subst, ◌∙◌}
+use Rattle.std.proofs.Common.{◌≡◌, ℕ, [], ◌∷◌, List, Option, Some, Err, refl, sym, ap, subst, ◌∙◌}
 use Rattle.std.specs.FinMap.{get}
 use Rattle.flash_sim.specs.Device.{Device}
 use Rattle.backend_api.specs.Map.{Map, next_name}
 use Rattle.flash_map.specs.On.{on}
-use Rattle.migrator.proofs.Copies.{IsCopying, copying-start, copying-step, copying-end, source-same, has-value}
+use Rattle.migrator.proofs.Copies.{IsCopying, source-stands, stands-still, copying-start, copying-step, copying-end, source-same, has-value}
 use Rattle.migrator.proofs.Names.{left-smaller}
 use Rattle.migrator.proofs.copying.copy_all.Goals as goal
+
+lawful-still : (a d : Device) (area : Area) → d.banks ≡ a.banks → IsLawfulFor a.banks area → IsLawfulFor d.banks area
+lawful-still a d area banks lawful = subst (λ (b : List Bank). IsLawfulFor b area) (sym banks) lawful
 
 pub loop-at-init : goal.loop-at-init
 loop-at-init g c =
@@ -70,3 +79,64 @@ returns-clause-at_most g c =
     let m : Map = on g.K.Backend.contents a (g.K.Backend.mounted_on c.args.from.now) in
     let area = g.K.Backend.mounted_on c.args.to.now in
     most_weaker a (g.F.Flash.device c.loop-at.flash) (put_units m c.loop-at.at (geometry_of a area)) (maps.len m * most_units (geometry_of a area)) (put-all m c.loop-at.at (geometry_of a area)) c.loop-at.invariant.units
+
+pub next_name-at-requires-clause-lawful : goal.next_name-at-requires-clause-lawful
+next_name-at-requires-clause-lawful g c = c.requires.lawful_from
+
+pub next_name-at-requires-clause-stands : goal.next_name-at-requires-clause-stands
+next_name-at-requires-clause-stands g c = c.requires.stands_from
+
+pub copy_one-requires-clause-lawful_from : goal.copy_one-requires-clause-lawful_from
+copy_one-requires-clause-lawful_from g c = lawful-still (g.F.Flash.device c.args.flash.now) (g.F.Flash.device c.loop-at.flash) (g.K.Backend.mounted_on c.args.from.now) c.loop-at.invariant.touches.banks c.requires.lawful_from
+
+pub copy_one-requires-clause-stands_from : goal.copy_one-requires-clause-stands_from
+copy_one-requires-clause-stands_from g c = source-stands g.K.Backend.mounted_on g.K.Backend.stands g.K.Backend.contents g.K.Backend.room (g.F.Flash.device c.args.flash.now) (g.F.Flash.device c.loop-at.flash) c.args.from.now c.args.to.now c.loop-at.to c.loop-at.at c.requires.stands_from c.loop-at.invariant
+
+pub copy_one-requires-clause-lawful_to : goal.copy_one-requires-clause-lawful_to
+copy_one-requires-clause-lawful_to g c =
+    subst (λ (x : Area). IsLawfulFor (g.F.Flash.device c.loop-at.flash).banks x) (sym c.loop-at.invariant.area)
+    (lawful-still (g.F.Flash.device c.args.flash.now) (g.F.Flash.device c.loop-at.flash) (g.K.Backend.mounted_on c.args.to.now) c.loop-at.invariant.touches.banks c.requires.lawful_to)
+
+pub copy_one-requires-clause-stands_to : goal.copy_one-requires-clause-stands_to
+copy_one-requires-clause-stands_to g c = c.loop-at.invariant.stand
+
+pub copy_one-requires-clause-apart : goal.copy_one-requires-clause-apart
+copy_one-requires-clause-apart g c = subst (λ (x : Area). AreApart x (g.K.Backend.mounted_on c.args.from.now)) (sym c.loop-at.invariant.area) c.requires.apart
+
+pub copy_one-requires-clause-version : goal.copy_one-requires-clause-version
+copy_one-requires-clause-version g c = ap (λ (x : Area). x.version) c.loop-at.invariant.area ∙ c.requires.version
+
+pub returns-clause-touches : goal.returns-clause-touches
+returns-clause-touches g c = c.loop-at.invariant.touches
+
+pub returns-clause-area : goal.returns-clause-area
+returns-clause-area g c = c.loop-at.invariant.area
+
+pub returns-clause-source : goal.returns-clause-source
+returns-clause-source g c = c.loop-at.invariant.source
+
+pub returns-clause-stands : goal.returns-clause-stands
+returns-clause-stands g c = λ kept. c.loop-at.invariant.stand
+
+pub returns-in-Err-clause-area : goal.returns-in-Err-clause-area
+returns-in-Err-clause-area g c = c.in-Err.ensures.area ∙ c.loop-at.invariant.area
+
+pub returns-in-Err-clause-source : goal.returns-in-Err-clause-source
+returns-in-Err-clause-source g c = c.in-Err.ensures.source ∙ c.loop-at.invariant.source
+
+pub returns-in-Err-clause-stands : goal.returns-in-Err-clause-stands
+returns-in-Err-clause-stands g c = c.in-Err.ensures.stands
+
+pub returns-in-Err-clause-touches : goal.returns-in-Err-clause-touches
+returns-in-Err-clause-touches g c =
+    then c.loop-at.invariant.touches
+    (subst (λ (x : Area). Touches (x ∷ []) (g.F.Flash.device c.loop-at.flash) (g.F.Flash.device c.copy_one.new.flash) (set_lost {T = Unit {0}} (Err c.in-Err.fault))) c.loop-at.invariant.area c.in-Err.ensures.touches)
+
+pub next_name-at-requires-in-Some-clause-lawful : goal.next_name-at-requires-in-Some-clause-lawful
+next_name-at-requires-in-Some-clause-lawful g c =
+    lawful-still (g.F.Flash.device c.args.flash.now) (g.F.Flash.device c.copy_one.new.flash) (g.K.Backend.mounted_on c.args.from.now) (c.copy_one.ensures.touches.banks ∙ c.loop-at.invariant.touches.banks) c.requires.lawful_from
+
+pub next_name-at-requires-in-Some-clause-stands : goal.next_name-at-requires-in-Some-clause-stands
+next_name-at-requires-in-Some-clause-stands g c =
+    stands-still g.K.Backend.mounted_on g.K.Backend.stands g.K.Backend.contents g.K.Backend.room (g.F.Flash.device c.args.flash.now) (g.F.Flash.device c.copy_one.new.flash) c.args.from.now (c.copy_one.ensures.touches.banks ∙ c.loop-at.invariant.touches.banks)
+    (c.copy_one.ensures.source ∙ c.loop-at.invariant.source) c.requires.stands_from

@@ -1,4 +1,4 @@
-use Rattle.std.proofs.Common.{◌≡◌, ℕ, List, true, sym, subst, ◌∙◌}
+use Rattle.std.proofs.Common.{◌≡◌, ℕ, List, true, refl, sym, subst, ◌∙◌}
 use Rattle.std.proofs.lemmas.Bool.{false≢true}
 use Rattle.flash_sim.specs.Device.{Device}
 use Rattle.flash_map.specs.Area.{sectors_of, geometry_of}
@@ -82,3 +82,45 @@ returns-in-Some-clause-lost g c lost = c.move_to.ensures.lost lost
 
 pub returns-in-None-clause-lost : goal.returns-in-None-clause-lost
 returns-in-None-clause-lost g c lost = absurd (false≢true lost)
+
+pub move_to-requires-clause-lawful_from : goal.move_to-requires-clause-lawful_from
+move_to-requires-clause-lawful_from g c = c.requires.lawful.each c.args.active (g.K.Backend.mounted_on c.args.from.now) c.requires.there
+
+pub move_to-requires-clause-stands_from : goal.move_to-requires-clause-stands_from
+move_to-requires-clause-stands_from g c = c.requires.up
+
+pub move_to-requires-clause-mounted : goal.move_to-requires-clause-mounted
+move_to-requires-clause-mounted g c = c.requires.open_ring
+
+pub move_to-requires-clause-apart_source : goal.move_to-requires-clause-apart_source
+move_to-requires-clause-apart_source g c = c.requires.lawful.apart c.in-Some.index c.args.active c.area_at-area.result (g.K.Backend.mounted_on c.args.from.now) c.area_at-area.ensures c.requires.there c.in-Some.ensures.other
+
+pub returns-in-Some-clause-source : goal.returns-in-Some-clause-source
+returns-in-Some-clause-source g c = c.move_to.ensures.source
+
+pub returns-in-Some-clause-from : goal.returns-in-Some-clause-from
+returns-in-Some-clause-from g c =
+    let a : Device = g.F.Flash.device c.args.flash.now in
+    let e : Device = g.F.Flash.device c.move_to.new.flash in
+    stands-still g.K.Backend.mounted_on g.K.Backend.stands g.K.Backend.contents g.K.Backend.room a e c.args.from.now c.move_to.ensures.touches.banks c.move_to.ensures.source c.requires.up
+
+pub returns-in-Some-clause-area : goal.returns-in-Some-clause-area
+returns-in-Some-clause-area g c = c.move_to.ensures.area
+
+pub returns-in-None-clause-source : goal.returns-in-None-clause-source
+returns-in-None-clause-source g c = refl
+
+pub returns-in-None-clause-from : goal.returns-in-None-clause-from
+returns-in-None-clause-from g c = c.requires.up
+
+pub returns-in-None-clause-area : goal.returns-in-None-clause-area
+returns-in-None-clause-area g c = refl
+
+pub returns-in-None-clause-ends : goal.returns-in-None-clause-ends
+returns-in-None-clause-ends g c = (sym c.target.ensures.target ∙ c.in-None.is, refl)
+
+pub returns-in-None-clause-goes_on : goal.returns-in-None-clause-goes_on
+returns-in-None-clause-goes_on g c = tt
+
+pub returns-in-None-clause-stays : goal.returns-in-None-clause-stays
+returns-in-None-clause-stays g c refused = c.requires

@@ -1,4 +1,4 @@
-use Rattle.std.proofs.Common.{◌≡◌, List, map, ap, ◌∙◌, arith}
+use Rattle.std.proofs.Common.{◌≡◌, List, map, ap, ◌∙◌, arith, below_more}
 use Rattle.flash_map.specs.declared.area.Area.{Area}
 use Rattle.image_file.specs.Format.{plain_area}
 use Rattle.image_file.specs.Said.{areas_said}
@@ -18,3 +18,23 @@ pub returns : goal.returns
 returns c =
     let end : c.loop-i.i ≡ c.args.count = omega arith in
     (c.loop-i.invariant.said ∙ ap (areas_said c.args.bytes.now) end, all_rows c.args.bytes.now AreaAt c.args.count (λ k below. c.loop-i.invariant.holds k (omega arith)))
+
+pub read_area-requires-clause-version : goal.read_area-requires-clause-version
+read_area-requires-clause-version c = c.requires.version
+
+pub read_area-requires-clause-few_banks : goal.read_area-requires-clause-few_banks
+read_area-requires-clause-few_banks c = c.requires.few_banks
+
+pub read_area-requires-clause-banks : goal.read_area-requires-clause-banks
+read_area-requires-clause-banks c = c.requires.banks
+
+pub read_area-requires-clause-areas : goal.read_area-requires-clause-areas
+read_area-requires-clause-areas c = c.loop-i.invariant.said
+
+pub read_area-requires-clause-there : goal.read_area-requires-clause-there
+read_area-requires-clause-there c = c.loop-i.invariant.there
+
+pub loop-i-preserved : goal.loop-i-preserved
+loop-i-preserved c =
+    let here = c.in_ok-read_area.ensures in
+    record { said = here.0; holds = below_more _ _ c.loop-i.invariant.holds here.1; there = omega (arith, here.1.whole) }

@@ -3,6 +3,7 @@ use Rattle.std.proofs.Common.{◌≡◌, ℕ, ◌+◌, ◌-◌, ◌*◌, ◌<◌
 use Rattle.std.specs.Prelude.{◌==◌, nat_le, sum_by}
 use Rattle.std.specs.FinMap.{get, insert, contains_key, len, entries}
 use Rattle.std.proofs.lemmas.Bool.Decides.{nat_tests}
+use Rattle.pair_laws.specs.Costs.{items_cost}
 use Rattle.pair_laws.specs.Items.{Items}
 use Rattle.backend_api.specs.Map.{Map, IsStored}
 use Rattle.backend_api.specs.Ends.{FindsNoSpace}
@@ -10,7 +11,7 @@ use Rattle.item_store.specs.Ends as stored
 use Rattle.item_pairs.specs.PairRoom.{pair_room}
 use Rattle.pair_store.specs.Ends.{IsFree}
 use Rattle.backend_nvs.specs.Numbers.{nvs_numbering, nvs-numbers, nvs-counts, count_of, count-few, is_count, too_many, IsFreePlace}
-use Rattle.item_pairs.specs.Cost.{items_cost, item_cost, pair_cost, settings_cost}
+use Rattle.item_pairs.specs.Cost.{item_cost, pair_cost, settings_cost}
 use Rattle.item_pairs.specs.Numbering.{Numbering, IsNumbering}
 use Rattle.item_pairs.specs.Pairs.{count_in, pair_at, settings_in, IsInside, IsPlaceOf, HasNoStrays}
 use Rattle.item_pairs.proofs.CostLemmas.{get-put, get-put_other, clean-cost, clean-distinct, map-sum}

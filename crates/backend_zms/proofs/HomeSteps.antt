@@ -3,8 +3,9 @@ use Rattle.std.proofs.Common.{◌≡◌, ◌⊎◌, ℕ, ◌+◌, ◌-◌, ◌<�
 use Rattle.std.specs.FinMap.{get}
 use Rattle.std.proofs.lemmas.Bool.{false≢true}
 use Rattle.setting_name.specs.Name.{IsName}
+use Rattle.pair_laws.specs.Costs.{items_cost}
 use Rattle.pair_laws.specs.Items.{Items}
-use Rattle.item_pairs.specs.Cost.{items_cost, item_cost, settings_cost}
+use Rattle.item_pairs.specs.Cost.{item_cost, settings_cost}
 use Rattle.item_pairs.specs.Homes.{IsBare, IsFreeHome, HomesAre}
 use Rattle.item_pairs.specs.Numbering.{Numbering}
 use Rattle.item_pairs.specs.Pairs.{pair_at, settings_in, HasName, IsAt, IsKept, IsPlaceOf, HasNoStrays}

@@ -10,10 +10,11 @@ use Rattle.std.proofs.lemmas.Bool.{cases_eq, cases_lt}
 use Rattle.std.proofs.lemmas.Cmp.{nat_cmp_total}
 use Rattle.std.proofs.lemmas.List.Sums.{sum_by-cons, sum_by-append}
 use Rattle.std.proofs.lemmas.Bool.Decides.{nat_tests}
+use Rattle.pair_laws.specs.Costs.{items_cost}
 use Rattle.pair_laws.specs.Items.{Items}
 use Rattle.backend_api.specs.Map.{Map}
 use Rattle.item_pairs.specs.Numbering.{Numbering, IsNumbering}
-use Rattle.item_pairs.specs.Cost.{items_cost, item_cost, pair_cost, settings_cost}
+use Rattle.item_pairs.specs.Cost.{item_cost, pair_cost, settings_cost}
 use Rattle.item_pairs.specs.Pairs.{count_in, pair_of, pair_at, settings_in, HasName, IsInside, IsAt, HasNoStrays}
 use Rattle.item_pairs.proofs.RangePairs.{Pair, look, pairs_on, map_on, get-on, on-agree, on-more, on-none}
 use Rattle.item_pairs.proofs.PairLemmas.{Makes, pair-made, made-pair, no-name, has-pair, one-name, settings-on}

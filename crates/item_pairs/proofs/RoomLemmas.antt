@@ -3,11 +3,12 @@ use Rattle.std.proofs.Common.{◌≡◌, ℕ, ◌+◌, ◌-◌, ◌*◌, ◌<◌
 use Rattle.std.specs.Prelude.{max}
 use Rattle.std.specs.FinMap as map
 use Rattle.std.proofs.Math.Nat.{le-max_left, le-max_right, mul-le-mul_left}
+use Rattle.pair_laws.specs.Costs.{items_cost}
 use Rattle.pair_laws.specs.Items.{Items}
 use Rattle.backend_api.specs.Map.{Map}
 use Rattle.backend_api.specs.Room.{Room, HasNoRoom}
 use Rattle.item_pairs.specs.Numbering.{Numbering, IsNumbering}
-use Rattle.item_pairs.specs.Cost.{items_cost, item_cost, settings_cost}
+use Rattle.item_pairs.specs.Cost.{item_cost, settings_cost}
 use Rattle.item_pairs.specs.Pairs.{settings_in, HasNoStrays}
 use Rattle.item_pairs.specs.PairRoom.{pair_room, IsCountCost}
 use Rattle.item_pairs.proofs.CostLemmas.{clean-cost}

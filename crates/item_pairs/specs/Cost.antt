@@ -1,14 +1,9 @@
--- What items and settings cost, by a price of the length of bytes.
+-- What an item and settings cost, by a price of the length of bytes.
 use Rattle.std.specs.Prelude.{ℕ, ◌+◌, List, length, sum_by, Option, Some, None}
 use Rattle.std.specs.FinMap.{entries}
-use Rattle.pair_laws.specs.Items.{Items}
 use Rattle.backend_api.specs.Map.{Map}
 
--- all items together, each with its bytes
-abbrev pub items_cost : (ℕ → ℕ) → Items → ℕ
-items_cost price items = sum_by (λ item. price (length item.1)) (entries items)
-
--- one that may be missing
+-- an item that may be missing
 abbrev pub item_cost : (ℕ → ℕ) → Option (List ℕ) → ℕ
 item_cost price None = 0
 item_cost price (Some bytes) = price (length bytes)

@@ -5,9 +5,9 @@
 
 ghost use Rattle.std.specs.Prelude.{◌≡◌, ◌+◌, ◌≤◌, ℕ, Bool, List, Option, Some, None};
 ghost use Rattle.std.specs.FinMap.{get, insert, remove};
+ghost use Rattle.pair_laws.specs.Costs.{items_cost};
 ghost use Rattle.pair_laws.specs.Items.{Items};
 ghost use Rattle.backend_api.specs.Map.{Map};
-ghost use Rattle.item_pairs.specs.Cost.{items_cost};
 ghost use Rattle.item_pairs.specs.Numbering.{Numbering, IsNumbering};
 ghost use Rattle.item_pairs.specs.PairRoom.{pair_room, IsCountCost};
 ghost use Rattle.item_pairs.specs.Pairs.{IsOf, count_in, pair_at, settings_in, HasName, IsInside, IsLowest, IsAt, IsKept, HasNoStrays};

@@ -3,7 +3,6 @@ pub mod BlankLemmas
 pub mod FitLemmas
 pub mod FoldLemmas
 pub mod HistoryLemmas
-pub mod ItemsCost
 pub mod LineLemmas
 pub mod MemoryLemmas
 pub mod MountLemmas

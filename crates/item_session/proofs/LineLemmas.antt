@@ -30,7 +30,7 @@ use Rattle.item_session.specs.Device.{RestsOn, rules_on, state_of, turned_on}
 use Rattle.item_session.specs.LineDone.{Keeps, LineDone, Redoes, WritesBy, powered_for}
 use Rattle.item_session.specs.Step.{Step}
 use Rattle.item_session.proofs.AccountLemmas.{at_most, kept, lost, units_most}
-use Rattle.item_session.proofs.ItemsCost.{items_cost-is}
+use Rattle.pair_laws.proofs.ItemsCost.{items_cost-is}
 use Rattle.item_session.proofs.StateLemmas.{stays_there}
 
 none_spent : (units spent : ℕ) → units ≡ 0 → units ≡ spent - spent

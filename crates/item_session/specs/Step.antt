@@ -1,8 +1,9 @@
 -- The table: which answers plain items, each with its versions, give to a line, and what they make of
 -- them. The choices are whether power is lost in a line, whether a set or a delete stands then, how
 -- many of the oldest versions are kept no more, and the units.
-use Rattle.std.specs.Prelude.{◌≡◌, ◌⊎◌, ℕ, ◌+◌, ◌-◌, ◌*◌, ◌^◌, ◌<◌, ◌≤◌, Bool, true, false, List, [], length, slice_get, sum_by, Some, None}
-use Rattle.std.specs.FinMap.{get, insert, remove, entries}
+use Rattle.std.specs.Prelude.{◌≡◌, ◌⊎◌, ℕ, ◌+◌, ◌-◌, ◌*◌, ◌^◌, ◌<◌, ◌≤◌, Bool, true, false, List, [], length, slice_get, Some, None}
+use Rattle.std.specs.FinMap.{get, insert, remove}
+use Rattle.pair_laws.specs.Costs.{items_cost}
 use Rattle.pair_laws.specs.Items.{Items, items_of}
 use Rattle.item_history.specs.Usage.{stale_cost}
 use Rattle.item_lines.specs.declared.line.Line.{Line}
@@ -57,10 +58,6 @@ most_to_set rules value = (rules.sectors - 1) * rules.round + rules.entry (lengt
 
 abbrev pub most_to_delete : Rules → ℕ
 most_to_delete rules = 1 * rules.round + rules.entry 0
-
--- what all items cost
-abbrev pub items_cost : (ℕ → ℕ) → Items → ℕ
-items_cost cost items = sum_by (λ item. cost (length item.1)) (entries items)
 
 -- ---- what becomes of the items and of their versions
 

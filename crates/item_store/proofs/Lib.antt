@@ -1,4 +1,3 @@
-pub mod ItemsCost
 pub mod MostUnits
 pub mod NvsSteps
 pub mod RingSteps

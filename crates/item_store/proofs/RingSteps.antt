@@ -19,8 +19,10 @@ use Rattle.flash_map.specs.Area.{geometry_of, unit_of, sector_at, sector_size, s
 use Rattle.flash_map.specs.Lawful.{IsLawfulFor}
 use Rattle.flash_map.specs.Spending.{SpendsAtMost, SpendsBetween}
 use Rattle.flash_map.specs.Units.{is_erased}
+use Rattle.pair_laws.specs.Costs.{items_cost}
 use Rattle.pair_laws.specs.Items.{Items, items_of}
 use Rattle.pair_laws.specs.Rounds.{live_cost}
+use Rattle.pair_laws.proofs.ItemsCost.{items_cost-is}
 use Rattle.ring_laws.specs.Area.{is_blank_at, open_sector}
 use Rattle.ring_laws.specs.Forms.{AtRest}
 use Rattle.ring_laws.proofs.AreaReads.{length-sectors}
@@ -39,11 +41,9 @@ use Rattle.ring_store.proofs.CollectSteps.{rest_from, redo_is}
 use Rattle.backend_api.specs.Ends as api
 use Rattle.backend_api.specs.Room.{removal_units}
 use Rattle.backend_api.specs.Written.{StaysWritten}
-use Rattle.item_pairs.specs.Cost.{items_cost}
 use Rattle.item_store.specs.Blank.{items-none}
 use Rattle.item_store.specs.Ends.{most_units, WriteEnds, DeleteEnds}
 use Rattle.item_store.specs.RingStore.{ring_rests, RingStands, IsFrugal}
-use Rattle.item_store.proofs.ItemsCost.{items_cost-is}
 use Rattle.item_store.proofs.MostUnits.{rounds-within, spends-none, between-most}
 
 -- ---- a store that stands

@@ -6,9 +6,9 @@ use Rattle.flash_sim.specs.declared.flash.PowerLost.{PowerLost as Lost}
 use Rattle.flash_map.specs.declared.area.Geometry.{Geometry}
 use Rattle.flash_map.specs.declared.faults.WriteFault.{WriteFault}
 use Rattle.flash_map.specs.declared.faults.WriteFault.TheVariants.{NoSpace, TooLong, PowerLost}
+use Rattle.pair_laws.specs.Costs.{items_cost}
 use Rattle.pair_laws.specs.Items.{Items}
 use Rattle.ring_laws.specs.NextIds.{IsBehind}
-use Rattle.item_pairs.specs.Cost.{items_cost}
 
 -- the most units and erases of one write or delete
 abbrev pub most_units : Geometry → ℕ

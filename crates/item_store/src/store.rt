@@ -12,12 +12,12 @@ ghost use Rattle.flash_map.specs.Lawful.{IsLawfulFor};
 ghost use Rattle.flash_map.specs.Spending.{SpendsAtMost};
 ghost use Rattle.flash_map.specs.Touches.{Touches};
 ghost use Rattle.pair_laws.specs.Bytes.{IsIdOf, IsNextOf};
+ghost use Rattle.pair_laws.specs.Costs.{items_cost};
 ghost use Rattle.pair_laws.specs.Items.{Items};
 ghost use Rattle.backend_api.specs.Ends.{MountEnds};
 ghost use Rattle.backend_api.specs.Room.{removal_units};
 ghost use Rattle.backend_api.specs.Written.{StaysWritten};
 ghost use Rattle.flash_map.specs.On.{on, HoldsOn, StandsOn};
-ghost use Rattle.item_pairs.specs.Cost.{items_cost};
 ghost use Rattle.item_store.specs.Ends.{most_items, most_units, IsNextId, WriteEnds, DeleteEnds};
 
 use flash_map::{Area, MountFault, WriteFault};

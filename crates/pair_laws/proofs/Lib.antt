@@ -1,4 +1,5 @@
 pub mod ItemLemmas
+pub mod ItemsCost
 pub mod LivePairs
 pub mod NoRoom
 pub mod Pairs

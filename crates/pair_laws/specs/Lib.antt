@@ -1,4 +1,5 @@
 pub mod Bytes
+pub mod Costs
 pub mod Items
 pub mod Live
 pub mod Rounds

@@ -6,12 +6,12 @@ use Rattle.flash_map.specs.declared.area.Area.{Area}
 use Rattle.flash_map.specs.declared.area.Geometry.{Geometry}
 use Rattle.flash_map.specs.Area.{geometry_of}
 use Rattle.flash_map.specs.On.{on}
+use Rattle.pair_laws.specs.Costs.{items_cost}
 use Rattle.pair_laws.specs.Items.{Items}
 use Rattle.backend_api.specs.Map.{Map, IsStored}
 use Rattle.backend_api.specs.Ends.{SpendsSome, Sets, FindsNoSpace}
 use Rattle.backend_api.proofs.MapLemmas.{get-insert_same}
 use Rattle.item_store.specs.Ends as stored
-use Rattle.item_pairs.specs.Cost.{items_cost}
 use Rattle.item_pairs.specs.Numbering.{Numbering, IsNumbering}
 use Rattle.item_pairs.specs.PairRoom.{pair_room, IsCountCost}
 use Rattle.item_pairs.specs.Pairs.{count_in, is_pair, pair_at, settings_in, IsAt, HasNoStrays}

@@ -9,8 +9,8 @@ use Rattle.flash_map.specs.declared.area.Area.{Area}
 use Rattle.flash_map.specs.declared.area.Geometry.{Geometry}
 use Rattle.flash_map.specs.Area.{geometry_of}
 use Rattle.flash_map.specs.On.{on}
+use Rattle.pair_laws.specs.Costs.{items_cost}
 use Rattle.pair_laws.specs.Items.{Items}
-use Rattle.item_pairs.specs.Cost.{items_cost}
 use Rattle.item_pairs.proofs.CostLemmas.{insert-cost, cut-put}
 use Rattle.item_store.specs.Ends.{WriteEnds, DeleteEnds}
 use Rattle.pair_store.specs.Ends.{IsRefused, PutsPair}

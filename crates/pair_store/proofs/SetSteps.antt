@@ -2,10 +2,10 @@
 use Rattle.std.proofs.Common.{◌≡◌, ℕ, ◌+◌, ◌<◌, ◌≤◌, Bool, true, false, List, length, Option, Some, None, is_some, refl, sym, ap, subst, ◌∙◌, inl, inr, arith}
 use Rattle.std.specs.FinMap.{get, insert, contains_key}
 use Rattle.std.proofs.lemmas.Bool.{cases_eq}
+use Rattle.pair_laws.specs.Costs.{items_cost}
 use Rattle.pair_laws.specs.Items.{Items}
 use Rattle.backend_api.specs.Map.{Map}
 use Rattle.backend_api.specs.Room.{HasNoRoom}
-use Rattle.item_pairs.specs.Cost.{items_cost}
 use Rattle.item_pairs.specs.Numbering.{Numbering, IsNumbering}
 use Rattle.item_pairs.specs.PairRoom.{pair_room, IsCountCost}
 use Rattle.item_pairs.specs.Pairs.{count_in, is_pair, pair_at, settings_in, HasName, IsInside, IsPlaceOf, HasNoStrays}

@@ -3,7 +3,7 @@ use Rattle.std.specs.Prelude.{◌≡◌, ◌⊎◌, ℕ, ◌+◌, ◌-◌, ◌*�
 use Rattle.std.specs.FinMap.{get, insert, remove}
 use Rattle.flash_map.specs.declared.faults.WriteFault.{WriteFault}
 use Rattle.flash_map.specs.declared.faults.WriteFault.TheVariants.{NoSpace, TooLong, PowerLost}
-use Rattle.item_pairs.specs.Cost.{items_cost}
+use Rattle.pair_laws.specs.Costs.{items_cost}
 use Rattle.pair_laws.specs.Items.{Items}
 
 -- Both are gone, or power was lost: then none is, or the first alone, or both.

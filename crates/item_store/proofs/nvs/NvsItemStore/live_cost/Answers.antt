@@ -2,7 +2,7 @@ use Rattle.std.proofs.Common.{◌∙◌}
 use Rattle.flash_map.specs.Area.{unit_of}
 use Rattle.nvs_store.specs.Geometry.{cost}
 use Rattle.nvs_gc.specs.Standing.{list_on}
-use Rattle.item_store.proofs.ItemsCost.{items_cost-is}
+use Rattle.pair_laws.proofs.ItemsCost.{items_cost-is}
 use Rattle.item_store.proofs.nvs.NvsItemStore.live_cost.Goals as goal
 
 pub returns : goal.returns

@@ -1,7 +1,7 @@
 use Rattle.std.proofs.Common.{◌∙◌}
 use Rattle.zms_cycle.specs.Sector.{cost}
 use Rattle.zms_store.specs.Standing.{list_on}
-use Rattle.item_store.proofs.ItemsCost.{items_cost-is}
+use Rattle.pair_laws.proofs.ItemsCost.{items_cost-is}
 use Rattle.item_store.proofs.zms.ZmsItemStore.live_cost.Goals as goal
 
 pub returns : goal.returns

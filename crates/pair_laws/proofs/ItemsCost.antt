@@ -10,12 +10,12 @@ use Rattle.std.proofs.lemmas.Bool.Decides.{nat_tests}
 use Rattle.std.proofs.lemmas.Cmp.{nat_cmp_total}
 use Rattle.std.proofs.lemmas.List.{append-nil}
 use Rattle.std.proofs.lemmas.List.Sums.{sum_by-cons}
+use Rattle.pair_laws.specs.Costs.{items_cost}
 use Rattle.pair_laws.specs.Items.{Items, last, value_of, items_of}
 use Rattle.pair_laws.specs.Live.{names, live_pairs}
 use Rattle.pair_laws.proofs.ItemLemmas.{get-items_of}
 use Rattle.pair_laws.proofs.LivePairs.{step, last-is, absent, present, live-absent}
 use Rattle.pair_laws.specs.Rounds.{copies_cost, live_cost}
-use Rattle.item_pairs.specs.Cost.{items_cost}
 
 some_none : (bytes : List ℕ) → Some bytes ≡ None → ⊥
 some_none bytes e = cc

@@ -3,7 +3,7 @@ use Rattle.std.proofs.Common.{◌≡◌, ℕ, zero, suc, ◌+◌, ◌-◌, ◌*�
 use Rattle.std.specs.Prelude.{is_some, IfSome, fold}
 use Rattle.std.specs.List.{All, filter_map, flat_map, list_any, range_with_len}
 use Rattle.std.specs.Option.{option_and_then, option_map, option_or, option_to_list}
-use Rattle.std.proofs.lemmas.Bool.{false≢true, cases_Bool, cases_eq, eqb-true, eq-eqb, ne_eqb, le-ltb, lt-ltb}
+use Rattle.std.proofs.lemmas.Bool.{false≢true, cases_Bool, cases_eq, eqb-true, ltb-true, eq-eqb, ne_eqb, le-ltb, lt-ltb}
 use Rattle.std.proofs.lemmas.List.Concat.{flat_map-cons}
 use Rattle.std.proofs.lemmas.List.Elements.{All-nil, All-cons, All-head, All-tail, All-append, All-weaker}
 use Rattle.flash_map.specs.Area.{sector_at}
@@ -23,8 +23,9 @@ use Rattle.ring_laws.proofs.RoundAt.{round-at}
 use Rattle.ring_laws.proofs.WalkLemmas.{list-split}
 use Rattle.ring_store.specs.declared.entry.Entry.{Entry}
 use Rattle.ring_store.specs.declared.entry.Placed.{Placed}
+use Rattle.ring_store.specs.declared.seen.Seen.{Seen}
 use Rattle.ring_store.specs.Kind.{Kind, IsKind, placed_at, slots, entries}
-use Rattle.ring_store.specs.Seen.{key_of, is_other, usual_id, has_bit, HasSeen, AreBehind, behind, holds_live}
+use Rattle.ring_store.specs.Seen.{key_of, is_other, is_long, usual_id, has_bit, HasSeen, IsExact, AreBehind, behind, holds_live}
 use Rattle.ring_store.proofs.CopyLoop.{are}
 
 -- ---- ids of a key
@@ -91,12 +92,28 @@ not-false true e = refl
 not-false false e = absurd (false≢true (sym e))
 
 -- usual ids
-pub usual_all : (id : ℕ) → id ≡ usual_id (key_of id) → (placed : List Placed) → list_any is_other placed ≡ false → All (λ q. key_of q.id ≡ key_of id → q.id ≡ id) placed
+usual_all : (id : ℕ) → id ≡ usual_id (key_of id) → (placed : List Placed) → list_any is_other placed ≡ false → All (λ q. key_of q.id ≡ key_of id → q.id ≡ id) placed
 usual_all id own [] plain = All-nil (λ (q : Placed). key_of q.id ≡ key_of id → q.id ≡ id)
 usual_all id own (q ∷ qs) plain =
     let here : q.id ≡ usual_id (key_of q.id) = eqb-true q.id (usual_id (key_of q.id)) (not-false (eqb q.id (usual_id (key_of q.id))) (or-left (is_other q) (list_any is_other qs) plain)) in
     All-cons (λ (q : Placed). key_of q.id ≡ key_of id → q.id ≡ id) q qs (λ same. here ∙ ap (usual_id) same ∙ sym own)
     (usual_all id own qs (or-right (is_other q) (list_any is_other qs) plain))
+
+-- ids of 16 bits
+short_all : (id : ℕ) → id < 2 ^ 16 → (placed : List Placed) → list_any is_long placed ≡ false → All (λ q. key_of q.id ≡ key_of id → q.id ≡ id) placed
+short_all id own [] short = All-nil (λ (q : Placed). key_of q.id ≡ key_of id → q.id ≡ id)
+short_all id own (q ∷ qs) short =
+    let here : q.id < 0x1_0000 = ltb-true q.id 0x1_0000 (not-false (ltb q.id 0x1_0000) (or-left (is_long q) (list_any is_long qs) short)) in
+    All-cons (λ (q : Placed). key_of q.id ≡ key_of id → q.id ≡ id) q qs (λ same. sym (key_short q.id here) ∙ same ∙ key_short id own)
+    (short_all id own qs (or-right (is_long q) (list_any is_long qs) short))
+
+-- so in both ways
+pub exact_all : (limit id : ℕ) (seen : Seen) (placed : List Placed) → HasSeen limit seen placed → IsExact seen id → All (λ q. key_of q.id ≡ key_of id → q.id ≡ id) placed
+exact_all limit id seen placed noted exact =
+    elim exact [
+      | inl (plain, own) ↦ usual_all id own placed (sym noted.others ∙ plain)
+      | inr (short, own) ↦ short_all id own placed (sym noted.longs ∙ short)
+    ]
 
 -- ---- one entry
 
@@ -176,29 +193,29 @@ module _ (k : Kind) (sectors : List (List ℕ)) (p : Placed) (later : List Place
       by_last (Some q) = ap (λ (t : Bool). eqb q.sector p.sector && eqb q.slot p.slot && t) (le-ltb 0 p.len (omega arith)) ∙ no_and (eqb q.sector p.sector && eqb q.slot p.slot)
 
   -- no id of its key is behind it
-  pub live_unseen : (limit : ℕ) (bits : List ℕ) (mixed : Bool) → HasSeen limit bits mixed later → (p.len ≡ 0 → ⊥) → has_bit bits (key_of p.id) ≡ false → true ≡ is_live (slots k) sectors p
-  live_unseen limit bits mixed seen some unseen = sym (live_last (none_from p.id later None (sym (seen.bit (key_of p.id) (key_below p.id)) ∙ unseen)) (omega arith))
+  pub live_unseen : (limit : ℕ) (seen : Seen) → HasSeen limit seen later → (p.len ≡ 0 → ⊥) → has_bit seen.bits (key_of p.id) ≡ false → true ≡ is_live (slots k) sectors p
+  live_unseen limit seen noted some unseen = sym (live_last (none_from p.id later None (sym (noted.bit (key_of p.id) (key_below p.id)) ∙ unseen)) (omega arith))
 
   -- one is, and it has no other
-  dead_from : (limit : ℕ) (bits : List ℕ) (mixed : Bool) → HasSeen limit bits mixed later → All (λ q. key_of q.id ≡ key_of p.id → q.id ≡ p.id) later → has_bit bits (key_of p.id) ≡ true → false ≡ is_live (slots k) sectors p
-  dead_from limit bits mixed seen own is_seen =
-      let some = some_from p.id later None own (sym (seen.bit (key_of p.id) (key_below p.id)) ∙ is_seen) in
+  dead_from : (limit : ℕ) (seen : Seen) → HasSeen limit seen later → All (λ q. key_of q.id ≡ key_of p.id → q.id ≡ p.id) later → has_bit seen.bits (key_of p.id) ≡ true → false ≡ is_live (slots k) sectors p
+  dead_from limit seen noted own is_seen =
+      let some = some_from p.id later None own (sym (noted.bit (key_of p.id) (key_below p.id)) ∙ is_seen) in
       elim (option_cases (last_of (slots k) p.id later)) [
         | inl none ↦ absurd (false≢true (sym (ap (λ (o : Option Placed). is_some o) none) ∙ some))
         | inr (q, is) ↦ sym (dead_by q is)
       ]
 
   -- since ids have 16 bits
-  pub live_seen : (limit : ℕ) (bits : List ℕ) (mixed : Bool) → HasSeen limit bits mixed later → limit ≤ 2 ^ 16 → p.id < limit → has_bit bits (key_of p.id) ≡ true → false ≡ is_live (slots k) sectors p
-  live_seen limit bits mixed seen short own is_seen =
+  pub live_seen : (limit : ℕ) (seen : Seen) → HasSeen limit seen later → limit ≤ 2 ^ 16 → p.id < limit → has_bit seen.bits (key_of p.id) ≡ true → false ≡ is_live (slots k) sectors p
+  live_seen limit seen noted short own is_seen =
       let all : All (λ q. key_of q.id ≡ key_of p.id → q.id ≡ p.id) later =
       All-weaker (λ (q : Placed). q.id < limit) (λ (q : Placed). key_of q.id ≡ key_of p.id → q.id ≡ p.id)
-      (λ q below same. sym (key_short q.id (omega arith)) ∙ same ∙ key_short p.id (omega arith)) later seen.known in
-      dead_from limit bits mixed seen all is_seen
+      (λ q below same. sym (key_short q.id (omega arith)) ∙ same ∙ key_short p.id (omega arith)) later noted.known in
+      dead_from limit seen noted all is_seen
 
-  -- since each is the usual one of its key
-  pub live_plain : (limit : ℕ) (bits : List ℕ) (mixed : Bool) → HasSeen limit bits mixed later → mixed ≡ false → p.id ≡ usual_id (key_of p.id) → has_bit bits (key_of p.id) ≡ true → false ≡ is_live (slots k) sectors p
-  live_plain limit bits mixed seen plain own is_seen = dead_from limit bits mixed seen (usual_all p.id own later (sym seen.others ∙ plain)) is_seen
+  -- since each is the usual one of its key, or has 16 bits
+  pub live_exact : (limit : ℕ) (seen : Seen) → HasSeen limit seen later → IsExact seen p.id → has_bit seen.bits (key_of p.id) ≡ true → false ≡ is_live (slots k) sectors p
+  live_exact limit seen noted exact is_seen = dead_from limit seen noted (exact_all limit p.id seen later noted exact) is_seen
 
 -- ---- the entry of a slot
 

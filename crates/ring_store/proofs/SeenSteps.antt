@@ -18,8 +18,9 @@ use Rattle.ring_laws.proofs.LastLemmas.{among}
 use Rattle.ring_laws.proofs.Places.{range-append, range_one}
 use Rattle.ring_store.specs.declared.entry.Entry.{Entry}
 use Rattle.ring_store.specs.declared.entry.Placed.{Placed}
+use Rattle.ring_store.specs.declared.seen.Seen.{Seen}
 use Rattle.ring_store.specs.Kind.{Kind, placed_at, slots}
-use Rattle.ring_store.specs.Seen.{key_of, is_other, has_bit, HasSeen, behind}
+use Rattle.ring_store.specs.Seen.{key_of, is_other, is_long, has_bit, HasSeen, behind}
 use Rattle.ring_store.proofs.OlderSteps.{placed_to, to_more}
 
 or-comm : (a b : Bool) → (a || b) ≡ (b || a)
@@ -72,30 +73,35 @@ set_others bytes n inside m other =
 
 -- ---- one entry more
 
-pub seen_none : (limit : ℕ) → HasSeen limit (replicate 0x2000 0) false []
-seen_none limit = record { bit = λ key below. no_bit 0x2000 key (omega arith); others = refl; known = All-nil (λ (p : Placed). p.id < limit) }
+pub seen_none : (limit : ℕ) → HasSeen limit (record { bits = replicate 0x2000 0; mixed = false; long = false }) []
+seen_none limit = record { bit = λ key below. no_bit 0x2000 key (omega arith); others = refl; longs = refl; known = All-nil (λ (p : Placed). p.id < limit) }
 
 abbrev pub Noted : List ℕ → List ℕ → ℕ → Type 0
 Noted old new id = (key : ℕ) → key < 2 ^ 16 → has_bit new key ≡ (has_bit old key || eqb (key_of id) key)
 
-pub seen_push : (limit : ℕ) (old new : List ℕ) (mixed more : Bool) (before : List Placed) (p : Placed) → p.id < limit → Noted old new p.id → more ≡ (mixed || is_other p) → HasSeen limit old mixed before → HasSeen limit new more (before ++ p ∷ [])
-seen_push limit old new mixed more before p small noted is seen = record {
-  bit = λ key below.
-      noted key below ∙ ap (λ (t : Bool). t || eqb (key_of p.id) key) (seen.bit key below)
-      ∙ ap (λ (t : Bool). list_any (λ (q : Placed). eqb (key_of q.id) key) before || t) (sym (or-false (eqb (key_of p.id) key)))
-      ∙ sym (list_any-append (λ (q : Placed). eqb (key_of q.id) key) before (p ∷ []));
-  others = is ∙ ap (λ (t : Bool). t || is_other p) seen.others
-      ∙ ap (λ (t : Bool). list_any is_other before || t) (sym (or-false (is_other p)))
-      ∙ sym (list_any-append is_other before (p ∷ []));
+-- a flag that says whether an entry of these passes a test: the entry comes behind them, or in front
+flag_push : (f : Placed → Bool) (flag more : Bool) (before : List Placed) (p : Placed) → more ≡ (flag || f p) → flag ≡ list_any f before → more ≡ list_any f (before ++ p ∷ [])
+flag_push f flag more before p is so_far =
+    is ∙ ap (λ (t : Bool). t || f p) so_far ∙ ap (λ (t : Bool). list_any f before || t) (sym (or-false (f p))) ∙ sym (list_any-append f before (p ∷ []))
+
+flag_front : (f : Placed → Bool) (flag more : Bool) (later : List Placed) (p : Placed) → more ≡ (flag || f p) → flag ≡ list_any f later → more ≡ list_any f (p ∷ later)
+flag_front f flag more later p is so_far = is ∙ ap (λ (t : Bool). t || f p) so_far ∙ or-comm (list_any f later) (f p)
+
+pub seen_push : (limit : ℕ) (old new : Seen) (before : List Placed) (p : Placed) → p.id < limit → Noted old.bits new.bits p.id → new.mixed ≡ (old.mixed || is_other p) → new.long ≡ (old.long || is_long p)
+    → HasSeen limit old before → HasSeen limit new (before ++ p ∷ [])
+seen_push limit old new before p small noted mixed long seen = record {
+  bit = λ key below. flag_push (λ q. eqb (key_of q.id) key) (has_bit old.bits key) (has_bit new.bits key) before p (noted key below) (seen.bit key below);
+  others = flag_push is_other old.mixed new.mixed before p mixed seen.others;
+  longs = flag_push is_long old.long new.long before p long seen.longs;
   known = All-append (λ (q : Placed). q.id < limit) before (p ∷ []) seen.known (All-cons (λ (q : Placed). q.id < limit) p [] small (All-nil (λ (q : Placed). q.id < limit)));
 }
 
-seen_front : (limit : ℕ) (old new : List ℕ) (mixed more : Bool) (later : List Placed) (p : Placed) → p.id < limit → Noted old new p.id → more ≡ (mixed || is_other p) → HasSeen limit old mixed later → HasSeen limit new more (p ∷ later)
-seen_front limit old new mixed more later p small noted is seen = record {
-  bit = λ key below.
-      noted key below ∙ ap (λ (t : Bool). t || eqb (key_of p.id) key) (seen.bit key below)
-      ∙ or-comm (list_any (λ (q : Placed). eqb (key_of q.id) key) later) (eqb (key_of p.id) key);
-  others = is ∙ ap (λ (t : Bool). t || is_other p) seen.others ∙ or-comm (list_any is_other later) (is_other p);
+seen_front : (limit : ℕ) (old new : Seen) (later : List Placed) (p : Placed) → p.id < limit → Noted old.bits new.bits p.id → new.mixed ≡ (old.mixed || is_other p) → new.long ≡ (old.long || is_long p)
+    → HasSeen limit old later → HasSeen limit new (p ∷ later)
+seen_front limit old new later p small noted mixed long seen = record {
+  bit = λ key below. flag_front (λ q. eqb (key_of q.id) key) (has_bit old.bits key) (has_bit new.bits key) later p (noted key below) (seen.bit key below);
+  others = flag_front is_other old.mixed new.mixed later p mixed seen.others;
+  longs = flag_front is_long old.long new.long later p long seen.longs;
   known = All-cons (λ (q : Placed). q.id < limit) p later small seen.known;
 }
 
@@ -107,12 +113,12 @@ pub seen_some : (P : List Placed → Type 0) (before : List Placed) (p : Placed)
 seen_some P before p o is seen = subst (λ (o : Option Placed). P (before ++ option_to_list o)) is seen
 
 -- in front of others
-pub seen_before : (limit : ℕ) (old new : List ℕ) (mixed more : Bool) (later : List Placed) (p : Placed) (o : Option Placed) → Some p ≡ o → p.id < limit → Noted old new p.id → more ≡ (mixed || is_other p)
-    → HasSeen limit old mixed later → HasSeen limit new more (option_to_list o ++ later)
-seen_before limit old new mixed more later p o there small noted is seen = subst (λ (o : Option Placed). HasSeen limit new more (option_to_list o ++ later)) there (seen_front limit old new mixed more later p small noted is seen)
+pub seen_before : (limit : ℕ) (old new : Seen) (later : List Placed) (p : Placed) (o : Option Placed) → Some p ≡ o → p.id < limit → Noted old.bits new.bits p.id → new.mixed ≡ (old.mixed || is_other p) → new.long ≡ (old.long || is_long p)
+    → HasSeen limit old later → HasSeen limit new (option_to_list o ++ later)
+seen_before limit old new later p o there small noted mixed long seen = subst (λ (o : Option Placed). HasSeen limit new (option_to_list o ++ later)) there (seen_front limit old new later p small noted mixed long seen)
 
-pub seen_still : (limit : ℕ) (bits : List ℕ) (mixed : Bool) (later : List Placed) (o : Option Placed) → None ≡ o → HasSeen limit bits mixed later → HasSeen limit bits mixed (option_to_list o ++ later)
-seen_still limit bits mixed later o is seen = subst (λ (o : Option Placed). HasSeen limit bits mixed (option_to_list o ++ later)) is seen
+pub seen_still : (limit : ℕ) (seen : Seen) (later : List Placed) (o : Option Placed) → None ≡ o → HasSeen limit seen later → HasSeen limit seen (option_to_list o ++ later)
+seen_still limit seen later o is noted = subst (λ (o : Option Placed). HasSeen limit seen (option_to_list o ++ later)) is noted
 
 -- ---- slot by slot, and sector by sector
 

@@ -1,5 +1,5 @@
 -- A table of last entries and a set of their ids, made from the newest entry back.
-use Rattle.std.proofs.Common.{◌≡◌, ℕ, ◌^◌, ◌<◌, ◌≤◌, Bool, true, false, not, ◌||◌, cond, eqb, List, [], ◌∷◌, ◌++◌, Option, Some, None, refl, sym, ap, subst, ◌∙◌, inl, inr, arith}
+use Rattle.std.proofs.Common.{◌≡◌, ℕ, ◌^◌, ◌<◌, ◌≤◌, Bool, true, false, not, ◌||◌, cond, eqb, ltb, List, [], ◌∷◌, ◌++◌, Option, Some, None, refl, sym, ap, subst, ◌∙◌, inl, inr, arith}
 use Rattle.std.specs.Prelude.{is_some, IfSome, fold}
 use Rattle.std.specs.List.{All, Contains, list_any}
 use Rattle.std.specs.Option.{option_map, option_or, option_to_list}
@@ -12,10 +12,10 @@ use Rattle.ring_store.specs.declared.latest.LastSlots.{LastSlots}
 use Rattle.ring_store.specs.declared.seen.Seen.{Seen}
 use Rattle.ring_store.specs.Kind.{placed_at}
 use Rattle.ring_store.specs.Latest.{last_of_id, with_bytes, IsTold, Tells, Covers}
-use Rattle.ring_store.specs.Seen.{key_of, usual_id, has_bit, HasSeen}
+use Rattle.ring_store.specs.Seen.{key_of, usual_id, has_bit, HasSeen, IsExact}
 use Rattle.ring_store.proofs.LastTables.{last-push, or-none}
 use Rattle.ring_store.proofs.SeenSteps.{or-true}
-use Rattle.ring_store.proofs.LiveSteps.{key_below, key_short, some_from, usual_all}
+use Rattle.ring_store.proofs.LiveSteps.{key_below, key_short, some_from, exact_all}
 
 -- ---- the last of an id, where one entry stands in front
 
@@ -102,17 +102,17 @@ table-some limit last id later tells told some =
 -- ---- the set
 
 -- since ids have 16 bits
-pub seen-short : (limit id : ℕ) (bits : List ℕ) (mixed : Bool) (later : List Placed) → HasSeen limit bits mixed later → limit ≤ 2 ^ 16 → id < 2 ^ 16 → has_bit bits (key_of id) ≡ true → is_some (last_of_id id later) ≡ true
-seen-short limit id bits mixed later seen short own is_seen =
+pub seen-short : (limit id : ℕ) (seen : Seen) (later : List Placed) → HasSeen limit seen later → limit ≤ 2 ^ 16 → id < 2 ^ 16 → has_bit seen.bits (key_of id) ≡ true → is_some (last_of_id id later) ≡ true
+seen-short limit id seen later noted short own is_seen =
     let all : All (λ q. key_of q.id ≡ key_of id → q.id ≡ id) later =
     All-weaker (λ (q : Placed). q.id < limit) (λ (q : Placed). key_of q.id ≡ key_of id → q.id ≡ id)
-    (λ q below same. sym (key_short q.id (omega arith)) ∙ same ∙ key_short id own) later seen.known in
-    some_from id later None all (sym (seen.bit (key_of id) (key_below id)) ∙ is_seen)
+    (λ q below same. sym (key_short q.id (omega arith)) ∙ same ∙ key_short id own) later noted.known in
+    some_from id later None all (sym (noted.bit (key_of id) (key_below id)) ∙ is_seen)
 
--- since each is the usual one of its key
-pub seen-plain : (limit id : ℕ) (bits : List ℕ) (mixed : Bool) (later : List Placed) → HasSeen limit bits mixed later → mixed ≡ false → id ≡ usual_id (key_of id) → has_bit bits (key_of id) ≡ true → is_some (last_of_id id later) ≡ true
-seen-plain limit id bits mixed later seen plain own is_seen =
-    some_from id later None (usual_all id own later (sym seen.others ∙ plain)) (sym (seen.bit (key_of id) (key_below id)) ∙ is_seen)
+-- since each is the usual one of its key, or has 16 bits
+pub seen-exact : (limit id : ℕ) (seen : Seen) (later : List Placed) → HasSeen limit seen later → IsExact seen id → has_bit seen.bits (key_of id) ≡ true → is_some (last_of_id id later) ≡ true
+seen-exact limit id seen later noted exact is_seen =
+    some_from id later None (exact_all limit id seen later noted exact) (sym (noted.bit (key_of id) (key_below id)) ∙ is_seen)
 
 -- the id of one of them is known
 some-known : (limit id : ℕ) (xs : List Placed) (o : Option Placed) → (is_some o ≡ true → id < limit) → All (λ q. q.id < limit) xs → is_some (fold (λ last p. cond (eqb p.id id) (Some p) last) o xs) ≡ true → id < limit
@@ -154,6 +154,7 @@ covers-skipped limit last seen p later some covers =
       ids = record {
         bit = λ key below. ids.bit key below ∙ sym (or-any (λ n. eqb (key_of n) key) p.id later some);
         others = ids.others ∙ sym (or-any (λ n. not (eqb n (usual_id (key_of n)))) p.id later some);
+        longs = ids.longs ∙ sym (or-any (λ n. not (ltb n 0x1_0000)) p.id later some);
         known = known-front limit p later small ids.known;
       };
     }

@@ -65,7 +65,7 @@ TellsOn kind d area last = Tells (kind_on kind d area).ids last (entries_on kind
 -- a table tells of these entries, and the ids of all of them were seen
 pub record Covers (limit : ℕ) (last : LastSlots) (seen : Seen) (placed : List Placed) : Type 0 where
   pub told : Tells limit last placed
-  pub ids : HasSeen limit seen.bits seen.mixed placed
+  pub ids : HasSeen limit seen placed
 
 -- ---- reading a table
 

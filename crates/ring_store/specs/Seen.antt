@@ -1,10 +1,11 @@
 -- Which ids some entries have, as far as a set of bits tells: a bit for each key of ids.
-use Rattle.std.specs.Prelude.{◌≡◌, ℕ, ◌+◌, ◌*◌, ◌/◌, ◌%◌, ◌^◌, ◌<◌, if◌then◌else◌, nat_lt, Bool, not, List, length, slice_index, is_some, ◌==◌, ◌∷◌, ◌++◌}
+use Rattle.std.specs.Prelude.{◌≡◌, ◌⊎◌, false, ℕ, ◌+◌, ◌*◌, ◌/◌, ◌%◌, ◌^◌, ◌<◌, if◌then◌else◌, nat_lt, Bool, not, List, length, slice_index, is_some, ◌==◌, ◌∷◌, ◌++◌}
 use Rattle.std.specs.Int.{bit_at}
 use Rattle.std.specs.List.{All, flat_map, list_any}
 use Rattle.ring_laws.specs.Live.{all_placed, counted_in, live_in}
 use Rattle.ring_laws.specs.RoundParts.{places_after}
 use Rattle.ring_store.specs.declared.entry.Placed.{Placed}
+use Rattle.ring_store.specs.declared.seen.Seen.{Seen}
 use Rattle.ring_store.specs.Kind.{Kind, slots}
 
 -- The key of an id, a number of 16 bits: of an id without bit 31 its low 16 bits, of one with it bit 30, bits 4 to 15 and bits 0
@@ -20,16 +21,26 @@ usual_id key = 0x8000_0000 + key / 0x8000 * 0x4000_0000 + key % 0x8000 / 8 * 0x1
 abbrev pub is_other : Placed → Bool
 is_other p = not (p.id == usual_id (key_of p.id))
 
+-- its id has more than 16 bits
+abbrev pub is_long : Placed → Bool
+is_long p = not (nat_lt p.id 0x1_0000)
+
 -- this bit of some bytes is set
 abbrev pub has_bit : List ℕ → ℕ → Bool
 has_bit bytes n = bit_at (slice_index bytes (n / 8)) (n % 8) == 1
 
 -- The bits are those of the keys of these entries' ids, which are below a limit; `mixed` says whether one of them is
--- another one than the usual one of its key.
-pub record HasSeen (limit : ℕ) (bits : List ℕ) (mixed : Bool) (placed : List Placed) : Type 0 where
-  pub bit : (key : ℕ) → key < 2 ^ 16 → has_bit bits key ≡ list_any (λ p. key_of p.id == key) placed
-  pub others : mixed ≡ list_any is_other placed
+-- another one than the usual one of its key, and `long` whether one has more than 16 bits.
+pub record HasSeen (limit : ℕ) (seen : Seen) (placed : List Placed) : Type 0 where
+  pub bit : (key : ℕ) → key < 2 ^ 16 → has_bit seen.bits key ≡ list_any (λ p. key_of p.id == key) placed
+  pub others : seen.mixed ≡ list_any is_other placed
+  pub longs : seen.long ≡ list_any is_long placed
   pub known : All (λ p. p.id < limit) placed
+
+-- Where the key of this id was noted, this very id was: it and each one that was noted are the usual ones of their keys, or all
+-- have 16 bits.
+abbrev pub IsExact : Seen → ℕ → Type 0
+IsExact seen id = (seen.mixed ≡ false × id ≡ usual_id (key_of id)) ⊎ (seen.long ≡ false × id < 2 ^ 16)
 
 -- the entries of the sectors behind this one, in the round to the open one
 abbrev pub behind : Kind → List (List ℕ) → ℕ → ℕ → List Placed

@@ -81,12 +81,12 @@ impl<T: SlotSectors> Store<T> {
         requires stands { StandsOn T.role T.kind T.kept (F.device flash.now) self.now }
         requires inside { place < self.now.area.sectors }
         requires seen { let d = F.device flash.now in let k = kind_on T.kind d self.now.area in
-            HasSeen k.ids seen.old.bits seen.old.mixed (behind k (sectors_of d self.now.area) self.now.current place) }
+            HasSeen k.ids seen.old (behind k (sectors_of d self.now.area) self.now.current place) }
         ensures cost { let d = F.device flash.now in let k = kind_on T.kind d self.now.area in
             result ≡ copies_cost k.cost (live_to (slots k) (sectors_of d self.now.area) place (k.count (sector_at (sectors_of d self.now.area) place))) }
         ensures small { result ≤ 2 ^ 33 }
         ensures seen { let d = F.device flash.now in let k = kind_on T.kind d self.now.area in
-            HasSeen k.ids seen.new.bits seen.new.mixed (counted_in (slots k) (sectors_of d self.now.area) self.now.current place ++ behind k (sectors_of d self.now.area) self.now.current place) }
+            HasSeen k.ids seen.new (counted_in (slots k) (sectors_of d self.now.area) self.now.current place ++ behind k (sectors_of d self.now.area) self.now.current place) }
     {
         let mut live = LiveSlots::new();
         live_by(

@@ -1,5 +1,5 @@
-// The last entries of ids, by one walk over the list of an area, from its newest entry to its oldest. Where an id is not the usual
-// one of its key, the list is searched for it besides.
+// The last entries of ids, by one walk over the list of an area, from its newest entry to its oldest. Where ids neither all have 16
+// bits nor are all the usual ones of their keys, the list is searched besides for those whose keys were seen.
 ghost use Rattle.std.specs.Prelude.{◌≡◌, ◌+◌, ◌<◌, ◌≤◌, ◌++◌, ◌∷◌, ◌^◌, ◌&&◌, ◌==◌, ℕ, List, [], true, false, None, Some, is_some, length};
 ghost use Rattle.std.specs.Option.{option_map, option_to_list};
 ghost use Rattle.std.specs.List.Sorted.{IsSearchInRange};
@@ -216,7 +216,7 @@ fn was_told<T: SlotSectors>(last: &LastSlots, seen: &Seen, id: u32) -> bool
     if T::has_short_ids() {
         return true;
     }
-    if seen.is_plain(id) {
+    if seen.is_exact(id) {
         return true;
     }
     last.has(id)
@@ -244,7 +244,7 @@ fn has_later<T: SlotSectors, F: Flash, L: Ledger>(
     requires current { let d = F.device flash.now in current ≡ open_sector (T.kind (geometry_of d area.now)).reading (sectors_of d area.now) }
     ensures { let d = F.device flash.now in let k = kind_on T.kind d area.now in
         (later : List PlacedEntry) → AreBehind k (sectors_of d area.now) placed.now later
-        → HasSeen k.ids seen.now.bits seen.now.mixed later → result ≡ is_some (last_of_id placed.now.id later) }
+        → HasSeen k.ids seen.now later → result ≡ is_some (last_of_id placed.now.id later) }
 {
     if !seen.has(placed.id) {
         return false;

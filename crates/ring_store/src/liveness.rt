@@ -90,7 +90,7 @@ fn is_live_by<T: SlotSectors, F: Flash, L: Ledger>(
     requires current { let d = F.device flash.now in current ≡ open_sector (T.kind (geometry_of d area.now)).reading (sectors_of d area.now) }
     requires known { let d = F.device flash.now in placed.now.id < (kind_on T.kind d area.now).ids }
     ensures { let d = F.device flash.now in let k = kind_on T.kind d area.now in
-        (later : List PlacedEntry) → AreBehind k (sectors_of d area.now) placed.now later → HasSeen k.ids seen.now.bits seen.now.mixed later
+        (later : List PlacedEntry) → AreBehind k (sectors_of d area.now) placed.now later → HasSeen k.ids seen.now later
         → result ≡ is_live (slots k) (sectors_of d area.now) placed.now }
 {
     if placed.len == 0 {
@@ -102,7 +102,7 @@ fn is_live_by<T: SlotSectors, F: Flash, L: Ledger>(
     if T::has_short_ids() {
         return false;
     }
-    if seen.is_plain(placed.id) {
+    if seen.is_exact(placed.id) {
         return false;
     }
     is_live(flash, area, opened, current, placed, steps)
@@ -127,10 +127,10 @@ fn look_at<T: SlotSectors, F: Flash, L: Ledger>(
     ensures live { let d = F.device flash.now in let k = kind_on T.kind d area.now in
         (later : List PlacedEntry)
         → ((p : PlacedEntry) → option_map (placed_at place) (k.in_slot (sector_at (sectors_of d area.now) place) slot) ≡ Some p → AreBehind k (sectors_of d area.now) p later)
-        → HasSeen k.ids seen.old.bits seen.old.mixed later → result ≡ holds_live k (sectors_of d area.now) place slot }
+        → HasSeen k.ids seen.old later → result ≡ holds_live k (sectors_of d area.now) place slot }
     ensures seen { let d = F.device flash.now in let k = kind_on T.kind d area.now in
-        (later : List PlacedEntry) → HasSeen k.ids seen.old.bits seen.old.mixed later
-        → HasSeen k.ids seen.new.bits seen.new.mixed (option_to_list (option_map (placed_at place) (k.in_slot (sector_at (sectors_of d area.now) place) slot)) ++ later) }
+        (later : List PlacedEntry) → HasSeen k.ids seen.old later
+        → HasSeen k.ids seen.new (option_to_list (option_map (placed_at place) (k.in_slot (sector_at (sectors_of d area.now) place) slot)) ++ later) }
 {
     match T::entry_in(flash, area, place, slot, steps) {
         Some(placed) => {
@@ -159,12 +159,12 @@ pub fn live_by<T: SlotSectors, F: Flash, L: Ledger>(
     requires current { let d = F.device flash.now in current ≡ open_sector (T.kind (geometry_of d area.now)).reading (sectors_of d area.now) }
     requires inside { place < area.now.sectors }
     requires counts { let d = F.device flash.now in counts_at (kind_on T.kind d area.now).reading (sectors_of d area.now) current place ≡ true }
-    requires seen { let d = F.device flash.now in let k = kind_on T.kind d area.now in HasSeen k.ids seen.old.bits seen.old.mixed (behind k (sectors_of d area.now) current place) }
+    requires seen { let d = F.device flash.now in let k = kind_on T.kind d area.now in HasSeen k.ids seen.old (behind k (sectors_of d area.now) current place) }
     requires none { (index : ℕ) → index < 2 ^ 15 → has_bit live.old.bits index ≡ false }
     ensures live { let d = F.device flash.now in let k = kind_on T.kind d area.now in
         (index : ℕ) → index < k.count (sector_at (sectors_of d area.now) place) → has_bit live.new.bits index ≡ holds_live k (sectors_of d area.now) place (k.first + index) }
     ensures seen { let d = F.device flash.now in let k = kind_on T.kind d area.now in
-        HasSeen k.ids seen.new.bits seen.new.mixed (counted_in (slots k) (sectors_of d area.now) current place ++ behind k (sectors_of d area.now) current place) }
+        HasSeen k.ids seen.new (counted_in (slots k) (sectors_of d area.now) current place ++ behind k (sectors_of d area.now) current place) }
 {
     let first = T::first_slot();
     let mut left = T::slots(flash, area, place, steps);

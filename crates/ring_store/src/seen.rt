@@ -1,8 +1,8 @@
 // Which ids the entries behind a place of the list have.
-ghost use Rattle.std.specs.Prelude.{◌≡◌, ◌^◌, ◌<◌, ◌||◌, ◌==◌, ℕ, [], false, not, IsTrue};
+ghost use Rattle.std.specs.Prelude.{◌≡◌, ◌^◌, ◌<◌, ◌||◌, ◌==◌, ℕ, [], not, nat_lt, IsTrue};
 ghost use Rattle.flash_map.specs.Area.{geometry_of, sectors_of, sector_at};
 ghost use Rattle.ring_store.specs.Listed.{kind_on};
-ghost use Rattle.ring_store.specs.Seen.{key_of, usual_id, has_bit, HasSeen, behind};
+ghost use Rattle.ring_store.specs.Seen.{key_of, usual_id, has_bit, HasSeen, IsExact, behind};
 ghost use Rattle.ring_store.specs.Standing.{IsStoreArea};
 
 use crate::bits::{has_bit, set_bit};
@@ -44,16 +44,19 @@ pub struct Seen {
     pub(crate) bits: [u8; BYTES],
     // some id is another one than the usual one of its key, where ids are long
     pub(crate) mixed: bool,
+    // some id has more than 16 bits
+    pub(crate) long: bool,
 }
 
 impl Seen {
     /// None so far.
     pub fn new() -> Seen
-        ensures { (limit : ℕ) → HasSeen limit result.bits result.mixed [] }
+        ensures { (limit : ℕ) → HasSeen limit result [] }
     {
         Seen {
             bits: [0; BYTES],
             mixed: false,
+            long: false,
         }
     }
 
@@ -64,12 +67,14 @@ impl Seen {
         has_bit(&self.bits, key_of(id))
     }
 
-    /// Whether this id and each one that was noted are the usual ones of their keys, where ids are long. Then one that has
-    /// the key of this id is this id.
-    pub fn is_plain(&self, id: u32) -> bool
-        ensures noted { IsTrue result → self.now.mixed ≡ false }
-        ensures own { IsTrue result → id ≡ usual_id (key_of id) }
+    /// Whether this id and each one that was noted are the usual ones of their keys, where ids are long, or all have 16 bits. Then
+    /// one that has the key of this id is this id.
+    pub fn is_exact(&self, id: u32) -> bool
+        ensures { IsTrue result → IsExact self.now id }
     {
+        if !self.long && id < 0x1_0000 {
+            return true;
+        }
         !self.mixed && id == usual_id(key_of(id))
     }
 
@@ -77,15 +82,17 @@ impl Seen {
     pub fn add(&mut self, id: u32)
         ensures bits { (key : ℕ) → key < 2 ^ 16 → has_bit self.new.bits key ≡ (has_bit self.old.bits key || (key_of id == key)) }
         ensures mixed { self.new.mixed ≡ (self.old.mixed || not (id == usual_id (key_of id))) }
+        ensures long { self.new.long ≡ (self.old.long || not (nat_lt id 0x1_0000)) }
     {
         let key = key_of(id);
         set_bit(&mut self.bits, key);
         self.mixed = self.mixed || id != usual_id(key);
+        self.long = self.long || id >= 0x1_0000;
     }
 }
 
 impl Notes for Seen {
-    ghost noted = { λ limit seen placed. HasSeen limit seen.bits seen.mixed placed };
+    ghost noted = { λ limit seen placed. HasSeen limit seen placed };
 
     fn note(&mut self, placed: &Placed) {
         self.add(placed.id);
@@ -107,7 +114,7 @@ pub fn note_behind<T: SlotSectors, F: Flash, L: Ledger>(
     requires current { current < area.now.sectors }
     requires inside { place < area.now.sectors }
     ensures { let d = F.device flash.now in let k = kind_on T.kind d area.now in
-        HasSeen k.ids seen.old.bits seen.old.mixed [] → HasSeen k.ids seen.new.bits seen.new.mixed (behind k (sectors_of d area.now) current place) }
+        HasSeen k.ids seen.old [] → HasSeen k.ids seen.new (behind k (sectors_of d area.now) current place) }
 {
     let after = place + 1;
     if place <= current {

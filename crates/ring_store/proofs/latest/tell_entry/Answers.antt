@@ -14,5 +14,5 @@ returns g c =
     let sectors : List (List ℕ) = sectors_of d area in
     λ later at covers. record {
       told = c.take_older.ensures k.ids later c.requires.known (c.has_later-older.ensures later at covers.ids) covers.told;
-      ids = seen_before k.ids c.args.seen.now.bits c.add.new.self.bits c.args.seen.now.mixed c.add.new.self.mixed later c.args.placed.now (Some c.args.placed.now) refl c.requires.known c.add.ensures.bits c.add.ensures.mixed covers.ids;
+      ids = seen_before k.ids c.args.seen.now c.add.new.self later c.args.placed.now (Some c.args.placed.now) refl c.requires.known c.add.ensures.bits c.add.ensures.mixed c.add.ensures.long covers.ids;
     }

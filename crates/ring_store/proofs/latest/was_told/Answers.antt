@@ -1,6 +1,6 @@
 use Rattle.std.proofs.Common.{sym, ◌∙◌}
 use Rattle.std.proofs.lemmas.Bool.{false≢true}
-use Rattle.ring_store.proofs.TellSteps.{seen-short, seen-plain}
+use Rattle.ring_store.proofs.TellSteps.{seen-short, seen-exact}
 use Rattle.ring_store.proofs.latest.was_told.Goals as goal
 
 pub returns-then-not-has : goal.returns-then-not-has
@@ -11,12 +11,12 @@ pub returns-then-has_short_ids : goal.returns-then-has_short_ids
 returns-then-has_short_ids g c =
     λ geometry later short covers yes_it.
     let few = c.has_short_ids.ensures.short geometry c.if-has_short_ids.true in
-    seen-short (g.T.SlotSectors.kind geometry).ids c.args.id c.args.seen.now.bits c.args.seen.now.mixed later covers.ids few (short few) (sym c.has.ensures ∙ c.if-not-has.false)
+    seen-short (g.T.SlotSectors.kind geometry).ids c.args.id c.args.seen.now later covers.ids few (short few) (sym c.has.ensures ∙ c.if-not-has.false)
 
-pub returns-then-is_plain : goal.returns-then-is_plain
-returns-then-is_plain g c =
+pub returns-then-is_exact : goal.returns-then-is_exact
+returns-then-is_exact g c =
     λ geometry later short covers yes_it.
-    seen-plain (g.T.SlotSectors.kind geometry).ids c.args.id c.args.seen.now.bits c.args.seen.now.mixed later covers.ids (c.is_plain.ensures.noted c.if-is_plain.true) (c.is_plain.ensures.own c.if-is_plain.true) (sym c.has.ensures ∙ c.if-not-has.false)
+    seen-exact (g.T.SlotSectors.kind geometry).ids c.args.id c.args.seen.now later covers.ids (c.is_exact.ensures c.if-is_exact.true) (sym c.has.ensures ∙ c.if-not-has.false)
 
 pub returns : goal.returns
 returns g c =

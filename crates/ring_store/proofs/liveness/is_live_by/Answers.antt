@@ -1,5 +1,5 @@
 use Rattle.std.proofs.Common.{ℕ, List, sym, ◌∙◌}
-use Rattle.ring_store.proofs.LiveSteps.{live_empty, live_unseen, live_seen, live_plain}
+use Rattle.ring_store.proofs.LiveSteps.{live_empty, live_unseen, live_seen, live_exact}
 use Rattle.flash_sim.specs.Device.{Device}
 use Rattle.flash_map.specs.declared.area.Area.{Area}
 use Rattle.flash_map.specs.Area.{geometry_of, sectors_of}
@@ -20,7 +20,7 @@ returns-then-not-has g c =
     let area : Area = c.args.area.now in
     let k : Kind = g.T.SlotSectors.kind (geometry_of d area) in
     let sectors : List (List ℕ) = sectors_of d area in
-    λ later at seen. live_unseen k sectors c.args.placed.now later at k.ids c.args.seen.now.bits c.args.seen.now.mixed seen c.if-placed-eq0.false
+    λ later at seen. live_unseen k sectors c.args.placed.now later at k.ids c.args.seen.now seen c.if-placed-eq0.false
     (sym c.has.ensures ∙ c.if-not-has.true)
 
 pub returns-then-has_short_ids : goal.returns-then-has_short_ids
@@ -29,16 +29,16 @@ returns-then-has_short_ids g c =
     let area : Area = c.args.area.now in
     let k : Kind = g.T.SlotSectors.kind (geometry_of d area) in
     let sectors : List (List ℕ) = sectors_of d area in
-    λ later at seen. live_seen k sectors c.args.placed.now later at k.ids c.args.seen.now.bits c.args.seen.now.mixed seen (c.has_short_ids.ensures.short (geometry_of d area) c.if-has_short_ids.true) c.requires.known
+    λ later at seen. live_seen k sectors c.args.placed.now later at k.ids c.args.seen.now seen (c.has_short_ids.ensures.short (geometry_of d area) c.if-has_short_ids.true) c.requires.known
     (sym c.has.ensures ∙ c.if-not-has.false)
 
-pub returns-then-is_plain : goal.returns-then-is_plain
-returns-then-is_plain g c =
+pub returns-then-is_exact : goal.returns-then-is_exact
+returns-then-is_exact g c =
     let d : Device = g.F.Flash.device c.args.flash.now in
     let area : Area = c.args.area.now in
     let k : Kind = g.T.SlotSectors.kind (geometry_of d area) in
     let sectors : List (List ℕ) = sectors_of d area in
-    λ later at seen. live_plain k sectors c.args.placed.now later at k.ids c.args.seen.now.bits c.args.seen.now.mixed seen (c.is_plain.ensures.noted c.if-is_plain.true) (c.is_plain.ensures.own c.if-is_plain.true)
+    λ later at seen. live_exact k sectors c.args.placed.now later at k.ids c.args.seen.now seen (c.is_exact.ensures c.if-is_exact.true)
     (sym c.has.ensures ∙ c.if-not-has.false)
 
 pub returns : goal.returns

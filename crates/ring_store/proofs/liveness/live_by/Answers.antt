@@ -25,7 +25,7 @@ loop-left-init g c =
     let long = length-sectors d area in
     record {
       within = omega arith;
-      seen = subst (HasSeen k.ids c.args.seen.now.bits c.args.seen.now.mixed) (later_none k law sectors c.args.current c.args.place ∙ ap (later_at k law sectors c.args.current c.args.place) (sym count)) c.requires.seen;
+      seen = subst (HasSeen k.ids c.args.seen.now) (later_none k law sectors c.args.current c.args.place ∙ ap (later_at k law sectors c.args.current c.args.place) (sym count)) c.requires.seen;
       dead = λ index under. c.requires.none index (omega (arith, c.slots-left.ensures.few));
       live = λ index from under. absurd (omega arith);
     }
@@ -83,7 +83,7 @@ loop-left-preserved g c =
     let n : ℕ = c.loop-left.left - 1 in
     let slot : c.first_slot-first.result + (c.loop-left.left - 1) ≡ k.first + (c.loop-left.left - 1) = omega arith in
     let up : c.loop-left.left ≡ c.loop-left.left - 1 + 1 = omega arith in
-    let there : HasSeen k.ids c.loop-left.seen.bits c.loop-left.seen.mixed (later_at k law sectors c.args.current c.args.place (c.loop-left.left - 1 + 1)) = subst (λ (m : ℕ). HasSeen k.ids c.loop-left.seen.bits c.loop-left.seen.mixed (later_at k law sectors c.args.current c.args.place m)) up now.seen in
+    let there : HasSeen k.ids c.loop-left.seen (later_at k law sectors c.args.current c.args.place (c.loop-left.left - 1 + 1)) = subst (λ (m : ℕ). HasSeen k.ids c.loop-left.seen (later_at k law sectors c.args.current c.args.place m)) up now.seen in
     let entry : Option Placed = option_map (placed_at c.args.place) (k.in_slot (sector_at sectors c.args.place) (k.first + (c.loop-left.left - 1))) in
     let is_live : c.look_at-is.result ≡ holds_live k sectors c.args.place (k.first + (c.loop-left.left - 1)) =
     c.look_at-is.ensures.live (later_at k law sectors c.args.current c.args.place (c.loop-left.left - 1 + 1))
@@ -91,7 +91,7 @@ loop-left-preserved g c =
     ∙ ap (holds_live k sectors c.args.place) slot in
     record {
       within = omega arith;
-      seen = subst (HasSeen k.ids c.look_at-is.new.seen.bits c.look_at-is.new.seen.mixed)
+      seen = subst (HasSeen k.ids c.look_at-is.new.seen)
           (ap (λ (j : ℕ). option_to_list (option_map (placed_at c.args.place) (k.in_slot (sector_at sectors c.args.place) j)) ++ later_at k law sectors c.args.current c.args.place (c.loop-left.left - 1 + 1)) slot ∙ later_step k law sectors c.args.current c.args.place (c.loop-left.left - 1) (omega arith))
           (c.look_at-is.ensures.seen (later_at k law sectors c.args.current c.args.place (c.loop-left.left - 1 + 1)) there);
       dead = λ index under. c.put.ensures.others index (λ (e : index ≡ c.loop-left.left - 1). absurd (omega arith)) ∙ now.dead index (omega arith);
@@ -129,4 +129,4 @@ returns-clause-seen g c =
     let low = open_inside k d area c.args.current c.requires.area.lawful c.requires.current in
     let long = length-sectors d area in
     let none : c.loop-left.left ≡ 0 = omega arith in
-    subst (HasSeen k.ids c.loop-left.seen.bits c.loop-left.seen.mixed) (ap (later_at k law sectors c.args.current c.args.place) none ∙ later_all k law sectors c.args.current c.args.place c.requires.counts) c.loop-left.invariant.seen
+    subst (HasSeen k.ids c.loop-left.seen) (ap (later_at k law sectors c.args.current c.args.place) none ∙ later_all k law sectors c.args.current c.args.place c.requires.counts) c.loop-left.invariant.seen

@@ -10,7 +10,7 @@ abbrev pub invariant-loop-left : goal.invariant-loop-left
 invariant-loop-left g l = record {
   within : l.left ≤ (kind_on g.T.SlotSectors.kind (g.F.Flash.device l.flash) l.area).count (sector_at (sectors_of (g.F.Flash.device l.flash) l.area) l.place);
   seen : let k = kind_on g.T.SlotSectors.kind (g.F.Flash.device l.flash) l.area in let b = sector_at (sectors_of (g.F.Flash.device l.flash) l.area) l.place in
-      HasSeen k.ids l.seen.bits l.seen.mixed (map (placed_at l.place) (entries_from (slots k) b (k.first + l.left) (k.count b - l.left)) ++ behind k (sectors_of (g.F.Flash.device l.flash) l.area) l.current l.place);
+      HasSeen k.ids l.seen (map (placed_at l.place) (entries_from (slots k) b (k.first + l.left) (k.count b - l.left)) ++ behind k (sectors_of (g.F.Flash.device l.flash) l.area) l.current l.place);
   dead : (index : ℕ) → index < l.left → has_bit l.live.bits index ≡ false;
   live : (index : ℕ) → l.left ≤ index → index < (kind_on g.T.SlotSectors.kind (g.F.Flash.device l.flash) l.area).count (sector_at (sectors_of (g.F.Flash.device l.flash) l.area) l.place)
       → has_bit l.live.bits index ≡ holds_live (kind_on g.T.SlotSectors.kind (g.F.Flash.device l.flash) l.area) (sectors_of (g.F.Flash.device l.flash) l.area) l.place ((kind_on g.T.SlotSectors.kind (g.F.Flash.device l.flash) l.area).first + index);

@@ -28,7 +28,7 @@ returns-in-Some-clause-seen g c =
     let area : Area = c.args.area.now in
     let k : Kind = g.T.SlotSectors.kind (geometry_of d area) in
     let sectors : List (List ℕ) = sectors_of d area in
-    λ later seen. seen_before k.ids c.args.seen.now.bits c.add.new.self.bits c.args.seen.now.mixed c.add.new.self.mixed later c.in-Some.placed (option_map (placed_at c.args.place) (k.in_slot (sector_at sectors c.args.place) c.args.slot)) (sym c.in-Some.is ∙ c.entry_in.ensures.entry) c.in-Some.ensures.small c.add.ensures.bits c.add.ensures.mixed seen
+    λ later seen. seen_before k.ids c.args.seen.now c.add.new.self later c.in-Some.placed (option_map (placed_at c.args.place) (k.in_slot (sector_at sectors c.args.place) c.args.slot)) (sym c.in-Some.is ∙ c.entry_in.ensures.entry) c.in-Some.ensures.small c.add.ensures.bits c.add.ensures.mixed c.add.ensures.long seen
 
 pub returns-in-None-clause-live : goal.returns-in-None-clause-live
 returns-in-None-clause-live g c =
@@ -44,4 +44,4 @@ returns-in-None-clause-seen g c =
     let area : Area = c.args.area.now in
     let k : Kind = g.T.SlotSectors.kind (geometry_of d area) in
     let sectors : List (List ℕ) = sectors_of d area in
-    λ later seen. seen_still k.ids c.args.seen.now.bits c.args.seen.now.mixed later (option_map (placed_at c.args.place) (k.in_slot (sector_at sectors c.args.place) c.args.slot)) (sym c.in-None.is ∙ c.entry_in.ensures.entry) seen
+    λ later seen. seen_still k.ids c.args.seen.now later (option_map (placed_at c.args.place) (k.in_slot (sector_at sectors c.args.place) c.args.slot)) (sym c.in-None.is ∙ c.entry_in.ensures.entry) seen

@@ -19,7 +19,7 @@ returns-then-place-current g c =
     let area : Area = c.args.area.now in
     let k : Kind = g.T.SlotSectors.kind (geometry_of d area) in
     let sectors : List (List ℕ) = sectors_of d area in
-    λ seen. subst (HasSeen k.ids c.note_among.new.notes.bits c.note_among.new.notes.mixed) (behind_near k sectors c.args.current c.args.place c.if-place-current.true) (c.note_among.ensures [] seen)
+    λ seen. subst (HasSeen k.ids c.note_among.new.notes) (behind_near k sectors c.args.current c.args.place c.if-place-current.true) (c.note_among.ensures [] seen)
 
 pub returns : goal.returns
 returns g c =
@@ -27,5 +27,5 @@ returns g c =
     let area : Area = c.args.area.now in
     let k : Kind = g.T.SlotSectors.kind (geometry_of d area) in
     let sectors : List (List ℕ) = sectors_of d area in
-    λ seen. subst (HasSeen k.ids c.note_among-3.new.notes.bits c.note_among-3.new.notes.mixed) (behind_far k sectors c.args.current c.args.place area.sectors (omega arith) (sym (length-sectors d area)))
+    λ seen. subst (HasSeen k.ids c.note_among-3.new.notes) (behind_far k sectors c.args.current c.args.place area.sectors (omega arith) (sym (length-sectors d area)))
     (c.note_among-3.ensures (among (slots k) sectors c.args.current (c.args.place + 1) (area.sectors - (c.args.place + 1))) (c.note_among-2.ensures [] seen))

@@ -35,7 +35,7 @@ loop-place-init g c =
     let old : c.next-oldest.result ≡ after (length sectors) c.args.self.now.current = c.next-oldest.ensures.value ∙ next_there d area c.args.self.now.current in
     record {
       within = omega arith;
-      seen = subst (HasSeen k.ids c.new-seen.result.bits c.new-seen.result.mixed) (sym (start_seen k sectors c.args.self.now.current low)) (c.new-seen.ensures k.ids);
+      seen = subst (HasSeen k.ids c.new-seen.result) (sym (start_seen k sectors c.args.self.now.current low)) (c.new-seen.ensures k.ids);
       cost = start_cost k sectors c.args.self.now.current low;
       small = (let start : left area.sectors c.args.self.now.current c.args.self.now.current ≡ c.args.self.now.current + (area.sectors - (c.args.self.now.current + 1)) = ap (λ (t : Bool). cond t (c.args.self.now.current - (c.args.self.now.current + 1)) (c.args.self.now.current + (area.sectors - (c.args.self.now.current + 1)))) (le-ltb c.args.self.now.current c.args.self.now.current (omega arith)) in omega arith);
     }
@@ -80,7 +80,7 @@ loop-place-preserved g c =
     let back : c.previous-place.result ≡ before (length sectors) c.loop-place.place = c.previous-place.ensures.value ∙ previous_there d area c.loop-place.place in
     record {
       within = c.previous-place.ensures.within;
-      seen = subst (HasSeen k.ids c.cost_in-cost.new.seen.bits c.cost_in-cost.new.seen.mixed) (more_seen k sectors c.args.self.now.current low c.loop-place.place inside apart ∙ ap (behind k sectors c.args.self.now.current) (sym back)) c.cost_in-cost.ensures.seen;
+      seen = subst (HasSeen k.ids c.cost_in-cost.new.seen) (more_seen k sectors c.args.self.now.current low c.loop-place.place inside apart ∙ ap (behind k sectors c.args.self.now.current) (sym back)) c.cost_in-cost.ensures.seen;
       cost = (let own = c.cost_in-cost.ensures.cost in let before_it = now.cost in let more = more_cost k sectors c.args.self.now.current low c.loop-place.place inside apart in
           let sum : c.loop-place.cost + c.cost_in-cost.result ≡ cost_behind k sectors c.args.self.now.current low (before (length sectors) c.loop-place.place) = omega arith in sum ∙ ap (cost_behind k sectors c.args.self.now.current low) (sym back));
       small = (let less : left area.sectors c.args.self.now.current c.previous-place.result < left area.sectors c.args.self.now.current c.loop-place.place = subst (λ (p : ℕ). left area.sectors c.args.self.now.current p < left area.sectors c.args.self.now.current c.loop-place.place) (sym (c.previous-place.ensures.value))
@@ -145,4 +145,4 @@ cost_in-requires-clause-seen g c =
     let low : c.args.self.now.current < length sectors = (let within = current_on g.T.SlotSectors.role g.T.SlotSectors.kind g.T.SlotSectors.kept d c.args.self.now law (g.met.F.Flash.is_lawful c.args.flash.now) c.requires in omega arith) in
     let old : c.next-oldest.result ≡ after (length sectors) c.args.self.now.current = c.next-oldest.ensures.value ∙ next_there d area c.args.self.now.current in
     let at : c.loop-place.place ≡ c.next-oldest.result = c.loop-place-test.false in
-    subst (λ (p : ℕ). HasSeen k.ids c.loop-place.seen.bits c.loop-place.seen.mixed (behind k sectors c.args.self.now.current p)) at c.loop-place.invariant.seen
+    subst (λ (p : ℕ). HasSeen k.ids c.loop-place.seen (behind k sectors c.args.self.now.current p)) at c.loop-place.invariant.seen

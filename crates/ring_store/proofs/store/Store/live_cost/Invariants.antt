@@ -10,7 +10,7 @@ use Rattle.ring_store.proofs.store.Store.live_cost.Given as goal
 abbrev pub invariant-loop-place : goal.invariant-loop-place
 invariant-loop-place g l = record {
   within : l.place < l.self.area.sectors;
-  seen : HasSeen (kind_on g.T.SlotSectors.kind (g.F.Flash.device l.flash) l.self.area).ids l.seen.bits l.seen.mixed (behind (kind_on g.T.SlotSectors.kind (g.F.Flash.device l.flash) l.self.area) (sectors_of (g.F.Flash.device l.flash) l.self.area) l.self.current l.place);
+  seen : HasSeen (kind_on g.T.SlotSectors.kind (g.F.Flash.device l.flash) l.self.area).ids l.seen (behind (kind_on g.T.SlotSectors.kind (g.F.Flash.device l.flash) l.self.area) (sectors_of (g.F.Flash.device l.flash) l.self.area) l.self.current l.place);
   cost : l.cost ≡ sum_by (sector_costs (kind_on g.T.SlotSectors.kind (g.F.Flash.device l.flash) l.self.area) (sectors_of (g.F.Flash.device l.flash) l.self.area)) (places_after (length (sectors_of (g.F.Flash.device l.flash) l.self.area)) l.self.current l.place);
   small : l.cost + left l.self.area.sectors l.self.current l.place * 2 ^ 33 ≤ l.self.area.sectors * 2 ^ 33;
 }

@@ -1,24 +1,24 @@
 pub mod Blank
-pub mod BodyAt
-pub mod BodyOf
-pub mod Collected
-pub mod CopySteps
-pub mod CostSteps
-pub mod Ends
-pub mod FrontNames
-pub mod FrontWalk
-pub mod GatherSteps
-pub mod Limits
-pub mod LookupSteps
-pub mod MountUnits
-pub mod NameSteps
-pub mod PartLists
+mod BodyAt
+mod BodyOf
+mod Collected
+mod CopySteps
+mod CostSteps
+mod Ends
+mod FrontNames
+mod FrontWalk
+mod GatherSteps
+mod Limits
+mod LookupSteps
+mod MountUnits
+mod NameSteps
+mod PartLists
 pub mod PutsCosts
-pub mod PutSteps
-pub mod RingLists
-pub mod SectorLists
-pub mod TableLaws
-pub mod TestBanks
-pub mod TryLemmas
+mod PutSteps
+mod RingLists
+mod SectorLists
+mod TableLaws
+mod TestBanks
+mod TryLemmas
 pub mod WalkLemmas
-pub mod Tearing
+mod Tearing

@@ -1,3 +1,3 @@
-pub mod CountSteps
-pub mod FormatSteps
-pub mod TestBanks
+mod CountSteps
+mod FormatSteps
+mod TestBanks

@@ -1,4 +1,4 @@
-pub mod BackendSteps
-pub mod GroupLemmas
-pub mod HomeSteps
-pub mod Vectors
+mod BackendSteps
+mod GroupLemmas
+mod HomeSteps
+mod Vectors

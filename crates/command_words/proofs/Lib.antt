@@ -1,6 +1,6 @@
-pub mod CommandLemmas
-pub mod FormTable
-pub mod FormWalk
-pub mod FoundLemmas
-pub mod OperandWalk
-pub mod ToolLemmas
+mod CommandLemmas
+mod FormTable
+mod FormWalk
+mod FoundLemmas
+mod OperandWalk
+mod ToolLemmas

@@ -1,13 +1,13 @@
 pub mod ItemLemmas
-pub mod PartLemmas
-pub mod KeptLemmas
-pub mod MountSteps
-pub mod PutSteps
-pub mod GrownSteps
-pub mod FrontLemmas
-pub mod EndLemmas
-pub mod DropSteps
-pub mod CountSteps
-pub mod FullLemmas
+mod PartLemmas
+mod KeptLemmas
+mod MountSteps
+mod PutSteps
+mod GrownSteps
+mod FrontLemmas
+mod EndLemmas
+mod DropSteps
+mod CountSteps
+mod FullLemmas
 pub mod LogSteps
 pub mod ScriptLemmas

@@ -5,21 +5,21 @@ pub mod PlaceLemmas
 pub mod RingLemmas
 pub mod AreaLemmas
 pub mod StandLemmas
-pub mod Examples
+mod Examples
 pub mod MountLemmas
-pub mod FinishLemmas
+mod FinishLemmas
 pub mod NextLemmas
 pub mod ReadLemmas
 pub mod LayLemmas
 pub mod TestBank
 pub mod ImageLemmas
-pub mod GrowLemmas
+mod GrowLemmas
 pub mod HeaderLemmas
 pub mod OpenLemmas
 pub mod NewestLemmas
-pub mod BuildLemmas
-pub mod OpeningLemmas
-pub mod PuttingLemmas
+mod BuildLemmas
+mod OpeningLemmas
+mod PuttingLemmas
 pub mod CollectLemmas
 pub mod AppendLemmas
 pub mod OthersLemmas

@@ -1,1 +1,1 @@
-pub mod TestBed
+mod TestBed

@@ -16,5 +16,5 @@ pub mod Sequence
 pub mod SpendingBounds
 pub mod SpendingLemmas
 pub mod Touches
-pub mod WholeUnits
+mod WholeUnits
 pub mod WrittenEnds

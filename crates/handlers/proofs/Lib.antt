@@ -1,4 +1,4 @@
-pub mod BestLemmas
-pub mod LongestLemmas
-pub mod PairLemmas
-pub mod RegistryLemmas
+mod BestLemmas
+mod LongestLemmas
+mod PairLemmas
+mod RegistryLemmas

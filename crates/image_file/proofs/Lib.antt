@@ -1,11 +1,11 @@
-pub mod FieldLemmas
-pub mod ImageLemmas
-pub mod LawfulLemmas
-pub mod ReadingLemmas
-pub mod RowLemmas
+mod FieldLemmas
+mod ImageLemmas
+mod LawfulLemmas
+mod ReadingLemmas
+mod RowLemmas
 pub mod SaidLemmas
-pub mod WritingLemmas
-pub mod NumberLemmas
-pub mod SpecLemmas
+mod WritingLemmas
+mod NumberLemmas
+mod SpecLemmas
 pub mod OneSpecLemmas
 pub mod ServingLemmas

@@ -1,4 +1,4 @@
-pub mod AreaLemmas
-pub mod InputLemmas
-pub mod Endings
-pub mod WholeLemmas
+mod AreaLemmas
+mod InputLemmas
+mod Endings
+mod WholeLemmas

@@ -1,3 +1,3 @@
-pub mod AreaLemmas
-pub mod InputLemmas
-pub mod Endings
+mod AreaLemmas
+mod InputLemmas
+mod Endings

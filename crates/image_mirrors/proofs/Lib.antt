@@ -1,5 +1,5 @@
-pub mod AreaLemmas
-pub mod InputLemmas
-pub mod TellLemmas
-pub mod SoundLemmas
-pub mod Endings
+mod AreaLemmas
+mod InputLemmas
+mod TellLemmas
+mod SoundLemmas
+mod Endings

@@ -1,5 +1,5 @@
-pub mod Held
+mod Held
 pub mod Labels
-pub mod ScriptText
-pub mod Served
-pub mod Endings
+mod ScriptText
+mod Served
+mod Endings

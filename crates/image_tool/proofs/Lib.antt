@@ -1,9 +1,9 @@
-pub mod Blanks
-pub mod Ends
-pub mod Generated
-pub mod Pool
-pub mod Sound
-pub mod SoundFiles
-pub mod SoundItems
-pub mod SoundLog
-pub mod SoundMirror
+mod Blanks
+mod Ends
+mod Generated
+mod Pool
+mod Sound
+mod SoundFiles
+mod SoundItems
+mod SoundLog
+mod SoundMirror

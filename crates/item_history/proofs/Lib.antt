@@ -1,4 +1,4 @@
-pub mod FitLemmas
-pub mod SearchSteps
-pub mod UsageSteps
-pub mod VersionReads
+mod FitLemmas
+mod SearchSteps
+mod UsageSteps
+mod VersionReads

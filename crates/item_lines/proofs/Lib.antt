@@ -1,3 +1,3 @@
-pub mod NumberPairs
-pub mod TableFacts
-pub mod TableLaws
+mod NumberPairs
+mod TableFacts
+mod TableLaws

@@ -1,16 +1,16 @@
-pub mod AccountLemmas
+mod AccountLemmas
 pub mod BlankLemmas
-pub mod FitLemmas
-pub mod FoldLemmas
+mod FitLemmas
+mod FoldLemmas
 pub mod HistoryLemmas
-pub mod LineLemmas
-pub mod MemoryLemmas
-pub mod MountLemmas
-pub mod RestLemmas
-pub mod RoomLemmas
-pub mod RunLemmas
+mod LineLemmas
+mod MemoryLemmas
+mod MountLemmas
+mod RestLemmas
+mod RoomLemmas
+mod RunLemmas
 pub mod ServedLemmas
-pub mod StateLemmas
+mod StateLemmas
 pub mod ValueLemmas
 pub mod WholeLemmas
-pub mod WriteLemmas
+mod WriteLemmas

@@ -1,4 +1,4 @@
-pub mod MostUnits
-pub mod NvsSteps
-pub mod RingSteps
-pub mod ZmsSteps
+mod MostUnits
+mod NvsSteps
+mod RingSteps
+mod ZmsSteps

@@ -1,2 +1,2 @@
-pub mod TableFacts
-pub mod TableLaws
+mod TableFacts
+mod TableLaws

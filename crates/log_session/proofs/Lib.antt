@@ -1,10 +1,10 @@
-pub mod AccountLemmas
-pub mod FoldLemmas
+mod AccountLemmas
+mod FoldLemmas
 pub mod HistoryLemmas
-pub mod LineLemmas
-pub mod MountLemmas
-pub mod PutLemmas
-pub mod ReachLemmas
-pub mod RunLemmas
+mod LineLemmas
+mod MountLemmas
+mod PutLemmas
+mod ReachLemmas
+mod RunLemmas
 pub mod ServedLemmas
-pub mod WalkSteps
+mod WalkSteps

@@ -1,9 +1,9 @@
 pub mod AreaLemmas
 pub mod Values
 pub mod Latest
-pub mod Choices
-pub mod Collecting
-pub mod Putting
+mod Choices
+mod Collecting
+mod Putting
 pub mod Names
 pub mod Spent
 pub mod Copies

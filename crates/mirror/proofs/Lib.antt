@@ -1,15 +1,15 @@
-pub mod BothSteps
-pub mod CommandSteps
-pub mod Comparisons
-pub mod FitLemmas
-pub mod KeepSteps
-pub mod MapSteps
-pub mod MirrorEnds
-pub mod MountSteps
-pub mod ReadLemmas
-pub mod RepairSteps
-pub mod SideLemmas
-pub mod SideSteps
-pub mod Totals
-pub mod TrustSteps
-pub mod Walks
+mod BothSteps
+mod CommandSteps
+mod Comparisons
+mod FitLemmas
+mod KeepSteps
+mod MapSteps
+mod MirrorEnds
+mod MountSteps
+mod ReadLemmas
+mod RepairSteps
+mod SideLemmas
+mod SideSteps
+mod Totals
+mod TrustSteps
+mod Walks

@@ -1,21 +1,21 @@
-pub mod AccountLemmas
-pub mod BlankLemmas
-pub mod ChangeLemmas
-pub mod CommandLines
-pub mod CutLemmas
-pub mod EmptyLemmas
-pub mod FoldLemmas
-pub mod HeldLemmas
+mod AccountLemmas
+mod BlankLemmas
+mod ChangeLemmas
+mod CommandLines
+mod CutLemmas
+mod EmptyLemmas
+mod FoldLemmas
+mod HeldLemmas
 pub mod MountLemmas
 pub mod PlaceLemmas
 pub mod PowerLemmas
 pub mod PrefixLemmas
-pub mod QuietLemmas
-pub mod ReadyLemmas
-pub mod ReplaceLemmas
-pub mod RunLemmas
-pub mod SelectorLemmas
+mod QuietLemmas
+mod ReadyLemmas
+mod ReplaceLemmas
+mod RunLemmas
+mod SelectorLemmas
 pub mod ServedLemmas
-pub mod SideLemmas
+mod SideLemmas
 pub mod SoundLemmas
-pub mod TellLemmas
+mod TellLemmas

@@ -1,1 +1,1 @@
-pub mod PriceLemmas
+mod PriceLemmas

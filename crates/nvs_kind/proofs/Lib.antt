@@ -1,4 +1,4 @@
 pub mod FindLemmas
 pub mod KindLemmas
 pub mod StepLemmas
-pub mod UnitRows
+mod UnitRows

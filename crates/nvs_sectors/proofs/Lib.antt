@@ -1,2 +1,2 @@
-pub mod OpenLemmas
-pub mod RoomLemmas
+mod OpenLemmas
+mod RoomLemmas

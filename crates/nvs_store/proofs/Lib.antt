@@ -1,23 +1,23 @@
 pub mod Appending
-pub mod Appends
+mod Appends
 pub mod Blank
-pub mod CallFacts
-pub mod Cuts
+mod CallFacts
+mod Cuts
 pub mod EntryBytes
 mod Examples
 pub mod FoundLemmas
-pub mod HiddenSectors
+mod HiddenSectors
 pub mod InArea
 pub mod Lookups
-pub mod MarkPutting
+mod MarkPutting
 pub mod Marks
-pub mod MountLemmas
+mod MountLemmas
 pub mod NvsEntries
-pub mod Putting
-pub mod Room
+mod Putting
+mod Room
 pub mod ScanLemmas
 pub mod SlotReads
 pub mod Sound
 pub mod Views
-pub mod Walking
+mod Walking
 pub mod WantedSlots

@@ -1,16 +1,16 @@
 pub mod ChangeSteps
 pub mod EmptySteps
 pub mod FormatSteps
-pub mod ItemSteps
+mod ItemSteps
 pub mod LookupSteps
 pub mod NewSteps
-pub mod OtherSteps
-pub mod PlaceSteps
-pub mod PutSteps
-pub mod RemovalUnits
-pub mod RemovedSteps
-pub mod SetSteps
-pub mod SoFar
+mod OtherSteps
+mod PlaceSteps
+mod PutSteps
+mod RemovalUnits
+mod RemovedSteps
+mod SetSteps
+mod SoFar
 pub mod SpendSteps
-pub mod StopSteps
+mod StopSteps
 pub mod StraySteps

@@ -1,44 +1,44 @@
-pub mod AppendFacts
+mod AppendFacts
 pub mod Areas
-pub mod AskingSteps
+mod AskingSteps
 pub mod BlankAreas
-pub mod CacheSteps
-pub mod EntrySteps
+mod CacheSteps
+mod EntrySteps
 pub mod CallFacts
 pub mod CollectSteps
 pub mod CopyLoop
 pub mod CostSteps
-pub mod LastIds
-pub mod LastTables
-pub mod LastsSlots
-pub mod LastsWalk
-pub mod ListSteps
-pub mod LiveSteps
-pub mod MountSteps
-pub mod NextSteps
+mod LastIds
+mod LastTables
+mod LastsSlots
+mod LastsWalk
+mod ListSteps
+mod LiveSteps
+mod MountSteps
+mod NextSteps
 pub mod OlderSteps
-pub mod OpenFacts
+mod OpenFacts
 pub mod Placings
-pub mod PutFacts
-pub mod PutSteps
-pub mod Ranges
+mod PutFacts
+mod PutSteps
+mod Ranges
 pub mod ReadFacts
 pub mod ReadLemmas
-pub mod Reserved
-pub mod RoomFacts
+mod Reserved
+mod RoomFacts
 pub mod RoomSteps
-pub mod RoundFacts
-pub mod RoundSteps
-pub mod SearchSteps
-pub mod SeenSteps
-pub mod SlotFacts
-pub mod Standings
-pub mod TableFacts
-pub mod TablePlaces
+mod RoundFacts
+mod RoundSteps
+mod SearchSteps
+mod SeenSteps
+mod SlotFacts
+mod Standings
+mod TableFacts
+mod TablePlaces
 pub mod VersionLemmas
-pub mod VersionSteps
-pub mod VersionWrites
-pub mod WriteSteps
-pub mod WrittenFacts
-pub mod WrittenSteps
-pub mod TellSteps
+mod VersionSteps
+mod VersionWrites
+mod WriteSteps
+mod WrittenFacts
+mod WrittenSteps
+mod TellSteps

@@ -1,14 +1,14 @@
 pub mod FieldLemmas
 pub mod FormLemmas
-pub mod TableFacts
-pub mod ScriptLemmas
+mod TableFacts
+mod ScriptLemmas
 pub mod ScriptLaws
 pub mod TextLemmas
-pub mod NameTexts
-pub mod PlanLemmas
-pub mod GeneratorLemmas
-pub mod Tokens
-pub mod WordTexts
-pub mod JsonNames
-pub mod Transcripts
+mod NameTexts
+mod PlanLemmas
+mod GeneratorLemmas
+mod Tokens
+mod WordTexts
+mod JsonNames
+mod Transcripts
 pub mod EachRead

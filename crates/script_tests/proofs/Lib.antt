@@ -1,1 +1,1 @@
-pub mod PairLemmas
+mod PairLemmas

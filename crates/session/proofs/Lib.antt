@@ -1,19 +1,19 @@
-pub mod AccountLemmas
-pub mod ActiveArea
+mod AccountLemmas
+mod ActiveArea
 pub mod ActiveAreas
-pub mod ChangeLemmas
+mod ChangeLemmas
 pub mod DamageLemmas
-pub mod FoldLemmas
-pub mod HandlerLemmas
-pub mod LineLemmas
-pub mod ListLemmas
-pub mod MountLemmas
-pub mod MountUnits
-pub mod MoveLemmas
-pub mod OpenLemmas
-pub mod PoolLemmas
-pub mod PutLemmas
-pub mod QuietLemmas
-pub mod ReadyLemmas
-pub mod SaveLemmas
-pub mod TellLemmas
+mod FoldLemmas
+mod HandlerLemmas
+mod LineLemmas
+mod ListLemmas
+mod MountLemmas
+mod MountUnits
+mod MoveLemmas
+mod OpenLemmas
+mod PoolLemmas
+mod PutLemmas
+mod QuietLemmas
+mod ReadyLemmas
+mod SaveLemmas
+mod TellLemmas

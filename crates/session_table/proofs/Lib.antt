@@ -1,9 +1,9 @@
-pub mod ActiveLemmas
+mod ActiveLemmas
 pub mod CommandLemmas
 pub mod FollowsLemmas
 pub mod PlaceLemmas
-pub mod PlainLemmas
-pub mod PowerLemmas
-pub mod PrefixLemmas
+mod PlainLemmas
+mod PowerLemmas
+mod PrefixLemmas
 pub mod RunLemmas
-pub mod TornLemmas
+mod TornLemmas

@@ -1,3 +1,3 @@
-pub mod LogBed
-pub mod TestBeds
-pub mod TestLemmas
+mod LogBed
+mod TestBeds
+mod TestLemmas

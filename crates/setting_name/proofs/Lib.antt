@@ -1,6 +1,6 @@
-pub mod Lacks
+mod Lacks
 pub mod Joins
 pub mod MatchLemmas
-pub mod Faults
+mod Faults
 pub mod KeyLemmas
 pub mod NameTest

@@ -1,15 +1,15 @@
-pub mod CallLemmas
-pub mod CarryLemmas
-pub mod CommitLemmas
-pub mod OfferLemmas
+mod CallLemmas
+mod CarryLemmas
+mod CommitLemmas
+mod OfferLemmas
 pub mod WalkLemmas
-pub mod SeatLemmas
-pub mod GiveLemmas
-pub mod LoadLemmas
-pub mod SequenceLemmas
-pub mod SaveLemmas
-pub mod ToldLemmas
-pub mod DirectLemmas
-pub mod LawLemmas
+mod SeatLemmas
+mod GiveLemmas
+mod LoadLemmas
+mod SequenceLemmas
+mod SaveLemmas
+mod ToldLemmas
+mod DirectLemmas
+mod LawLemmas
 pub mod LawfulLemmas
-pub mod StoredLemmas
+mod StoredLemmas

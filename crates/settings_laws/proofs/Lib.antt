@@ -7,5 +7,5 @@ pub mod LiveLemmas
 pub mod NextLemmas
 pub mod NoRoom
 pub mod SeekLemmas
-pub mod SpelledLemmas
+mod SpelledLemmas
 pub mod TornLemmas

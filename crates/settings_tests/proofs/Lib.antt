@@ -1,2 +1,2 @@
-pub mod TestBank
-pub mod TestLemmas
+mod TestBank
+mod TestLemmas

@@ -1,2 +1,2 @@
-pub mod NumberLemmas
+mod NumberLemmas
 pub mod PartLemmas

@@ -1,18 +1,18 @@
-pub mod Appends
-pub mod AreaFacts
-pub mod Bytes
-pub mod CloseCalls
+mod Appends
+mod AreaFacts
+mod Bytes
+mod CloseCalls
 pub mod CopyCalls
-pub mod EmptyCalls
-pub mod Ends
-pub mod EntryCalls
+mod EmptyCalls
+mod Ends
+mod EntryCalls
 pub mod ErasedSlots
 pub mod Frames
-pub mod GuardUnits
-pub mod Marks
-pub mod OverwrittenValue
-pub mod PairCalls
+mod GuardUnits
+mod Marks
+mod OverwrittenValue
+mod PairCalls
 pub mod Scanning
 pub mod SlotSearch
 pub mod Slots16
-pub mod UnitCalls
+mod UnitCalls

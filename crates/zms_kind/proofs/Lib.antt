@@ -1,12 +1,12 @@
 pub mod Damages
 pub mod EntryReads
 pub mod Erased
-pub mod Examples
-pub mod FitCosts
+mod Examples
+mod FitCosts
 pub mod KindLemmas
-pub mod MountLemmas
+mod MountLemmas
 pub mod PassedSlots
 pub mod Roomy
 pub mod Sectors
 pub mod StepLemmas
-pub mod ZmsEntries
+mod ZmsEntries

@@ -10,7 +10,7 @@ use Rattle.pair_laws.specs.Rounds.{copies_cost}
 use Rattle.ring_store.specs.declared.entry.Entry.{Entry}
 use Rattle.ring_store.specs.Kind.{LiesIn, CoversWhole, AreUnits, IsKind}
 use Rattle.ring_store.proofs.ReadLemmas as own
-use Rattle.nvs_store.specs.declared.scan.Placed.{Placed}
+use Rattle.nvs_store.specs.declared.scan.Found.{Found}
 use Rattle.nvs_store.specs.Geometry.{slot_size, cost, capacity}
 use Rattle.nvs_store.specs.Sector.{slot_at, counting_entry, pair_of}
 use Rattle.nvs_store.proofs.Blank.{reads-blank}
@@ -19,9 +19,9 @@ use Rattle.nvs_store.proofs.NvsEntries.{bytes_len, are_nvs}
 use Rattle.nvs_store.proofs.ScanLemmas.{blank-low, blank-data_end}
 use Rattle.nvs_store.proofs.SlotReads.{slot_widths}
 use Rattle.nvs_store.proofs.Sound.{sound-costs}
-use Rattle.nvs_kind.specs.Kinds.{entry_of, placed_bytes, just, units_of, kind_in}
+use Rattle.nvs_kind.specs.Kinds.{entry_of, found_bytes, just, units_of, kind_in}
 
-pub slot_is : (unit : ℕ) (b : List ℕ) (n : ℕ) (p : Placed) → counting_entry unit (slot_at unit b n) ≡ Some p → (entry_of p).slot ≡ n
+pub slot_is : (unit : ℕ) (b : List ℕ) (n : ℕ) (f : Found) → counting_entry unit (slot_at unit b n) ≡ Some f → (entry_of f).slot ≡ n
 slot_is unit b n p some = (are_nvs unit).slot b 0 n p some
 
 -- ---- what a round and a mount spend at most
@@ -99,12 +99,12 @@ units_are unit = record {
 pub nvs_is_kind : (unit : ℕ) → IsUnit unit → IsKind (kind_in unit)
 nvs_is_kind unit is-unit = record {
   reads = reads-blank unit;
-  pairs = λ b. ap (map (pair_of b)) ((are_nvs unit).listed b) ∙ own.pairs_read (λ n. counting_entry unit (slot_at unit b n)) entry_of (placed_bytes b) (slot_is unit b) (range_with_len 1 ((kind_in unit).count b));
+  pairs = λ b. ap (map (pair_of b)) ((are_nvs unit).listed b) ∙ own.pairs_read (λ n. counting_entry unit (slot_at unit b n)) entry_of (found_bytes b) (slot_is unit b) (range_with_len 1 ((kind_in unit).count b));
   reserved = λ b n e is id.
-      let t = own.read_there (λ n. counting_entry unit (slot_at unit b n)) entry_of (placed_bytes b) (slot_is unit b) n e is in
+      let t = own.read_there (λ n. counting_entry unit (slot_at unit b n)) entry_of (found_bytes b) (slot_is unit b) n e is in
       (slot-in unit b n 1 (length b) 0 t.0 (sym t.1) refl (omega arith)).ordinary (ap (λ (x : Entry). x.id) t.2 ∙ id);
-  own_slot = λ b n e is. own.slot_own (λ n. counting_entry unit (slot_at unit b n)) entry_of (placed_bytes b) (slot_is unit b) n e is;
-  long = λ b n e within from listed is. own.long_own (λ n. counting_entry unit (slot_at unit b n)) entry_of (placed_bytes b) (slot_is unit b) n e (λ p some. bytes_len unit b n p some) is;
+  own_slot = λ b n e is. own.slot_own (λ n. counting_entry unit (slot_at unit b n)) entry_of (found_bytes b) (slot_is unit b) n e is;
+  long = λ b n e within from listed is. own.long_own (λ n. counting_entry unit (slot_at unit b n)) entry_of (found_bytes b) (slot_is unit b) n e (λ p some. bytes_len unit b n p some) is;
   sound = λ b long sound. refl;
   costs = λ b long sound. sound-costs unit b sound;
   clean = λ b clean. clean;

@@ -13,23 +13,23 @@ use Rattle.nvs_store.specs.Sector.{slot_at, used_slots, counting_entry, low, dat
 use Rattle.nvs_store.specs.Scans.{reading, damage_of}
 
 -- an entry without what is its store's own
-abbrev pub entry_of : NvsPlaced → Entry
-entry_of p = record { slot = p.slot; id = p.entry.id; len = p.entry.len }
+abbrev pub entry_of : Found → Entry
+entry_of f = record { slot = f.slot; id = f.entry.id; len = f.entry.len }
 
 -- the same of one at its place
-abbrev pub placed_of : Found → Placed
-placed_of f = record { sector = f.sector; slot = f.slot; id = f.entry.id; len = f.entry.len }
+abbrev pub placed_of : NvsPlaced → Placed
+placed_of p = record { sector = p.sector; slot = p.slot; id = p.entry.id; len = p.entry.len }
 
 -- the entry at a place, as NVS reads it
-pub record ReadsAs (unit : ℕ) (sectors : List (List ℕ)) (p : Placed) (f : Found) : Type 0 where
-  pub read : counting_entry unit (slot_at unit (sector_at sectors p.sector) p.slot) ≡ Some (record { slot = f.slot; entry = f.entry })
-  pub sector : f.sector ≡ p.sector
-  pub id : f.entry.id ≡ p.id
-  pub len : f.entry.len ≡ p.len
+pub record ReadsAs (unit : ℕ) (sectors : List (List ℕ)) (p : Placed) (own : NvsPlaced) : Type 0 where
+  pub read : counting_entry unit (slot_at unit (sector_at sectors p.sector) p.slot) ≡ Some (record { slot = own.slot; entry = own.entry })
+  pub sector : own.sector ≡ p.sector
+  pub id : own.entry.id ≡ p.id
+  pub len : own.entry.len ≡ p.len
 
 -- the bytes that an entry names
-abbrev pub placed_bytes : List ℕ → NvsPlaced → List ℕ
-placed_bytes b p = slice_range b p.entry.offset (p.entry.offset + p.entry.len)
+abbrev pub found_bytes : List ℕ → Found → List ℕ
+found_bytes b f = slice_range b f.entry.offset (f.entry.offset + f.entry.len)
 
 -- a step that ends whole spends just so many, and one that is cut no more
 abbrev pub just : ℕ → Range
@@ -58,7 +58,7 @@ kind_in unit = record {
   first = 1;
   count = λ b. length (used_slots unit b);
   in_slot = λ b n. option_map entry_of (counting_entry unit (slot_at unit b n));
-  bytes = λ b n. option_map_or (placed_bytes b) (counting_entry unit (slot_at unit b n)) [];
+  bytes = λ b n. option_map_or (found_bytes b) (counting_entry unit (slot_at unit b n)) [];
   within = λ b. true;
   cost = cost unit;
   slot = slot_size unit;

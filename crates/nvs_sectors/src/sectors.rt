@@ -18,8 +18,8 @@ ghost use Rattle.ring_store.specs.Standing.{IsStoreArea};
 use flash_map::{Area, Damaged, Geometry, area_erase, geometry, sector_view};
 use flash_sim::{Flash, PowerLost, Steps};
 use nvs_store::{
-    Found, Redo, Scan, append, capacity, copy_entry, cost, counting_entry, find_in, is_blank,
-    is_closed, mount_scan, put_close, put_done, scan_sector, slot_size, used_count,
+    Placed as NvsPlaced, Redo, Scan, append, capacity, copy_entry, cost, counting_entry, find_in,
+    is_blank, is_closed, mount_scan, put_close, put_done, scan_sector, slot_size, used_count,
 };
 use ring_store::{Placed, SlotSectors};
 use std::sync::ledger::Ledger;
@@ -36,16 +36,16 @@ pub struct NvsOpen {
 }
 
 // The entry at its place, without what is its store's own.
-fn placed(found: Found) -> Placed
-    ensures value { result ≡ placed_of found }
+fn placed(own: NvsPlaced) -> Placed
+    ensures value { result ≡ placed_of own }
     ensures small { result.id < 2 ^ 16 }
     ensures short { result.len < 2 ^ 16 }
 {
     Placed {
-        sector: found.sector,
-        slot: found.slot,
-        id: found.entry.id as u32,
-        len: found.entry.len as u32,
+        sector: own.sector,
+        slot: own.slot,
+        id: own.entry.id as u32,
+        len: own.entry.len as u32,
     }
 }
 
@@ -55,7 +55,7 @@ fn read_again<F: Flash, L: Ledger>(
     area: &Area,
     at: &Placed,
     steps: &mut Steps<L>,
-) -> Found
+) -> NvsPlaced
     requires area { IsStoreArea nvs_role (F.device flash.now).banks area.now }
     requires inside { at.now.sector < area.now.sectors }
     requires listed { let d = F.device flash.now in
@@ -84,7 +84,7 @@ fn last_of(bytes: &[u8], unit: u32, place: u32, id: u32) -> Option<Placed>
         return None;
     }
     match find_in(bytes, unit, place, Some(id as u16), ALL_SLOTS) {
-        Some(found) => Some(placed(found)),
+        Some(last) => Some(placed(last)),
         None => None,
     }
 }
@@ -365,7 +365,7 @@ impl SlotSectors for NvsOpen {
         from: &Placed,
         steps: &mut Steps<L>,
     ) -> Result<(), PowerLost> {
-        let found = read_again(flash, area, from, steps);
+        let own = read_again(flash, area, from, steps);
         let mut scan = Scan {
             current: place,
             low: self.low,
@@ -373,7 +373,7 @@ impl SlotSectors for NvsOpen {
             gc_done: self.gc_done,
             redo: Redo::CollectAgain,
         };
-        copy_entry(flash, area, &mut scan, &found, steps)?;
+        copy_entry(flash, area, &mut scan, &own, steps)?;
         self.low = scan.low;
         self.data_end = scan.data_end;
         Ok(())

@@ -13,7 +13,7 @@ use Rattle.nvs_store.specs.Entries.{encoded, decoded}
 use Rattle.nvs_store.specs.Images.{after_append, after_gc_done, after_close}
 use Rattle.flash_map.specs.Units.{written_end}
 use Rattle.nvs_store.specs.Sector.{counting_entry, is_gc_done, data_end}
-use Rattle.nvs_store.specs.Scans.{all_found, damage_of, list_of, scan_of}
+use Rattle.nvs_store.specs.Scans.{all_placed, damage_of, list_of, scan_of}
 
 -- what is read of an area
 record IsRead : Type 0 where
@@ -24,7 +24,7 @@ record IsRead : Type 0 where
   list : List (ℕ × List ℕ)
 
 abbrev read : ℕ → List (List ℕ) → IsRead
-read unit sectors = record { damage = damage_of unit sectors; scan = scan_of unit sectors; places = map (λ f. (f.sector, f.slot)) (all_found unit sectors); list = list_of unit sectors }
+read unit sectors = record { damage = damage_of unit sectors; scan = scan_of unit sectors; places = map (λ f. (f.sector, f.slot)) (all_placed unit sectors); list = list_of unit sectors }
 
 -- sectors of 512 bytes
 worked-all_closed : damage_of 4 ((replicate 511 255 ++ (0 ∷ [])) ∷ (replicate 511 255 ++ (0 ∷ [])) ∷ []) ≡ Some (record { sector = 0; why = AllClosed })

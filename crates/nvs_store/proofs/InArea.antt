@@ -22,18 +22,18 @@ use Rattle.nvs_store.specs.declared.scan.Found.{Found}
 use Rattle.nvs_store.specs.declared.scan.Placed.{Placed}
 use Rattle.nvs_store.specs.Geometry.{slot_size}
 use Rattle.nvs_store.specs.Sector.{counts, counting_entry, is_used, is_wanted, entries, slot_at, used_slots}
-use Rattle.nvs_store.specs.Scans.{reading, found_at, found_bytes, counted_in, all_found, last_of, last_found, list_of, IsInArea}
+use Rattle.nvs_store.specs.Scans.{reading, placed_at, placed_bytes, counted_in, all_placed, last_of, last_placed, list_of, IsInArea}
 use Rattle.ring_laws.proofs.SlotCounts.{slots_to_used}
-use Rattle.nvs_store.proofs.FoundLemmas.{found-value}
+use Rattle.nvs_store.proofs.LastLemmas.{found-value}
 use Rattle.nvs_store.proofs.Marks.{counting_entry_counts}
 use Rattle.ring_laws.proofs.AreaReads.{length-sectors}
 
 -- what an entry that counts says of itself, in a sector of this size
-record IsOrdinary (size : ℕ) (f : Placed) : Type 0 where
+record IsOrdinary (size : ℕ) (f : Found) : Type 0 where
   inside : f.entry.offset + f.entry.len ≤ size
   ordinary : f.entry.id ≡ 0xFFFF → ⊥
 
-ordinary_by : (unit start size : ℕ) (f : Placed) → start ≤ size → counts unit start f.entry ≡ true → IsOrdinary size f
+ordinary_by : (unit start size : ℕ) (f : Found) → start ≤ size → counts unit start f.entry ≡ true → IsOrdinary size f
 ordinary_by unit start size f under counted =
     let parts = and_parts _ _ counted in
     let ends : f.entry.offset + f.entry.len ≤ start = leb-true _ _ parts.1 in
@@ -54,26 +54,26 @@ ordinary_from unit b a (suc n) =
     ]
 
 -- the entry of one slot, in its sector of an area
-pub slot-in : (unit : ℕ) (b : List ℕ) (k sectors size place : ℕ) (f : Placed) → Some f ≡ counting_entry unit (slot_at unit b k) → length b ≡ size → place < sectors → IsInArea sectors size (found_at place f)
+pub slot-in : (unit : ℕ) (b : List ℕ) (k sectors size place : ℕ) (f : Found) → Some f ≡ counting_entry unit (slot_at unit b k) → length b ≡ size → place < sectors → IsInArea sectors size (placed_at place f)
 slot-in unit b k sectors size place f is long within =
     let start = start-slot_at (slot_size unit) b k in
     elim (counting_entry_counts unit (slot_at unit b k)) [
       | inl none ↦ absurd (some_not_none f (is ∙ none))
       | inr (g, some, counted, at) ↦
-          let same : f ≡ g = same_placed f g (is ∙ some) in
+          let same : f ≡ g = same_found f g (is ∙ some) in
           let own = ordinary_by unit (slot_at unit b k).start size g (omega arith) counted in
           record {
             sector = within;
-            inside = subst (λ (p : Placed). p.entry.offset + p.entry.len ≤ size) (sym same) own.inside;
-            ordinary = subst (λ (p : Placed). p.entry.id ≡ 0xFFFF → ⊥) (sym same) own.ordinary;
+            inside = subst (λ (p : Found). p.entry.offset + p.entry.len ≤ size) (sym same) own.inside;
+            ordinary = subst (λ (p : Found). p.entry.id ≡ 0xFFFF → ⊥) (sym same) own.ordinary;
           }
     ]
   where
-    some_not_none : (f : Placed) → Some f ≡ None → ⊥
+    some_not_none : (f : Found) → Some f ≡ None → ⊥
     some_not_none f e = cc
 
-    same_placed : (f g : Placed) → Some f ≡ Some g → f ≡ g
-    same_placed f g e = cc
+    same_found : (f g : Found) → Some f ≡ Some g → f ≡ g
+    same_found f g e = cc
 
 entries-ordinary : (unit : ℕ) (b : List ℕ) → All (IsOrdinary (length b)) (entries unit b)
 entries-ordinary unit b =
@@ -84,11 +84,11 @@ module _ (unit : ℕ) (sectors : List (List ℕ)) (size : ℕ) (long : (place : 
   counted-in : (current place : ℕ) → place < length sectors → All (IsInArea (length sectors) size) (counted_in unit sectors current place)
   counted-in current place within =
       elim (cases_Bool (counts_at (reading unit) sectors current place)) [
-        | inr passed ↦ subst (λ (t : Bool). All (IsInArea (length sectors) size) (cond t (map (found_at place) (entries unit (sector_at sectors place))) [])) (sym passed) (All-nil (IsInArea (length sectors) size))
+        | inr passed ↦ subst (λ (t : Bool). All (IsInArea (length sectors) size) (cond t (map (placed_at place) (entries unit (sector_at sectors place))) [])) (sym passed) (All-nil (IsInArea (length sectors) size))
         | inl counted ↦
-            subst (λ (t : Bool). All (IsInArea (length sectors) size) (cond t (map (found_at place) (entries unit (sector_at sectors place))) [])) (sym counted)
-            (All-map (IsInArea (length sectors) size) (found_at place) (entries unit (sector_at sectors place))
-            (All-weaker (IsOrdinary (length (sector_at sectors place))) (λ f. IsInArea (length sectors) size (found_at place f))
+            subst (λ (t : Bool). All (IsInArea (length sectors) size) (cond t (map (placed_at place) (entries unit (sector_at sectors place))) [])) (sym counted)
+            (All-map (IsInArea (length sectors) size) (placed_at place) (entries unit (sector_at sectors place))
+            (All-weaker (IsOrdinary (length (sector_at sectors place))) (λ f. IsInArea (length sectors) size (placed_at place f))
             (λ f is. record { sector = within; inside = subst (λ (n : ℕ). f.entry.offset + f.entry.len ≤ n) (long place within) is.inside; ordinary = is.ordinary })
             (entries unit (sector_at sectors place)) (entries-ordinary unit (sector_at sectors place))))
       ]
@@ -100,7 +100,7 @@ module _ (unit : ℕ) (sectors : List (List ℕ)) (size : ℕ) (long : (place : 
       (All-append (IsInArea (length sectors) size) (counted_in unit sectors current place) (flat_map (counted_in unit sectors current) rest)
       (counted-in current place (All-head (λ k. k < length sectors) place rest within)) (among-in current rest (All-tail (λ k. k < length sectors) place rest within)))
 
-  pub all-in : 0 < length sectors → All (IsInArea (length sectors) size) (all_found unit sectors)
+  pub all-in : 0 < length sectors → All (IsInArea (length sectors) size) (all_placed unit sectors)
   all-in some =
       let current = open_sector (reading unit) sectors in
       let within = open_within (reading unit) sectors some in
@@ -110,18 +110,18 @@ module _ (unit : ℕ) (sectors : List (List ℕ)) (size : ℕ) (long : (place : 
       (All-range (λ k. k < length sectors) 0 (open_sector (reading unit) sectors + 1) (λ k low high. omega arith)))
 
 -- The entries of the list of an area are in it.
-pub listed-in : (d : Device) (area : Area) → IsLawful d.banks d.bytes → IsLawfulArea d.banks area → 0 < area.sectors → All (IsInArea area.sectors (sector_size d area)) (all_found (unit_of d area) (sectors_of d area))
+pub listed-in : (d : Device) (area : Area) → IsLawful d.banks d.bytes → IsLawfulArea d.banks area → 0 < area.sectors → All (IsInArea area.sectors (sector_size d area)) (all_placed (unit_of d area) (sectors_of d area))
 listed-in d area lawful is_area some =
     let count = length-sectors d area in
-    subst (λ (n : ℕ). All (IsInArea n (sector_size d area)) (all_found (unit_of d area) (sectors_of d area))) count
+    subst (λ (n : ℕ). All (IsInArea n (sector_size d area)) (all_placed (unit_of d area) (sectors_of d area))) count
     (all-in (unit_of d area) (sectors_of d area) (sector_size d area) (λ place within. length-sector d area lawful is_area place (omega arith)) (omega arith))
 
-pub last_found-in : (d : Device) (area : Area) (id : ℕ) → IsLawful d.banks d.bytes → IsLawfulArea d.banks area → 0 < area.sectors → IfSome (last_found (unit_of d area) (sectors_of d area) id) (IsInArea area.sectors (sector_size d area))
-last_found-in d area id lawful is_area some = last-all (λ f. is_wanted (Some id) f.entry) (IsInArea area.sectors (sector_size d area)) (all_found (unit_of d area) (sectors_of d area)) None tt (listed-in d area lawful is_area some)
+pub last_placed-in : (d : Device) (area : Area) (id : ℕ) → IsLawful d.banks d.bytes → IsLawfulArea d.banks area → 0 < area.sectors → IfSome (last_placed (unit_of d area) (sectors_of d area) id) (IsInArea area.sectors (sector_size d area))
+last_placed-in d area id lawful is_area some = last-all (λ f. is_wanted (Some id) f.entry) (IsInArea area.sectors (sector_size d area)) (all_placed (unit_of d area) (sectors_of d area)) None tt (listed-in d area lawful is_area some)
 
 -- ---- the reserved id
 
-none_reserved : (sectors size : ℕ) (fs : List Found) → All (IsInArea sectors size) fs → last_of 0xFFFF fs ≡ None
+none_reserved : (sectors size : ℕ) (fs : List Placed) → All (IsInArea sectors size) fs → last_of 0xFFFF fs ≡ None
 none_reserved sectors size [] all = refl
 none_reserved sectors size (f ∷ fs) all =
     ap (λ (t : Bool). fold (λ last g. cond (eqb g.entry.id 0xFFFF) (Some g) last) (cond t (Some f) None) fs) (ne_eqb f.entry.id 0xFFFF (All-head (IsInArea sectors size) f fs all).ordinary)
@@ -131,5 +131,5 @@ none_reserved sectors size (f ∷ fs) all =
 pub reserved-absent : (d : Device) (area : Area) → IsLawful d.banks d.bytes → IsLawfulArea d.banks area → 0 < area.sectors → last (list_of (unit_of d area) (sectors_of d area)) 0xFFFF ≡ None
 reserved-absent d area lawful is_area some =
     found-value (unit_of d area) (sectors_of d area) 0xFFFF
-    ∙ ap (λ (o : Option Found). option_and_then (λ f. value_of (found_bytes (sectors_of d area) f)) o)
-    (none_reserved area.sectors (sector_size d area) (all_found (unit_of d area) (sectors_of d area)) (listed-in d area lawful is_area some))
+    ∙ ap (λ (o : Option Placed). option_and_then (λ f. value_of (placed_bytes (sectors_of d area) f)) o)
+    (none_reserved area.sectors (sector_size d area) (all_placed (unit_of d area) (sectors_of d area)) (listed-in d area lawful is_area some))

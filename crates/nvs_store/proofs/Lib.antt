@@ -5,9 +5,9 @@ mod CallFacts
 mod Cuts
 pub mod EntryBytes
 mod Examples
-pub mod FoundLemmas
 mod HiddenSectors
 pub mod InArea
+pub mod LastLemmas
 pub mod Lookups
 mod MarkPutting
 pub mod Marks

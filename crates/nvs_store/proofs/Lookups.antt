@@ -8,13 +8,13 @@ use Rattle.std.proofs.lemmas.Nat.{le-div}
 use Rattle.std.proofs.lemmas.List.{length-take-le}
 use Rattle.std.proofs.lemmas.List.FromFn.{length-map-range_with_len}
 use Rattle.nvs_store.specs.declared.entry.Entry.{Entry}
-use Rattle.nvs_store.specs.declared.scan.Placed.{Placed}
+use Rattle.nvs_store.specs.declared.scan.Found.{Found}
 use Rattle.flash_map.specs.Units.{padded, is_erased}
 use Rattle.nvs_store.specs.Geometry.{slot_size, capacity}
 use Rattle.nvs_store.specs.Entries.{decoded}
 use Rattle.ring_laws.specs.Slots.{Slot}
 use Rattle.flash_map.specs.Units.{written_end}
-use Rattle.nvs_store.specs.Sector.{slot_at, slots, is_used, used_slots, counts, counting_entry, entries, entry_end, data_end, low, entries_within, has_fence, is_overfull, placed_cost}
+use Rattle.nvs_store.specs.Sector.{slot_at, slots, is_used, used_slots, counts, counting_entry, entries, entry_end, data_end, low, entries_within, has_fence, is_overfull, entry_cost}
 use Rattle.ring_laws.specs.Slots as shared
 use Rattle.ring_laws.proofs.SlotCounts as counting
 use Rattle.ring_laws.proofs.SlotWalks as walk
@@ -44,7 +44,7 @@ used_inside unit b k positive room le = counting.used_inside is_used 1 (slot_siz
 
 -- ---- going over the used slots
 
-abbrev pub entries_to : ℕ → List ℕ → ℕ → List Placed
+abbrev pub entries_to : ℕ → List ℕ → ℕ → List Found
 entries_to unit b n = walk.entries_to (counting_entry unit) 1 (slot_size unit) b n
 
 pub entries_to_more : (unit : ℕ) (b : List ℕ) (n : ℕ) → entries_to unit b (n + 1) ≡ entries_to unit b n ++ cons_option (counting_entry unit (slot_at unit b (n + 1))) []
@@ -93,8 +93,8 @@ fence_test unit b used count is at =
 
 -- the code's test of ends and costs
 pub overfull_is : (unit : ℕ) (b : List ℕ) (fence cap costs : ℕ) (passes : Bool) → fence ≡ low unit b - slot_size unit → cap ≡ capacity unit (length b) → passes ≡ list_any (λ f. ltb fence (f.entry.offset + f.entry.len)) (entries unit b)
-    → costs ≡ sum_by (placed_cost unit) (entries unit b) → (passes || ltb cap costs) ≡ is_overfull unit b
+    → costs ≡ sum_by (entry_cost unit) (entries unit b) → (passes || ltb cap costs) ≡ is_overfull unit b
 overfull_is unit b fence cap costs passes at room ends sums =
-    ap (λ (t : Bool). t || ltb cap costs) (ends ∙ ap (λ (n : ℕ). list_any (λ (f : Placed). ltb n (f.entry.offset + f.entry.len)) (entries unit b)) at)
+    ap (λ (t : Bool). t || ltb cap costs) (ends ∙ ap (λ (n : ℕ). list_any (λ (f : Found). ltb n (f.entry.offset + f.entry.len)) (entries unit b)) at)
     ∙ ap (λ (n : ℕ). list_any (λ f. ltb (low unit b - slot_size unit) (f.entry.offset + f.entry.len)) (entries unit b) || ltb n costs) room
     ∙ ap (λ (n : ℕ). list_any (λ f. ltb (low unit b - slot_size unit) (f.entry.offset + f.entry.len)) (entries unit b) || ltb (capacity unit (length b)) n) sums

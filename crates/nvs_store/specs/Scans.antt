@@ -28,11 +28,11 @@ reading unit = record {
   is_overfull = is_overfull unit;
 }
 
-abbrev pub found_at : ℕ → Placed → Found
-found_at place placed = record { sector = place; slot = placed.slot; entry = placed.entry }
+abbrev pub placed_at : ℕ → Found → Placed
+placed_at place found = record { sector = place; slot = found.slot; entry = found.entry }
 
 -- how the entries of NVS stand in slots, and what they say
-abbrev pub nvs : ℕ → Entries Placed Found
+abbrev pub nvs : ℕ → Entries Found Placed
 nvs unit = record {
   reading = reading unit;
   entries = entries unit;
@@ -40,12 +40,12 @@ nvs unit = record {
   first = 1;
   slots = λ b. length (used_slots unit b);
   is_sound = λ b. true;
-  placed_at = found_at;
-  sector = λ f. f.sector;
-  slot = λ f. f.slot;
-  id = λ f. f.entry.id;
-  len = λ f. f.entry.len;
-  bytes = λ b f. slice_range b f.entry.offset (f.entry.offset + f.entry.len);
+  placed_at = placed_at;
+  sector = λ p. p.sector;
+  slot = λ p. p.slot;
+  id = λ p. p.entry.id;
+  len = λ p. p.entry.len;
+  bytes = λ b p. slice_range b p.entry.offset (p.entry.offset + p.entry.len);
   cost = cost unit;
 }
 
@@ -97,46 +97,46 @@ abbrev pub list_of : ℕ → List (List ℕ) → List (ℕ × List ℕ)
 list_of unit sectors = live.list_of (nvs unit) sectors
 
 -- the entries of a sector with their places, where it counts with this one open
-abbrev pub counted_in : ℕ → List (List ℕ) → ℕ → ℕ → List Found
+abbrev pub counted_in : ℕ → List (List ℕ) → ℕ → ℕ → List Placed
 counted_in unit sectors current place = live.counted_in (nvs unit) sectors current place
 
 -- those of them in the first so many slots
-abbrev pub counted_within : ℕ → List (List ℕ) → ℕ → ℕ → ℕ → List Found
+abbrev pub counted_within : ℕ → List (List ℕ) → ℕ → ℕ → ℕ → List Placed
 counted_within unit sectors current place n = walk.counted_within (nvs unit) sectors current place n
 
 -- the entries of the sectors before this one, and those in its first so many slots
-abbrev pub found_up_to : ℕ → List (List ℕ) → ℕ → ℕ → ℕ → List Found
-found_up_to unit sectors current place n = walk.placed_up_to (nvs unit) sectors current place n
+abbrev pub placed_up_to : ℕ → List (List ℕ) → ℕ → ℕ → ℕ → List Placed
+placed_up_to unit sectors current place n = walk.placed_up_to (nvs unit) sectors current place n
 
 -- the entries of the list, with their places
-abbrev pub all_found : ℕ → List (List ℕ) → List Found
-all_found unit sectors = live.all_placed (nvs unit) sectors
+abbrev pub all_placed : ℕ → List (List ℕ) → List Placed
+all_placed unit sectors = live.all_placed (nvs unit) sectors
 
 -- the last entry that is looked for
-abbrev pub last_wanted : Option ℕ → List Found → Option Found
-last_wanted wanted found = fold (λ last f. if is_wanted wanted f.entry then Some f else last) None found
+abbrev pub last_wanted : Option ℕ → List Placed → Option Placed
+last_wanted wanted placed = fold (λ last p. if is_wanted wanted p.entry then Some p else last) None placed
 
-abbrev pub last_of : ℕ → List Found → Option Found
-last_of id found = last_wanted (Some id) found
+abbrev pub last_of : ℕ → List Placed → Option Placed
+last_of id placed = last_wanted (Some id) placed
 
 -- the last entry of an id, a delete too
-abbrev pub last_found : ℕ → List (List ℕ) → ℕ → Option Found
-last_found unit sectors id = live.last_placed (nvs unit) sectors id
+abbrev pub last_placed : ℕ → List (List ℕ) → ℕ → Option Placed
+last_placed unit sectors id = live.last_placed (nvs unit) sectors id
 
 -- The next older entry of a list: the one before the entry at this place, or the newest where no place is named.
-abbrev pub IsNextOlder : List Found → Option (ℕ × ℕ) → Option Found → Type 0
+abbrev pub IsNextOlder : List Placed → Option (ℕ × ℕ) → Option Placed → Type 0
 IsNextOlder all None next = next ≡ last_or None all
-IsNextOlder all (Some place) next = (older newer : List Found) (f : Found) → all ≡ older ++ f ∷ newer → place ≡ (f.sector, f.slot) → next ≡ last_or None older
+IsNextOlder all (Some place) next = (older newer : List Placed) (p : Placed) → all ≡ older ++ p ∷ newer → place ≡ (p.sector, p.slot) → next ≡ last_or None older
 
 -- It is an ordinary entry of one of so many sectors of this size, and its data ends in its sector.
-pub record IsInArea (sectors size : ℕ) (f : Found) : Type 0 where
-  pub sector : f.sector < sectors
-  pub inside : f.entry.offset + f.entry.len ≤ size
-  pub ordinary : f.entry.id ≡ 0xFFFF → ⊥
+pub record IsInArea (sectors size : ℕ) (p : Placed) : Type 0 where
+  pub sector : p.sector < sectors
+  pub inside : p.entry.offset + p.entry.len ≤ size
+  pub ordinary : p.entry.id ≡ 0xFFFF → ⊥
 
 -- the data of an entry
-abbrev pub found_bytes : List (List ℕ) → Found → List ℕ
-found_bytes sectors f = slice_range (sector_at sectors f.sector) f.entry.offset (f.entry.offset + f.entry.len)
+abbrev pub placed_bytes : List (List ℕ) → Placed → List ℕ
+placed_bytes sectors p = slice_range (sector_at sectors p.sector) p.entry.offset (p.entry.offset + p.entry.len)
 
 -- ---- what a step leaves
 

@@ -6,7 +6,7 @@ use Rattle.flash_map.specs.Units.{padded, is_erased, written_end}
 use Rattle.ring_laws.specs.Slots as shared
 use Rattle.ring_laws.specs.Slots.{Slot}
 use Rattle.nvs_store.specs.declared.entry.Entry.{Entry}
-use Rattle.nvs_store.specs.declared.scan.Placed.{Placed}
+use Rattle.nvs_store.specs.declared.scan.Found.{Found}
 use Rattle.nvs_store.specs.Geometry.{slot_size, cost, capacity}
 use Rattle.nvs_store.specs.Entries.{decoded}
 
@@ -33,12 +33,12 @@ used_slots unit sector = shared.used_slots is_used 1 (slot_size unit) sector
 abbrev pub counts : ℕ → ℕ → Entry → Bool
 counts unit start e = not (e.id == 0xFFFF) && (e.offset % unit == 0) && nat_le (e.offset + e.len) start
 
-unfoldable pub counting_entry : ℕ → Slot → Option Placed
+unfoldable pub counting_entry : ℕ → Slot → Option Found
 counting_entry unit slot =
     option_and_then (λ e. if counts unit slot.start e then Some (record { slot = slot.index; entry = e }) else None) (decoded slot.bytes)
 
 -- the entries that count, in slot order
-abbrev pub entries : ℕ → List ℕ → List Placed
+abbrev pub entries : ℕ → List ℕ → List Found
 entries unit sector = filter_map (counting_entry unit) (used_slots unit sector)
 
 -- the entry of close and of gc-done
@@ -60,7 +60,7 @@ is_closed unit sector = is_used (slot_at unit sector 0)
 abbrev pub low : ℕ → List ℕ → ℕ
 low unit sector = shared.low is_used 1 (slot_size unit) sector
 
-abbrev pub entry_end : ℕ → Placed → ℕ
+abbrev pub entry_end : ℕ → Found → ℕ
 entry_end unit f = f.entry.offset + padded unit f.entry.len
 
 -- where the next data goes: above the written units, the data of the entries that count, and the sum of their lengths
@@ -71,7 +71,7 @@ data_end unit sector =
 
 -- ---- pairs
 
-abbrev pub pair_of : List ℕ → Placed → ℕ × List ℕ
+abbrev pub pair_of : List ℕ → Found → ℕ × List ℕ
 pair_of sector f = (f.entry.id, slice_range sector f.entry.offset (f.entry.offset + f.entry.len))
 
 -- the sector's part of the list: ids with their bytes, in the order in which they were put
@@ -84,11 +84,11 @@ is_wanted (Some id) e = e.id == id
 is_wanted None e = true
 
 -- the last entry that is looked for, a delete too
-abbrev pub last_placed : Option ℕ → List Placed → Option Placed
-last_placed wanted placed = fold (λ last f. if is_wanted wanted f.entry then Some f else last) None placed
+abbrev pub last_found : Option ℕ → List Found → Option Found
+last_found wanted found = fold (λ last f. if is_wanted wanted f.entry then Some f else last) None found
 
 -- those of the first so many slots
-abbrev pub entries_within : ℕ → List ℕ → ℕ → List Placed
+abbrev pub entries_within : ℕ → List ℕ → ℕ → List Found
 entries_within unit sector n = filter_map (counting_entry unit) (take n (used_slots unit sector))
 
 -- what the pairs with bytes cost
@@ -98,8 +98,8 @@ pairs_cost unit pairs = sum_by (λ pair. if length pair.1 == 0 then 0 else cost 
 -- ---- soundness
 
 -- what an entry with data takes up
-abbrev pub placed_cost : ℕ → Placed → ℕ
-placed_cost unit f = if f.entry.len == 0 then 0 else cost unit f.entry.len
+abbrev pub entry_cost : ℕ → Found → ℕ
+entry_cost unit f = if f.entry.len == 0 then 0 else cost unit f.entry.len
 
 abbrev pub has_fence : ℕ → List ℕ → Bool
 has_fence unit sector = nat_lt (length (used_slots unit sector)) (length (slots unit sector))
@@ -108,7 +108,7 @@ has_fence unit sector = nat_lt (length (used_slots unit sector)) (length (slots 
 abbrev pub is_overfull : ℕ → List ℕ → Bool
 is_overfull unit sector =
     list_any (λ f. nat_lt (low unit sector - slot_size unit) (f.entry.offset + f.entry.len)) (entries unit sector)
-    || nat_lt (capacity unit (length sector)) (sum_by (placed_cost unit) (entries unit sector))
+    || nat_lt (capacity unit (length sector)) (sum_by (entry_cost unit) (entries unit sector))
 
 -- The sector is blank, or it has a fence and is not overfull.
 abbrev pub is_sound : ℕ → List ℕ → Bool
@@ -135,7 +135,7 @@ pub record AddsPair (unit : ℕ) (old new : List ℕ) (id : ℕ) (bytes : List �
   pub closed : is_closed unit new ≡ is_closed unit old
   pub long : length new ≡ length old
   -- the entry that was put, in what was the fence
-  pub found : Placed
+  pub found : Found
   pub more : entries unit new ≡ entries unit old ++ found ∷ []
   pub slot : found.slot ≡ length (used_slots unit old) + 1
   pub entry_id : found.entry.id ≡ id

@@ -7,10 +7,10 @@ ghost use Rattle.flash_map.specs.Area.{unit_of, sector_size, sectors_of};
 ghost use Rattle.flash_map.specs.Lawful.{IsLawfulFor};
 ghost use Rattle.pair_laws.specs.Items.{last, value_of};
 ghost use Rattle.ring_laws.specs.RoundParts.{places_before};
-ghost use Rattle.nvs_store.specs.Scans.{counted_within, last_wanted, found_up_to, IsInArea, IsNextOlder};
-ghost use Rattle.nvs_store.specs.On.{bytes_on, counted_on, found_on, last_found_on, list_on, scan_on};
+ghost use Rattle.nvs_store.specs.Scans.{counted_within, last_wanted, placed_up_to, IsInArea, IsNextOlder};
+ghost use Rattle.nvs_store.specs.On.{bytes_on, counted_on, placed_on, last_placed_on, list_on, scan_on};
 
-use crate::scan::{Found, Scan, is_hidden};
+use crate::scan::{Placed, Scan, is_hidden};
 use crate::sector::find_in;
 use flash_map::{Area, geometry, sector_view};
 use flash_sim::{Flash, Steps};
@@ -28,7 +28,7 @@ fn find_at<F: Flash, L: Ledger>(
     wanted: Option<u16>,
     slots: u32,
     steps: &mut Steps<L>,
-) -> Option<Found>
+) -> Option<Placed>
     requires lawful { IsLawfulFor (F.device flash.now).banks area.now }
     requires role { area.now.role ≡ Nvs }
     requires scan { scan.now ≡ scan_on (F.device flash.now) area.now }
@@ -56,7 +56,7 @@ fn find_among<F: Flash, L: Ledger>(
     end: u32,
     wanted: Option<u16>,
     steps: &mut Steps<L>,
-) -> Option<Found>
+) -> Option<Placed>
     requires lawful { IsLawfulFor (F.device flash.now).banks area.now }
     requires role { area.now.role ≡ Nvs }
     requires scan { scan.now ≡ scan_on (F.device flash.now) area.now }
@@ -68,9 +68,9 @@ fn find_among<F: Flash, L: Ledger>(
 {
     let mut place = end;
     while place > first {
-        let found = find_at(flash, area, scan, place - 1, wanted, ALL_SLOTS, steps);
-        if found.is_some() {
-            return found;
+        let placed = find_at(flash, area, scan, place - 1, wanted, ALL_SLOTS, steps);
+        if placed.is_some() {
+            return placed;
         }
         place -= 1;
     }
@@ -84,12 +84,12 @@ pub fn find<F: Flash, L: Ledger>(
     scan: &Scan,
     id: u16,
     steps: &mut Steps<L>,
-) -> Option<Found>
+) -> Option<Placed>
     requires lawful { IsLawfulFor (F.device flash.now).banks area.now }
     requires role { area.now.role ≡ Nvs }
     requires scan { scan.now ≡ scan_on (F.device flash.now) area.now }
 
-    ensures found { result ≡ last_found_on (F.device flash.now) area.now id }
+    ensures placed { result ≡ last_placed_on (F.device flash.now) area.now id }
     // the bytes that it names decide for the id
     ensures value { let d = F.device flash.now in
         last (list_on d area.now) id ≡ option_and_then (λ f. value_of (bytes_on d area.now f)) result }
@@ -118,7 +118,7 @@ fn newest_before<F: Flash, L: Ledger>(
     scan: &Scan,
     place: u32,
     steps: &mut Steps<L>,
-) -> Option<Found>
+) -> Option<Placed>
     requires lawful { IsLawfulFor (F.device flash.now).banks area.now }
     requires role { area.now.role ≡ Nvs }
     requires scan { scan.now ≡ scan_on (F.device flash.now) area.now }
@@ -146,14 +146,14 @@ fn newest_up_to<F: Flash, L: Ledger>(
     place: u32,
     slots: u32,
     steps: &mut Steps<L>,
-) -> Option<Found>
+) -> Option<Placed>
     requires lawful { IsLawfulFor (F.device flash.now).banks area.now }
     requires role { area.now.role ≡ Nvs }
     requires scan { scan.now ≡ scan_on (F.device flash.now) area.now }
     requires current { scan.now.current < area.now.sectors }
     requires inside { place < area.now.sectors }
     ensures { let d = F.device flash.now in
-        result ≡ last_wanted None (found_up_to (unit_of d area.now) (sectors_of d area.now) scan.now.current place slots) }
+        result ≡ last_wanted None (placed_up_to (unit_of d area.now) (sectors_of d area.now) scan.now.current place slots) }
 {
     let newest = find_at(flash, area, scan, place, None, slots, steps);
     if newest.is_some() {
@@ -170,13 +170,13 @@ pub fn walk<F: Flash, L: Ledger>(
     scan: &Scan,
     after: Option<(u32, u32)>,
     steps: &mut Steps<L>,
-) -> Option<Found>
+) -> Option<Placed>
     requires lawful { IsLawfulFor (F.device flash.now).banks area.now }
     requires role { area.now.role ≡ Nvs }
     requires scan { scan.now ≡ scan_on (F.device flash.now) area.now }
     requires inside { IfSome after (λ place. place.0 < area.now.sectors) }
 
-    ensures older { IsNextOlder (found_on (F.device flash.now) area.now) after result }
+    ensures older { IsNextOlder (placed_on (F.device flash.now) area.now) after result }
     ensures in_area { IfSome result (IsInArea area.now.sectors (sector_size (F.device flash.now) area.now)) }
 {
     match after {

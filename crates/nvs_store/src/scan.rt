@@ -2,24 +2,24 @@
 
 ghost use Rattle.std.specs.Prelude.{◌≡◌, ℕ, ◌<◌, not, List, length};
 ghost use Rattle.ring_laws.specs.Area.{counts_at};
-ghost use Rattle.nvs_store.specs.Scans.{reading, scan_of, found_at, marked_redo};
+ghost use Rattle.nvs_store.specs.Scans.{reading, scan_of, placed_at, marked_redo};
 
 use crate::entry::Entry;
 use flash_map::Area;
 
 /// An entry that counts, and its slot. Slots of entries are numbered from 1, downward from the sector's end.
 #[derive(Clone, Copy, Debug, PartialEq, Eq)]
-pub struct Placed {
+pub struct Found {
     pub slot: u32,
     pub entry: Entry,
 }
 
-impl Placed {
+impl Found {
     /// The entry in this sector of the area.
-    pub fn at(self, sector: u32) -> Found
-        ensures { result ≡ found_at sector self }
+    pub fn at(self, sector: u32) -> Placed
+        ensures { result ≡ placed_at sector self }
     {
-        Found {
+        Placed {
             sector,
             slot: self.slot,
             entry: self.entry,
@@ -29,7 +29,7 @@ impl Placed {
 
 /// An entry that counts, and where it stands in the area.
 #[derive(Clone, Copy, Debug, PartialEq, Eq)]
-pub struct Found {
+pub struct Placed {
     pub sector: u32,
     pub slot: u32,
     pub entry: Entry,

@@ -4,9 +4,9 @@ ghost use Rattle.std.specs.Option.{option_map, option_map_or};
 ghost use Rattle.flash_map.specs.Units.{IsUnit};
 ghost use Rattle.nvs_store.specs.Geometry.{slot_size};
 ghost use Rattle.nvs_store.specs.Entries.{entry_of};
-ghost use Rattle.nvs_store.specs.Sector.{slot_at, counting_entry, entries, entries_within, is_wanted, last_placed, placed_cost, has_fence, is_overfull, is_closed};
+ghost use Rattle.nvs_store.specs.Sector.{slot_at, counting_entry, entries, entries_within, is_wanted, last_found, entry_cost, has_fence, is_overfull, is_closed};
 ghost use Rattle.nvs_store.specs.Searches.{wanted_in};
-ghost use Rattle.nvs_store.specs.Scans.{sector_scan, found_at};
+ghost use Rattle.nvs_store.specs.Scans.{sector_scan, placed_at};
 
 use crate::geometry::{capacity, cost, slot_size};
 use crate::scan::{Found, Placed, Redo, Scan};
@@ -27,9 +27,9 @@ pub fn scan_sector(bytes: &[u8], unit: u32, place: u32) -> Scan
     let mut lens = 0;
     let mut gc_done = false;
     for index in 1..used + 1 {
-        let placed = counting_entry(bytes, unit, index);
-        ends = end_of(&placed, unit).max(ends);
-        lens += len_of(&placed, unit);
+        let found = counting_entry(bytes, unit, index);
+        ends = end_of(&found, unit).max(ends);
+        lens += len_of(&found, unit);
         gc_done |= is_gc_done(bytes, unit, index);
     }
     let written = padded(
@@ -46,23 +46,23 @@ pub fn scan_sector(bytes: &[u8], unit: u32, place: u32) -> Scan
 }
 
 /// What an entry's data and the entry take up, if there is one that has data.
-fn data_cost(placed: &Option<Placed>, unit: u32) -> u64
+fn data_cost(found: &Option<Found>, unit: u32) -> u64
     requires { IsUnit unit }
-    ensures value { result ≡ option_map_or (placed_cost unit) placed.now 0 }
+    ensures value { result ≡ option_map_or (entry_cost unit) found.now 0 }
     ensures small { result < 2 ^ 17 }
 {
-    match placed {
-        Some(placed) if placed.entry.len > 0 => cost(unit, u32::from(placed.entry.len)),
+    match found {
+        Some(found) if found.entry.len > 0 => cost(unit, u32::from(found.entry.len)),
         _ => 0,
     }
 }
 
 /// Whether an entry's data ends above this place.
-fn ends_above(placed: &Option<Placed>, place: u32) -> bool
-    ensures { result ≡ option_map_or (λ f. nat_lt place (f.entry.offset + f.entry.len)) placed.now false }
+fn ends_above(found: &Option<Found>, place: u32) -> bool
+    ensures { result ≡ option_map_or (λ f. nat_lt place (f.entry.offset + f.entry.len)) found.now false }
 {
-    match placed {
-        Some(placed) => { place < u32::from(placed.entry.offset) + u32::from(placed.entry.len) }
+    match found {
+        Some(found) => { place < u32::from(found.entry.offset) + u32::from(found.entry.len) }
         None => false,
     }
 }
@@ -86,9 +86,9 @@ pub fn is_overfull(bytes: &[u8], unit: u32) -> bool
     let mut costs = 0;
     let mut passes = false;
     for index in 1..used + 1 {
-        let placed = counting_entry(bytes, unit, index);
-        passes |= ends_above(&placed, fence);
-        costs += data_cost(&placed, unit);
+        let found = counting_entry(bytes, unit, index);
+        passes |= ends_above(&found, fence);
+        costs += data_cost(&found, unit);
     }
     passes || u64::from(capacity(unit, bytes.len() as u32)) < costs
 }
@@ -116,7 +116,7 @@ fn names(wanted: Option<u16>, slot: &[u8]) -> bool
 }
 
 /// The entry in a slot, if it counts and is looked for. Most slots are of other ids, so the id is read before the CRC.
-fn wanted_entry(bytes: &[u8], unit: u32, index: u32, wanted: Option<u16>) -> Option<Placed>
+fn wanted_entry(bytes: &[u8], unit: u32, index: u32, wanted: Option<u16>) -> Option<Found>
     requires unit { IsUnit unit }
     requires short { length bytes.now ≤ 2 ^ 15 }
     requires inside { (index + 1) * slot_size unit ≤ length bytes.now }
@@ -136,16 +136,16 @@ pub fn find_in(
     place: u32,
     wanted: Option<u16>,
     slots: u32,
-) -> Option<Found>
+) -> Option<Placed>
     requires unit { IsUnit unit }
     requires long { 16 ≤ length bytes.now }
     requires short { length bytes.now ≤ 2 ^ 15 }
-    ensures { result ≡ option_map (found_at place) (last_placed wanted (entries_within unit bytes.now slots)) }
+    ensures { result ≡ option_map (placed_at place) (last_found wanted (entries_within unit bytes.now slots)) }
 {
     let mut index = used_count(bytes, unit).min(slots);
     while index > 0 {
-        if let Some(placed) = wanted_entry(bytes, unit, index, wanted) {
-            return Some(placed.at(place));
+        if let Some(found) = wanted_entry(bytes, unit, index, wanted) {
+            return Some(found.at(place));
         }
         index -= 1;
     }

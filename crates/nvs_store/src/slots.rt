@@ -8,7 +8,7 @@ ghost use Rattle.nvs_store.specs.Sector.{slot_at, used_slots, counts, counting_e
 
 use crate::entry::{Entry, SPECIAL_ID, decode_entry};
 use crate::geometry::slot_size;
-use crate::scan::Placed;
+use crate::scan::Found;
 use flash_map::{is_erased, padded};
 
 /// Where a slot starts in a sector of this length.
@@ -87,14 +87,14 @@ fn counts(entry: &Entry, unit: u32, start: u32) -> bool
 }
 
 /// The entry in a slot, if it counts.
-pub fn counting_entry(bytes: &[u8], unit: u32, index: u32) -> Option<Placed>
+pub fn counting_entry(bytes: &[u8], unit: u32, index: u32) -> Option<Found>
     requires unit { IsUnit unit }
     requires short { length bytes.now ≤ 2 ^ 15 }
     requires inside { (index + 1) * slot_size unit ≤ length bytes.now }
     ensures { result ≡ counting_entry unit (slot_at unit bytes.now index) }
 {
     match entry_in(bytes, unit, index) {
-        Some(entry) if counts(&entry, unit, slot_start(bytes.len(), unit, index)) => Some(Placed {
+        Some(entry) if counts(&entry, unit, slot_start(bytes.len(), unit, index)) => Some(Found {
             slot: index,
             entry,
         }),
@@ -116,25 +116,25 @@ pub fn is_gc_done(bytes: &[u8], unit: u32, index: u32) -> bool
 }
 
 /// The end of the data that an entry names, if there is one.
-pub fn end_of(placed: &Option<Placed>, unit: u32) -> u32
+pub fn end_of(found: &Option<Found>, unit: u32) -> u32
     requires { IsUnit unit }
-    ensures value { result ≡ option_map_or (entry_end unit) placed.now 0 }
+    ensures value { result ≡ option_map_or (entry_end unit) found.now 0 }
     ensures small { result < 2 ^ 18 }
 {
-    match placed {
-        Some(placed) => u32::from(placed.entry.offset) + padded(unit, u32::from(placed.entry.len)),
+    match found {
+        Some(found) => u32::from(found.entry.offset) + padded(unit, u32::from(found.entry.len)),
         None => 0,
     }
 }
 
 /// The padded length of the data that an entry names, if there is one.
-pub fn len_of(placed: &Option<Placed>, unit: u32) -> u32
+pub fn len_of(found: &Option<Found>, unit: u32) -> u32
     requires { IsUnit unit }
-    ensures value { result ≡ option_map_or (λ f. padded unit f.entry.len) placed.now 0 }
+    ensures value { result ≡ option_map_or (λ f. padded unit f.entry.len) found.now 0 }
     ensures small { result < 2 ^ 17 }
 {
-    match placed {
-        Some(placed) => padded(unit, u32::from(placed.entry.len)),
+    match found {
+        Some(found) => padded(unit, u32::from(found.entry.len)),
         None => 0,
     }
 }

@@ -1,7 +1,7 @@
 use Rattle.std.proofs.Common.{◌≡◌, ◌-◌, ◌≤◌, None}
 use Rattle.flash_map.specs.Area.{unit_of, sectors_of}
 use Rattle.nvs_store.specs.Scans.{last_wanted}
-use Rattle.nvs_store.proofs.FoundLemmas.{among}
+use Rattle.nvs_store.proofs.LastLemmas.{among}
 use Rattle.nvs_store.proofs.lookup.find_among.Given as goal
 
 abbrev pub invariant-loop-place : goal.invariant-loop-place

@@ -5,9 +5,9 @@ use Rattle.flash_map.specs.declared.area.Geometry.{Geometry}
 use Rattle.flash_map.specs.Area.{unit_of, sectors_of, sector_at}
 use Rattle.flash_map.proofs.Places.{length-sector}
 use Rattle.ring_laws.proofs.AreaReads.{length-sectors}
-use Rattle.nvs_store.specs.Sector.{entries_within, last_placed}
-use Rattle.nvs_store.specs.Scans.{found_at, last_wanted, counted_within}
-use Rattle.nvs_store.proofs.FoundLemmas.{counted-last, counted-none, counted-whole}
+use Rattle.nvs_store.specs.Sector.{entries_within, last_found}
+use Rattle.nvs_store.specs.Scans.{placed_at, last_wanted, counted_within}
+use Rattle.nvs_store.proofs.LastLemmas.{counted-last, counted-none, counted-whole}
 use Rattle.nvs_store.proofs.lookup.find_at.Given.{Over}
 use Rattle.nvs_store.proofs.lookup.find_at.Goals as goal
 use Rattle.nvs_store.proofs.lookup.find_at.Goals.{After-find_in}
@@ -18,8 +18,8 @@ found g c =
     let unit : ℕ = unit_of d c.args.area.now in
     let sectors : List (List ℕ) = sectors_of d c.args.area.now in
     c.find_in.ensures
-    ∙ ap (λ (x : Geometry). option_map (found_at c.args.place) (last_placed c.args.wanted (entries_within x.unit c.sector_view-bytes.result.now c.args.slots))) c.geometry-unit.ensures
-    ∙ ap (λ (b : List ℕ). option_map (found_at c.args.place) (last_placed c.args.wanted (entries_within unit b c.args.slots))) c.sector_view-bytes.ensures.bytes
+    ∙ ap (λ (x : Geometry). option_map (placed_at c.args.place) (last_found c.args.wanted (entries_within x.unit c.sector_view-bytes.result.now c.args.slots))) c.geometry-unit.ensures
+    ∙ ap (λ (b : List ℕ). option_map (placed_at c.args.place) (last_found c.args.wanted (entries_within unit b c.args.slots))) c.sector_view-bytes.ensures.bytes
     ∙ counted-last unit sectors c.args.scan.now.current c.args.place c.args.slots c.args.wanted (c.is_hidden.ensures unit sectors (length-sectors d c.args.area.now) c.requires.scan ∙ ap not c.if-is_hidden.false)
 
 pub returns-else-is_hidden-clause-within : goal.returns-else-is_hidden-clause-within

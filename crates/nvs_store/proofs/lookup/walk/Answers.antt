@@ -6,8 +6,8 @@ use Rattle.flash_map.specs.Area.{unit_of, sector_size, sectors_of, sector_at}
 use Rattle.flash_map.proofs.Places.{length-sector}
 use Rattle.ring_laws.specs.Area.{open_sector}
 use Rattle.ring_laws.proofs.Stays.{open_within}
-use Rattle.nvs_store.specs.declared.scan.Found.{Found}
-use Rattle.nvs_store.specs.Scans.{reading, all_found, found_up_to, IsInArea, IsNextOlder}
+use Rattle.nvs_store.specs.declared.scan.Placed.{Placed}
+use Rattle.nvs_store.specs.Scans.{reading, all_placed, placed_up_to, IsInArea, IsNextOlder}
 use Rattle.nvs_store.proofs.Appending.{open_is}
 use Rattle.ring_laws.proofs.Newest.{last-all}
 use Rattle.nvs_store.specs.Sector.{is_wanted}
@@ -61,7 +61,7 @@ returns-in-Some-clause-older g c =
     let within : c.in-Some.sector < c.args.area.now.sectors = rw c.in-Some.is at c.requires.inside in
     let high : c.in-Some.sector < length sectors = omega arith in
     let slots : c.saturating_sub.result ≡ c.in-Some.slot - 1 = c.saturating_sub.ensures in
-    subst (λ (after : Option (ℕ × ℕ)). IsNextOlder (all_found unit sectors) after c.newest_up_to.result) (sym c.in-Some.is)
+    subst (λ (after : Option (ℕ × ℕ)). IsNextOlder (all_placed unit sectors) after c.newest_up_to.result) (sym c.in-Some.is)
     (walked-older unit sectors c.args.scan.now.current c.in-Some.sector c.in-Some.slot c.saturating_sub.result c.newest_up_to.result is low high slots c.newest_up_to.ensures)
 
 pub returns-in-Some-clause-in_area : goal.returns-in-Some-clause-in_area
@@ -75,9 +75,9 @@ returns-in-Some-clause-in_area g c =
     let low : c.args.scan.now.current < length sectors = omega arith in
     let within : c.in-Some.sector < c.args.area.now.sectors = rw c.in-Some.is at c.requires.inside in
     let high : c.in-Some.sector < length sectors = omega arith in
-    let all : All (IsInArea c.args.area.now.sectors (sector_size d c.args.area.now)) (all_found unit sectors) = listed-in d c.args.area.now (g.met.F.Flash.is_lawful c.args.flash.now) c.requires.lawful.in_bank (omega (arith, c.requires.lawful.several)) in
-    subst (λ (o : Option Found). IfSome o (IsInArea c.args.area.now.sectors (sector_size d c.args.area.now))) (sym c.newest_up_to.ensures)
-    (last-all (λ f. is_wanted None f.entry) (IsInArea c.args.area.now.sectors (sector_size d c.args.area.now)) (found_up_to unit sectors c.args.scan.now.current c.in-Some.sector c.saturating_sub.result) None tt
+    let all : All (IsInArea c.args.area.now.sectors (sector_size d c.args.area.now)) (all_placed unit sectors) = listed-in d c.args.area.now (g.met.F.Flash.is_lawful c.args.flash.now) c.requires.lawful.in_bank (omega (arith, c.requires.lawful.several)) in
+    subst (λ (o : Option Placed). IfSome o (IsInArea c.args.area.now.sectors (sector_size d c.args.area.now))) (sym c.newest_up_to.ensures)
+    (last-all (λ f. is_wanted None f.entry) (IsInArea c.args.area.now.sectors (sector_size d c.args.area.now)) (placed_up_to unit sectors c.args.scan.now.current c.in-Some.sector c.saturating_sub.result) None tt
     (part_all unit sectors c.args.scan.now.current c.in-Some.sector c.saturating_sub.result is low high (IsInArea c.args.area.now.sectors (sector_size d c.args.area.now)) all))
 
 pub returns-in-None-clause-older : goal.returns-in-None-clause-older
@@ -91,7 +91,7 @@ returns-in-None-clause-older g c =
     let low : c.args.scan.now.current < length sectors = omega arith in
     let long = length-sector d c.args.area.now (g.met.F.Flash.is_lawful c.args.flash.now) c.requires.lawful.in_bank c.args.scan.now.current (omega arith) in
     let enough : length (sector_at sectors c.args.scan.now.current) ≤ 32768 = omega (arith, c.requires.lawful.at_most) in
-    subst (λ (after : Option (ℕ × ℕ)). IsNextOlder (all_found unit sectors) after c.newest_up_to-in-None.result) (sym c.in-None.is)
+    subst (λ (after : Option (ℕ × ℕ)). IsNextOlder (all_placed unit sectors) after c.newest_up_to-in-None.result) (sym c.in-None.is)
     (walked-newest unit sectors c.args.scan.now.current 32768 c.newest_up_to-in-None.result is low enough c.newest_up_to-in-None.ensures)
 
 pub returns-in-None-clause-in_area : goal.returns-in-None-clause-in_area
@@ -103,7 +103,7 @@ returns-in-None-clause-in_area g c =
     let is : open_sector (reading unit) sectors ≡ c.args.scan.now.current = open_is unit sectors c.args.scan.now c.requires.scan in
     let inside : open_sector (reading unit) sectors < length sectors = open_within (reading unit) sectors (omega (arith, c.requires.lawful.several)) in
     let low : c.args.scan.now.current < length sectors = omega arith in
-    let all : All (IsInArea c.args.area.now.sectors (sector_size d c.args.area.now)) (all_found unit sectors) = listed-in d c.args.area.now (g.met.F.Flash.is_lawful c.args.flash.now) c.requires.lawful.in_bank (omega (arith, c.requires.lawful.several)) in
-    subst (λ (o : Option Found). IfSome o (IsInArea c.args.area.now.sectors (sector_size d c.args.area.now))) (sym c.newest_up_to-in-None.ensures)
-    (last-all (λ f. is_wanted None f.entry) (IsInArea c.args.area.now.sectors (sector_size d c.args.area.now)) (found_up_to unit sectors c.args.scan.now.current c.args.scan.now.current 32768) None tt
+    let all : All (IsInArea c.args.area.now.sectors (sector_size d c.args.area.now)) (all_placed unit sectors) = listed-in d c.args.area.now (g.met.F.Flash.is_lawful c.args.flash.now) c.requires.lawful.in_bank (omega (arith, c.requires.lawful.several)) in
+    subst (λ (o : Option Placed). IfSome o (IsInArea c.args.area.now.sectors (sector_size d c.args.area.now))) (sym c.newest_up_to-in-None.ensures)
+    (last-all (λ f. is_wanted None f.entry) (IsInArea c.args.area.now.sectors (sector_size d c.args.area.now)) (placed_up_to unit sectors c.args.scan.now.current c.args.scan.now.current 32768) None tt
     (part_all unit sectors c.args.scan.now.current c.args.scan.now.current 32768 is low low (IsInArea c.args.area.now.sectors (sector_size d c.args.area.now)) all))

@@ -1,7 +1,7 @@
 use Rattle.std.proofs.Common.{◌≡◌, ℕ, ◌+◌, ◌-◌, ◌*◌, max, map, take, List, length, ap, ◌∙◌, sym, arith}
 use Rattle.std.specs.Prelude.{fold, sum_by}
 use Rattle.std.specs.List.{list_any}
-use Rattle.nvs_store.specs.declared.scan.Placed.{Placed}
+use Rattle.nvs_store.specs.declared.scan.Found.{Found}
 use Rattle.nvs_store.specs.Geometry.{slot_size}
 use Rattle.flash_map.specs.Units.{padded}
 use Rattle.nvs_store.specs.Sector.{counting_entry, is_gc_done, is_used, used_slots, low, data_end, entry_end}
@@ -19,8 +19,8 @@ slot_start-low-requires-clause-inside c =
     let size = slot_size_bounds c.args.unit c.requires.unit in
     used_inside c.args.unit c.args.bytes.now c.used_count-used.result (omega arith) (omega arith) (omega arith)
 
-pub counting_entry-placed-requires-clause-inside : goal.counting_entry-placed-requires-clause-inside
-counting_entry-placed-requires-clause-inside c =
+pub counting_entry-found-requires-clause-inside : goal.counting_entry-found-requires-clause-inside
+counting_entry-found-requires-clause-inside c =
     let size = slot_size_bounds c.args.unit c.requires.unit in
     used_inside c.args.unit c.args.bytes.now c.loop-index.index (omega arith) (omega arith) (omega arith)
 
@@ -37,10 +37,10 @@ overflow_add-lens c =
 
 pub loop-index-preserved : goal.loop-index-preserved
 loop-index-preserved c =
-    let ends : max c.end_of.result c.loop-index.ends ≡ _ = most_step (counting_entry c.args.unit) 1 (slot_size c.args.unit) c.args.bytes.now (entry_end c.args.unit) (c.loop-index.index - 1) c.loop-index.index (c.loop-index.index + 1 - 1) c.counting_entry-placed.result c.loop-index.ends c.end_of.result (omega arith) (omega arith) c.counting_entry-placed.ensures c.loop-index.invariant.ends c.end_of.ensures.value in
+    let ends : max c.end_of.result c.loop-index.ends ≡ _ = most_step (counting_entry c.args.unit) 1 (slot_size c.args.unit) c.args.bytes.now (entry_end c.args.unit) (c.loop-index.index - 1) c.loop-index.index (c.loop-index.index + 1 - 1) c.counting_entry-found.result c.loop-index.ends c.end_of.result (omega arith) (omega arith) c.counting_entry-found.ensures c.loop-index.invariant.ends c.end_of.ensures.value in
     record {
       ends = c.max-ends.ensures ∙ ends;
-      lens = sum_step (counting_entry c.args.unit) 1 (slot_size c.args.unit) c.args.bytes.now (λ f. padded c.args.unit f.entry.len) (c.loop-index.index - 1) c.loop-index.index (c.loop-index.index + 1 - 1) c.counting_entry-placed.result c.loop-index.lens c.len_of-lens.result (omega arith) (omega arith) c.counting_entry-placed.ensures c.loop-index.invariant.lens c.len_of-lens.ensures.value;
+      lens = sum_step (counting_entry c.args.unit) 1 (slot_size c.args.unit) c.args.bytes.now (λ f. padded c.args.unit f.entry.len) (c.loop-index.index - 1) c.loop-index.index (c.loop-index.index + 1 - 1) c.counting_entry-found.result c.loop-index.lens c.len_of-lens.result (omega arith) (omega arith) c.counting_entry-found.ensures c.loop-index.invariant.lens c.len_of-lens.ensures.value;
       gc_done = slot_step is_gc_done 1 (slot_size c.args.unit) c.args.bytes.now (c.loop-index.index - 1) c.loop-index.index (c.loop-index.index + 1 - 1) c.loop-index.gc_done c.is_gc_done-gc_done.result (omega arith) (omega arith) c.loop-index.invariant.gc_done c.is_gc_done-gc_done.ensures;
       small = omega (arith, c.len_of-lens.ensures.small);
     }
@@ -55,7 +55,7 @@ data_end-is c =
     let fence : c.saturating_sub.result ≡ low c.args.unit c.args.bytes.now - slot_size c.args.unit = omega (arith, lower) in
     c.max-2.ensures ∙ ap (max c.padded-written.result) c.max.ensures
     ∙ data_end_is c.args.unit c.args.bytes.now _ c.trimmed_len.result c.padded-written.result c.loop-index.ends c.loop-index.lens (omega arith) (ap (λ (n : ℕ). take n c.args.bytes.now) fence) c.trimmed_len.ensures c.padded-written.ensures.value
-    (c.loop-index.invariant.ends ∙ ap (λ (fs : List Placed). fold max 0 (map (entry_end c.args.unit) fs)) all) (c.loop-index.invariant.lens ∙ ap (sum_by (λ f. padded c.args.unit f.entry.len)) all)
+    (c.loop-index.invariant.ends ∙ ap (λ (fs : List Found). fold max 0 (map (entry_end c.args.unit) fs)) all) (c.loop-index.invariant.lens ∙ ap (sum_by (λ f. padded c.args.unit f.entry.len)) all)
 
 pub returns : goal.returns
 returns c =

@@ -1,3 +1,4 @@
+mod AppendFacts
 pub mod Appending
 mod Appends
 pub mod Blank

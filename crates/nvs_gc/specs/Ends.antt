@@ -1,5 +1,5 @@
 -- How the calls of a store of NVS end: as those of one store over any sectors do, at those of NVS.
-use Rattle.std.specs.Prelude.{◌≡◌, ◌⊎◌, ℕ, ◌/◌, Bool, List, Result}
+use Rattle.std.specs.Prelude.{◌≡◌, ◌⊎◌, ℕ, ◌/◌, List, Result}
 use Rattle.flash_sim.specs.Device.{Device}
 use Rattle.flash_sim.specs.declared.flash.PowerLost.{PowerLost}
 use Rattle.flash_map.specs.declared.area.Area.{Area}
@@ -7,10 +7,7 @@ use Rattle.flash_map.specs.declared.area.Role.TheVariants.{Nvs as NvsRole}
 use Rattle.flash_map.specs.declared.faults.MountFault.{MountFault}
 use Rattle.flash_map.specs.declared.faults.WriteFault.{WriteFault}
 use Rattle.flash_map.specs.Area.{unit_of, sector_size, sectors_of}
-use Rattle.ring_laws.specs.Area.{is_blank_at}
-use Rattle.ring_store.specs.Collecting as collecting
-use Rattle.ring_store.specs.Kind.{Range}
-use Rattle.ring_store.specs.Spending as spending
+use Rattle.ring_store.specs.Closing as closing
 use Rattle.ring_store.specs.Stands as stands
 use Rattle.ring_store.specs.Wrapped.{store_in}
 use Rattle.ring_store.specs.Writing as writing
@@ -25,25 +22,11 @@ abbrev pub MountEnds : Device → Device → Area → Result Nvs MountFault → 
 MountEnds old new area result =
     stands.MountEnds NvsRole kind kept old new area (store_in (λ (nvs : Nvs). nvs.store) result)
 
--- A whole round, in which this sector was the open one. Afterwards a value fits the open sector exactly where
--- it does beside the copies, and a delete fits.
-abbrev pub TurnsOn : Device → Device → Area → ℕ → Type 0
-TurnsOn old new area place =
-    let size = sector_size old area in
-    collecting.TurnsAt (kind_on old area) size (sectors_of old area) (sectors_of new area) place
-
--- the list is as before that round, or as it leaves it
-abbrev pub KeepsOrTurnsOn : Device → Device → Area → ℕ → Type 0
-KeepsOrTurnsOn old new area place =
-    collecting.KeepsOrTurns (kind_on old area) (sectors_of old area) (sectors_of new area) place
-
--- what it spends
-abbrev pub round_units_on : Device → Area → ℕ → Range
-round_units_on d area place = spending.round_units (kind_on d area) (sectors_of d area) place
-
--- the sector is in use by no entry
-abbrev pub is_blank_on : Device → Area → ℕ → Bool
-is_blank_on d area place = is_blank_at (kind_on d area).reading (sectors_of d area) place
+-- Closing and collecting, with this sector open: it was blank, and nothing changed; or it was not, and a whole
+-- round was made, with the room that it leaves and just the units that it spends; or power was lost in that, and
+-- the list is as before or as the round leaves it. A sector of NVS is clean (`is_clean_at`) where it is blank.
+abbrev pub RoundEnds : {T : Type 0} → Device → Device → Area → ℕ → Result T PowerLost → Type 0
+RoundEnds old new area place result = closing.RoundEnds (kind_on old area) old new area place result
 
 abbrev pub WriteEnds : {T : Type 0} → Device → Device → Area → ℕ → List ℕ → Result T WriteFault → Type 0
 WriteEnds old new area id bytes result = writing.WriteEnds (kind_on old area) old new area id bytes result

@@ -14,8 +14,7 @@ ghost use Rattle.ring_store.specs.Cached.{latest_on};
 ghost use Rattle.ring_store.specs.Latest.{IsTold, TellsOn};
 ghost use Rattle.ring_store.specs.Listed.{entries_on, IsPlacedOn};
 ghost use Rattle.ring_store.specs.Older.{IsNextOlder, newest_before};
-ghost use Rattle.ring_store.specs.Standing.{SpendsIn, SpendsUpTo};
-ghost use Rattle.nvs_gc.specs.Ends.{MountEnds, TurnsOn, KeepsOrTurnsOn, round_units_on, is_blank_on, WriteEnds, DeleteEnds, KeepsWritten, SameOrWritten, sector_units};
+ghost use Rattle.nvs_gc.specs.Ends.{MountEnds, RoundEnds, WriteEnds, DeleteEnds, KeepsWritten, SameOrWritten, sector_units};
 ghost use Rattle.nvs_gc.specs.Standing.{IsNvsArea, StandsOn, kind_on, KeepsItems, IsUndamaged, items_on, live_cost_on};
 
 use flash_map::{Area, MountFault, WriteFault};
@@ -124,23 +123,10 @@ impl Nvs {
         ensures changed { let d = F.device flash.old in
             SameOrWritten d (F.device flash.new) self.old.store.area }
 
+        ensures ends { let d = F.device flash.old in let store = self.old.store in
+            RoundEnds d (F.device flash.new) store.area store.current result }
         ensures stands { OnOk result (StandsOn (F.device flash.new) self.new) }
-        ensures turns { let d = F.device flash.old in let store = self.old.store in
-            is_blank_on d store.area store.current ≡ false
-            → OnOk result (TurnsOn d (F.device flash.new) store.area store.current) }
-        ensures blank { let d = F.device flash.old in let store = self.old.store in
-            is_blank_on d store.area store.current ≡ true → F.device flash.new ≡ d }
-        ensures units { let d = F.device flash.old in let store = self.old.store in
-            is_blank_on d store.area store.current ≡ false
-            → OnOk result (SpendsIn d (F.device flash.new) (round_units_on d store.area store.current)) }
-
         ensures down { OnErr result (self.new.store.up ≡ false) }
-        ensures used { let d = F.device flash.old in let store = self.old.store in
-            OnErr result (is_blank_on d store.area store.current ≡ false) }
-        ensures list_lost { let d = F.device flash.old in let store = self.old.store in
-            OnErr result (KeepsOrTurnsOn d (F.device flash.new) store.area store.current) }
-        ensures bound { let d = F.device flash.old in let store = self.old.store in
-            OnErr result (SpendsUpTo d (F.device flash.new) (round_units_on d store.area store.current)) }
     {
         self.store.close_and_collect(flash, steps)
     }

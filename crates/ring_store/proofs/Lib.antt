@@ -5,6 +5,7 @@ pub mod BlankAreas
 mod CacheSteps
 mod EntrySteps
 pub mod CallFacts
+pub mod ClosingSteps
 pub mod CollectSteps
 pub mod CopyLoop
 pub mod CostSteps

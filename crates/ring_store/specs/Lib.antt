@@ -1,5 +1,6 @@
 pub mod Asking
 pub mod Cached
+pub mod Closing
 pub mod Collecting
 pub mod Kind
 pub mod Lasts

@@ -4,10 +4,9 @@ ghost use Rattle.flash_map.specs.Area.{geometry_of, sector_size, sectors_of};
 ghost use Rattle.flash_map.specs.Faults.{mount_lost};
 ghost use Rattle.flash_map.specs.Spending.{SpendsBetween};
 ghost use Rattle.flash_map.specs.Touches.{Touches};
-ghost use Rattle.ring_store.specs.Collecting.{KeepsOrTurns, TurnsAt};
+ghost use Rattle.ring_store.specs.Closing.{RoundEnds, TurnEnds};
 ghost use Rattle.ring_store.specs.Kind.{is_clean_at};
-ghost use Rattle.ring_store.specs.Spending.{none, round_units};
-ghost use Rattle.ring_store.specs.Standing.{IsStoreArea, KeepsItems, SpendsIn, SpendsUpTo};
+ghost use Rattle.ring_store.specs.Standing.{IsStoreArea, KeepsItems};
 ghost use Rattle.ring_store.specs.Stands.{StandsOn, MountEnds};
 ghost use Rattle.ring_store.specs.Written.{IsWritten};
 
@@ -122,26 +121,19 @@ impl<T: SlotSectors> Store<T> {
 
         ensures touches { Touches (self.old.area ∷ []) (F.device flash.old) (F.device flash.new) (is_err result) }
         ensures area { self.new.area ≡ self.old.area }
-        ensures items { let d = F.device flash.old in KeepsItems (T.kind (geometry_of d self.old.area)) (sectors_of d self.old.area) (sectors_of (F.device flash.new) self.old.area) }
+        ensures items { let d = F.device flash.old in let k = T.kind (geometry_of d self.old.area) in
+            KeepsItems k (sectors_of d self.old.area) (sectors_of (F.device flash.new) self.old.area) }
         ensures written { let d = F.device flash.old in let k = T.kind (geometry_of d self.old.area) in
             IsWritten k (sectors_of d self.old.area) → IsWritten k (sectors_of (F.device flash.new) self.old.area) }
         ensures changed { let d = F.device flash.old in
             (sectors_of (F.device flash.new) self.old.area ≡ sectors_of d self.old.area)
             ⊎ IsWritten (T.kind (geometry_of d self.old.area)) (sectors_of (F.device flash.new) self.old.area) }
 
+        ensures ends { let d = F.device flash.old in let store = self.old in
+            let k = T.kind (geometry_of d store.area) in
+            RoundEnds k d (F.device flash.new) store.area store.current result }
         ensures stands { OnOk result (StandsOn T.role T.kind T.kept (F.device flash.new) self.new) }
-        ensures turns { let d = F.device flash.old in let k = T.kind (geometry_of d self.old.area) in is_clean_at k (sectors_of d self.old.area) self.old.current ≡ false
-            → OnOk result (TurnsAt k (sector_size d self.old.area) (sectors_of d self.old.area) (sectors_of (F.device flash.new) self.old.area) self.old.current) }
-        ensures clean { let d = F.device flash.old in is_clean_at (T.kind (geometry_of d self.old.area)) (sectors_of d self.old.area) self.old.current ≡ true → F.device flash.new ≡ d }
-        ensures units { let d = F.device flash.old in let k = T.kind (geometry_of d self.old.area) in is_clean_at k (sectors_of d self.old.area) self.old.current ≡ false
-            → OnOk result (SpendsIn d (F.device flash.new) (round_units k (sectors_of d self.old.area) self.old.current)) }
-
         ensures down { OnErr result (self.new.up ≡ false) }
-        ensures used { let d = F.device flash.old in
-            OnErr result (is_clean_at (T.kind (geometry_of d self.old.area)) (sectors_of d self.old.area) self.old.current ≡ false) }
-        ensures list_lost { let d = F.device flash.old in
-            OnErr result (KeepsOrTurns (T.kind (geometry_of d self.old.area)) (sectors_of d self.old.area) (sectors_of (F.device flash.new) self.old.area) self.old.current) }
-        ensures bound { let d = F.device flash.old in OnErr result (SpendsUpTo d (F.device flash.new) (round_units (T.kind (geometry_of d self.old.area)) (sectors_of d self.old.area) self.old.current)) }
     {
         if T::is_clean(flash, &self.area, self.current, steps) {
             return Ok(());
@@ -156,27 +148,24 @@ impl<T: SlotSectors> Store<T> {
         steps: &mut Steps<L>,
     ) -> Result<(), PowerLost>
         requires stands { StandsOn T.role T.kind T.kept (F.device flash.old) self.old }
-        requires used { let d = F.device flash.old in is_clean_at (T.kind (geometry_of d self.old.area)) (sectors_of d self.old.area) self.old.current ≡ false }
+        requires used { let d = F.device flash.old in let k = T.kind (geometry_of d self.old.area) in
+            is_clean_at k (sectors_of d self.old.area) self.old.current ≡ false }
 
         ensures touches { Touches (self.old.area ∷ []) (F.device flash.old) (F.device flash.new) (is_err result) }
         ensures area { self.new.area ≡ self.old.area }
-        ensures items { let d = F.device flash.old in KeepsItems (T.kind (geometry_of d self.old.area)) (sectors_of d self.old.area) (sectors_of (F.device flash.new) self.old.area) }
+        ensures items { let d = F.device flash.old in let k = T.kind (geometry_of d self.old.area) in
+            KeepsItems k (sectors_of d self.old.area) (sectors_of (F.device flash.new) self.old.area) }
         ensures written { let d = F.device flash.old in let k = T.kind (geometry_of d self.old.area) in
             IsWritten k (sectors_of d self.old.area) → IsWritten k (sectors_of (F.device flash.new) self.old.area) }
         ensures changed { let d = F.device flash.old in
             (sectors_of (F.device flash.new) self.old.area ≡ sectors_of d self.old.area)
             ⊎ IsWritten (T.kind (geometry_of d self.old.area)) (sectors_of (F.device flash.new) self.old.area) }
 
+        ensures ends { let d = F.device flash.old in let store = self.old in
+            let k = T.kind (geometry_of d store.area) in
+            TurnEnds k d (F.device flash.new) store.area store.current result }
         ensures stands { OnOk result (StandsOn T.role T.kind T.kept (F.device flash.new) self.new) }
-        ensures turns { let d = F.device flash.old in let k = T.kind (geometry_of d self.old.area) in
-            OnOk result (TurnsAt k (sector_size d self.old.area) (sectors_of d self.old.area) (sectors_of (F.device flash.new) self.old.area) self.old.current) }
-        ensures units { let d = F.device flash.old in let k = T.kind (geometry_of d self.old.area) in
-            OnOk result (SpendsIn d (F.device flash.new) (round_units k (sectors_of d self.old.area) self.old.current)) }
-
         ensures down { OnErr result (self.new.up ≡ false) }
-        ensures list_lost { let d = F.device flash.old in
-            OnErr result (KeepsOrTurns (T.kind (geometry_of d self.old.area)) (sectors_of d self.old.area) (sectors_of (F.device flash.new) self.old.area) self.old.current) }
-        ensures bound { let d = F.device flash.old in OnErr result (SpendsUpTo d (F.device flash.new) (round_units (T.kind (geometry_of d self.old.area)) (sectors_of d self.old.area) self.old.current)) }
     {
         self.up = false;
         self.current = round(flash, &self.area, &mut self.opened, self.current, steps)?;

@@ -4,8 +4,7 @@ ghost use Rattle.flash_map.specs.Area.{sector_size};
 ghost use Rattle.flash_map.specs.Faults.{mount_lost};
 ghost use Rattle.flash_map.specs.Spending.{SpendsBetween};
 ghost use Rattle.flash_map.specs.Touches.{Touches};
-ghost use Rattle.ring_store.specs.Standing.{SpendsIn, SpendsUpTo};
-ghost use Rattle.zms_store.specs.Ends.{MountEnds, TurnsOn, KeepsOrTurnsOn, round_units_on, is_clean_on, KeepsWritten, SameOrWritten, SameBytesOrWritten};
+ghost use Rattle.zms_store.specs.Ends.{MountEnds, RoundEnds, KeepsWritten, SameOrWritten, SameBytesOrWritten};
 ghost use Rattle.zms_store.specs.Standing.{IsZmsArea, StandsOn, KeepsItems};
 
 use flash_map::{Area, MountFault};
@@ -97,25 +96,10 @@ impl Zms {
         ensures changed { let d = F.device flash.old in
             SameBytesOrWritten d (F.device flash.new) self.old.store.area }
 
+        ensures ends { let d = F.device flash.old in let store = self.old.store in
+            RoundEnds d (F.device flash.new) store.area store.current result }
         ensures stands { OnOk result (StandsOn (F.device flash.new) self.new) }
-        ensures turns { let d = F.device flash.old in let store = self.old.store in
-            is_clean_on d store.area store.current ≡ false
-            → OnOk result (TurnsOn d (F.device flash.new) store.area store.current) }
-        ensures clean { let d = F.device flash.old in let store = self.old.store in
-            is_clean_on d store.area store.current ≡ true → F.device flash.new ≡ d }
-        ensures units { let d = F.device flash.old in let store = self.old.store in
-            is_clean_on d store.area store.current ≡ false
-            → OnOk result (SpendsIn d (F.device flash.new)
-            (round_units_on d store.area store.current)) }
-
         ensures down { OnErr result (self.new.store.up ≡ false) }
-        ensures used { let d = F.device flash.old in let store = self.old.store in
-            OnErr result (is_clean_on d store.area store.current ≡ false) }
-        ensures list_lost { let d = F.device flash.old in let store = self.old.store in
-            OnErr result (KeepsOrTurnsOn d (F.device flash.new) store.area store.current) }
-        ensures bound { let d = F.device flash.old in let store = self.old.store in
-            OnErr result (SpendsUpTo d (F.device flash.new)
-            (round_units_on d store.area store.current)) }
     {
         self.store.close_and_collect(flash, steps)
     }

@@ -1,10 +1,9 @@
-use Rattle.std.proofs.Common.{◌≡◌, ℕ, ◌<◌, true, false, List, length, sym, subst, inl, inr, arith}
-use Rattle.std.proofs.lemmas.Bool.{cases_Bool}
+use Rattle.std.proofs.Common.{◌≡◌, ℕ, ◌<◌, List, length, sym, subst, inl, inr, arith}
 use Rattle.flash_map.specs.Area.{sectors_of}
 use Rattle.ring_laws.specs.Area.{open_sector}
 use Rattle.ring_laws.proofs.AreaReads.{length-sectors}
 use Rattle.ring_laws.proofs.Stays.{open_within}
-use Rattle.nvs_gc.specs.Ends.{is_blank_on}
+use Rattle.ring_store.proofs.ClosingSteps.{same-or-used}
 use Rattle.nvs_gc.specs.Standing.{kind_on}
 use Rattle.nvs_gc.proofs.nvs.Nvs.close_and_collect.Goals as goal
 
@@ -17,7 +16,7 @@ returns-clause-changed g c =
     let several = c.requires.area.lawful.several in
     let opened : open_sector (kind_on d area).reading (sectors_of d area) < length (sectors_of d area) = open_within (kind_on d area).reading (sectors_of d area) (omega (arith, count, several)) in
     let within : place < length (sectors_of d area) = subst (λ (p : ℕ). p < length (sectors_of d area)) (sym c.requires.current) opened in
-    elim (cases_Bool (is_blank_on d area place)) [
-      | inl blank ↦ inl (c.close_and_collect.ensures.clean blank)
+    elim (same-or-used (kind_on d area) d (g.F.Flash.device c.close_and_collect.new.flash) area place c.close_and_collect.result c.close_and_collect.ensures.ends) [
+      | inl same ↦ inl same
       | inr used ↦ inr (c.close_and_collect.ensures.written (record { place = place; within = within; used = used }))
     ]

@@ -1,8 +1,9 @@
 use Rattle.std.proofs.Common.{inl, refl, sym, ◌∙◌}
 use Rattle.flash_sim.specs.Device.{Device}
+use Rattle.flash_map.specs.declared.area.Area.{Area}
 use Rattle.flash_map.specs.Area.{geometry_of, sectors_of}
-use Rattle.flash_map.proofs.PieceLemmas.{on_err}
 use Rattle.ring_store.proofs.Areas.{keeps_none, open_inside}
+use Rattle.ring_store.proofs.ClosingSteps.{turn-round}
 use Rattle.ring_store.proofs.store.Store.close_and_collect.Goals as goal
 
 pub is_clean-requires-clause-inside : goal.is_clean-requires-clause-inside
@@ -23,6 +24,12 @@ pub returns-then-is_clean-clause-changed : goal.returns-then-is_clean-clause-cha
 returns-then-is_clean-clause-changed g c =
     inl refl
 
-pub returns-clause-used : goal.returns-clause-used
-returns-clause-used g c =
-    on_err c.turn.result (sym c.is_clean.ensures ∙ c.if-is_clean.false)
+pub returns-then-is_clean-clause-ends : goal.returns-then-is_clean-clause-ends
+returns-then-is_clean-clause-ends g c =
+    inl (record { clean = sym c.is_clean.ensures ∙ c.if-is_clean.true; same = refl })
+
+pub returns-clause-ends : goal.returns-clause-ends
+returns-clause-ends g c =
+    let a : Device = g.F.Flash.device c.args.flash.now in
+    let area : Area = c.args.self.now.area in
+    turn-round (g.T.SlotSectors.kind (geometry_of a area)) a (g.F.Flash.device c.turn.new.flash) area c.args.self.now.current c.turn.result c.turn.ensures.ends

@@ -6,6 +6,7 @@ use Rattle.ring_laws.specs.Forms.{AtRest}
 use Rattle.ring_store.specs.Kind.{IsKind}
 use Rattle.ring_store.proofs.Areas.{unit_is}
 use Rattle.ring_store.specs.Stands.{StandsAt}
+use Rattle.ring_store.proofs.ClosingSteps.{turn-stops}
 use Rattle.ring_store.proofs.RoomFacts.{stands_with}
 use Rattle.ring_store.proofs.Standings.{stands}
 use Rattle.ring_store.proofs.store.Store.turn.Goals as goal
@@ -69,3 +70,16 @@ fill-requires-clause-current g c =
 pub fill-requires-clause-slots : goal.fill-requires-clause-slots
 fill-requires-clause-slots g c =
     c.requires.stands.cached.slots
+
+pub returns-clause-ends : goal.returns-clause-ends
+returns-clause-ends g c =
+    let did = c.in_ok-self.ensures in
+    record { used = c.requires.used; turns = did.turns; units = did.spends }
+
+pub returns-in_err-self-clause-ends : goal.returns-in_err-self-clause-ends
+returns-in_err-self-clause-ends g c =
+    let a : Device = g.F.Flash.device c.args.flash.now in
+    let area : Area = c.args.self.now.area in
+    let did = c.in_err-self.ensures in
+    turn-stops (g.T.SlotSectors.kind (geometry_of a area)) a (g.F.Flash.device c.round.new.flash) area c.args.self.now.current c.from_residual.result c.from_residual.ensures.0
+    (record { used = c.requires.used; list = did.list_lost; bound = did.spends_lost })

@@ -6,6 +6,7 @@ ghost use Rattle.flash_map.specs.Spending.{SpendsBetween};
 ghost use Rattle.flash_map.specs.Touches.{Touches};
 ghost use Rattle.ring_store.specs.Closing.{RoundEnds, TurnEnds};
 ghost use Rattle.ring_store.specs.Kind.{is_clean_at};
+ghost use Rattle.ring_store.specs.Listed.{kind_on};
 ghost use Rattle.ring_store.specs.Standing.{IsStoreArea, KeepsItems};
 ghost use Rattle.ring_store.specs.Stands.{StandsOn, MountEnds};
 ghost use Rattle.ring_store.specs.Written.{IsWritten};
@@ -119,19 +120,20 @@ impl<T: SlotSectors> Store<T> {
     ) -> Result<(), PowerLost>
         requires { StandsOn T.role T.kind T.kept (F.device flash.old) self.old }
 
-        ensures touches { Touches (self.old.area ∷ []) (F.device flash.old) (F.device flash.new) (is_err result) }
+        ensures touches { let d = F.device flash.old in
+            Touches (self.old.area ∷ []) d (F.device flash.new) (is_err result) }
         ensures area { self.new.area ≡ self.old.area }
-        ensures items { let d = F.device flash.old in let k = T.kind (geometry_of d self.old.area) in
-            KeepsItems k (sectors_of d self.old.area) (sectors_of (F.device flash.new) self.old.area) }
-        ensures written { let d = F.device flash.old in let k = T.kind (geometry_of d self.old.area) in
-            IsWritten k (sectors_of d self.old.area) → IsWritten k (sectors_of (F.device flash.new) self.old.area) }
-        ensures changed { let d = F.device flash.old in
-            (sectors_of (F.device flash.new) self.old.area ≡ sectors_of d self.old.area)
-            ⊎ IsWritten (T.kind (geometry_of d self.old.area)) (sectors_of (F.device flash.new) self.old.area) }
+        ensures items { let d = F.device flash.old in let area = self.old.area in
+            KeepsItems (kind_on T.kind d area) (sectors_of d area) (sectors_of (F.device flash.new) area) }
+        ensures written { let d = F.device flash.old in let area = self.old.area in
+            let k = kind_on T.kind d area in
+            IsWritten k (sectors_of d area) → IsWritten k (sectors_of (F.device flash.new) area) }
+        ensures changed { let d = F.device flash.old in let area = self.old.area in
+            let new = sectors_of (F.device flash.new) area in
+            (new ≡ sectors_of d area) ⊎ IsWritten (kind_on T.kind d area) new }
 
-        ensures ends { let d = F.device flash.old in let store = self.old in
-            let k = T.kind (geometry_of d store.area) in
-            RoundEnds k d (F.device flash.new) store.area store.current result }
+        ensures ends { let d = F.device flash.old in let area = self.old.area in
+            RoundEnds (kind_on T.kind d area) d (F.device flash.new) area self.old.current result }
         ensures stands { OnOk result (StandsOn T.role T.kind T.kept (F.device flash.new) self.new) }
         ensures down { OnErr result (self.new.up ≡ false) }
     {
@@ -148,22 +150,23 @@ impl<T: SlotSectors> Store<T> {
         steps: &mut Steps<L>,
     ) -> Result<(), PowerLost>
         requires stands { StandsOn T.role T.kind T.kept (F.device flash.old) self.old }
-        requires used { let d = F.device flash.old in let k = T.kind (geometry_of d self.old.area) in
-            is_clean_at k (sectors_of d self.old.area) self.old.current ≡ false }
+        requires used { let d = F.device flash.old in let area = self.old.area in
+            is_clean_at (kind_on T.kind d area) (sectors_of d area) self.old.current ≡ false }
 
-        ensures touches { Touches (self.old.area ∷ []) (F.device flash.old) (F.device flash.new) (is_err result) }
+        ensures touches { let d = F.device flash.old in
+            Touches (self.old.area ∷ []) d (F.device flash.new) (is_err result) }
         ensures area { self.new.area ≡ self.old.area }
-        ensures items { let d = F.device flash.old in let k = T.kind (geometry_of d self.old.area) in
-            KeepsItems k (sectors_of d self.old.area) (sectors_of (F.device flash.new) self.old.area) }
-        ensures written { let d = F.device flash.old in let k = T.kind (geometry_of d self.old.area) in
-            IsWritten k (sectors_of d self.old.area) → IsWritten k (sectors_of (F.device flash.new) self.old.area) }
-        ensures changed { let d = F.device flash.old in
-            (sectors_of (F.device flash.new) self.old.area ≡ sectors_of d self.old.area)
-            ⊎ IsWritten (T.kind (geometry_of d self.old.area)) (sectors_of (F.device flash.new) self.old.area) }
+        ensures items { let d = F.device flash.old in let area = self.old.area in
+            KeepsItems (kind_on T.kind d area) (sectors_of d area) (sectors_of (F.device flash.new) area) }
+        ensures written { let d = F.device flash.old in let area = self.old.area in
+            let k = kind_on T.kind d area in
+            IsWritten k (sectors_of d area) → IsWritten k (sectors_of (F.device flash.new) area) }
+        ensures changed { let d = F.device flash.old in let area = self.old.area in
+            let new = sectors_of (F.device flash.new) area in
+            (new ≡ sectors_of d area) ⊎ IsWritten (kind_on T.kind d area) new }
 
-        ensures ends { let d = F.device flash.old in let store = self.old in
-            let k = T.kind (geometry_of d store.area) in
-            TurnEnds k d (F.device flash.new) store.area store.current result }
+        ensures ends { let d = F.device flash.old in let area = self.old.area in
+            TurnEnds (kind_on T.kind d area) d (F.device flash.new) area self.old.current result }
         ensures stands { OnOk result (StandsOn T.role T.kind T.kept (F.device flash.new) self.new) }
         ensures down { OnErr result (self.new.up ≡ false) }
     {

@@ -29,7 +29,7 @@ pub note_at : (cache : List (Option (ℕ × ℕ))) (slots other sector slot id :
     → place_of (with_note cache other sector slot) id ≡ cond (eqb (cache_slot slots other) (cache_slot slots id)) (Some (sector, slot)) (place_of cache id)
 note_at cache slots other sector slot id is some = grind (arith, common_steps)
 
-forget_at : (cache : List (Option (ℕ × ℕ))) (sector id : ℕ) → place_of (without cache sector) id ≡ without_sector sector (place_of cache id)
+pub forget_at : (cache : List (Option (ℕ × ℕ))) (sector id : ℕ) → place_of (without cache sector) id ≡ without_sector sector (place_of cache id)
 forget_at cache sector id = grind (arith, common_steps)
 
 nothing_at : (cache : List (Option (ℕ × ℕ))) (i : ℕ) → get_or (cleared cache) i None ≡ None

@@ -2,7 +2,7 @@
 use Rattle.std.proofs.Common.{◌≡◌, ℕ, ◌+◌, ◌-◌, ◌*◌, ◌<◌, ◌≤◌, ◌⊎◌, Bool, true, false, cond, eqb, leb, List, [], ◌∷◌, ◌++◌, length, map, Option, Some, refl, sym, ap, subst, ◌∙◌, inl, inr, arith}
 use Rattle.std.specs.Prelude.{slice_range}
 use Rattle.std.specs.Option.{option_map, option_map_or}
-use Rattle.std.specs.List.{range_with_len}
+use Rattle.std.specs.List.{filter_map, range_with_len}
 use Rattle.std.proofs.Math.Nat.{zero-mod}
 use Rattle.std.proofs.lemmas.List.{map_push}
 use Rattle.std.proofs.lemmas.Bool.{cases_eq, cond-true, cond-false, eq-eqb, ne_eqb, leb-true}
@@ -10,6 +10,7 @@ use Rattle.flash_map.specs.Area.{sector_at, ChangesOnly}
 use Rattle.flash_map.specs.Units.{IsUnit, padded, is_erased}
 use Rattle.flash_map.proofs.Rounding.{padding}
 use Rattle.ring_laws.specs.Area.{open_sector}
+use Rattle.ring_laws.specs.Slots.{Slot}
 use Rattle.ring_laws.proofs.Collects.{done-not_blank}
 use Rattle.ring_laws.proofs.LiveLemmas.{option_cases, some_none}
 use Rattle.ring_store.specs.declared.entry.Entry.{Entry}
@@ -65,7 +66,12 @@ module _ (unit : ℕ) (b e : List ℕ) where
       record { list = record { list = h.list; gc_done = h.gc_done; closed = h.closed }; long = h.long; free = omega arith; sound = sound }
 
   pub closes : is_erased b ≡ false → nvs_closes unit b e → Closes (kind_in unit) b e
-  closes used h = record { list = record { list = h.list; gc_done = h.gc_done; closed = h.closed }; long = h.long; sound = λ sound. close-sound unit b e used sound h }
+  closes used h = record {
+    list = record { list = h.list; gc_done = h.gc_done; closed = h.closed };
+    same_entries = entries_are unit e ∙ ap (λ (xs : List Slot). map entry_of (filter_map (counting_entry unit) xs)) h.same_slots ∙ sym (entries_are unit b);
+    long = h.long;
+    sound = λ sound. close-sound unit b e used sound h;
+  }
 
   pub keeps_same : e ≡ b → Keeps (kind_in unit) b e
   keeps_same same = record {

@@ -270,6 +270,7 @@ module _ (k : Kind) (law : IsKind k) where
           gc_done = ap R.has_gc_done here ∙ m.gc_done;
           long = ap length here ∙ m.long;
           room = omega arith;
+          others = λ j apart off. only_else new last_sectors (next old place) j only off ∙ only_else old new place j m.only apart;
         }
 
   -- a whole collection keeps the items

@@ -18,7 +18,7 @@ use Rattle.ring_store.specs.Steps.{Keeps, KeepsMarks, Begins, Clears, StopsClear
 use Rattle.ring_store.specs.Standing.{KeepsItems}
 use Rattle.ring_store.specs.Collecting.{HasBegun, HasCopied, StopsCopying, CollectsAt, redo_of}
 use Rattle.ring_store.proofs.VersionLemmas.{keeps_all}
-use Rattle.ring_store.proofs.Areas.{keeps-by, stopped, has_stopped, none_copied, marks_stopped, only_then, only_length, copied-le}
+use Rattle.ring_store.proofs.Areas.{keeps-by, stopped, has_stopped, none_copied, marks_stopped, only_then, only_length, only_else, copied-le}
 
 -- An open sector that has no entry and is ready for one.
 
@@ -95,6 +95,7 @@ module _ (k : Kind) (law : IsKind k) where
           gc_done = at.gc_done;
           long = at.long ∙ begun.long;
           room = omega arith;
+          others = λ j apart off. at.others j apart (λ (e : j ≡ next start place). off (e ∙ start_next)) ∙ only_else old start place j begun.only apart;
         }
 
   -- Room for gc-done.

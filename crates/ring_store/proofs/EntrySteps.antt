@@ -40,7 +40,7 @@ module _ (k : Kind) (law : IsKind k) where
   no_entries f [] e = refl
   no_entries f (x ∷ xs) e = absurd (cc)
 
-  blank-entries : (b : List ℕ) → k.reading.is_blank b ≡ true → entries k b ≡ []
+  pub blank-entries : (b : List ℕ) → k.reading.is_blank b ≡ true → entries k b ≡ []
   blank-entries b blank = no_entries {Y = ℕ × List ℕ} (λ (e : Entry). (e.id, k.bytes b e.slot)) (entries k b) (sym (law.pairs b) ∙ law.reads.pairs b blank)
 
   -- a sector that is made ready keeps its entries

@@ -43,3 +43,4 @@ mod WriteSteps
 mod WrittenFacts
 mod WrittenSteps
 mod TellSteps
+mod TurnSteps

@@ -16,7 +16,7 @@ use Rattle.ring_laws.proofs.Parts.{map_agree}
 use Rattle.ring_laws.proofs.RingSteps.{reads}
 use Rattle.ring_laws.proofs.Places.{after, after-within, after-apart, flat_map-agree}
 use Rattle.ring_laws.proofs.Rounding.{round_blank, round_collected}
-use Rattle.ring_store.specs.Kind.{Kind, IsKind, making_ready, fits}
+use Rattle.ring_store.specs.Kind.{Kind, IsKind, making_ready, entries, fits}
 use Rattle.ring_store.specs.Steps.{Keeps, Closes, StopsClearing}
 use Rattle.ring_store.specs.Spending.{none, both, copies, collect_units, ready_units, again_units, open_units, has_victim}
 use Rattle.ring_store.specs.Standing.{KeepsItems}
@@ -160,6 +160,13 @@ module _ (k : Kind) (law : IsKind k) where
     pub opened-unused : k.reading.is_blank (sector_at mid (next old place)) ≡ true
     opened-unused = ap R.is_blank opened-same ∙ next_blank R old place form
 
+    closed-entries : (j : ℕ) → entries k (sector_at mid j) ≡ entries k (sector_at old j)
+    closed-entries j =
+        elim (cases_eq j place) [
+          | inl e ↦ ap (λ (i : ℕ). entries k (sector_at mid i)) e ∙ closes.same_entries ∙ ap (λ (i : ℕ). entries k (sector_at old i)) (sym e)
+          | inr apart ↦ ap (entries k) (only_else old mid place j only apart)
+        ]
+
     long : length mid ≡ length old
     long = only_length old mid place only
 
@@ -231,6 +238,7 @@ module _ (k : Kind) (law : IsKind k) where
             round = round-opened;
             room = λ len some. room.room len some ∙ ap (λ (n : ℕ). leb (n + k.cost len) (k.cap size)) (sym no_copies);
             delete = room.delete;
+            others = λ j apart off. ap (entries k) (only_else mid new (next old place) j opened.only apart) ∙ closed-entries j;
           }
 
     pub turns-collected : (size : ℕ) (new : List (List ℕ)) → 512 ≤ size → ((j : ℕ) → j < length old → length (sector_at mid j) ≡ size) → Collecting k.reading mid (next old place) → CollectsAt k mid new (next old place) → TurnsAt k size old new place
@@ -250,6 +258,7 @@ module _ (k : Kind) (law : IsKind k) where
           round = turned;
           room = λ len some. room.room len some ∙ ap (λ (n : ℕ). leb (n + k.cost len) (k.cap size)) (sym used);
           delete = room.delete;
+          others = λ j apart off. ap (entries k) (all.others j apart (λ (e : j ≡ next mid (next old place)). off (e ∙ same_next))) ∙ closed-entries j;
         }
 
     -- its units

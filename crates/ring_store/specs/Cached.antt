@@ -6,8 +6,11 @@ use Rattle.flash_map.specs.declared.area.Area.{Area}
 use Rattle.flash_map.specs.declared.area.Geometry.{Geometry}
 use Rattle.flash_map.specs.Area.{sector_at}
 use Rattle.lookup_cache.specs.Places.{place_of}
+use Rattle.ring_laws.specs.Area.{next}
+use Rattle.ring_laws.specs.Forms.{AtRest}
 use Rattle.ring_laws.specs.Live.{all_placed}
 use Rattle.ring_store.specs.declared.entry.Placed.{Placed}
+use Rattle.ring_store.specs.Collecting.{TurnsAt}
 use Rattle.ring_store.specs.Kind.{Kind, placed_at, slots}
 use Rattle.ring_store.specs.Listed.{entries_on}
 use Rattle.ring_store.specs.Steps.{new_entry}
@@ -30,6 +33,20 @@ pub record AddsEntry (k : Kind) (old new : List (List ℕ)) (place id len : ℕ)
   pub slot : ℕ
   pub last : slot + 1 ≡ k.first + k.count (sector_at new place)
   pub list : all_placed (slots k) new ≡ all_placed (slots k) old ++ placed_at place (new_entry slot id len) ∷ []
+
+-- ---- behind a round
+
+-- A round from this sector on made of an area at rest what it is now.
+pub record IsTurned (k : Kind) (size : ℕ) (old new : List (List ℕ)) (place : ℕ) : Type 0 where
+  pub rested : AtRest k.reading old place
+  pub long : length new ≡ length old
+  pub turns : TurnsAt k size old new place
+
+-- By whatever round this sector became the open one, of a cache of the list before it came one of the list behind it.
+abbrev pub FollowsRound : Kind → List (List ℕ) → ℕ → List (Option (ℕ × ℕ)) → List (Option (ℕ × ℕ)) → Type 0
+FollowsRound k new opened before behind =
+    (size : ℕ) (old : List (List ℕ)) (place : ℕ) → IsTurned k size old new place → opened ≡ next old place
+    → IsCacheOf before (all_placed (slots k) old) → IsCacheOf behind (all_placed (slots k) new)
 
 -- ---- an area on a device
 

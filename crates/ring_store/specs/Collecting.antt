@@ -10,7 +10,7 @@ use Rattle.ring_laws.specs.Live as live
 use Rattle.ring_store.specs.declared.entry.Placed.{Placed}
 use Rattle.ring_store.specs.declared.entry.Redo.{Redo}
 use Rattle.ring_store.specs.declared.entry.Redo.TheVariants.{Nothing, ClearNext, CollectAgain}
-use Rattle.ring_store.specs.Kind.{Range, Kind, slots, fits}
+use Rattle.ring_store.specs.Kind.{Range, Kind, entries, slots, fits}
 use Rattle.ring_store.specs.Spending.{none, again_units}
 use Rattle.ring_store.specs.Standing.{list_of}
 use Rattle.ring_store.specs.Steps.{Adds}
@@ -63,6 +63,8 @@ pub record CollectsAt (k : Kind) (old new : List (List ℕ)) (place : ℕ) : Typ
   pub gc_done : k.reading.has_gc_done (sector_at new place) ≡ true
   pub long : length (sector_at new place) ≡ length (sector_at old place)
   pub room : k.free (sector_at new place) + copies_cost k.cost (to_copy k.reading old place) ≡ k.cap (length (sector_at old place)) + 2 * k.slot
+  -- no sector changed but the open one and the victim
+  pub others : (j : ℕ) → (j ≡ place → ⊥) → (j ≡ next old place → ⊥) → sector_at new j ≡ sector_at old j
 
 -- whether these pairs and a value of this length cost no more than a sector of this size has
 abbrev pub fits_beside : Kind → ℕ → List (ℕ × List ℕ) → ℕ → Bool
@@ -74,6 +76,8 @@ pub record TurnsAt (k : Kind) (size : ℕ) (old new : List (List ℕ)) (place : 
   pub room : (len : ℕ) → 0 < len → fits k (sector_at new (next old place)) len
       ≡ fits_beside k size (pairs_at k.reading new (next old place)) len
   pub delete : fits k (sector_at new (next old place)) 0 ≡ true
+  -- the entries of all sectors but the new open one and the victim stay in their slots
+  pub others : (j : ℕ) → (j ≡ next old place → ⊥) → (j ≡ next old (next old place) → ⊥) → entries k (sector_at new j) ≡ entries k (sector_at old j)
 
 -- ---- the list
 

@@ -54,6 +54,8 @@ pub record Marks (k : Kind) (old new : List ℕ) : Type 0 where
 
 pub record Closes (k : Kind) (old new : List ℕ) : Type 0 where
   pub list : ring.Closes k.reading old new
+  -- each entry stays in its slot
+  pub same_entries : entries k new ≡ entries k old
   pub long : length new ≡ length old
   pub sound : is_sound k.reading old ≡ true → is_sound k.reading new ≡ true
 

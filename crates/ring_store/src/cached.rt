@@ -1,13 +1,13 @@
 // The cache of a store: the place of the latest entry of each cache slot's ids.
-ghost use Rattle.std.specs.Prelude.{◌≡◌, length};
+ghost use Rattle.std.specs.Prelude.{◌≡◌, ◌<◌, length};
 ghost use Rattle.flash_map.specs.Area.{geometry_of, sectors_of, sector_at};
 ghost use Rattle.ring_laws.specs.Area.{open_sector};
-ghost use Rattle.ring_store.specs.Cached.{IsCacheOf, IsCacheOn};
+ghost use Rattle.ring_store.specs.Cached.{IsCacheOf, IsCacheOn, FollowsRound};
 ghost use Rattle.ring_store.specs.Listed.{kind_on};
 ghost use Rattle.ring_store.specs.Standing.{IsStoreArea};
 
 use crate::entry::Placed;
-use crate::noting::{Notes, note_among};
+use crate::noting::{Notes, note_among, note_sector};
 use crate::sectors::SlotSectors;
 use flash_map::Area;
 use flash_sim::{Flash, Steps};
@@ -56,4 +56,25 @@ pub fn fill<T: SlotSectors, F: Flash, L: Ledger>(
         steps,
     );
     note_among(flash, area, opened, current, 0, older, cache, steps);
+}
+
+/// Keeps it the cache of the list behind a round by which this sector became the open one. What stood in the sector after
+/// it, the victim, is forgotten, and the entries of the open one are noted, which stand last. Where the round had no
+/// victim, no entry of the list stood in that sector.
+pub fn follow_round<T: SlotSectors, F: Flash, L: Ledger>(
+    flash: &F,
+    area: &Area,
+    opened: u32,
+    cache: &mut Cache,
+    steps: &mut Steps<L>,
+)
+    requires area { IsStoreArea T.role (F.device flash.now).banks area.now }
+    requires inside { opened < area.now.sectors }
+
+    ensures { let d = F.device flash.now in
+        FollowsRound (kind_on T.kind d area.now) (sectors_of d area.now) opened cache.old cache.new }
+{
+    let victim = area.next(opened);
+    cache.forget_sector(victim);
+    note_sector::<T, Cache, F, L>(flash, area, opened, cache, steps);
 }

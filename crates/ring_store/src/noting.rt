@@ -47,8 +47,8 @@ fn note_slot<T: SlotSectors, N: Notes, F: Flash, L: Ledger>(
     }
 }
 
-// Notes the entries of a sector.
-fn note_sector<T: SlotSectors, N: Notes, F: Flash, L: Ledger>(
+/// Notes the entries of a sector.
+pub fn note_sector<T: SlotSectors, N: Notes, F: Flash, L: Ledger>(
     flash: &F,
     area: &Area,
     place: u32,

@@ -3,16 +3,19 @@ ghost use Rattle.std.specs.Prelude.{◌≡◌, ◌^◌, ◌<◌, ◌≤◌, ◌�
 ghost use Rattle.flash_map.specs.Area.{geometry_of, sectors_of, sector_at};
 ghost use Rattle.flash_map.specs.Touches.{Touches};
 ghost use Rattle.flash_map.specs.Units.{IsUnit};
+ghost use Rattle.ring_store.specs.Cached.{IsCacheOn};
 ghost use Rattle.ring_store.specs.Kind.{fits};
 ghost use Rattle.ring_store.specs.Room.{has_room, IsShort, MakesRoom, IsFull, StopsMakingRoom};
 ghost use Rattle.ring_store.specs.Standing.{IsStoreArea};
 ghost use Rattle.ring_store.specs.Stands.{StandsAt};
 ghost use Rattle.ring_store.specs.Written.{IsWritten};
 
+use crate::cached::follow_round;
 use crate::collecting::round;
 use crate::sectors::SlotSectors;
 use flash_map::{Area, Geometry, geometry};
 use flash_sim::{Flash, PowerLost, Steps};
+use lookup_cache::Cache;
 use std::sync::ledger::Ledger;
 
 /// Whether a value of this length and its entry cost more than a sector of this geometry has for them.
@@ -52,7 +55,7 @@ pub fn fits<T: SlotSectors, F: Flash, L: Ledger>(
 }
 
 /// Closes and collects, round after round, until a value of this length fits the open sector. Says whether it does. The
-/// items stay, also where power is lost.
+/// items stay, also where power is lost, and the cache follows each round.
 ///
 /// # Errors
 /// `PowerLost`.
@@ -61,10 +64,12 @@ pub fn make_room<T: SlotSectors, F: Flash, L: Ledger>(
     area: &Area,
     opened: &mut T,
     current: &mut u32,
+    cache: &mut Cache,
     len: u32,
     steps: &mut Steps<L>,
 ) -> Result<bool, PowerLost>
     requires stands { StandsAt T.role T.kind T.kept (F.device flash.old) area.now current.old opened.old }
+    requires cached { IsCacheOn T.kind (F.device flash.old) area.now cache.old }
     requires narrow { len < 2 ^ 16 }
     requires short { let d = F.device flash.old in
         0 < len → IsShort (T.kind (geometry_of d area.now)) d area.now len }
@@ -74,6 +79,7 @@ pub fn make_room<T: SlotSectors, F: Flash, L: Ledger>(
         IsWritten k (sectors_of d area.now) → IsWritten k (sectors_of (F.device flash.new) area.now) }
 
     ensures stands { OnOk result (StandsAt T.role T.kind T.kept (F.device flash.new) area.now current.new opened.new) }
+    ensures cached { OnOk result (IsCacheOn T.kind (F.device flash.new) area.now cache.new) }
     ensures makes { let d = F.device flash.old in
         OnOk result (MakesRoom (T.kind (geometry_of d area.now)) d (F.device flash.new) area.now len) }
     ensures room { let k = T.kind (geometry_of (F.device flash.old) area.now) in
@@ -89,6 +95,7 @@ pub fn make_room<T: SlotSectors, F: Flash, L: Ledger>(
             return Ok(true);
         }
         let place = round(flash, area, opened, *current, steps)?;
+        follow_round::<T, F, L>(flash, area, place, cache, steps);
         *current = place;
     }
     let room = fits(flash, area, opened, *current, len, steps);

@@ -11,7 +11,7 @@ ghost use Rattle.ring_store.specs.Standing.{IsStoreArea, KeepsItems};
 ghost use Rattle.ring_store.specs.Stands.{StandsOn, MountEnds};
 ghost use Rattle.ring_store.specs.Written.{IsWritten};
 
-use crate::cached::{CACHE_SLOTS, fill};
+use crate::cached::{CACHE_SLOTS, fill, follow_round};
 use crate::collecting::{redo, round};
 use crate::sectors::SlotSectors;
 use crate::store::Store;
@@ -172,14 +172,7 @@ impl<T: SlotSectors> Store<T> {
     {
         self.up = false;
         self.current = round(flash, &self.area, &mut self.opened, self.current, steps)?;
-        fill(
-            flash,
-            &self.area,
-            &self.opened,
-            self.current,
-            &mut self.cache,
-            steps,
-        );
+        follow_round::<T, F, L>(flash, &self.area, self.current, &mut self.cache, steps);
         self.up = true;
         Ok(())
     }

@@ -1,18 +1,17 @@
 // Writing and deleting items.
-ghost use Rattle.std.specs.Prelude.{◌≡◌, ◌^◌, ◌<◌, ◌≤◌, ◌∷◌, [], true, false, None, length, is_err, IfOk, OnOk, OnErr};
+ghost use Rattle.std.specs.Prelude.{◌≡◌, ◌^◌, ◌<◌, ◌≤◌, ◌∷◌, [], true, false, None, length, is_err, OnOk, OnErr};
 ghost use Rattle.std.specs.Bool.{MatchBool};
 ghost use Rattle.flash_map.specs.Area.{geometry_of, sectors_of};
 ghost use Rattle.flash_map.specs.Faults.{write_lost};
 ghost use Rattle.flash_map.specs.Touches.{Touches};
 ghost use Rattle.ring_store.specs.Cached.{AddsEntry, IsCacheOn};
 ghost use Rattle.ring_store.specs.Listed.{kind_on};
-ghost use Rattle.ring_store.specs.Room.{has_room, IsShort, MakesRoom, IsFull, StopsMakingRoom};
+ghost use Rattle.ring_store.specs.Room.{has_room, IsShort};
 ghost use Rattle.ring_store.specs.Stands.{StandsOn, StandsAt};
 ghost use Rattle.ring_store.specs.Written.{IsWritten};
 ghost use Rattle.ring_store.specs.Writing.{PutsPair, StopsPutting, AppendEnds, Holds, WriteEnds, DeleteEnds};
 
-use crate::cached::fill;
-use crate::room::{fits, is_too_long, make_room};
+use crate::room::{is_too_long, make_room};
 use crate::sectors::SlotSectors;
 use crate::store::Store;
 use flash_map::{Area, WriteFault, geometry};
@@ -89,46 +88,6 @@ fn put_noted<T: SlotSectors, F: Flash, L: Ledger>(
     Ok(())
 }
 
-// Makes room for a value of this length. Where it takes rounds, the cache is filled again behind them.
-fn make_room_noted<T: SlotSectors, F: Flash, L: Ledger>(
-    flash: &mut F,
-    area: &Area,
-    opened: &mut T,
-    current: &mut u32,
-    cache: &mut Cache,
-    len: u32,
-    steps: &mut Steps<L>,
-) -> Result<bool, PowerLost>
-    requires stands { StandsAt T.role T.kind T.kept (F.device flash.old) area.now current.old opened.old }
-    requires cached { IsCacheOn T.kind (F.device flash.old) area.now cache.old }
-    requires narrow { len < 2 ^ 16 }
-    requires short { let d = F.device flash.old in
-        0 < len → IsShort (T.kind (geometry_of d area.now)) d area.now len }
-
-    ensures touches { Touches (area.now ∷ []) (F.device flash.old) (F.device flash.new) (is_err result) }
-    ensures written { let d = F.device flash.old in let k = T.kind (geometry_of d area.now) in
-        IsWritten k (sectors_of d area.now) → IsWritten k (sectors_of (F.device flash.new) area.now) }
-
-    ensures stands { OnOk result (StandsAt T.role T.kind T.kept (F.device flash.new) area.now current.new opened.new) }
-    ensures cached { OnOk result (IsCacheOn T.kind (F.device flash.new) area.now cache.new) }
-    ensures makes { let d = F.device flash.old in
-        OnOk result (MakesRoom (T.kind (geometry_of d area.now)) d (F.device flash.new) area.now len) }
-    ensures room { let k = T.kind (geometry_of (F.device flash.old) area.now) in
-        IfOk result (λ room. room ≡ has_room k (sectors_of (F.device flash.new) area.now) len) }
-    ensures full { let d = F.device flash.old in
-        IfOk result (λ room. room ≡ false → IsFull (T.kind (geometry_of d area.now)) d (F.device flash.new) area.now len) }
-
-    ensures stops { let d = F.device flash.old in
-        OnErr result (StopsMakingRoom (T.kind (geometry_of d area.now)) d (F.device flash.new) area.now len) }
-{
-    if fits(flash, area, opened, *current, len, steps) {
-        return Ok(true);
-    }
-    let room = make_room(flash, area, opened, current, len, steps)?;
-    fill(flash, area, opened, *current, cache, steps);
-    Ok(room)
-}
-
 // Makes room for a pair, and appends it where there is some. Says whether there is.
 fn append<T: SlotSectors, F: Flash, L: Ledger>(
     flash: &mut F,
@@ -157,7 +116,7 @@ fn append<T: SlotSectors, F: Flash, L: Ledger>(
     ensures undamaged { (T.kind (geometry_of (F.device flash.old) area.now)).damage (sectors_of (F.device flash.new) area.now) ≡ None }
 {
     let len = bytes.len() as u32;
-    let room = make_room_noted(flash, area, opened, current, cache, len, steps)?;
+    let room = make_room(flash, area, opened, current, cache, len, steps)?;
     if !room {
         return Ok(false);
     }

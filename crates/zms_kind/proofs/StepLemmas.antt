@@ -87,6 +87,7 @@ module _ (geometry : Geometry) (b e : List ℕ) (wide : 512 ≤ length b) where
   pub closes : zms_closes geometry.kind b e → Closes (kind geometry) b e
   closes c = record {
     list = record { list = c.list; gc_done = c.gc_done; closed = c.closed };
+    same_entries = entries_are geometry e ∙ ap (map entry_of) c.same_entries ∙ sym (entries_are geometry b);
     long = c.long;
     sound = λ sound. ring_same geometry.kind b e (omega arith) (closed_may geometry.kind e c.closed) c.long c.lower c.same_entries c.list sound;
   }

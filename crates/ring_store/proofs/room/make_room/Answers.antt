@@ -1,4 +1,4 @@
-use Rattle.std.proofs.Common.{◌≡◌, ℕ, ◌+◌, ◌-◌, true, false, sym, ap, subst, ◌∙◌, arith}
+use Rattle.std.proofs.Common.{◌≡◌, ℕ, ◌+◌, ◌-◌, ◌<◌, true, false, sym, ap, subst, ◌∙◌, arith}
 use Rattle.flash_sim.specs.Device.{Device}
 use Rattle.flash_map.specs.declared.area.Area.{Area}
 use Rattle.std.proofs.lemmas.Bool.{false≢true}
@@ -6,14 +6,17 @@ use Rattle.flash_map.specs.Area.{geometry_of, sectors_of}
 use Rattle.flash_map.proofs.PieceLemmas.{on_err}
 use Rattle.ring_store.specs.Kind.{IsKind}
 use Rattle.ring_store.specs.Room.{has_room}
-use Rattle.ring_store.proofs.Areas.{unit_is}
-use Rattle.ring_store.proofs.RoomFacts.{IsSearching, inside, searching_start, room_now, used_now, stops_now, searching_more, delete_room, makes_now, full_or_delete}
+use Rattle.ring_store.proofs.Areas.{unit_is, still_area}
+use Rattle.ring_store.proofs.RoomFacts.{IsSearching, inside, searching_start, room_now, used_now, stops_now, searching_more, delete_room, makes_now, full_or_delete, rest_on}
 use Rattle.ring_store.specs.Written.{IsWritten}
 use Rattle.ring_store.proofs.CallFacts.{to_geometry}
+use Rattle.ring_store.proofs.SlotFacts.{next_within}
+use Rattle.ring_store.proofs.TurnSteps.{cache-follows}
 use Rattle.ring_store.proofs.room.make_room.Goals as goal
 
 pub loop-round-init : goal.loop-round-init
 loop-round-init g c = record {
+  cached = c.requires.cached;
   searching = searching_start g.T.SlotSectors.role g.T.SlotSectors.kind g.T.SlotSectors.kept (g.F.Flash.device c.args.flash.now) c.args.area.now c.args.current.now c.args.opened.now c.args.len c.requires.stands;
   written = λ written. written;
 }
@@ -59,7 +62,12 @@ loop-round-preserved g c =
     let did = c.in_ok-place.ensures in
     let e : Device = g.F.Flash.device c.round.new.flash in
     let same : c.loop-round._round - 1 + 1 ≡ c.loop-round._round + 1 - 1 = omega arith in
+    let standing = c.loop-round.invariant.searching.standing in
+    let law_here : IsKind (g.T.SlotSectors.kind (geometry_of d area)) = g.met.T.SlotSectors.lawful (geometry_of d area) (unit_is d area (g.met.F.Flash.is_lawful c.loop-round.flash) standing.area.lawful) in
     record {
+      cached = cache-follows g.T.SlotSectors.kind d e area c.loop-round.current c.in_ok-place.place did.touches.banks
+          (rest_on g.T.SlotSectors.role g.T.SlotSectors.kind g.T.SlotSectors.kept d area c.loop-round.current c.loop-round.opened law_here (g.met.F.Flash.is_lawful c.loop-round.flash) standing) did.turns did.opened
+          c.loop-round.cache c.follow_round.new.cache c.loop-round.invariant.cached c.follow_round.ensures;
       searching = subst (λ (n : ℕ). IsSearching g.T.SlotSectors.role g.T.SlotSectors.kind g.T.SlotSectors.kept a e area c.in_ok-place.place c.round.new.opened c.args.len n) same
           (searching_more g.T.SlotSectors.role g.T.SlotSectors.kind g.T.SlotSectors.kept a d area c.args.current.now c.args.opened.now c.loop-round.current c.loop-round.opened c.args.len (c.loop-round._round - 1) law (g.met.F.Flash.is_lawful c.args.flash.now) c.requires.stands c.loop-round.invariant.searching (g.met.F.Flash.is_lawful c.loop-round.flash) (sym c.fits.ensures ∙ c.if-fits.false) e c.in_ok-place.place c.round.new.opened did.touches did.opened did.rested did.kept did.turns did.spends);
       written = λ written. to_geometry (λ u. IsWritten (g.T.SlotSectors.kind u) (sectors_of d area) → IsWritten (g.T.SlotSectors.kind u) (sectors_of e area)) a d area c.loop-round.invariant.searching.touches.banks did.written (c.loop-round.invariant.written written);
@@ -104,3 +112,26 @@ returns-in_err-place-clause-written g c =
 pub returns-clause-written : goal.returns-clause-written
 returns-clause-written g c =
     c.loop-round.invariant.written
+
+pub returns-then-fits-clause-cached : goal.returns-then-fits-clause-cached
+returns-then-fits-clause-cached g c =
+    c.loop-round.invariant.cached
+
+pub returns-clause-cached : goal.returns-clause-cached
+returns-clause-cached g c =
+    c.loop-round.invariant.cached
+
+pub follow_round-requires-clause-area : goal.follow_round-requires-clause-area
+follow_round-requires-clause-area g c =
+    let d : Device = g.F.Flash.device c.loop-round.flash in
+    let e : Device = g.F.Flash.device c.round.new.flash in
+    still_area g.T.SlotSectors.role d e c.args.area.now c.in_ok-place.ensures.touches.banks c.loop-round.invariant.searching.standing.area
+
+pub follow_round-requires-clause-inside : goal.follow_round-requires-clause-inside
+follow_round-requires-clause-inside g c =
+    let d : Device = g.F.Flash.device c.loop-round.flash in
+    let area : Area = c.args.area.now in
+    let standing = c.loop-round.invariant.searching.standing in
+    let law_here : IsKind (g.T.SlotSectors.kind (geometry_of d area)) = g.met.T.SlotSectors.lawful (geometry_of d area) (unit_is d area (g.met.F.Flash.is_lawful c.loop-round.flash) standing.area.lawful) in
+    let rested = rest_on g.T.SlotSectors.role g.T.SlotSectors.kind g.T.SlotSectors.kept d area c.loop-round.current c.loop-round.opened law_here (g.met.F.Flash.is_lawful c.loop-round.flash) standing in
+    subst (λ (p : ℕ). p < area.sectors) (sym c.in_ok-place.ensures.opened) (next_within d area c.loop-round.current rested.ring.within)

@@ -18,7 +18,7 @@ put_noted-requires-clause-ordinary g c =
     let a : Device = g.F.Flash.device c.args.flash.now in
     let area : Area = c.args.area.now in
     let law : IsKind (g.T.SlotSectors.kind (geometry_of a area)) = g.met.T.SlotSectors.lawful (geometry_of a area) (unit_is a area (g.met.F.Flash.is_lawful c.args.flash.now) c.requires.stands.area.lawful) in
-    let d : Device = g.F.Flash.device c.make_room_noted.new.flash in
+    let d : Device = g.F.Flash.device c.make_room.new.flash in
     let did = c.in_ok-room.ensures in
     let room : has_room (g.T.SlotSectors.kind (geometry_of a area)) (sectors_of d area) (length c.args.bytes.now) ≡ true = sym did.room ∙ c.if-not-room.false in
     then_ordinary g.T.SlotSectors.role g.T.SlotSectors.kind g.T.SlotSectors.kept a d area c.args.current.now c.args.opened.now law (g.met.F.Flash.is_lawful c.args.flash.now) c.requires.stands c.args.id c.args.bytes.now did.touches.banks did.makes room c.requires.ordinary
@@ -28,7 +28,7 @@ put_noted-requires-clause-room g c =
     let a : Device = g.F.Flash.device c.args.flash.now in
     let area : Area = c.args.area.now in
     let law : IsKind (g.T.SlotSectors.kind (geometry_of a area)) = g.met.T.SlotSectors.lawful (geometry_of a area) (unit_is a area (g.met.F.Flash.is_lawful c.args.flash.now) c.requires.stands.area.lawful) in
-    let d : Device = g.F.Flash.device c.make_room_noted.new.flash in
+    let d : Device = g.F.Flash.device c.make_room.new.flash in
     let did = c.in_ok-room.ensures in
     let room : has_room (g.T.SlotSectors.kind (geometry_of a area)) (sectors_of d area) (length c.args.bytes.now) ≡ true = sym did.room ∙ c.if-not-room.false in
     then_room g.T.SlotSectors.role g.T.SlotSectors.kind g.T.SlotSectors.kept a d area c.args.current.now c.args.opened.now law (g.met.F.Flash.is_lawful c.args.flash.now) c.requires.stands c.args.id c.args.bytes.now did.touches.banks did.makes room
@@ -38,7 +38,7 @@ returns-in-Ok-clause-ends g c =
     let a : Device = g.F.Flash.device c.args.flash.now in
     let area : Area = c.args.area.now in
     let law : IsKind (g.T.SlotSectors.kind (geometry_of a area)) = g.met.T.SlotSectors.lawful (geometry_of a area) (unit_is a area (g.met.F.Flash.is_lawful c.args.flash.now) c.requires.stands.area.lawful) in
-    let d : Device = g.F.Flash.device c.make_room_noted.new.flash in
+    let d : Device = g.F.Flash.device c.make_room.new.flash in
     let did = c.in_ok-room.ensures in
     let room : has_room (g.T.SlotSectors.kind (geometry_of a area)) (sectors_of d area) (length c.args.bytes.now) ≡ true = sym did.room ∙ c.if-not-room.false in
     let e : Device = g.F.Flash.device c.put_noted.new.flash in
@@ -52,7 +52,7 @@ pub returns-in_err-room-clause-ends : goal.returns-in_err-room-clause-ends
 returns-in_err-room-clause-ends g c =
     let a : Device = g.F.Flash.device c.args.flash.now in
     let area : Area = c.args.area.now in
-    ends_lost (g.T.SlotSectors.kind (geometry_of a area)) a (g.F.Flash.device c.make_room_noted.new.flash) area c.args.id c.args.bytes.now c.from_residual.result c.from_residual.ensures.0 (inl c.in_err-room.ensures.stops)
+    ends_lost (g.T.SlotSectors.kind (geometry_of a area)) a (g.F.Flash.device c.make_room.new.flash) area c.args.id c.args.bytes.now c.from_residual.result c.from_residual.ensures.0 (inl c.in_err-room.ensures.stops)
 
 pub returns-in_err-room-clause-written : goal.returns-in_err-room-clause-written
 returns-in_err-room-clause-written g c =
@@ -66,7 +66,7 @@ pub returns-in-Err-clause-written : goal.returns-in-Err-clause-written
 returns-in-Err-clause-written g c =
     let a : Device = g.F.Flash.device c.args.flash.now in
     let area : Area = c.args.area.now in
-    let d : Device = g.F.Flash.device c.make_room_noted.new.flash in
+    let d : Device = g.F.Flash.device c.make_room.new.flash in
     let e : Device = g.F.Flash.device c.put_noted.new.flash in
     let did = c.in_ok-room.ensures in
     λ written. to_geometry (λ u. IsWritten (g.T.SlotSectors.kind u) (sectors_of e area)) a d area did.touches.banks (c.in-Err.ensures.written (from_geometry (λ u. IsWritten (g.T.SlotSectors.kind u) (sectors_of d area)) a d area did.touches.banks (did.written written)))
@@ -75,7 +75,7 @@ pub returns-in-Ok-clause-written : goal.returns-in-Ok-clause-written
 returns-in-Ok-clause-written g c =
     let a : Device = g.F.Flash.device c.args.flash.now in
     let area : Area = c.args.area.now in
-    let d : Device = g.F.Flash.device c.make_room_noted.new.flash in
+    let d : Device = g.F.Flash.device c.make_room.new.flash in
     let e : Device = g.F.Flash.device c.put_noted.new.flash in
     let did = c.in_ok-room.ensures in
     λ written. to_geometry (λ u. IsWritten (g.T.SlotSectors.kind u) (sectors_of e area)) a d area did.touches.banks (c.in-Ok.ensures.written (from_geometry (λ u. IsWritten (g.T.SlotSectors.kind u) (sectors_of d area)) a d area did.touches.banks (did.written written)))
@@ -85,7 +85,7 @@ returns-in-Err-clause-ends g c =
     let a : Device = g.F.Flash.device c.args.flash.now in
     let area : Area = c.args.area.now in
     let law : IsKind (g.T.SlotSectors.kind (geometry_of a area)) = g.met.T.SlotSectors.lawful (geometry_of a area) (unit_is a area (g.met.F.Flash.is_lawful c.args.flash.now) c.requires.stands.area.lawful) in
-    let d : Device = g.F.Flash.device c.make_room_noted.new.flash in
+    let d : Device = g.F.Flash.device c.make_room.new.flash in
     let did = c.in_ok-room.ensures in
     let room : has_room (g.T.SlotSectors.kind (geometry_of a area)) (sectors_of d area) (length c.args.bytes.now) ≡ true = sym did.room ∙ c.if-not-room.false in
     let e : Device = g.F.Flash.device c.put_noted.new.flash in
@@ -96,7 +96,7 @@ returns-in-Err-clause-undamaged g c =
     let a : Device = g.F.Flash.device c.args.flash.now in
     let area : Area = c.args.area.now in
     let law : IsKind (g.T.SlotSectors.kind (geometry_of a area)) = g.met.T.SlotSectors.lawful (geometry_of a area) (unit_is a area (g.met.F.Flash.is_lawful c.args.flash.now) c.requires.stands.area.lawful) in
-    let d : Device = g.F.Flash.device c.make_room_noted.new.flash in
+    let d : Device = g.F.Flash.device c.make_room.new.flash in
     let did = c.in_ok-room.ensures in
     let room : has_room (g.T.SlotSectors.kind (geometry_of a area)) (sectors_of d area) (length c.args.bytes.now) ≡ true = sym did.room ∙ c.if-not-room.false in
     let e : Device = g.F.Flash.device c.put_noted.new.flash in
@@ -107,7 +107,7 @@ returns-in-Ok-clause-undamaged g c =
     let a : Device = g.F.Flash.device c.args.flash.now in
     let area : Area = c.args.area.now in
     let law : IsKind (g.T.SlotSectors.kind (geometry_of a area)) = g.met.T.SlotSectors.lawful (geometry_of a area) (unit_is a area (g.met.F.Flash.is_lawful c.args.flash.now) c.requires.stands.area.lawful) in
-    let d : Device = g.F.Flash.device c.make_room_noted.new.flash in
+    let d : Device = g.F.Flash.device c.make_room.new.flash in
     let did = c.in_ok-room.ensures in
     let room : has_room (g.T.SlotSectors.kind (geometry_of a area)) (sectors_of d area) (length c.args.bytes.now) ≡ true = sym did.room ∙ c.if-not-room.false in
     let e : Device = g.F.Flash.device c.put_noted.new.flash in

@@ -1,5 +1,5 @@
 -- What a round makes of the entries of the list with their places, and the cache behind it.
-use Rattle.std.proofs.Common.{◌≡◌, ℕ, ◌%◌, ◌<◌, Bool, true, false, cond, eqb, List, [], ◌∷◌, ◌++◌, length, map, Option, Some, None, refl, sym, ap, subst, ◌∙◌}
+use Rattle.std.proofs.Common.{◌≡◌, ℕ, ◌%◌, Bool, true, cond, eqb, List, [], ◌∷◌, ◌++◌, length, map, Option, Some, None, refl, sym, ap, subst, ◌∙◌}
 use Rattle.std.specs.Prelude.{IfSome}
 use Rattle.std.specs.List.{flat_map, All}
 use Rattle.std.specs.Option.{option_map, option_or}
@@ -11,7 +11,7 @@ use Rattle.flash_sim.specs.Device.{Device}
 use Rattle.flash_map.specs.declared.area.Area.{Area}
 use Rattle.flash_map.specs.declared.area.Geometry.{Geometry}
 use Rattle.flash_map.specs.Area.{geometry_of, sector_at, sector_size, sectors_of}
-use Rattle.lookup_cache.specs.Places.{place_of, without, without_sector}
+use Rattle.lookup_cache.specs.Places.{without, without_sector}
 use Rattle.lookup_cache.proofs.HistoryLemmas.{forget_at}
 use Rattle.ring_laws.specs.Area.{next}
 use Rattle.ring_laws.specs.Forms.{AtRest, others, rest}

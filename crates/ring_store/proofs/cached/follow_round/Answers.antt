@@ -7,7 +7,7 @@ use Rattle.ring_laws.specs.Area.{next}
 use Rattle.ring_laws.proofs.AreaReads.{length-sectors}
 use Rattle.ring_laws.proofs.Places.{after}
 use Rattle.ring_store.specs.declared.entry.Placed.{Placed}
-use Rattle.ring_store.specs.Cached.{IsCacheOf, IsTurned}
+use Rattle.ring_store.specs.Cached.{IsCacheOf}
 use Rattle.ring_store.specs.Kind.{Kind, IsKind, placed_at, entries}
 use Rattle.ring_store.proofs.Areas.{unit_is}
 use Rattle.ring_store.proofs.TurnSteps.{cache-turned}

@@ -1,7 +1,8 @@
 -- What two items say of a name.
-use Rattle.std.specs.Prelude.{◌≡◌, ℕ, ◌<◌, Bool, true, false, ◌&&◌, List, length, Option, Some, None, nat_le}
+use Rattle.std.specs.Prelude.{◌≡◌, ℕ, ◌+◌, ◌<◌, ◌≤◌, Bool, true, false, ◌&&◌, List, length, Option, Some, None, nat_le}
 use Rattle.std.specs.FinMap.{get}
 use Rattle.pair_laws.specs.Items.{Items}
+use Rattle.item_pairs.specs.Numbering.{Numbering}
 
 -- bytes of 1 to so many, where there are any
 abbrev pub is_value : ℕ → Option (List ℕ) → Bool
@@ -20,3 +21,8 @@ StandsHere longest items first second name = IsHere longest (get items first) (g
 pub record HasIds (top : ℕ) (is_id : ℕ → Type 0) : Type 0 where
   pub all : (id : ℕ) → id < top → is_id id
   pub only : (id : ℕ) → is_id id → id < top
+
+-- the id is one for names, not for the count or a value
+pub record IsForName (n : Numbering) (id : ℕ) : Type 0 where
+  pub from : n.first ≤ id
+  pub to : id < n.first + n.step

@@ -12,7 +12,7 @@ mod walking;
 mod writing;
 
 pub use homes::Ids;
-pub use lookup::{is_at, is_free, is_named, is_value, standing_place, standing_value};
+pub use lookup::{is_at, is_free, is_named, is_value, standing_place, standing_value, value_of};
 pub use mounting::mount_store;
 pub use numbers::Numbers;
 pub use putting::{change_value, price_of_pair, put_new, refused};

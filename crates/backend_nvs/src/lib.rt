@@ -8,3 +8,4 @@ mod numbers;
 mod putting;
 
 pub use backend::NvsBackend;
+pub use numbers::NvsNumbers;

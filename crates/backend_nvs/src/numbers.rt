@@ -12,8 +12,8 @@ use pair_store::{Ids, Numbers};
 use setting_name::Name;
 use std::sync::ledger::Ledger;
 
-// The count at 0x8000, the names behind it, and each value 0x4000 above its name.
-pub(crate) struct NvsNumbers;
+/// The count at 0x8000, the names behind it, and each value 0x4000 above its name.
+pub struct NvsNumbers;
 
 impl Numbers for NvsNumbers {
     ghost numbers = { λ area. numbers_in area };

@@ -387,3 +387,21 @@ pub(crate) static FCB_LONGER: [Play; 1] = [Play {
     ],
     left: &[(N, 0x22, 256)],
 }];
+
+// An id and the bytes of its item.
+pub(crate) type Item = (u32, &'static [u8]);
+
+// A name and its value, none where it is empty.
+pub(crate) type Told = (&'static [u8], &'static [u8]);
+
+// Over NVS: a count of 2, the setting `a`, a name with no value, and a pair beyond the count.
+pub(crate) static NVS_STRAYS: [Item; 6] = [
+    (0x8000, &[2, 0]),
+    (0x8001, b"a"),
+    (0xC001, &[1]),
+    (0x8002, b"b"),
+    (0x8003, b"c"),
+    (0xC003, &[7]),
+];
+
+pub(crate) static NVS_TOLD: [Told; 3] = [(b"a", &[1]), (b"b", b""), (b"c", b"")];

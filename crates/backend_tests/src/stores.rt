@@ -1,21 +1,26 @@
-ghost use Rattle.std.specs.Prelude.{◌≡◌, ◌<◌, ◌≤◌, ◌∷◌, [], false, length, IfOk, OnOk, vec_len};
+ghost use Rattle.std.specs.Prelude.{◌≡◌, ◌<◌, ◌≤◌, ◌∷◌, [], ℕ, false, length, IfOk, OnOk, vec_len};
 ghost use Rattle.flash_map.specs.Area.{geometry_of};
 ghost use Rattle.flash_map.specs.Lawful.{IsLawfulFor, HasKind, HasUnit};
 ghost use Rattle.flash_map.specs.Units.{IsUnit};
 ghost use Rattle.backend_api.specs.Ends.{set_lost};
 ghost use Rattle.any_backend.specs.ByRole.{any_serves, serves_as};
 ghost use Rattle.any_backend.specs.Standing.{IsReady};
+ghost use Rattle.pair_store.specs.Looking.{HasIds};
 
 use crate::counted::{CountedSim, Views};
 use crate::rows::{
-    Call, Cut, FCB, FCB_CUTS, FCB_LONG, FCB_LONGER, Left, NVS, NVS_CUTS, Play, ZMS, ZMS_CUTS,
-    ZMS_ERASING, ZMS_ERASING_CUTS,
+    Call, Cut, FCB, FCB_CUTS, FCB_LONG, FCB_LONGER, Item, Left, NVS, NVS_CUTS, NVS_STRAYS,
+    NVS_TOLD, Play, Told, ZMS, ZMS_CUTS, ZMS_ERASING, ZMS_ERASING_CUTS,
 };
 use any_backend::*;
 use arrayvec::ArrayString;
 use backend_api::{Backend, SetFault};
+use backend_nvs::NvsNumbers;
 use flash_map::{Area, Role};
 use flash_sim::{Bank, Bench, Kind, Steps};
+use item_store::ItemStore;
+use nvs_gc::Nvs;
+use pair_store::{Numbers, value_of};
 use setting_name::Name;
 use std::alloc::{AllocError, Global};
 use std::marker::Brand;
@@ -406,6 +411,66 @@ fn is_absent<B: Views, L: Ledger, R: Abort>(
     Ok(())
 }
 
+// Puts these items, whatever they are to settings.
+fn put_items<S: ItemStore, B: Bench, L: Ledger>(
+    alloc: Global,
+    bench: &mut B,
+    area: &Area,
+    items: &[Item],
+    steps: &mut Steps<L>,
+) -> Result<(), Fail>
+    requires low { (id : ℕ) → id < 0xFFFF → S.is_id id }
+    requires lawful { IsLawfulFor (B.device bench.old).banks area.now }
+    requires serves { S.serves area.now (geometry_of (B.device bench.old) area.now) }
+    ensures banks { OnOk result ((B.device bench.new).banks ≡ (B.device bench.old).banks) }
+{
+    let mut store = S::mount(alloc, bench, area.copy(), steps)?;
+    for (id, bytes) in items {
+        if bytes.is_empty() {
+            return Err(Fail::new("no bytes of a row"));
+        }
+        match store.write(bench, (*id).min(0xFFFE), bytes, steps) {
+            Ok(()) => {}
+            Err(_) => return Err(Fail::new("an item is refused")),
+        }
+    }
+    Ok(())
+}
+
+// On an area with these items each of these names has its value, with no stray removed before.
+fn tells<N: Numbers, S: ItemStore, B: Bench, L: Ledger, R: Abort>(
+    rt: &R,
+    alloc: Global,
+    bench: &mut B,
+    area: &Area,
+    told: &[Told],
+    steps: &mut Steps<L>,
+) -> Result<(), Fail>
+    requires ids { HasIds N.top S.is_id }
+    requires lawful { IsLawfulFor (B.device bench.old).banks area.now }
+    requires serves { S.serves area.now (geometry_of (B.device bench.old) area.now) }
+{
+    let store = S::mount(alloc, bench, area.copy(), steps)?;
+    for (name, value) in told {
+        let name = Name::read(name)?;
+        let found = value_of::<N, S, B, L>(&store, bench, &name, steps);
+        assert!(rt; found.unwrap_or(b"") == *value);
+    }
+    Ok(())
+}
+
+fn among_strays<B: Bench, L: Ledger, R: Abort>(
+    rt: &R,
+    alloc: Global,
+    bench: &mut B,
+    steps: &mut Steps<L>,
+) -> Result<(), Fail> {
+    let image = image(alloc, 0, b"")?;
+    let area = bed(alloc, bench, Role::Nvs, Kind::Erasing, 4, image)?;
+    put_items::<Nvs, B, L>(alloc, bench, &area, &NVS_STRAYS, steps)?;
+    tells::<NvsNumbers, Nvs, B, L, R>(rt, alloc, bench, &area, &NVS_TOLD, steps)
+}
+
 fn exercise<B: Views, L: Ledger, R: Abort>(
     rt: &R,
     alloc: Global,
@@ -438,6 +503,7 @@ fn exercise<B: Views, L: Ledger, R: Abort>(
         &mut steps,
     )?;
     cuts_of_role(rt, alloc, bench, fcb, erasing, 4, &FCB_CUTS, &mut steps)?;
+    among_strays(rt, alloc, bench, &mut steps)?;
     is_absent(rt, alloc, bench, nvs, erasing, 4, 0, b"a", &mut steps)?;
     is_absent(rt, alloc, bench, zms, rewritable, 16, 1, b"c", &mut steps)
 }

@@ -9,3 +9,4 @@ mod putting;
 
 pub use backend::ZmsBackend;
 pub use hash::{FIRST, GROUP_SIZE, first_of};
+pub use numbers::ZmsNumbers;

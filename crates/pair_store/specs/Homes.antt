@@ -2,6 +2,7 @@
 use Rattle.std.specs.Prelude.{◌≡◌, ℕ, ◌+◌, ◌<◌, ◌≤◌, true, List}
 use Rattle.pair_laws.specs.Items.{Items}
 use Rattle.item_pairs.specs.Numbering.{Numbering}
+use Rattle.item_pairs.specs.Homes.{IsHome}
 use Rattle.item_pairs.specs.Pairs.{IsInside}
 use Rattle.pair_store.specs.declared.homes.Ids.{Ids}
 
@@ -25,3 +26,11 @@ HasHomes n name ids = (items : Items) (place : ℕ) → IsInside n items place �
 -- each place of a name up to the count is one of these
 abbrev pub HasAllHomes : Numbering → Ids → Type 0
 HasAllHomes n ids = (items : Items) (place : ℕ) → IsInside n items place → IsAmong ids place
+
+-- at each of these ids the name may stand, by the count of some items
+abbrev pub HasOnlyHomes : Numbering → List ℕ → Ids → Type 0
+HasOnlyHomes n name ids = (place : ℕ) → IsAmong ids place → (items : Items) × IsHome n items name place
+
+-- each of these ids is a place of names, by the count of some items
+abbrev pub HasOnlyPlaces : Numbering → Ids → Type 0
+HasOnlyPlaces n ids = (place : ℕ) → IsAmong ids place → (items : Items) × IsInside n items place

@@ -9,7 +9,7 @@ ghost use Rattle.backend_api.specs.Map.{Map};
 ghost use Rattle.item_pairs.specs.Numbering.{Numbering, IsNumbering};
 ghost use Rattle.item_pairs.specs.PairRoom.{IsCountCost};
 ghost use Rattle.item_pairs.specs.Pairs.{settings_in, IsKept, IsPlaceOf, HasNoStrays};
-ghost use Rattle.pair_store.specs.Homes.{AreOfNames, HasHomes, HasAllHomes};
+ghost use Rattle.pair_store.specs.Homes.{AreOfNames, HasHomes, HasOnlyHomes, HasAllHomes, HasOnlyPlaces};
 ghost use Rattle.pair_store.specs.Looking.{HasIds};
 ghost use Rattle.pair_store.specs.Putting.{room_in};
 
@@ -40,12 +40,14 @@ pub trait Numbers {
     /// The ids at which a name may stand.
     fn homes_of(name: &Name) -> Ids
         ensures ids { (area : area_type) → AreOfNames (numbers area) top result }
-        ensures homes { (area : area_type) → HasHomes (numbers area) name.now result };
+        ensures homes { (area : area_type) → HasHomes (numbers area) name.now result }
+        ensures only { (area : area_type) → HasOnlyHomes (numbers area) name.now result };
 
     /// The ids at which any name may stand.
     fn all_homes() -> Ids
         ensures ids { (area : area_type) → AreOfNames (numbers area) top result }
-        ensures homes { (area : area_type) → HasAllHomes (numbers area) result };
+        ensures homes { (area : area_type) → HasAllHomes (numbers area) result }
+        ensures only { (area : area_type) → HasOnlyPlaces (numbers area) result };
 
     /// Whether a name may have a value: where it answers `false`, the name has none. It makes no index.
     fn may_have<S: ItemStore, F: Flash, L: Ledger>(

@@ -1,5 +1,7 @@
-use Rattle.std.proofs.Common.{◌+◌, ◌<◌, ◌≤◌, arith}
-use Rattle.std.specs.FinMap.{get}
+use Rattle.std.proofs.Common.{◌≡◌, ◌+◌, ◌<◌, ◌≤◌, [], ◌∷◌, ap, arith}
+use Rattle.std.specs.FinMap.{get, empty, insert}
+use Rattle.pair_laws.specs.Items.{Items}
+use Rattle.item_pairs.proofs.CostLemmas.{get-put}
 use Rattle.backend_nvs.specs.Numbers.{count_of, count-few}
 use Rattle.backend_nvs.proofs.numbers.NvsNumbersNumbers.all_homes.Goals as goal
 
@@ -19,3 +21,12 @@ returns-clause-homes g area = λ items place inside.
     let from : 0x8001 ≤ place = inside.from in
     let to : place < 0x8001 + count_of (get items 0x8000) = inside.to in
     record { from = from; to = omega arith }
+
+-- and may be 511
+pub returns-clause-only : goal.returns-clause-only
+returns-clause-only g area = λ place among.
+    let items : Items = insert empty 0x8000 (255 ∷ 1 ∷ []) in
+    let full : count_of (get items 0x8000) ≡ 511 = ap count_of (get-put empty 0x8000 (255 ∷ 1 ∷ [])) in
+    let from : 0x8001 ≤ place = among.from in
+    let to : place ≤ 0x81FF = among.to in
+    (items, record { from = from; to = omega arith })

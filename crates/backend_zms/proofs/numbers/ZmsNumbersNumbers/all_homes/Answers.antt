@@ -1,4 +1,6 @@
 use Rattle.std.proofs.Common.{◌+◌, ◌<◌, ◌≤◌, arith}
+use Rattle.std.specs.FinMap.{empty}
+use Rattle.pair_laws.specs.Items.{Items}
 use Rattle.backend_zms.specs.Numbers.{places}
 use Rattle.backend_zms.proofs.GroupLemmas.{all-places}
 use Rattle.backend_zms.proofs.numbers.ZmsNumbersNumbers.all_homes.Goals as goal
@@ -18,3 +20,11 @@ returns-clause-homes g area = λ items place inside.
     let from : 0x80000000 ≤ place = inside.from in
     let to : place < 0x80000000 + places = inside.to in
     record { from = from; to = omega arith }
+
+pub returns-clause-only : goal.returns-clause-only
+returns-clause-only g area = λ place among.
+    let items : Items = empty in
+    let all = all-places in
+    let from : 0x80000000 ≤ place = among.from in
+    let to : place ≤ 0x8000FFFF = among.to in
+    (items, record { from = from; to = omega arith })

@@ -1,6 +1,9 @@
 use Rattle.std.proofs.Common.{◌≡◌, ◌+◌, ◌<◌, ◌≤◌, ap, ◌∙◌, arith}
+use Rattle.std.specs.FinMap.{empty}
 use Rattle.flash_map.specs.Area.{value_limit}
+use Rattle.pair_laws.specs.Items.{Items}
 use Rattle.backend_zms.specs.Hash.{first_of}
+use Rattle.backend_zms.specs.Numbers.{places}
 use Rattle.backend_zms.proofs.GroupLemmas.{group-homes}
 use Rattle.backend_zms.proofs.numbers.ZmsNumbersNumbers.homes_of.Goals as goal
 
@@ -24,3 +27,14 @@ returns-clause-homes g area = λ items place inside home.
     let from : first_of g.args.name.now ≤ place = between.0 in
     let to : place < first_of g.args.name.now + 16 = between.1 in
     record { from = omega arith; to = omega arith }
+
+pub returns-clause-only : goal.returns-clause-only
+returns-clause-only g area = λ place among.
+    let items : Items = empty in
+    let is : g.first_of-first.result ≡ first_of g.args.name.now = g.first_of-first.ensures.first ∙ ap first_of g.bytes.ensures.value in
+    let group = group-homes (value_limit area) items g.args.name.now in
+    let low : 0x80000000 ≤ first_of g.args.name.now = group.low in
+    let high : first_of g.args.name.now + 16 ≤ 0x80000000 + places = group.high in
+    let from : g.first_of-first.result ≤ place = among.from in
+    let to : place ≤ g.first_of-first.result + 15 = among.to in
+    (items, record { inside = record { from = omega arith; to = omega arith }; home = group.home place (omega arith) (omega arith) })

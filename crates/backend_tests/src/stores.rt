@@ -77,6 +77,7 @@ fn bed<B: Bench>(
     requires long { vec_len image ≡ 1024 }
     ensures lawful { IfOk result (λ area. IsLawfulFor (B.device bench.new).banks area) }
     ensures serves { IfOk result (λ area. any_serves area (geometry_of (B.device bench.new) area)) }
+    ensures role { IfOk result (λ area. area.role ≡ role) }
 {
     load(alloc, bench, kind, unit, image)?;
     Ok(Area::new(ArrayString::new(), role, 0, 0, 2, 1))

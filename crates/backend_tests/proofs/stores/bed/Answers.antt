@@ -14,3 +14,6 @@ returns-clause-lawful g c =
 pub returns-clause-serves : goal.returns-clause-serves
 returns-clause-serves g c =
     bed-serves (g.B.Flash.device c.load.new.bench) c.args.role c.new-2.result (ap (λ (x : Area). x.role) c.new-2.ensures) c.requires.serves
+
+pub returns-clause-role : goal.returns-clause-role
+returns-clause-role g c = ap (λ (x : Area). x.role) c.new-2.ensures

@@ -1,4 +1,4 @@
--- Names by their bytes: where no item is a stray, the items of the ids of names are the names of the settings that count.
+-- Names by their bytes: which items of the ids of names are the names of settings that count, where items are strays and where none is.
 use Rattle.std.proofs.Common.{◌≡◌, ℕ, zero, suc, ◌+◌, ◌-◌, ◌^◌, ◌<◌, ◌≤◌, true, List, Option, Some, None, is_some, refl, sym, ap, subst, ◌∙◌, inl, inr, arith}
 use Rattle.std.specs.FinMap.{get, contains_key}
 use Rattle.std.proofs.lemmas.Bool.{false≢true}

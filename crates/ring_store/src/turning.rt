@@ -1,5 +1,5 @@
 // Mounting, and closing with a collection.
-ghost use Rattle.std.specs.Prelude.{◌≡◌, ◌∷◌, [], true, false, is_err, length, OnOk, OnErr, ◌⊎◌};
+ghost use Rattle.std.specs.Prelude.{◌≡◌, ◌∷◌, [], false, is_err, length, OnOk, OnErr, ◌⊎◌};
 ghost use Rattle.flash_map.specs.Area.{geometry_of, sector_size, sectors_of};
 ghost use Rattle.flash_map.specs.Faults.{mount_lost};
 ghost use Rattle.flash_map.specs.Spending.{SpendsBetween};

@@ -1,5 +1,5 @@
 // The store, mounting, and closing with a collection.
-ghost use Rattle.std.specs.Prelude.{◌≡◌, ◌*◌, ◌/◌, ◌∷◌, [], true, false, is_err, OnOk, OnErr};
+ghost use Rattle.std.specs.Prelude.{◌≡◌, ◌*◌, ◌/◌, ◌∷◌, [], false, is_err, OnOk, OnErr};
 ghost use Rattle.flash_map.specs.Area.{sector_size};
 ghost use Rattle.flash_map.specs.Faults.{mount_lost};
 ghost use Rattle.flash_map.specs.Spending.{SpendsBetween};

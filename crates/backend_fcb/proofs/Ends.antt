@@ -12,8 +12,10 @@ use Rattle.flash_map.specs.Area.{value_limit, unit_of, sector_size, sectors_of, 
 use Rattle.flash_map.specs.declared.area.Area.{Area}
 use Rattle.flash_map.specs.declared.area.Role.TheVariants.{Fcb as FcbRole}
 use Rattle.flash_map.specs.Lawful.{IsLawfulFor}
+use Rattle.flash_map.specs.Spending.{SpendsAtMost}
 use Rattle.flash_map.specs.Units.{padded}
 use Rattle.flash_map.proofs.Rounding.{padding}
+use Rattle.flash_map.proofs.SpendingLemmas.{spends_none, spends_most, most_weaker}
 use Rattle.setting_name.specs.Name.{IsName}
 use Rattle.fcb_ring.specs.declared.ring.Ring.{Ring}
 use Rattle.fcb_ring.specs.Rings.{first_damage}
@@ -34,7 +36,7 @@ use Rattle.settings_laws.specs.Numbers.{cap, reserve, room, pair_cost, put_cost,
 use Rattle.backend_fcb.specs.Reading.{first_overfull}
 use Rattle.pair_laws.specs.Rounds.{joined}
 use Rattle.settings_laws.specs.Rounds.{FindsNoRoom}
-use Rattle.settings_laws.specs.Settings.{body_of, setting_of, with_setting, settings_of}
+use Rattle.settings_laws.specs.Settings.{body_of, longest, setting_of, with_setting, settings_of}
 use Rattle.backend_fcb.specs.Standing.{Stands, damage_on, settings_on, bodies_on, IsReady}
 use Rattle.backend_fcb.specs.Tearing.{body_for}
 use Rattle.settings_laws.proofs.BodyLemmas.{setting-body_of, length-body_of}
@@ -124,6 +126,20 @@ damage-none d area ring costs = damage-costs (value_limit area) (unit_of d area)
 
 pub overfull-not : (d : Device) (area : Area) → None ≡ option_map overfull_at (first_overfull (value_limit area) (unit_of d area) (sectors_of d area)) → first_overfull (value_limit area) (unit_of d area) (sectors_of d area) ≡ None
 overfull-not d area e = map-none overfull_at (first_overfull (value_limit area) (unit_of d area) (sectors_of d area)) (sym e)
+
+-- ---- the body that is put, and the collections for it
+
+pub some-bytes : (body name value : List ℕ) → body ≡ body_of name value → 0 < length body
+some-bytes body name value is = omega (arith, ap length is, length-body_of name value)
+
+pub few-bytes : (body name value : List ℕ) (limit : ℕ) → body ≡ body_of name value → IsName name → length value ≤ limit → length body ≤ longest limit
+few-bytes body name value limit is lawful short = omega (arith, ap length is, length-body_of name value, lawful.short)
+
+pub one-less : (sectors all : ℕ) → sectors ≡ all → 2 ≤ all → sectors - 1 < all
+one-less sectors all is several = omega arith
+
+pub none-more : (d : Device) (most : ℕ) → SpendsAtMost d d most
+none-more d most = most_weaker d d 0 most (omega arith) (spends_most d d 0 (spends_none d))
 
 -- ---- setting
 

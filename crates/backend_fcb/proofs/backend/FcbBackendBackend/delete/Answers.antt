@@ -1,8 +1,10 @@
-use Rattle.std.proofs.Common.{subst, ◌≡◌, ℕ, ◌+◌, ◌*◌, [], List, length, Err, not, ap, ◌∙◌, arith}
+use Rattle.std.proofs.Common.{subst, ◌≡◌, ◌≤◌, ℕ, ◌+◌, ◌*◌, [], List, ◌∷◌, length, Err, not, refl, ap, ◌∙◌, arith}
+use Rattle.std.proofs.lemmas.Bool.{false≢true, true≢false}
 use Rattle.std.specs.FinMap as finite
 use Rattle.flash_sim.specs.Device.{Device}
 use Rattle.flash_map.specs.declared.area.Area.{Area}
 use Rattle.flash_map.specs.Area.{value_limit, unit_of, geometry_of}
+use Rattle.flash_map.proofs.Touches.{untouched}
 use Rattle.flash_map.proofs.SpendingLemmas.{spends_none, most_weaker}
 use Rattle.fcb_ring.specs.declared.ring.Ring.{Ring}
 use Rattle.fcb_ring.specs.declared.writing.AppendFault.TheVariants.{PowerLost}
@@ -14,9 +16,96 @@ use Rattle.settings_laws.specs.Numbers.{put_cost}
 use Rattle.settings_laws.specs.Settings.{body_of, setting_of, with_setting}
 use Rattle.backend_fcb.specs.Standing.{settings_on}
 use Rattle.settings_laws.proofs.BodyLemmas.{length-body_of}
-use Rattle.backend_fcb.proofs.Ends.{stands-ready, ready-stands, ready-undamaged, deletes-same, deletes-one, delete-fits, two-rounds, absent-yes, absent-not, delete-cost, takes-value}
+use Rattle.backend_fcb.proofs.Ends.{stands-ready, none-more, some-bytes, few-bytes, ready-stands, ready-undamaged, deletes-same, deletes-one, delete-fits, two-rounds, absent-yes, absent-not, delete-cost, takes-value}
 use Rattle.backend_fcb.proofs.Tearing.{stops-at}
 use Rattle.backend_fcb.proofs.backend.FcbBackendBackend.delete.Goals as goal
+
+none-least : (n : ℕ) → length {A = ℕ} [] ≤ n
+none-least n = omega arith
+
+pub get-requires-clause-lawful : goal.get-requires-clause-lawful
+get-requires-clause-lawful g c = c.requires.lawful
+
+pub get-requires-clause-stands : goal.get-requires-clause-stands
+get-requires-clause-stands g c = c.requires.stands
+
+pub returns-then-is_none-clause-touches : goal.returns-then-is_none-clause-touches
+returns-then-is_none-clause-touches g c = untouched (c.args.self.now.ring.area ∷ []) (g.F.Flash.device c.args.flash.now)
+
+pub returns-then-is_none-clause-area : goal.returns-then-is_none-clause-area
+returns-then-is_none-clause-area g c = refl
+
+pub returns-then-is_none-clause-at_most : goal.returns-then-is_none-clause-at_most
+returns-then-is_none-clause-at_most g c =
+    let d : Device = g.F.Flash.device c.args.flash.now in
+    none-more d (most_units (geometry_of d c.args.self.now.ring.area))
+
+pub returns-then-is_none-clause-sound : goal.returns-then-is_none-clause-sound
+returns-then-is_none-clause-sound g c = c.requires.stands.undamaged
+
+pub returns-then-is_none-clause-cut : goal.returns-then-is_none-clause-cut
+returns-then-is_none-clause-cut g c on lost = absurd (false≢true lost)
+
+pub returns-then-is_none-clause-stands : goal.returns-then-is_none-clause-stands
+returns-then-is_none-clause-stands g c = λ up. c.requires.stands
+
+pub returns-then-is_none-clause-down : goal.returns-then-is_none-clause-down
+returns-then-is_none-clause-down g c lost = absurd (false≢true lost)
+
+pub returns-then-is_none-clause-no_more : goal.returns-then-is_none-clause-no_more
+returns-then-is_none-clause-no_more g c = tt
+
+pub put-requires-clause-ready : goal.put-requires-clause-ready
+put-requires-clause-ready g c = stands-ready (g.F.Flash.device c.args.flash.now) c.args.self.now c.requires.lawful c.requires.stands
+
+pub put-requires-clause-some : goal.put-requires-clause-some
+put-requires-clause-some g c = some-bytes c.as_slice.result.now c.args.name.now [] (c.as_slice.ensures.value ∙ c.body_of-body.ensures.items)
+
+pub put-requires-clause-short : goal.put-requires-clause-short
+put-requires-clause-short g c =
+    few-bytes c.as_slice.result.now c.args.name.now [] (value_limit c.args.self.now.ring.area) (c.as_slice.ensures.value ∙ c.body_of-body.ensures.items) c.body_of-body.ensures.name (none-least (value_limit c.args.self.now.ring.area))
+
+pub put-requires-clause-few : goal.put-requires-clause-few
+put-requires-clause-few g c = c.requires.lawful.several
+
+pub returns-in-Ok-clause-touches : goal.returns-in-Ok-clause-touches
+returns-in-Ok-clause-touches g c = c.in-Ok.ensures.touches
+
+pub returns-in-Ok-clause-area : goal.returns-in-Ok-clause-area
+returns-in-Ok-clause-area g c = c.in-Ok.ensures.area
+
+pub returns-in-Ok-clause-cut : goal.returns-in-Ok-clause-cut
+returns-in-Ok-clause-cut g c on lost = absurd (false≢true lost)
+
+pub returns-in-Ok-clause-down : goal.returns-in-Ok-clause-down
+returns-in-Ok-clause-down g c lost = absurd (false≢true lost)
+
+pub returns-in-Ok-clause-no_more : goal.returns-in-Ok-clause-no_more
+returns-in-Ok-clause-no_more g c = tt
+
+pub returns-in-Err-PowerLost-clause-touches : goal.returns-in-Err-PowerLost-clause-touches
+returns-in-Err-PowerLost-clause-touches g c = rw c.in-Err-PowerLost.field-0-is at c.in-Err-PowerLost.ensures.touches
+
+pub returns-in-Err-PowerLost-clause-area : goal.returns-in-Err-PowerLost-clause-area
+returns-in-Err-PowerLost-clause-area g c = c.in-Err-PowerLost.ensures.area
+
+pub returns-in-Err-PowerLost-clause-ends : goal.returns-in-Err-PowerLost-clause-ends
+returns-in-Err-PowerLost-clause-ends g c =
+    let d : Device = g.F.Flash.device c.args.flash.now in
+    absent-not (λ b. b.now) c.get.result (finite.get (settings_on d c.args.self.now.ring.area) c.args.name.now) c.get.ensures (c.is_none.ensures ∙ ap not c.if-is_none.false)
+
+pub returns-in-Err-PowerLost-clause-stands : goal.returns-in-Err-PowerLost-clause-stands
+returns-in-Err-PowerLost-clause-stands g c up = absurd (true≢false up)
+
+pub returns-in-Err-PowerLost-clause-down : goal.returns-in-Err-PowerLost-clause-down
+returns-in-Err-PowerLost-clause-down g c lost =
+    let d : Device = g.F.Flash.device c.args.flash.now in
+    let e : Device = g.F.Flash.device c.put.new.flash in
+    let ends : PutEnds {T = Unit {0}} d e c.args.self.now.ring c.put.new.ring c.as_slice.result.now 0 1 (Err PowerLost) = rw c.in-Err-PowerLost.field-0-is at c.in-Err-PowerLost.ensures.ends in
+    ends.0.down
+
+pub returns-in-Err-PowerLost-clause-exact : goal.returns-in-Err-PowerLost-clause-exact
+returns-in-Err-PowerLost-clause-exact g c = tt
 
 pub returns-then-is_none-clause-ends : goal.returns-then-is_none-clause-ends
 returns-then-is_none-clause-ends g c =

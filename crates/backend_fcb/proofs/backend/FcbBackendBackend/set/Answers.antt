@@ -1,4 +1,5 @@
-use Rattle.std.proofs.Common.{◌≡◌, ℕ, ◌+◌, ◌-◌, ◌*◌, List, length, Err, ap, subst, ◌∙◌, arith}
+use Rattle.std.proofs.Common.{◌≡◌, ℕ, ◌+◌, ◌-◌, ◌*◌, List, ◌∷◌, [], length, Err, refl, ap, subst, ◌∙◌, arith}
+use Rattle.std.proofs.lemmas.Bool.{false≢true, true≢false}
 use Rattle.std.specs.FinMap.{entries}
 use Rattle.std.specs.List.{sum_by}
 use Rattle.flash_sim.specs.Device.{Device}
@@ -7,6 +8,7 @@ use Rattle.flash_map.specs.declared.area.Geometry.{Geometry}
 use Rattle.flash_map.specs.Area.{value_limit, unit_of, sector_size, geometry_of}
 use Rattle.flash_map.specs.Spending.{SpendsAtMost}
 use Rattle.flash_map.proofs.SpendingLemmas.{spends_none, most_weaker}
+use Rattle.flash_map.proofs.Touches.{untouched}
 use Rattle.fcb_ring.specs.declared.ring.Ring.{Ring}
 use Rattle.fcb_ring.specs.Writing.{record_cost}
 use Rattle.fcb_ring.specs.declared.writing.AppendFault.TheVariants.{PowerLost}
@@ -19,9 +21,122 @@ use Rattle.settings_laws.specs.Numbers.{pair_cost}
 use Rattle.settings_laws.specs.Settings.{body_of, setting_of, with_setting}
 use Rattle.backend_fcb.specs.Standing.{settings_on}
 use Rattle.settings_laws.proofs.BodyLemmas.{length-body_of}
-use Rattle.backend_fcb.proofs.Ends.{stands-ready, ready-stands, ready-undamaged, sets-same, sets-new, finds-no_space, few-rounds, puts-value}
+use Rattle.backend_fcb.proofs.Ends.{stands-ring, stands-ready, none-more, some-bytes, few-bytes, one-less, ready-stands, ready-undamaged, sets-same, sets-new, finds-no_space, few-rounds, puts-value}
 use Rattle.backend_fcb.proofs.Tearing.{stops-at}
 use Rattle.backend_fcb.proofs.backend.FcbBackendBackend.set.Goals as goal
+
+pub holds-requires-clause-stands : goal.holds-requires-clause-stands
+holds-requires-clause-stands g c = stands-ring (g.F.Flash.device c.args.flash.now) c.args.self.now c.requires.lawful c.requires.stands
+
+pub holds-requires-clause-some : goal.holds-requires-clause-some
+holds-requires-clause-some g c = c.requires.some
+
+pub returns-then-holds-clause-touches : goal.returns-then-holds-clause-touches
+returns-then-holds-clause-touches g c = untouched (c.args.self.now.ring.area ∷ []) (g.F.Flash.device c.args.flash.now)
+
+pub returns-then-holds-clause-area : goal.returns-then-holds-clause-area
+returns-then-holds-clause-area g c = refl
+
+pub returns-then-holds-clause-at_most : goal.returns-then-holds-clause-at_most
+returns-then-holds-clause-at_most g c =
+    let d : Device = g.F.Flash.device c.args.flash.now in
+    none-more d (most_units (geometry_of d c.args.self.now.ring.area))
+
+pub returns-then-holds-clause-sound : goal.returns-then-holds-clause-sound
+returns-then-holds-clause-sound g c = c.requires.stands.undamaged
+
+pub returns-then-holds-clause-cut : goal.returns-then-holds-clause-cut
+returns-then-holds-clause-cut g c on lost = absurd (false≢true lost)
+
+pub returns-then-holds-clause-stands : goal.returns-then-holds-clause-stands
+returns-then-holds-clause-stands g c = λ up. c.requires.stands
+
+pub returns-then-holds-clause-down : goal.returns-then-holds-clause-down
+returns-then-holds-clause-down g c lost = absurd (false≢true lost)
+
+pub returns-then-holds-clause-no_more : goal.returns-then-holds-clause-no_more
+returns-then-holds-clause-no_more g c lost = absurd (false≢true lost)
+
+pub put-requires-clause-ready : goal.put-requires-clause-ready
+put-requires-clause-ready g c = stands-ready (g.F.Flash.device c.args.flash.now) c.args.self.now c.requires.lawful c.requires.stands
+
+pub put-requires-clause-some : goal.put-requires-clause-some
+put-requires-clause-some g c = some-bytes c.as_slice.result.now c.args.name.now c.args.value.now (c.as_slice.ensures.value ∙ c.body_of-body.ensures.items)
+
+pub put-requires-clause-short : goal.put-requires-clause-short
+put-requires-clause-short g c =
+    few-bytes c.as_slice.result.now c.args.name.now c.args.value.now (value_limit c.args.self.now.ring.area) (c.as_slice.ensures.value ∙ c.body_of-body.ensures.items) c.body_of-body.ensures.name c.requires.short
+
+pub put-requires-clause-no_put : goal.put-requires-clause-no_put
+put-requires-clause-no_put g c = λ into. absurd (false≢true into)
+
+pub put-requires-clause-few : goal.put-requires-clause-few
+put-requires-clause-few g c =
+    one-less c.geometry-geometry.result.sectors c.args.self.now.ring.area.sectors (ap (λ (x : Geometry). x.sectors) c.geometry-geometry.ensures ∙ ap (λ (x : Area). x.sectors) c.area.ensures) c.requires.lawful.several
+
+pub live_cost-requires : goal.live_cost-requires
+live_cost-requires g c =
+    let d : Device = g.F.Flash.device c.args.flash.now in
+    let e : Device = g.F.Flash.device c.put.new.flash in
+    let ring : Ring = c.args.self.now.ring in
+    let full : HasNoPlace d e ring c.put.new.ring (length c.as_slice.result.now) ring.reserve (c.geometry-geometry.result.sectors - 1) = rw c.in-Err-Full.field-0-is at c.in-Err-Full.ensures.ends in
+    full.ready.stands
+
+pub returns-in-Ok-clause-touches : goal.returns-in-Ok-clause-touches
+returns-in-Ok-clause-touches g c = c.in-Ok.ensures.touches
+
+pub returns-in-Ok-clause-area : goal.returns-in-Ok-clause-area
+returns-in-Ok-clause-area g c = c.in-Ok.ensures.area
+
+pub returns-in-Ok-clause-cut : goal.returns-in-Ok-clause-cut
+returns-in-Ok-clause-cut g c on lost = absurd (false≢true lost)
+
+pub returns-in-Ok-clause-down : goal.returns-in-Ok-clause-down
+returns-in-Ok-clause-down g c lost = absurd (false≢true lost)
+
+pub returns-in-Ok-clause-no_more : goal.returns-in-Ok-clause-no_more
+returns-in-Ok-clause-no_more g c lost = absurd (false≢true lost)
+
+pub returns-in-Err-PowerLost-clause-touches : goal.returns-in-Err-PowerLost-clause-touches
+returns-in-Err-PowerLost-clause-touches g c = rw c.in-Err-PowerLost.field-0-is at c.in-Err-PowerLost.ensures.touches
+
+pub returns-in-Err-PowerLost-clause-area : goal.returns-in-Err-PowerLost-clause-area
+returns-in-Err-PowerLost-clause-area g c = c.in-Err-PowerLost.ensures.area
+
+pub returns-in-Err-PowerLost-clause-ends : goal.returns-in-Err-PowerLost-clause-ends
+returns-in-Err-PowerLost-clause-ends g c = (refl, c.holds.ensures.not_it c.if-holds.false)
+
+pub returns-in-Err-PowerLost-clause-stands : goal.returns-in-Err-PowerLost-clause-stands
+returns-in-Err-PowerLost-clause-stands g c up = absurd (true≢false up)
+
+pub returns-in-Err-PowerLost-clause-down : goal.returns-in-Err-PowerLost-clause-down
+returns-in-Err-PowerLost-clause-down g c lost =
+    let d : Device = g.F.Flash.device c.args.flash.now in
+    let e : Device = g.F.Flash.device c.put.new.flash in
+    let ring : Ring = c.args.self.now.ring in
+    let ends : PutEnds {T = Unit {0}} d e ring c.put.new.ring c.as_slice.result.now ring.reserve (c.geometry-geometry.result.sectors - 1) (Err PowerLost) = rw c.in-Err-PowerLost.field-0-is at c.in-Err-PowerLost.ensures.ends in
+    ends.0.down
+
+pub returns-in-Err-PowerLost-clause-exact : goal.returns-in-Err-PowerLost-clause-exact
+returns-in-Err-PowerLost-clause-exact g c = tt
+
+pub returns-in-Err-Full-clause-touches : goal.returns-in-Err-Full-clause-touches
+returns-in-Err-Full-clause-touches g c = rw c.in-Err-Full.field-0-is at c.in-Err-Full.ensures.touches
+
+pub returns-in-Err-Full-clause-area : goal.returns-in-Err-Full-clause-area
+returns-in-Err-Full-clause-area g c = c.in-Err-Full.ensures.area
+
+pub returns-in-Err-Full-clause-cut : goal.returns-in-Err-Full-clause-cut
+returns-in-Err-Full-clause-cut g c on lost = absurd (false≢true lost)
+
+pub returns-in-Err-Full-clause-down : goal.returns-in-Err-Full-clause-down
+returns-in-Err-Full-clause-down g c lost = absurd (false≢true lost)
+
+pub returns-in-Err-Full-clause-exact : goal.returns-in-Err-Full-clause-exact
+returns-in-Err-Full-clause-exact g c = tt
+
+pub returns-in-Err-Full-clause-no_more : goal.returns-in-Err-Full-clause-no_more
+returns-in-Err-Full-clause-no_more g c lost = absurd (false≢true lost)
 
 pub returns-then-holds-clause-ends : goal.returns-then-holds-clause-ends
 returns-then-holds-clause-ends g c =

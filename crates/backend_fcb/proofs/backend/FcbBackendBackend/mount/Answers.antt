@@ -1,21 +1,106 @@
-use Rattle.std.proofs.Common.{◌≡◌, None, sym, ap, subst, ◌∙◌, arith}
+use Rattle.std.proofs.Common.{◌≡◌, ◌∷◌, [], None, refl, sym, ap, subst, ◌∙◌, arith}
 use Rattle.flash_sim.specs.Device.{Device}
 use Rattle.flash_map.specs.declared.area.Area.{Area}
 use Rattle.flash_map.specs.declared.area.Geometry.{Geometry}
-use Rattle.flash_map.specs.Area.{value_limit, unit_of, sectors_of}
+use Rattle.flash_map.specs.Area.{value_limit, unit_of, sectors_of, geometry_of}
 use Rattle.flash_map.specs.Spending.{Spends, SpendsAtMost}
+use Rattle.flash_map.proofs.Touches.{untouched}
 use Rattle.fcb_ring.specs.Standing.{KeepsEntries}
 use Rattle.fcb_ring.proofs.AppendLemmas.{unit-after}
 use Rattle.fcb_ring.specs.Rings.{first_damage}
 use Rattle.fcb_ring.specs.Standing.{states_on, erases_due, erases_on}
+use Rattle.backend_api.specs.Room.{mount_units}
 use Rattle.settings_laws.specs.Numbers.{reserve}
 use Rattle.std.specs.Option.{option_map}
 use Rattle.backend_fcb.specs.Reading.{first_overfull}
 use Rattle.backend_fcb.specs.Standing.{IsReady, damage_on}
 use Rattle.backend_fcb.proofs.MountUnits.{mount-most}
-use Rattle.backend_fcb.proofs.Ends.{ring-area, ready-stands, damage-none, overfull-not}
+use Rattle.backend_fcb.proofs.Ends.{none-more, ring-area, ready-stands, damage-none, overfull-not}
 use Rattle.backend_fcb.proofs.PutsCosts.{overfull_at, undamaged-kept}
 use Rattle.backend_fcb.proofs.backend.FcbBackendBackend.mount.Goals as goal
+
+pub returns-in-Err-clause-touches : goal.returns-in-Err-clause-touches
+returns-in-Err-clause-touches g c = untouched (c.args.area ∷ []) (g.F.Flash.device c.args.flash.now)
+
+pub returns-in-Err-clause-at_most : goal.returns-in-Err-clause-at_most
+returns-in-Err-clause-at_most g c =
+    let d : Device = g.F.Flash.device c.args.flash.now in
+    none-more d (mount_units (geometry_of d c.args.area))
+
+pub returns-in-Err-clause-few : goal.returns-in-Err-clause-few
+returns-in-Err-clause-few g c =
+    let d : Device = g.F.Flash.device c.args.flash.now in
+    none-more d (erases_on d c.args.area)
+
+pub returns-in-Err-clause-sound : goal.returns-in-Err-clause-sound
+returns-in-Err-clause-sound g c = λ none. none
+
+pub returns-in-Err-clause-keeps : goal.returns-in-Err-clause-keeps
+returns-in-Err-clause-keeps g c = λ none. refl
+
+pub returns-in-Err-clause-rests : goal.returns-in-Err-clause-rests
+returns-in-Err-clause-rests g c = λ rests. refl
+
+pub returns-in-Err-clause-written : goal.returns-in-Err-clause-written
+returns-in-Err-clause-written g c = λ other. absurd (other c.requires.serves)
+
+pub returns-in-Err-clause-on : goal.returns-in-Err-clause-on
+returns-in-Err-clause-on g c = tt
+
+pub returns-in-Err-clause-stands : goal.returns-in-Err-clause-stands
+returns-in-Err-clause-stands g c = tt
+
+pub returns-in-Err-clause-exact : goal.returns-in-Err-clause-exact
+returns-in-Err-clause-exact g c = tt
+
+pub returns-in-Some-clause-touches : goal.returns-in-Some-clause-touches
+returns-in-Some-clause-touches g c = untouched (c.args.area ∷ []) (g.F.Flash.device c.args.flash.now)
+
+pub returns-in-Some-clause-at_most : goal.returns-in-Some-clause-at_most
+returns-in-Some-clause-at_most g c =
+    let d : Device = g.F.Flash.device c.args.flash.now in
+    none-more d (mount_units (geometry_of d c.args.area))
+
+pub returns-in-Some-clause-few : goal.returns-in-Some-clause-few
+returns-in-Some-clause-few g c =
+    let d : Device = g.F.Flash.device c.args.flash.now in
+    none-more d (erases_on d c.args.area)
+
+pub returns-in-Some-clause-sound : goal.returns-in-Some-clause-sound
+returns-in-Some-clause-sound g c = λ none. none
+
+pub returns-in-Some-clause-keeps : goal.returns-in-Some-clause-keeps
+returns-in-Some-clause-keeps g c = λ none. refl
+
+pub returns-in-Some-clause-rests : goal.returns-in-Some-clause-rests
+returns-in-Some-clause-rests g c = λ rests. refl
+
+pub returns-in-Some-clause-written : goal.returns-in-Some-clause-written
+returns-in-Some-clause-written g c = λ other. absurd (other c.requires.serves)
+
+pub returns-in-Some-clause-on : goal.returns-in-Some-clause-on
+returns-in-Some-clause-on g c = tt
+
+pub returns-in-Some-clause-stands : goal.returns-in-Some-clause-stands
+returns-in-Some-clause-stands g c = tt
+
+pub returns-in-Some-clause-exact : goal.returns-in-Some-clause-exact
+returns-in-Some-clause-exact g c = tt
+
+pub returns-in-Err-finish-clause-on : goal.returns-in-Err-finish-clause-on
+returns-in-Err-finish-clause-on g c = tt
+
+pub returns-in-Err-finish-clause-stands : goal.returns-in-Err-finish-clause-stands
+returns-in-Err-finish-clause-stands g c = tt
+
+pub returns-in-Err-finish-clause-exact : goal.returns-in-Err-finish-clause-exact
+returns-in-Err-finish-clause-exact g c = tt
+
+pub returns-in-Err-finish-clause-written : goal.returns-in-Err-finish-clause-written
+returns-in-Err-finish-clause-written g c = λ other. absurd (other c.requires.serves)
+
+pub returns-in-Ok-finish-clause-written : goal.returns-in-Ok-finish-clause-written
+returns-in-Ok-finish-clause-written g c = λ other. absurd (other c.requires.serves)
 
 pub returns-in-Ok-finish-clause-sound : goal.returns-in-Ok-finish-clause-sound
 returns-in-Ok-finish-clause-sound g c none =

@@ -1,8 +1,9 @@
 -- How the calls of the backend end.
-use Rattle.std.proofs.Common.{◌≡◌, ℕ, ◌+◌, ◌-◌, ◌*◌, ◌/◌, ◌<◌, ◌≤◌, Bool, true, false, cond, eqb, not, List, [], length, bytes_eq, Option, Some, None, inl, inr, refl, sym, ap, subst, ◌∙◌, arith}
+use Rattle.std.proofs.Common.{◌≡◌, ℕ, ◌+◌, ◌-◌, ◌*◌, ◌/◌, ◌<◌, ◌≤◌, Bool, true, false, cond, eqb, not, List, [], length, bytes_eq, Option, Some, None, Result, Ok, Err, OnOk, inl, inr, refl, sym, ap, subst, ◌∙◌, arith}
 use Rattle.std.specs.FinMap as finite
+use Rattle.std.specs.Prelude.{IsErr}
 use Rattle.std.specs.Option.{option_map, is_some}
-use Rattle.std.proofs.lemmas.Bool.{cases_Bool, both_ways, ne_eqb}
+use Rattle.std.proofs.lemmas.Bool.{cases_Bool, both_ways, ne_eqb, false≢true}
 use Rattle.std.proofs.lemmas.Option.{none-some}
 use Rattle.std.proofs.lemmas.Slice.Eq.{bytes_eq-Decides}
 use Rattle.std.proofs.Math.Nat.{mul-le-mul_right}
@@ -126,6 +127,12 @@ damage-none d area ring costs = damage-costs (value_limit area) (unit_of d area)
 
 pub overfull-not : (d : Device) (area : Area) → None ≡ option_map overfull_at (first_overfull (value_limit area) (unit_of d area) (sectors_of d area)) → first_overfull (value_limit area) (unit_of d area) (sectors_of d area) ≡ None
 overfull-not d area e = map-none overfull_at (first_overfull (value_limit area) (unit_of d area) (sectors_of d area)) (sym e)
+
+-- ---- what is said of the other result
+
+pub not-ok : {T E : Type 0} (P : Type 0) (r : Result T E) → IsErr r → OnOk r P
+not-ok P (Ok x) is = absurd (false≢true is)
+not-ok P (Err e) is = tt
 
 -- ---- the body that is put, and the collections for it
 

@@ -10,6 +10,7 @@ use Rattle.fcb_ring.specs.Standing.{KeepsEntries}
 use Rattle.fcb_ring.proofs.AppendLemmas.{is_err_by}
 use Rattle.backend_fcb.proofs.CopySteps.{keeps-then}
 use Rattle.backend_fcb.proofs.PutsCosts.{undamaged-kept}
+use Rattle.backend_fcb.proofs.Ends.{not-ok}
 use Rattle.backend_fcb.proofs.Collected.{Copied, Ended, settings-kept, begun-undamaged, begun-end, begun-fresh, collected, collected-undamaged, collected-ready, collected-settings, after-used, begin-units, stop-units, end-units, copied-now}
 use Rattle.flash_map.proofs.PieceLemmas.{on_err}
 use Rattle.fcb_ring.specs.Chance.{HasNoChance}
@@ -18,6 +19,61 @@ use Rattle.fcb_ring.proofs.AreaLemmas.{area_after}
 use Rattle.fcb_ring.proofs.ChanceLemmas.{header-chance, erase-chance}
 use Rattle.backend_fcb.proofs.Tearing.{lost-then}
 use Rattle.backend_fcb.proofs.collecting.collect.Goals as goal
+
+pub returns-in_err-begin_collect-clause-ready : goal.returns-in_err-begin_collect-clause-ready
+returns-in_err-begin_collect-clause-ready g c = not-ok _ c.from_residual.result c.from_residual.ensures.0
+
+pub returns-in_err-begin_collect-clause-collects : goal.returns-in_err-begin_collect-clause-collects
+returns-in_err-begin_collect-clause-collects g c = not-ok _ c.from_residual.result c.from_residual.ensures.0
+
+pub returns-in_err-begin_collect-clause-used : goal.returns-in_err-begin_collect-clause-used
+returns-in_err-begin_collect-clause-used g c = not-ok _ c.from_residual.result c.from_residual.ensures.0
+
+pub returns-in_err-begin_collect-clause-reserve : goal.returns-in_err-begin_collect-clause-reserve
+returns-in_err-begin_collect-clause-reserve g c = not-ok _ c.from_residual.result c.from_residual.ensures.0
+
+pub returns-in_err-copy_live-clause-ready : goal.returns-in_err-copy_live-clause-ready
+returns-in_err-copy_live-clause-ready g c = not-ok _ c.from_residual-in_err-copy_live.result c.from_residual-in_err-copy_live.ensures.0
+
+pub returns-in_err-copy_live-clause-collects : goal.returns-in_err-copy_live-clause-collects
+returns-in_err-copy_live-clause-collects g c = not-ok _ c.from_residual-in_err-copy_live.result c.from_residual-in_err-copy_live.ensures.0
+
+pub returns-in_err-copy_live-clause-used : goal.returns-in_err-copy_live-clause-used
+returns-in_err-copy_live-clause-used g c = not-ok _ c.from_residual-in_err-copy_live.result c.from_residual-in_err-copy_live.ensures.0
+
+pub returns-in_err-copy_live-clause-reserve : goal.returns-in_err-copy_live-clause-reserve
+returns-in_err-copy_live-clause-reserve g c = not-ok _ c.from_residual-in_err-copy_live.result c.from_residual-in_err-copy_live.ensures.0
+
+pub returns-in_err-end_collect-clause-ready : goal.returns-in_err-end_collect-clause-ready
+returns-in_err-end_collect-clause-ready g c = not-ok _ c.from_residual-in_err-end_collect.result c.from_residual-in_err-end_collect.ensures.0
+
+pub returns-in_err-end_collect-clause-collects : goal.returns-in_err-end_collect-clause-collects
+returns-in_err-end_collect-clause-collects g c = not-ok _ c.from_residual-in_err-end_collect.result c.from_residual-in_err-end_collect.ensures.0
+
+pub returns-in_err-end_collect-clause-used : goal.returns-in_err-end_collect-clause-used
+returns-in_err-end_collect-clause-used g c = not-ok _ c.from_residual-in_err-end_collect.result c.from_residual-in_err-end_collect.ensures.0
+
+pub returns-in_err-end_collect-clause-reserve : goal.returns-in_err-end_collect-clause-reserve
+returns-in_err-end_collect-clause-reserve g c = not-ok _ c.from_residual-in_err-end_collect.result c.from_residual-in_err-end_collect.ensures.0
+
+pub returns-in_err-begin_collect-clause-touches : goal.returns-in_err-begin_collect-clause-touches
+returns-in_err-begin_collect-clause-touches g c =
+    is_err_by c.from_residual.result (Touches (c.args.ring.now.area ∷ []) (g.F.Flash.device c.args.flash.now) (g.F.Flash.device c.begin_collect.new.flash)) c.from_residual.ensures.0 c.in_err-begin_collect.ensures.touches
+
+pub returns-in_err-copy_live-clause-touches : goal.returns-in_err-copy_live-clause-touches
+returns-in_err-copy_live-clause-touches g c =
+    let a : Device = g.F.Flash.device c.args.flash.now in
+    let b : Device = g.F.Flash.device c.begin_collect.new.flash in
+    let d : Device = g.F.Flash.device c.copy_live.new.flash in
+    let area : Area = c.args.ring.now.area in
+    is_err_by c.from_residual-in_err-copy_live.result (Touches (area ∷ []) a d) c.from_residual-in_err-copy_live.ensures.0
+    (then c.in_ok-begin_collect.ensures.touches (subst (λ (x : Area). Touches (x ∷ []) b d true) c.in_ok-begin_collect.ensures.begun.area c.in_err-copy_live.ensures.touches))
+
+pub returns-clause-down : goal.returns-clause-down
+returns-clause-down g c = tt
+
+pub returns-clause-lost : goal.returns-clause-lost
+returns-clause-lost g c = tt
 
 pub returns-in_err-begin_collect-clause-settings : goal.returns-in_err-begin_collect-clause-settings
 returns-in_err-begin_collect-clause-settings g c =

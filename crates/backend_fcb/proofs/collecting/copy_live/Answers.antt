@@ -16,10 +16,20 @@ use Rattle.backend_fcb.specs.Changing.{Copies}
 use Rattle.backend_fcb.specs.Gathering.{AreKeptWithin, AreShort, IsKept, bodies_at, Gathers}
 use Rattle.backend_fcb.specs.declared.gathering.Kept.{Kept}
 use Rattle.backend_fcb.proofs.CopySteps.{IsCopying, copying-list, copying-others, copying-start, copying-step, copying-end, gathered, gathered-short, gathered-fits, stops-then, part-none, oldest-some}
+use Rattle.backend_fcb.proofs.Ends.{not-ok}
 use Rattle.backend_fcb.proofs.GatherSteps.{gathers-smaller}
 use Rattle.backend_fcb.proofs.Tearing.{lost-then}
 use Rattle.backend_fcb.proofs.WalkLemmas.{Entry, left_at}
 use Rattle.backend_fcb.proofs.collecting.copy_live.Goals as goal
+
+pub returns-in_err-copy_all-clause-copies : goal.returns-in_err-copy_all-clause-copies
+returns-in_err-copy_all-clause-copies g c = not-ok _ c.from_residual.result c.from_residual.ensures.0
+
+pub returns-clause-stops : goal.returns-clause-stops
+returns-clause-stops g c = tt
+
+pub returns-clause-lost : goal.returns-clause-lost
+returns-clause-lost g c = tt
 
 pub loop-at-init : goal.loop-at-init
 loop-at-init g c = copying-start (g.F.Flash.device c.args.flash.now) c.args.ring.now (g.met.F.Flash.is_lawful c.args.flash.now) c.requires.stands c.requires.collecting c.next-at.result c.next-at.ensures.next c.next-at.ensures.listed

@@ -11,6 +11,7 @@ use Rattle.flash_map.specs.declared.area.Area.{Area}
 use Rattle.flash_map.specs.declared.area.Geometry.{Geometry}
 use Rattle.flash_map.specs.declared.faults.Damaged.{Damaged}
 use Rattle.flash_map.specs.Area.{AreApart, geometry_of}
+use Rattle.flash_map.specs.Spending.{SpendsAtMost}
 use Rattle.fcb_ring.specs.declared.ring.Ring.{Ring}
 use Rattle.fcb_ring.specs.Entries.{bodies}
 use Rattle.fcb_ring.specs.Standing.{entries_on, ring_damage}
@@ -23,7 +24,7 @@ use Rattle.migrator.specs.declared.migrating.MigrateFault.TheVariants.{NoTarget,
 use Rattle.migrator.specs.Active.{named, chosen, active_in, active_on, active_with, selector_damage_on}
 use Rattle.migrator.specs.Areas.{IsLawfulMap, is_store, is_store_at, store_from, first_store, selector_of, target}
 use Rattle.migrator.specs.Choosing.{IsOpen}
-use Rattle.migrator.specs.Migrating.{migrate_lost, is_refused, IsServed, worked_on, room_on, ReadsAs, IsMoved, StaysActive, MoveEnds, MigrateEnds}
+use Rattle.migrator.specs.Migrating.{migrate_lost, is_refused, IsServed, move_units, migrate_units, worked_on, room_on, ReadsAs, IsMoved, StaysActive, MoveEnds, MigrateEnds}
 use Rattle.migrator.proofs.AreaLemmas.{store-within}
 use Rattle.migrator.proofs.Choices.{named-says}
 use Rattle.migrator.proofs.Copies.{geometry-same}
@@ -99,6 +100,13 @@ pub worked-is : (areas : List Area) (selector area : Area) (active index : ℕ) 
 worked-is areas selector area active index is there =
     ap (λ (o : Option ℕ). option_map_or (λ x. x ∷ selector ∷ []) (option_and_then (slice_get areas) o) (selector ∷ [])) is
     ∙ ap (λ (o : Option Area). option_map_or (λ x. x ∷ selector ∷ []) o (selector ∷ [])) there
+
+-- and what it may spend
+pub migrate-most : (a e : Device) (areas : List Area) (selector area : Area) (active index names : ℕ) → target areas active ≡ Some index → slice_get areas index ≡ Some area → SpendsAtMost a e (move_units a selector area names)
+    → SpendsAtMost a e (migrate_units a areas selector active names)
+migrate-most a e areas selector area active index names is there spent =
+    let to : option_and_then (slice_get areas) (target areas active) ≡ Some area = ap (λ (o : Option ℕ). option_and_then (slice_get areas) o) is ∙ there in
+    subst (λ (o : Option Area). SpendsAtMost a e (option_map_or (λ x. move_units a selector x names) o 0)) (sym to) spent
 
 -- ---- how it ends
 

@@ -26,7 +26,7 @@ use Rattle.fcb_ring.proofs.AreaLemmas.{count-sectors}
 use Rattle.backend_api.specs.Map.{Map}
 use Rattle.backend_api.specs.Room.{most_units, mount_units}
 use Rattle.migrator.specs.Choosing.{choice_units}
-use Rattle.migrator.specs.Migrating.{fill_units}
+use Rattle.migrator.specs.Migrating.{fill_units, move_units}
 use Rattle.migrator.proofs.Names.{left, left-within}
 
 -- ---- two calls in a row, and none
@@ -134,3 +134,25 @@ filled-most a b e area into m copied banks same is first second =
     let puts : SpendsAtMost b e (maps.len m * most_units (geometry_of a area)) =
     subst (λ (x : Geometry). SpendsAtMost b e (maps.len m * most_units x)) g (subst (λ (x : Map). SpendsAtMost b e (maps.len x * most_units (geometry_of b into))) is second) in
     most_then a b e (area.sectors + mount_units (geometry_of a area)) (maps.len m * most_units (geometry_of a area)) first puts
+
+-- ---- an area that is filled, and then chosen
+
+-- it was not filled, so that it was not chosen
+pub filled-first : (a b : Device) (area selector : Area) (names : ℕ) → SpendsAtMost a b (fill_units (geometry_of a area) names) → SpendsAtMost a b (move_units a selector area names)
+filled-first a b area selector names spent =
+    let fill = fill_units (geometry_of a area) names in
+    let choice = choice_units a selector in
+    most_weaker a b fill (fill + choice) (more fill choice) spent
+  where
+    more : (x y : ℕ) → x ≤ x + y
+    more x y = omega arith
+
+choice-same : (a d : Device) (area : Area) → d.banks ≡ a.banks → choice_units d area ≡ choice_units a area
+choice-same a d area banks =
+    let header : header_units d area ≡ header_units a area = header-same a d area area banks refl in
+    let body : record_units d area 2 ≡ record_units a area 2 = record-same a d area area banks refl in
+    ap (λ (n : ℕ). 2 * n + 2 * record_units d area 2 + 1) header ∙ ap (λ (n : ℕ). 2 * header_units a area + 2 * n + 1) body
+
+pub moved-most : (a b e : Device) (area selector : Area) (names : ℕ) → b.banks ≡ a.banks → SpendsAtMost a b (fill_units (geometry_of a area) names) → SpendsAtMost b e (choice_units b selector) → SpendsAtMost a e (move_units a selector area names)
+moved-most a b e area selector names banks first second =
+    most_then a b e (fill_units (geometry_of a area) names) (choice_units a selector) first (subst (λ (n : ℕ). SpendsAtMost b e n) (choice-same a b selector banks) second)

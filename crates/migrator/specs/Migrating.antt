@@ -19,7 +19,7 @@ use Rattle.migrator.specs.declared.migrating.MigrateFault.{MigrateFault}
 use Rattle.migrator.specs.declared.migrating.MigrateFault.TheVariants.{NoTarget, NoSpace, TooManyNames, PowerLost, NoMemory}
 use Rattle.migrator.specs.Active.{active_in, active_on, selector_damage_on}
 use Rattle.migrator.specs.Areas.{IsLawfulMap, is_store, selector_of, target}
-use Rattle.migrator.specs.Choosing.{IsOpen}
+use Rattle.migrator.specs.Choosing.{IsOpen, choice_units}
 use Rattle.migrator.specs.Copying.{NoneTooMany, HasOneTooMany, HasOneWithoutRoom}
 
 -- the answer says that power was lost
@@ -114,6 +114,14 @@ pub record IsMoved (damage : Area → Geometry → List (List ℕ) → Option Da
 -- The most units and erases of filling an area, whole or cut: it is erased and mounted, and so many settings are put into it.
 abbrev pub fill_units : Geometry → ℕ → ℕ
 fill_units geometry names = geometry.sectors + mount_units geometry + names * most_units geometry
+
+-- The most units and erases of moving so many settings to an area, whole or cut: it is filled, and then chosen.
+abbrev pub move_units : Device → Area → Area → ℕ → ℕ
+move_units d selector area names = fill_units (geometry_of d area) names + choice_units d selector
+
+-- and of a migration: those of moving them to the target; none where there is no target
+abbrev pub migrate_units : Device → List Area → Area → ℕ → ℕ → ℕ
+migrate_units d areas selector active names = option_map_or (λ area. move_units d selector area names) (target_area areas active) 0
 
 -- the active area is the one that was
 abbrev pub StaysActive : List Area → Area → Device → Device → Type 0

@@ -11,7 +11,7 @@ ghost use Rattle.flash_map.specs.On.{on, StandsOn};
 ghost use Rattle.fcb_ring.specs.Standing.{is_up, ring_damage};
 ghost use Rattle.migrator.specs.Areas.{is_store_at};
 ghost use Rattle.migrator.specs.Choosing.{IsOpen};
-ghost use Rattle.migrator.specs.Migrating.{migrate_lost, is_refused, IsServed, fill_units, filled_as, moved_as, worked_on, room_on, OpenEnds, FillEnds, ReadsAs, MoveEnds, MigrateEnds};
+ghost use Rattle.migrator.specs.Migrating.{migrate_lost, is_refused, IsServed, fill_units, move_units, migrate_units, filled_as, moved_as, worked_on, room_on, OpenEnds, FillEnds, ReadsAs, MoveEnds, MigrateEnds};
 
 use crate::Selector;
 use crate::areas::{area_at, target};
@@ -189,6 +189,8 @@ fn move_to<F: Flash, K: Backend, L: Ledger>(
         MoveEnds K.mounted_on K.damage K.contents (room_on K.room d area) map.now selector.old.ring.area area index
         settings d (F.device flash.new) result }
     ensures stands { IfOk result (λ moved. StandsOn K.mounted_on K.stands (F.device flash.new) moved.0) }
+    ensures at_most { let d = F.device flash.old in let settings = on K.contents d (K.mounted_on from.now) in
+        SpendsAtMost d (F.device flash.new) (move_units d selector.old.ring.area area (finite.len settings)) }
 {
     let filled: Result<K, MigrateFault> = fill(alloc, from, flash, area, steps);
     let to = match filled {
@@ -200,7 +202,8 @@ fn move_to<F: Flash, K: Backend, L: Ledger>(
 }
 
 /// Moves all settings to the next store area of the map, which is then the active one. It gives a store on that area, and
-/// the area's index. The source's sectors stay as they are, and whatever happens the active area reads as the same settings.
+/// the area's index. The source's sectors stay as they are, and whatever happens the active area reads as the same settings. Whatever
+/// the result, it spends at most the units and erases of filling that area once and of choosing it (`migrate_units`).
 ///
 /// # Errors
 /// `NoTarget` exactly where there is no other store area, and then nothing changed. `TooManyNames` and `NoSpace` where the
@@ -235,6 +238,8 @@ pub fn migrate<F: Flash, K: Backend, L: Ledger>(
         → IsServed K.serves K.mounted_on K.stands map.now e selector.new.ring from.now active }
     ensures lost { let e = F.device flash.new in migrate_lost result ≡ true
         → (is_up selector.new.ring.stage ≡ false) ⊎ IsOpen e selector.new.ring }
+    ensures at_most { let d = F.device flash.old in let settings = on K.contents d (K.mounted_on from.now) in
+        SpendsAtMost d (F.device flash.new) (migrate_units d map.now selector.old.ring.area active (finite.len settings)) }
 {
     match target(map, active) {
         Some(index) => {

@@ -1,5 +1,6 @@
 mod CallLemmas
 mod CarryLemmas
+mod UnitLemmas
 mod CommitLemmas
 mod OfferLemmas
 pub mod WalkLemmas

@@ -9,6 +9,7 @@ use Rattle.flash_map.specs.declared.area.Area.{Area}
 use Rattle.flash_map.specs.declared.area.Geometry.{Geometry}
 use Rattle.flash_map.specs.declared.faults.Damaged.{Damaged}
 use Rattle.flash_map.specs.Area.{geometry_of}
+use Rattle.flash_map.specs.Spending.{SpendsAtMost}
 use Rattle.flash_map.specs.Touches.{Touches}
 use Rattle.flash_map.proofs.Touches.{untouched, then}
 use Rattle.flash_map.proofs.Plans.{counted_counted}
@@ -20,10 +21,12 @@ use Rattle.flash_map.specs.On.{on, StandsOn}
 use Rattle.backend_api.specs.Room.{Room}
 use Rattle.settings_core.specs.declared.writing.SaveFault.{SaveFault}
 use Rattle.settings_core.specs.declared.writing.SaveFault.TheVariants.{Off, NoSpace, TooManyNames, PowerLost}
-use Rattle.settings_core.specs.Carrying.{due, AreFree, SplitsAt, Carries, CarryEnds, CarryEndsOn, save_lost}
+use Rattle.settings_core.specs.Carrying.{due, due_units, AreFree, SplitsAt, Carries, CarryEnds, CarryEndsOn, save_lost}
 use Rattle.settings_core.specs.Saving.{CarriesOn, more_pairs}
 use Rattle.backend_api.proofs.CommandLemmas.{applied-more}
+use Rattle.settings_core.proofs.CallLemmas.{spends_nothing}
 use Rattle.settings_core.proofs.CarryLemmas.{due_same, due-append, same_fault}
+use Rattle.settings_core.proofs.UnitLemmas.{due_then, due_more}
 
 free-append : (room : Room) (settings : Map) (xs ys : List Command) → AreFree room settings xs → AreFree room (all_applied settings xs) ys → AreFree room settings (xs ++ ys)
 unfolding AreFree all_applied
@@ -150,6 +153,7 @@ module _ {S : Type 0} {mounted_on : S → Area} {stands : S → Geometry → Lis
     count = 0;
     counts = omega arith;
     ends = (refl, refl, record { settings = refl; free = tt; none = λ is. refl; some = λ no. absurd (no refl) });
+    at_most = spends_nothing d (due_units (geometry_of d area) (on contents d area) []);
     sound = sound;
     goes_on = λ kept. there;
     down = λ lost. absurd (cc);
@@ -168,6 +172,9 @@ module _ {S : Type 0} {mounted_on : S → Area} {stands : S → Geometry → Lis
         count = first.count + second.count;
         counts = second.counts ∙ ap (λ n. more_pairs n second.count) first.counts ∙ counts_then was first.count second.count;
         ends = part_then room contents chance tears area x old between last xs ys first.count second.count result first.touches.banks first.touches.ends.on first.ends second.ends;
+        at_most =
+            due_then old between last (geometry_of old area) (geometry_of between area) (on contents old area) (on contents between area) xs ys (same_geometry old between area first.touches.banks) (first.ends.2.settings ∙ due_same (on contents old area) xs)
+            first.at_most second.at_most;
         sound = second.sound;
         goes_on = second.goes_on;
         down = second.down;
@@ -186,6 +193,7 @@ module _ {S : Type 0} {mounted_on : S → Area} {stands : S → Geometry → Lis
         subst (λ l. CarryEnds {T = T} true (room area (geometry_of old area)) area.sectors (on chance new area) (tears area (geometry_of old area)) old new (on contents old area) (on contents new area) l part.count (Err fault))
         (sym (due-append (on contents old area) xs ys))
         (ends_more T (room area (geometry_of old area)) area.sectors (on chance new area) (tears area (geometry_of old area)) old new (on contents old area) (on contents new area) (due (on contents old area) xs) _ part.count fault part.ends);
+    at_most = due_more old new (geometry_of old area) (on contents old area) xs ys part.at_most;
     sound = part.sound;
     goes_on = part.goes_on;
     down = part.down;
@@ -201,9 +209,9 @@ lost_same T U PowerLost = refl
 pub put_refused : {S : Type 0} (mounted_on : S → Area) (stands : S → Geometry → List (List ℕ) → Type 0) (runs : S → Bool) (damage : Area → Geometry → List (List ℕ) → Option Damaged)
     (room : Area → Geometry → Room) (contents : Area → Geometry → List (List ℕ) → Map) (chance : Area → Geometry → List (List ℕ) → Loss → Bool) (tears : Area → Geometry → Command → ℕ → Map → Map → Type 0)
     (T U : Type 0) (area : Area) (state : S) (old new : Device) (name text value : List ℕ) (was : ℕ) (fault : SaveFault) → name ≡ text → mounted_on state ≡ area → Touches (area ∷ []) old new (save_lost {T = T} (Err fault))
-    → CarryEndsOn {T = T} room contents chance tears true area old new (Put name value ∷ []) 0 (Err fault) → on damage new area ≡ None → (save_lost {T = T} (Err fault) ≡ false → StandsOn mounted_on stands new state)
+    → CarryEndsOn {T = T} room contents chance tears true area old new (Put name value ∷ []) 0 (Err fault) → SpendsAtMost old new (due_units (geometry_of old area) (on contents old area) (Put name value ∷ [])) → on damage new area ≡ None → (save_lost {T = T} (Err fault) ≡ false → StandsOn mounted_on stands new state)
     → (save_lost {T = T} (Err fault) ≡ true → runs state ≡ false) → CarriesOn {T = U} mounted_on stands runs damage room contents chance tears area state old new (Put text value ∷ []) was was (Err fault)
-put_refused mounted_on stands runs damage room contents chance tears T U area state old new name text value was fault same here touches ends sound goes_on down = record {
+put_refused mounted_on stands runs damage room contents chance tears T U area state old new name text value was fault same here touches ends at_most sound goes_on down = record {
   area_is = here;
   touches = subst (λ lost. Touches (area ∷ []) old new lost) (lost_same T U fault) touches;
   count = 0;
@@ -211,6 +219,7 @@ put_refused mounted_on stands runs damage room contents chance tears T U area st
   ends =
       subst (λ (n : List ℕ). CarryEndsOn {T = U} room contents chance tears true area old new (Put n value ∷ []) 0 (Err fault)) same
       (same_fault T U true (room area (geometry_of old area)) area.sectors (on chance new area) (tears area (geometry_of old area)) old new (on contents old area) (on contents new area) (due (on contents old area) (Put name value ∷ [])) 0 fault ends);
+  at_most = subst (λ (n : List ℕ). SpendsAtMost old new (due_units (geometry_of old area) (on contents old area) (Put n value ∷ []))) same at_most;
   sound = sound;
   goes_on = λ kept. goes_on (lost_same T U fault ∙ kept);
   down = λ lost. down (lost_same T U fault ∙ lost);

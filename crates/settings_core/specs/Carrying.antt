@@ -1,5 +1,5 @@
 -- Which commands a call stands for, and how carrying them out ends.
-use Rattle.std.specs.Prelude.{◌≡◌, ℕ, ⊤, Bool, true, false, List, [], ◌∷◌, ◌++◌, length, is_none, Result, Ok, Err, if◌then◌else◌}
+use Rattle.std.specs.Prelude.{◌≡◌, ℕ, ◌*◌, ⊤, Bool, true, false, List, [], ◌∷◌, ◌++◌, length, is_none, Result, Ok, Err, if◌then◌else◌}
 use Rattle.std.specs.Option.{option_map_or}
 use Rattle.std.specs.Str.{bytes_eq}
 use Rattle.std.specs.FinMap.{get}
@@ -15,7 +15,7 @@ use Rattle.backend_api.specs.Map.{Map}
 use Rattle.backend_api.specs.declared.backend.SetFault.{SetFault}
 use Rattle.backend_api.specs.declared.backend.SetFault.TheVariants.{NoSpace as SetNoSpace, TooManyNames as SetTooMany, PowerLost as SetLost}
 use Rattle.flash_map.specs.On.{on}
-use Rattle.backend_api.specs.Room.{Room, HasNoRoom}
+use Rattle.backend_api.specs.Room.{Room, HasNoRoom, most_units}
 use Rattle.settings_core.specs.declared.writing.SaveFault.{SaveFault}
 use Rattle.settings_core.specs.declared.writing.SaveFault.TheVariants.{Off, NoSpace, TooManyNames, PowerLost}
 use Rattle.settings_core.specs.declared.writing.DeleteFault.{DeleteFault}
@@ -35,6 +35,10 @@ is_idle settings (Del name) = is_none (get settings name)
 unfoldable pub due : Map → List Command → List Command
 due settings [] = []
 due settings (c ∷ commands) = if is_idle settings c then due settings commands else c ∷ due (applied settings c) commands
+
+-- The most units and erases of carrying them out, whole or cut: those of one command for each of them.
+abbrev pub due_units : Geometry → Map → List Command → ℕ
+due_units geometry settings commands = length (due settings commands) * most_units geometry
 
 -- the name would be one too many
 abbrev pub is_too_many : Room → Map → Command → Bool

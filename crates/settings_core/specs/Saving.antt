@@ -6,6 +6,8 @@ use Rattle.flash_sim.specs.declared.flash.Loss.{Loss}
 use Rattle.flash_map.specs.declared.area.Area.{Area}
 use Rattle.flash_map.specs.declared.area.Geometry.{Geometry}
 use Rattle.flash_map.specs.declared.faults.Damaged.{Damaged}
+use Rattle.flash_map.specs.Area.{geometry_of}
+use Rattle.flash_map.specs.Spending.{SpendsAtMost}
 use Rattle.flash_map.specs.Touches.{Touches}
 use Rattle.setting_name.specs.Name.{IsName}
 use Rattle.setting_name.specs.Match.{joined_text}
@@ -16,7 +18,7 @@ use Rattle.backend_api.specs.Room.{Room}
 use Rattle.handlers.specs.Held.{Held}
 use Rattle.handlers.specs.Registry.{Registered}
 use Rattle.settings_core.specs.declared.writing.SaveFault.{SaveFault}
-use Rattle.settings_core.specs.Carrying.{CarryEndsOn, save_lost}
+use Rattle.settings_core.specs.Carrying.{CarryEndsOn, due_units, save_lost}
 use Rattle.settings_core.specs.Committing.{is_under}
 
 -- a handler's pairs, each under its subtree joined with its rest, in byte order of the rests
@@ -53,6 +55,7 @@ pub record CarriesOn {S T : Type 0} (mounted_on : S → Area) (stands : S → Ge
   pub count : ℕ
   pub counts : now ≡ more_pairs was count
   pub ends : CarryEndsOn room contents chance tears true area old new commands count result
+  pub at_most : SpendsAtMost old new (due_units (geometry_of old area) (on contents old area) commands)
   pub sound : on damage new area ≡ None
   pub goes_on : save_lost result ≡ false → StandsOn mounted_on stands new state
   pub down : save_lost result ≡ true → runs state ≡ false

@@ -1,8 +1,9 @@
 // Saves.
 ghost use Rattle.std.specs.Prelude.{◌≡◌, ℕ, ◌<◌, ◌≤◌, ◌∷◌, [], length, true, false, None, get_or, option_map};
 ghost use Rattle.std.specs.FinMap as finite;
-ghost use Rattle.flash_map.specs.Area.{value_limit};
+ghost use Rattle.flash_map.specs.Area.{geometry_of, value_limit};
 ghost use Rattle.flash_map.specs.Lawful.{IsLawfulFor};
+ghost use Rattle.flash_map.specs.Spending.{SpendsAtMost};
 ghost use Rattle.flash_map.specs.Touches.{Touches};
 ghost use Rattle.setting_name.specs.Name.{IsName};
 ghost use Rattle.setting_name.specs.Match.{joined_text};
@@ -11,7 +12,7 @@ ghost use Rattle.backend_api.specs.Commands.{puts_of};
 ghost use Rattle.backend_api.specs.Commands.Command.{Put};
 ghost use Rattle.backend_api.specs.Map.{IsValue};
 ghost use Rattle.flash_map.specs.On.{on, StandsOn};
-ghost use Rattle.settings_core.specs.Carrying.{CarryEndsOn, save_lost};
+ghost use Rattle.settings_core.specs.Carrying.{CarryEndsOn, due_units, save_lost};
 ghost use Rattle.settings_core.specs.Saving.{AreSettings, AreLawful, pairs_of, exported, exported_of, more_pairs, CarriesOn};
 
 use crate::committing::is_place_under;
@@ -34,7 +35,8 @@ pub struct Saved {
 
 impl<K: Backend> Settings<K> {
     /// Stores the pairs of each handler whose own subtree matches the given one, all without one, in the order of
-    /// registration and then in byte order of the rests. It ends at the first refusal.
+    /// registration and then in byte order of the rests. It ends at the first refusal. Whatever the result, it spends at most the units
+    /// and erases of one set for each pair that differs (`due_units`).
     pub fn save<F: Flash, L: Ledger>(
         &mut self,
         flash: &mut F,
@@ -50,6 +52,9 @@ impl<K: Backend> Settings<K> {
         ensures area { K.mounted_on self.new.backend ≡ K.mounted_on self.old.backend }
         ensures ends { (count : ℕ) × CarryEndsOn K.room K.contents K.chance K.tears (K.runs self.old.backend) (K.mounted_on self.old.backend) (F.device flash.old) (F.device flash.new)
             (puts_of (exported (option_map (λ name. name.now) subtree.entry) (registered state registry.now))) count result.end × (result.pairs ≡ more_pairs 0 count) }
+        ensures at_most { let area = K.mounted_on self.old.backend in let d = F.device flash.old in
+            let pairs = exported (option_map (λ name. name.now) subtree.entry) (registered state registry.now) in
+            SpendsAtMost d (F.device flash.new) (due_units (geometry_of d area) (on K.contents d area) (puts_of pairs)) }
         ensures sound { K.runs self.old.backend ≡ true → on K.damage (F.device flash.new) (K.mounted_on self.old.backend) ≡ None }
         ensures stands { K.runs self.new.backend ≡ true → StandsOn K.mounted_on K.stands (F.device flash.new) self.new.backend }
         ensures down { save_lost result.end ≡ true → K.runs self.new.backend ≡ false }

@@ -7,7 +7,7 @@ ghost use Rattle.flash_map.specs.Touches.{Touches};
 ghost use Rattle.backend_api.specs.Commands.Command.{Put, Del};
 ghost use Rattle.flash_map.specs.On.{on, StandsOn};
 ghost use Rattle.backend_api.specs.Room.{most_units};
-ghost use Rattle.settings_core.specs.Carrying.{command_of, is_idle, CarryEndsOn, save_lost, as_save, fault_of, lost_as_save, put_count};
+ghost use Rattle.settings_core.specs.Carrying.{command_of, is_idle, due_units, CarryEndsOn, save_lost, as_save, fault_of, lost_as_save, put_count};
 
 use crate::settings::Settings;
 use backend_api::{Backend, SetFault};
@@ -159,7 +159,8 @@ pub(crate) fn put<K: Backend, F: Flash, L: Ledger>(
     ensures touches { Touches (K.mounted_on backend.old ∷ []) (F.device flash.old) (F.device flash.new) (save_lost result) }
     ensures area { K.mounted_on backend.new ≡ K.mounted_on backend.old }
     ensures ends { CarryEndsOn K.room K.contents K.chance K.tears true (K.mounted_on backend.old) (F.device flash.old) (F.device flash.new) (Put name.now value.now ∷ []) (put_count result) result }
-    ensures at_most { let d = F.device flash.old in SpendsAtMost d (F.device flash.new) (most_units (geometry_of d (K.mounted_on backend.old))) }
+    ensures at_most { let area = K.mounted_on backend.old in let d = F.device flash.old in
+        SpendsAtMost d (F.device flash.new) (due_units (geometry_of d area) (on K.contents d area) (Put name.now value.now ∷ [])) }
     ensures sound { on K.damage (F.device flash.new) (K.mounted_on backend.old) ≡ None }
     ensures stands { save_lost result ≡ false → StandsOn K.mounted_on K.stands (F.device flash.new) backend.new }
     ensures down { save_lost result ≡ true → K.runs backend.new ≡ false }

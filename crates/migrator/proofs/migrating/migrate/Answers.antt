@@ -1,3 +1,4 @@
+use Rattle.std.specs.FinMap as finite
 use Rattle.std.proofs.Common.{◌≡◌, ℕ, List, true, refl, sym, subst, ◌∙◌}
 use Rattle.std.proofs.lemmas.Bool.{false≢true}
 use Rattle.flash_sim.specs.Device.{Device}
@@ -6,10 +7,11 @@ use Rattle.flash_map.specs.Touches.{Touches}
 use Rattle.flash_map.specs.declared.area.Area.{Area}
 use Rattle.flash_map.specs.On.{on}
 use Rattle.migrator.specs.Areas.{is_store_at}
-use Rattle.migrator.specs.Migrating.{migrate_lost}
+use Rattle.migrator.specs.Migrating.{migrate_lost, migrate_units}
 use Rattle.migrator.proofs.Moving.{open-sound, still}
-use Rattle.migrator.proofs.Migration.{selector-apart, active-on, active-store, worked-is, reads-still, reads-through, store-of, moved-served, refused-served}
+use Rattle.migrator.proofs.Migration.{migrate-most, selector-apart, active-on, active-store, worked-is, reads-still, reads-through, store-of, moved-served, refused-served}
 use Rattle.migrator.proofs.Copies.{stands-still}
+use Rattle.migrator.proofs.Spent.{most_none}
 use Rattle.migrator.proofs.migrating.migrate.Goals as goal
 
 pub move_to-requires-clause-lawful : goal.move_to-requires-clause-lawful
@@ -124,3 +126,14 @@ returns-in-None-clause-goes_on g c = tt
 
 pub returns-in-None-clause-stays : goal.returns-in-None-clause-stays
 returns-in-None-clause-stays g c refused = c.requires
+
+pub returns-in-Some-clause-at_most : goal.returns-in-Some-clause-at_most
+returns-in-Some-clause-at_most g c =
+    let a : Device = g.F.Flash.device c.args.flash.now in
+    migrate-most a (g.F.Flash.device c.move_to.new.flash) c.args.map.now c.args.selector.now.ring.area c.area_at-area.result c.args.active c.in-Some.index (finite.len (on g.K.Backend.contents a (g.K.Backend.mounted_on c.args.from.now)))
+    (sym c.target.ensures.target ∙ c.in-Some.is) c.area_at-area.ensures c.move_to.ensures.at_most
+
+pub returns-in-None-clause-at_most : goal.returns-in-None-clause-at_most
+returns-in-None-clause-at_most g c =
+    let a : Device = g.F.Flash.device c.args.flash.now in
+    most_none a a (migrate_units a c.args.map.now c.args.selector.now.ring.area c.args.active (finite.len (on g.K.Backend.contents a (g.K.Backend.mounted_on c.args.from.now)))) refl

@@ -1,3 +1,4 @@
+use Rattle.std.specs.FinMap as finite
 use Rattle.std.proofs.Common.{◌≡◌, ℕ, Bool, List, [], ◌∷◌, sym, ap, subst, ◌∙◌, refl, inl, inr}
 use Rattle.flash_sim.specs.Device.{Device}
 use Rattle.flash_sim.specs.declared.flash.Bank.{Bank}
@@ -10,6 +11,7 @@ use Rattle.flash_map.specs.On.{on}
 use Rattle.migrator.specs.Migrating.{migrate_lost}
 use Rattle.migrator.proofs.Copies.{stands-still}
 use Rattle.migrator.proofs.Moving.{open-still, active-still, open-sound, still, moved-lost, fault-lost, chosen-sound, chosen-open, chosen-down, refused-ends, chosen-ends, chosen-stands}
+use Rattle.migrator.proofs.Spent.{filled-first, moved-most}
 use Rattle.migrator.proofs.migrating.move_to.Goals as goal
 
 pub returns-in-Err-clause-touches : goal.returns-in-Err-clause-touches
@@ -99,3 +101,14 @@ returns-clause-stands g c =
     (subst (λ (banks : List Bank). IsLawfulArea banks c.args.area) (sym c.fill-filled.ensures.touches.banks) c.requires.lawful.in_bank) c.requires.selector_target c.choose-chosen.ensures.touches in
     chosen-stands g.K.Backend.mounted_on g.K.Backend.stands g.K.Backend.damage g.K.Backend.contents e c.args.index c.in-Ok.to c.choose-chosen.result c.moved_as.result
     (stands-still g.K.Backend.mounted_on g.K.Backend.stands g.K.Backend.contents g.K.Backend.room b e c.in-Ok.to c.choose-chosen.ensures.touches.banks (subst (λ (x : Area). sectors_of e x ≡ sectors_of b x) (sym c.in-Ok.ensures.on) target) c.in-Ok.ensures.stands) c.moved_as.ensures
+
+pub returns-in-Err-clause-at_most : goal.returns-in-Err-clause-at_most
+returns-in-Err-clause-at_most g c =
+    let a : Device = g.F.Flash.device c.args.flash.now in
+    filled-first a (g.F.Flash.device c.fill-filled.new.flash) c.args.area c.args.selector.now.ring.area (finite.len (on g.K.Backend.contents a (g.K.Backend.mounted_on c.args.from.now))) c.in-Err.ensures.at_most
+
+pub returns-clause-at_most : goal.returns-clause-at_most
+returns-clause-at_most g c =
+    let a : Device = g.F.Flash.device c.args.flash.now in
+    moved-most a (g.F.Flash.device c.fill-filled.new.flash) (g.F.Flash.device c.choose-chosen.new.flash) c.args.area c.args.selector.now.ring.area (finite.len (on g.K.Backend.contents a (g.K.Backend.mounted_on c.args.from.now)))
+    c.fill-filled.ensures.touches.banks c.fill-filled.ensures.at_most c.choose-chosen.ensures.at_most

@@ -4,12 +4,12 @@ use Rattle.flash_map.specs.Area.{geometry_of, sectors_of}
 use Rattle.flash_map.specs.Touches.{Touches}
 use Rattle.flash_map.proofs.Touches.{untouched}
 use Rattle.backend_api.specs.Commands.Command.{Put}
-use Rattle.backend_api.specs.Room.{most_units}
 use Rattle.flash_map.specs.On.{on}
-use Rattle.settings_core.specs.Carrying.{CarryEndsOn, save_lost}
+use Rattle.settings_core.specs.Carrying.{due_units, CarryEndsOn, save_lost}
 use Rattle.settings_core.specs.declared.writing.SaveFault.{SaveFault}
 use Rattle.settings_core.proofs.CallLemmas.{spends_nothing}
 use Rattle.settings_core.proofs.CarryLemmas.{idle_ends, set_done, set_refused, fault_lost}
+use Rattle.settings_core.proofs.UnitLemmas.{one_due}
 use Rattle.settings_core.proofs.writing.put.Goals as goal
 
 pub returns-then-is_stored-clause-ends : goal.returns-then-is_stored-clause-ends
@@ -54,8 +54,9 @@ returns-then-is_stored-clause-area g c = refl
 
 pub returns-then-is_stored-clause-at_most : goal.returns-then-is_stored-clause-at_most
 returns-then-is_stored-clause-at_most g c =
+    let area = g.K.Backend.mounted_on c.args.backend.now in
     let d = g.F.Flash.device c.args.flash.now in
-    spends_nothing d (most_units (geometry_of d (g.K.Backend.mounted_on c.args.backend.now)))
+    spends_nothing d (due_units (geometry_of d area) (on g.K.Backend.contents d area) (Put c.args.name.now c.args.value.now ∷ []))
 
 pub returns-then-is_stored-clause-sound : goal.returns-then-is_stored-clause-sound
 returns-then-is_stored-clause-sound g c =
@@ -88,7 +89,10 @@ pub returns-in-Ok-clause-area : goal.returns-in-Ok-clause-area
 returns-in-Ok-clause-area g c = c.in-Ok.ensures.area
 
 pub returns-in-Ok-clause-at_most : goal.returns-in-Ok-clause-at_most
-returns-in-Ok-clause-at_most g c = c.in-Ok.ensures.at_most
+returns-in-Ok-clause-at_most g c =
+    let area = g.K.Backend.mounted_on c.args.backend.now in
+    let d = g.F.Flash.device c.args.flash.now in
+    one_due d (g.F.Flash.device c.set.new.flash) (geometry_of d area) (on g.K.Backend.contents d area) (Put c.args.name.now c.args.value.now) (sym c.is_stored.ensures ∙ c.if-is_stored.false) c.in-Ok.ensures.at_most
 
 pub returns-in-Ok-clause-sound : goal.returns-in-Ok-clause-sound
 returns-in-Ok-clause-sound g c = c.in-Ok.ensures.sound
@@ -103,7 +107,10 @@ pub returns-in-Err-clause-area : goal.returns-in-Err-clause-area
 returns-in-Err-clause-area g c = c.in-Err.ensures.area
 
 pub returns-in-Err-clause-at_most : goal.returns-in-Err-clause-at_most
-returns-in-Err-clause-at_most g c = c.in-Err.ensures.at_most
+returns-in-Err-clause-at_most g c =
+    let area = g.K.Backend.mounted_on c.args.backend.now in
+    let d = g.F.Flash.device c.args.flash.now in
+    one_due d (g.F.Flash.device c.set.new.flash) (geometry_of d area) (on g.K.Backend.contents d area) (Put c.args.name.now c.args.value.now) (sym c.is_stored.ensures ∙ c.if-is_stored.false) c.in-Err.ensures.at_most
 
 pub returns-in-Err-clause-sound : goal.returns-in-Err-clause-sound
 returns-in-Err-clause-sound g c = c.in-Err.ensures.sound

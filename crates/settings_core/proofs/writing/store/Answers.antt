@@ -1,4 +1,4 @@
-use Rattle.std.proofs.Common.{◌≡◌, List, [], ◌∷◌, Bool, true, false, Err, refl, sym, ap, subst, ◌∙◌, true≢false}
+use Rattle.std.proofs.Common.{◌≡◌, List, [], ◌∷◌, true, false, Err, sym, ap, subst, ◌∙◌, true≢false}
 use Rattle.flash_sim.specs.Device.{Device}
 use Rattle.flash_sim.specs.declared.flash.Bank.{Bank}
 use Rattle.flash_map.specs.Area.{geometry_of}

@@ -33,6 +33,7 @@ use Rattle.migrator.specs.Active.{active_on}
 use Rattle.session.specs.Handling.{beside, as_given}
 use Rattle.session.specs.OnMap.{DoneWithin, areas_worked_on, moment, powered_for}
 use Rattle.session.proofs.AccountLemmas.{kept}
+use Rattle.session.proofs.BoundLemmas.{none_within}
 use Rattle.session.proofs.QuietLemmas.{untouched_at}
 
 pub if-ok : {X E : Type 0} (P Q : X → Type 0) (r : Result X E) → ((x : X) → P x → Q x) → IfOk r P → IfOk r Q
@@ -58,6 +59,7 @@ module _ (m : Meanings) (areas : List Area) (d : Device) (powered : d.is_on ≡ 
       chance = told;
     };
     touches = λ plain. untouched_at (areas_worked_on m areas line answer d) d (powered_for line d) (is_lost answer) same lasts;
+    most = none_within m areas line answer (moment d registry pool) units;
   }
 
   pub registers : (subtree : List ℕ) (kind : HandlerKind) (answer : Answer) → ((s : State) → Registers subtree kind answer (beside s registry pool) (beside s others left))

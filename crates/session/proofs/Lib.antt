@@ -1,4 +1,5 @@
 mod AccountLemmas
+mod BoundLemmas
 mod ActiveArea
 pub mod ActiveAreas
 mod ChangeLemmas

@@ -61,6 +61,7 @@ module _ (contents : Area → Geometry → List (List ℕ) → Map) (room : Area
       chance = tt;
     };
     touches = λ plain. touches;
+    most = tt;
   }
 
   pub set_many : (count : ℕ) → Touches (active_area areas old ∷ []) old new false
@@ -74,6 +75,7 @@ module _ (contents : Area → Geometry → List (List ℕ) → Map) (room : Area
       chance = tt;
     };
     touches = λ plain. touches;
+    most = tt;
   }
 
   pub set_full : (count need live : ℕ) → Touches (active_area areas old ∷ []) old new false → SpendsAtMost old new (most_units (geometry_of old (active_area areas old)))
@@ -87,6 +89,7 @@ module _ (contents : Area → Geometry → List (List ℕ) → Map) (room : Area
       chance = tt;
     };
     touches = λ plain. touches;
+    most = tt;
   }
 
   pub set_lost : (count : ℕ) (told : Bool) → Touches (active_area areas old ∷ []) old new true → SpendsAtMost old new (most_units (geometry_of old (active_area areas old))) → ((loss : Loss) → new.last_loss ≡ Some loss → told ≡ on chance new (active_area areas old) loss)
@@ -102,6 +105,7 @@ module _ (contents : Area → Geometry → List (List ℕ) → Map) (room : Area
           chance = record { loss = cut.loss; last = cut.last_loss; is = tells cut.loss cut.last_loss ∙ ap (λ (place : ℕ). on chance new (area_at areas place) cut.loss) (sym stays) };
         };
         touches = λ plain. touches;
+        most = tt;
       }
 
 -- ---- how a call that carries out commands ended
@@ -153,6 +157,7 @@ module _ (contents : Area → Geometry → List (List ℕ) → Map) (room : Area
       chance = tt;
     };
     touches = λ plain. touches;
+    most = tt;
   }
 
   pub delete_lost : (count : ℕ) (told : Bool) → Touches (active_area areas old ∷ []) old new true → SpendsAtMost old new (most_units (geometry_of old (active_area areas old))) → ((loss : Loss) → new.last_loss ≡ Some loss → told ≡ on chance new (active_area areas old) loss)
@@ -168,6 +173,7 @@ module _ (contents : Area → Geometry → List (List ℕ) → Map) (room : Area
           chance = record { loss = cut.loss; last = cut.last_loss; is = tells cut.loss cut.last_loss ∙ ap (λ (place : ℕ). on chance new (area_at areas place) cut.loss) (sym stays) };
         };
         touches = λ plain. touches;
+        most = tt;
       }
 
 module _ (contents : Area → Geometry → List (List ℕ) → Map) (room : Area → Geometry → Room) (chance : Area → Geometry → List (List ℕ) → Loss → Bool) (tears : Area → Geometry → Command → ℕ → Map → Map → Type 0)
@@ -209,6 +215,7 @@ module _ (contents : Area → Geometry → List (List ℕ) → Map) (room : Area
       chance = tt;
     };
     touches = λ plain. absurd (plans_none units plain);
+    most = tt;
   })
 
   pub disarmed : (old new : Device) → new ≡ record old { plan = dropped old.plan } → CarriedAt contents room chance tears registry pool areas Uncut (Done 0) old new
@@ -220,4 +227,5 @@ module _ (contents : Area → Geometry → List (List ℕ) → Map) (room : Area
       chance = tt;
     };
     touches = λ plain. absurd (drops_none plain);
+    most = tt;
   })

@@ -1,7 +1,7 @@
 -- A migration as a line.
-use Rattle.std.proofs.Common.{◌≡◌, ℕ, zero, suc, ◌-◌, ◌<◌, Bool, true, false, List, [], ◌∷◌, ◌++◌, map, get_or, Option, Some, None, Result, Ok, Err, refl, sym, ap, subst, ◌∙◌, inl, inr, arith}
+use Rattle.std.proofs.Common.{◌≡◌, ℕ, zero, suc, ◌-◌, ◌<◌, ◌≤◌, Bool, true, false, List, [], ◌∷◌, ◌++◌, map, get_or, Option, Some, None, Result, Ok, Err, refl, sym, ap, subst, ◌∙◌, inl, inr, arith}
 use Rattle.std.specs.Prelude.{Contains, filter_map}
-use Rattle.std.specs.FinMap.{empty}
+use Rattle.std.specs.FinMap.{empty, len}
 use Rattle.std.specs.List.{cons_option, slice_get}
 use Rattle.std.proofs.lemmas.Bool.{false≢true}
 use Rattle.std.proofs.lemmas.Option.{none-some}
@@ -13,6 +13,8 @@ use Rattle.flash_map.specs.declared.area.Geometry.{Geometry}
 use Rattle.flash_map.specs.declared.faults.Damaged.{Damaged}
 use Rattle.flash_map.specs.Area.{geometry_of, sectors_of}
 use Rattle.flash_map.specs.On.{on}
+use Rattle.std.specs.Option.{option_map_or}
+use Rattle.flash_map.specs.Spending.{SpendsAtMost}
 use Rattle.flash_map.specs.Touches.{Touches}
 use Rattle.flash_map.proofs.Touches.{wider}
 use Rattle.handlers.specs.declared.handler.HandlerKind.{HandlerKind}
@@ -26,7 +28,7 @@ use Rattle.migrator.specs.declared.selecting.Selector.{Selector}
 use Rattle.migrator.specs.Active.{active_on, active_in}
 use Rattle.migrator.specs.Areas.{selector_of, target}
 use Rattle.migrator.specs.Choosing.{IsOpen}
-use Rattle.migrator.specs.Migrating.{MigrateEnds, ReadsAs, IsMoved, IsTarget, StaysActive, IsServed, migrate_lost, is_refused, room_on, worked_on}
+use Rattle.migrator.specs.Migrating.{MigrateEnds, ReadsAs, IsMoved, IsTarget, StaysActive, IsServed, migrate_lost, is_refused, room_on, worked_on, migrate_units}
 use Rattle.migrator.proofs.Migration.{active-on, worked-is}
 use Rattle.settings_core.specs.declared.settings.Settings.{Settings}
 use Rattle.settings_core.specs.Carrying.{AreFree, MeetsNoRoom}
@@ -37,8 +39,9 @@ use Rattle.session_table.specs.Bench.{Keeps, area_at, is_selector, places_of, st
 use Rattle.session_table.specs.Commands.{StopsForNames, all_puts}
 use Rattle.session_table.specs.State.{State}
 use Rattle.session.specs.Moving.{answer_to}
-use Rattle.session.specs.OnMap.{BeginsMove, DoneBeside, DoneWithin, IsServedMap, StandsOnMap, active_area, damage_in, meanings, moment}
+use Rattle.session.specs.OnMap.{BeginsMove, DoneBeside, DoneWithin, IsServedMap, StandsOnMap, active_area, damage_in, meanings, moment, move_bound}
 use Rattle.session.proofs.AccountLemmas.{kept, lost}
+use Rattle.session.proofs.BoundLemmas.{spent_most}
 use Rattle.session.proofs.ActiveAreas.{area_there, image, selector_listed}
 use Rattle.session.proofs.DamageLemmas.{damage_none}
 use Rattle.session.proofs.PutLemmas.{all_free, stops_for_names, meets_no_room}
@@ -76,17 +79,20 @@ module _ {K : Type 0} (mounted_on : K → Area) (damage : Area → Geometry → 
     pub touches : Touches (worked_on areas s (active_on areas d)) d e (migrate_lost r)
     pub reads : ReadsAs damage contents areas e (on contents d (active_area areas d))
     pub ends : MigrateEnds mounted_on damage contents room areas s (active_on areas d) (on contents d (active_area areas d)) d e r
+    pub at_most : SpendsAtMost d e (migrate_units d areas s (active_on areas d) (len (on contents d (active_area areas d))))
 
   -- from an area that is the active one
   pub migrated : (source : Area) (active : ℕ) (r x : Result (K × ℕ) MigrateFault) → active ≡ active_on areas d → source ≡ active_area areas d → r ≡ x → selector_of areas ≡ Some s
       → Touches (worked_on areas s active) d e (migrate_lost r) → ReadsAs damage contents areas e (on contents d source)
-      → MigrateEnds mounted_on damage contents room areas s active (on contents d source) d e r → Migrated x
-  migrated source active r x is_active is_source is selected touches reads ends = subst Migrated is (record {
+      → MigrateEnds mounted_on damage contents room areas s active (on contents d source) d e r → SpendsAtMost d e (migrate_units d areas s active (len (on contents d source))) → Migrated x
+  migrated source active r x is_active is_source is selected touches reads ends at_most = subst Migrated is (record {
     selected = selected;
     touches = subst (λ (place : ℕ). Touches (worked_on areas s place) d e (migrate_lost r)) is_active touches;
     reads = subst (λ (a : Area). ReadsAs damage contents areas e (on contents d a)) is_source reads;
     ends = subst (λ (place : ℕ). MigrateEnds mounted_on damage contents room areas s place (on contents d (active_area areas d)) d e r) is_active
         (subst (λ (a : Area). MigrateEnds mounted_on damage contents room areas s active (on contents d a) d e r) is_source ends);
+    at_most = subst (λ (place : ℕ). SpendsAtMost d e (migrate_units d areas s place (len (on contents d (active_area areas d))))) is_active
+        (subst (λ (a : Area). SpendsAtMost d e (migrate_units d areas s active (len (on contents d a)))) is_source at_most);
   })
 
   pub sound_by : (r : Result (K × ℕ) MigrateFault) → Migrated r → damage_in damage areas e ≡ None
@@ -101,6 +107,11 @@ module _ {K : Type 0} (mounted_on : K → Area) (damage : Area → Geometry → 
 
   same_contents : ReadsAs damage contents areas e (on contents d (active_area areas d)) → on contents e (active_area areas e) ≡ on contents d (active_area areas d)
   same_contents reads = ap (on contents e) (area_there areas (active_on areas e) reads.area reads.there) ∙ reads.reads
+
+  moves_within : (r : Result (K × ℕ) MigrateFault) → Migrated r → e.spent - d.spent ≤ move_bound (meanings contents room chance tears) areas d
+  moves_within r m =
+      subst (λ (o : Option Area). e.spent - d.spent ≤ option_map_or (λ selector. migrate_units d areas selector (active_on areas d) (len (on contents d (active_area areas d)))) o 0) (sym m.selected)
+      (spent_most d e (migrate_units d areas s (active_on areas d) (len (on contents d (active_area areas d)))) (e.spent - d.spent) refl m.at_most)
 
   -- ---- the line
 
@@ -149,6 +160,7 @@ module _ {K : Type 0} (mounted_on : K → Area) (damage : Area → Geometry → 
         chance = tt;
       };
       touches = λ plain. touches_of false m.ends.0 m.ends.1 m.selected m.ends.2 m.touches;
+      most = moves_within (Ok x) m;
     }
 
     pub names_done : Migrated (Err TooManyNames) → DoneWithin (meanings contents room chance tears) areas Migrate (TooMany (e.spent - d.spent)) (moment d registry pool) (moment e registry pool)
@@ -163,6 +175,7 @@ module _ {K : Type 0} (mounted_on : K → Area) (damage : Area → Geometry → 
             chance = tt;
           };
           touches = λ plain. touches_of false m.ends.0 m.ends.1 m.selected m.ends.2 m.touches;
+          most = moves_within (Err TooManyNames) m;
         }
 
     pub full_done : (need live : ℕ) → Migrated (Err (HasNoSpace need live)) → DoneWithin (meanings contents room chance tears) areas Migrate (NoSpace (e.spent - d.spent) need live) (moment d registry pool) (moment e registry pool)
@@ -177,6 +190,7 @@ module _ {K : Type 0} (mounted_on : K → Area) (damage : Area → Geometry → 
             chance = tt;
           };
           touches = λ plain. touches_of false m.ends.0 m.ends.1 m.selected m.ends.2 m.touches;
+          most = moves_within (Err (HasNoSpace need live)) m;
         }
 
     pub lost_done : Migrated (Err PowerLost) → DoneWithin (meanings contents room chance tears) areas Migrate (Lost (e.spent - d.spent) false) (moment d registry pool) (moment e registry pool)
@@ -200,6 +214,7 @@ module _ {K : Type 0} (mounted_on : K → Area) (damage : Area → Geometry → 
             chance = tt;
           };
           touches = λ plain. touches_of true m.ends.0 m.ends.1 m.selected m.ends.2 m.touches;
+          most = moves_within (Err PowerLost) m;
         }
 
     pub none_done : Migrated (Err HasNoTarget) → DoneWithin (meanings contents room chance tears) areas Migrate NoTarget (moment d registry pool) (moment e registry pool)

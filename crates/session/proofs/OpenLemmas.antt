@@ -111,6 +111,7 @@ module _ (contents : Area → Geometry → List (List ℕ) → Map) (room : Area
       chance = tt;
     };
     touches = λ plain. touches_of false touches;
+    most = tt;
   }
 
   pub mount_lost : Touches (selectors areas ++ active_area areas (turned_on old) ∷ []) (turned_on old) e true → ReadsSame contents areas (turned_on old) e
@@ -125,6 +126,7 @@ module _ (contents : Area → Geometry → List (List ℕ) → Map) (room : Area
           chance = tt;
         };
         touches = λ plain. touches_of true touches;
+        most = tt;
       }
 
 module _ {K : Type 0} (mounted_on : K → Area) (stands : K → Geometry → List (List ℕ) → Type 0) (runs : K → Bool) (damage : Area → Geometry → List (List ℕ) → Option Damaged) (rests : Area → Geometry → List (List ℕ) → Type 0)
@@ -172,6 +174,7 @@ module _ {K : Type 0} (mounted_on : K → Area) (stands : K → Geometry → Lis
         record {
           done = within.done;
           touches = within.touches;
+          most = within.most;
           finds = λ is. (sym (selector_powered areas old) ∙ m.ends.3, inl (sym (shown_powered damage areas old) ∙ m.ends.4));
           few = λ is. few_by areas old e before after from to m.most;
           undamaged = sound_on (Ok session) m;
@@ -182,6 +185,7 @@ module _ {K : Type 0} (mounted_on : K → Area) (stands : K → Geometry → Lis
         record {
           done = within.done;
           touches = within.touches;
+          most = within.most;
           finds = λ is. (sym (selector_powered areas old) ∙ m.ends.0, elim m.ends.1 [ inl none ↦ inl (sym (shown_powered damage areas old) ∙ none) | inr touches ↦ inr (refl, touches) ]);
           few = λ is. few_by areas old e before after from to m.most;
           undamaged = sound_on (Err PowerLost) m;

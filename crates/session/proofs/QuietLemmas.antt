@@ -23,6 +23,7 @@ use Rattle.session_table.specs.Step.{Step, needs_power}
 use Rattle.migrator.specs.Active.{active_on}
 use Rattle.session.specs.OnMap.{DoneBeside, DoneWithin, areas_worked_on, meanings, moment, powered_for}
 use Rattle.session.proofs.AccountLemmas.{kept}
+use Rattle.session.proofs.BoundLemmas.{none_within}
 
 none_kept : (d : Device) → Keeps [] d d
 none_kept d = record { banks = refl; loads = refl; outside = λ bank offset out. refl }
@@ -51,6 +52,7 @@ module _ (contents : Area → Geometry → List (List ℕ) → Map) (room : Area
       chance = told;
     };
     touches = λ plain. untouched_at (areas_worked_on (meanings contents room chance tears) areas line answer d) d (powered_for line d) (is_lost answer) same lasts;
+    most = none_within (meanings contents room chance tears) areas line answer (moment d registry pool) units;
   }
 
   -- with power off

@@ -171,7 +171,7 @@ module _ (m : Meanings) (damage : Area → Geometry → List (List ℕ) → Opti
   pub carried : (answer : Answer) → (line ≡ Mount → ⊥) → (damage_in damage areas d ≡ None → damage_in damage areas e ≡ None) → DoneBeside m areas line answer d e → CarriedBeside m damage areas line answer d e
   carried answer other sound done registry pool =
       let within = done registry pool in
-      record { done = within.done; touches = within.touches; finds = λ is. absurd (other is); few = λ is. absurd (other is); undamaged = sound }
+      record { done = within.done; touches = within.touches; most = within.most; finds = λ is. absurd (other is); few = λ is. absurd (other is); undamaged = sound }
 
   -- by the line that it is
   pub carried_as : (other : Line) (answer : Answer) → line ≡ other → (other ≡ Mount → ⊥) → (damage_in damage areas d ≡ None → damage_in damage areas e ≡ None) → DoneBeside m areas other answer d e → CarriedBeside m damage areas line answer d e
@@ -180,7 +180,7 @@ module _ (m : Meanings) (damage : Area → Geometry → List (List ℕ) → Opti
 
   pub carried_if : (result : Result Answer SessionFault) (r others : List Registered) (p left : List HandlerKind) → (line ≡ Mount → ⊥) → (damage_in damage areas d ≡ None → damage_in damage areas e ≡ None)
       → IfOk result (λ answer. DoneWithin m areas line answer (moment d r p) (moment e others left)) → IfOk result (λ answer. LineCarried m damage areas line answer (moment d r p) (moment e others left))
-  carried_if (Ok answer) r others p left other sound done = record { done = done.done; touches = done.touches; finds = λ is. absurd (other is); few = λ is. absurd (other is); undamaged = sound }
+  carried_if (Ok answer) r others p left other sound done = record { done = done.done; touches = done.touches; most = done.most; finds = λ is. absurd (other is); few = λ is. absurd (other is); undamaged = sound }
   carried_if (Err fault) r others p left other sound done = tt
 
 -- for want of memory a line on the active area stopped

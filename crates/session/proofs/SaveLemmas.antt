@@ -8,6 +8,7 @@ use Rattle.flash_map.specs.declared.area.Area.{Area}
 use Rattle.flash_map.specs.declared.area.Geometry.{Geometry}
 use Rattle.flash_map.specs.Area.{geometry_of}
 use Rattle.flash_map.specs.On.{on}
+use Rattle.flash_map.specs.Spending.{SpendsAtMost}
 use Rattle.flash_map.specs.Touches.{Touches}
 use Rattle.backend_api.specs.Commands.{Command, applied, all_applied, puts_of, CutMap}
 use Rattle.backend_api.specs.Ends.{SpendsSome}
@@ -15,7 +16,7 @@ use Rattle.backend_api.specs.Map.{Map}
 use Rattle.backend_api.specs.Room.{Room}
 use Rattle.handlers.specs.declared.handler.HandlerKind.{HandlerKind}
 use Rattle.handlers.specs.Registry.{Registered}
-use Rattle.settings_core.specs.Carrying.{due, is_too_many, AreFree, SplitsAt, Carries, MeetsNoRoom, CarryEndsOn, save_lost}
+use Rattle.settings_core.specs.Carrying.{due, due_units, is_too_many, AreFree, SplitsAt, Carries, MeetsNoRoom, CarryEndsOn, save_lost}
 use Rattle.settings_core.specs.Saving.{exported, more_pairs}
 use Rattle.settings_core.specs.declared.writing.SaveFault.{SaveFault}
 use Rattle.settings_core.specs.declared.writing.SaveFault.TheVariants.{NoSpace, TooManyNames, PowerLost}
@@ -29,8 +30,9 @@ use Rattle.session_table.specs.State.{State}
 use Rattle.session_table.specs.Step.{CommandsDone, CommandsLost}
 use Rattle.session_table.proofs.CommandLemmas.{first_free}
 use Rattle.migrator.specs.Active.{active_on}
-use Rattle.session.specs.OnMap.{DoneWithin, meanings, moment, active_area}
+use Rattle.session.specs.OnMap.{DoneWithin, meanings, moment, active_area, save_bound}
 use Rattle.session.proofs.AccountLemmas.{kept, lost}
+use Rattle.session.proofs.BoundLemmas.{spent_most}
 
 -- ---- lists of commands
 
@@ -77,6 +79,7 @@ module _ (contents : Area → Geometry → List (List ℕ) → Map) (room : Area
     (old new : Device) (commands : List Command) (pairs : ℕ) where
   pub record Ended (up : Bool) (area : Area) (result : Result (Unit {0}) SaveFault) : Type 0 where
     pub touches : Touches (area ∷ []) old new (save_lost result)
+    pub at_most : SpendsAtMost old new (due_units (geometry_of old area) (on contents old area) commands)
     pub count : ℕ
     pub ends : CarryEndsOn room contents chance tears up area old new commands count result
     pub pairs_are : pairs ≡ more_pairs 0 count
@@ -119,6 +122,9 @@ module _ (contents : Area → Geometry → List (List ℕ) → Map) (room : Area
   keeps : (cut : Bool) → Touches (active_area areas old ∷ []) old new cut → Keeps (active_area areas old ∷ []) old new
   keeps cut touches = record { banks = touches.banks; loads = touches.loads; outside = touches.outside }
 
+  bounded : {result : Result (Unit {0}) SaveFault} → Ends result → units ≤ save_bound (meanings contents room chance tears) areas subtree (moment old registry pool)
+  bounded e = spent_most old new (save_bound (meanings contents room chance tears) areas subtree (moment old registry pool)) units spent e.at_most
+
   none-spent : new ≡ old → units ≡ 0
   none-spent is = let e : new.spent ≡ old.spent = ap (λ (d : Device). d.spent) is in omega (arith, spent, e)
 
@@ -144,6 +150,7 @@ module _ (contents : Area → Geometry → List (List ℕ) → Map) (room : Area
       chance = tt;
     };
     touches = λ plain. e.touches;
+    most = bounded e;
   }
 
   pub saved-many : Ends (Err TooManyNames) → IsDone (Saved pairs units TooMany)
@@ -165,6 +172,7 @@ module _ (contents : Area → Geometry → List (List ℕ) → Map) (room : Area
           chance = tt;
         };
         touches = λ plain. e.touches;
+        most = bounded e;
       }
 
   pub saved-full : (need live : ℕ) → Ends (Err (NoSpace need live)) → IsDone (Saved pairs units (NoRoom need live))
@@ -184,6 +192,7 @@ module _ (contents : Area → Geometry → List (List ℕ) → Map) (room : Area
       chance = tt;
     };
     touches = λ plain. e.touches;
+    most = bounded e;
   }
 
   cut-short : (count last : ℕ) (told : Bool) (loss : Loss) → new.is_on ≡ false → (split : SplitsAt commands count)
@@ -216,4 +225,5 @@ module _ (contents : Area → Geometry → List (List ℕ) → Map) (room : Area
           chance = record { loss = cut.loss; last = cut.last_loss; is = tells cut.loss cut.last_loss ∙ ap (λ (place : ℕ). on chance new (area_at areas place) cut.loss) (sym stays) };
         };
         touches = λ plain. e.touches;
+        most = bounded e;
       }

@@ -2,6 +2,7 @@
 use Rattle.std.specs.Prelude.{◌≡◌, ◌⊎◌, ℕ, ◌+◌, ◌≤◌, ⊤, Bool, true, false, not, List, [], ◌∷◌, ◌++◌, length, map, find, Option, Some, None, Result, Ok, Err, unwrap_or, option_map}
 use Rattle.std.specs.List.{range_with_len, slice_get}
 use Rattle.std.specs.Option.{ForSome, option_or, option_map_or}
+use Rattle.std.specs.FinMap.{len}
 use Rattle.flash_sim.specs.Device.{Device}
 use Rattle.flash_sim.specs.declared.flash.Loss.{Loss}
 use Rattle.flash_map.specs.declared.area.Area.{Area}
@@ -15,15 +16,17 @@ use Rattle.fcb_ring.specs.Standing.{erases_on}
 use Rattle.handlers.specs.declared.handler.HandlerKind.{HandlerKind}
 use Rattle.handlers.specs.Held.{HandlerState, fresh}
 use Rattle.handlers.specs.Registry.{Registered}
-use Rattle.backend_api.specs.Commands.{Command}
+use Rattle.backend_api.specs.Commands.{Command, puts_of}
 use Rattle.backend_api.specs.Map.{Map}
 use Rattle.backend_api.specs.Room.{Room, mount_units}
 use Rattle.migrator.specs.declared.selecting.Selector.{Selector}
 use Rattle.migrator.specs.Active.{active_on, selector_damage_on}
 use Rattle.migrator.specs.Areas.{IsLawfulMap, is_store, is_store_at, first_store, selector_of, target}
 use Rattle.migrator.specs.Choosing.{IsOpen}
-use Rattle.migrator.specs.Migrating.{worked_on}
+use Rattle.migrator.specs.Migrating.{worked_on, migrate_units}
 use Rattle.settings_core.specs.declared.settings.Settings.{Settings}
+use Rattle.settings_core.specs.Carrying.{due_units}
+use Rattle.settings_core.specs.Saving.{exported}
 use Rattle.script_lines.specs.declared.line.Line.{Line}
 use Rattle.script_lines.specs.declared.line.Line.TheVariants.{Set, Del, Register, Load, Save, Commit, RunSet, RunGet, Mount, Cut, Uncut, Migrate}
 use Rattle.script_lines.specs.declared.answer.Answer.{Answer}
@@ -123,6 +126,17 @@ selector_erases areas d = option_map_or (λ area. erases_on d area) (selector_of
 abbrev pub mount_bound : List Area → Device → ℕ
 mount_bound areas d = selector_erases areas d + mount_units (geometry_of d (active_area areas d))
 
+-- the most units and erases of a save: those of one set for each pair that differs
+abbrev pub save_bound : Meanings → List Area → Option (List ℕ) → Moment → ℕ
+save_bound m areas subtree now =
+    due_units (geometry_of now.device (active_area areas now.device)) (on m.contents now.device (active_area areas now.device))
+    (puts_of (exported subtree now.registry))
+
+-- the most units and erases of a migration from the active area
+abbrev pub move_bound : Meanings → List Area → Device → ℕ
+move_bound m areas d =
+    option_map_or (λ selector. migrate_units d areas selector (active_on areas d) (len (on m.contents d (active_area areas d)))) (selector_of areas) 0
+
 -- ---- one line
 
 -- a mount turns power on first
@@ -142,16 +156,24 @@ abbrev pub TouchesWorked : Meanings → List Area → Line → Answer → Device
 TouchesWorked m areas line answer old new =
     replan line ≡ keeps → Touches (areas_worked_on m areas line answer old) (powered_for line old) new (is_lost answer)
 
--- A line was carried out by the table, and touched the bench only where it works.
+-- a save and a migration, also one that was cut, kept within its bound
+abbrev pub KeepsWithin : Meanings → List Area → Line → Answer → Moment → Type 0
+KeepsWithin m areas (Save subtree) answer old = units_of answer ≤ save_bound m areas subtree old
+KeepsWithin m areas Migrate answer old = units_of answer ≤ move_bound m areas old.device
+KeepsWithin m areas line answer old = ⊤
+
+-- A line was carried out by the table, and touched the bench only where it works; a save and a migration kept within its bound.
 pub record DoneWithin (m : Meanings) (areas : List Area) (line : Line) (answer : Answer) (old new : Moment) : Type 0 where
   pub done : LineDone m areas line answer old new
   pub touches : TouchesWorked m areas line answer old.device new.device
+  pub most : KeepsWithin m areas line answer old
 
 -- A line was carried out by the table, and touched the bench only where it works; a mount, also one that was cut, found no damage
--- and kept within its bound; and where the map shows no damage it shows none afterwards.
+-- and kept within its bound, as a save and a migration did; and where the map shows no damage it shows none afterwards.
 pub record LineCarried (m : Meanings) (damage : Area → Geometry → List (List ℕ) → Option Damaged) (areas : List Area) (line : Line) (answer : Answer) (old new : Moment) : Type 0 where
   pub done : LineDone m areas line answer old new
   pub touches : TouchesWorked m areas line answer old.device new.device
+  pub most : KeepsWithin m areas line answer old
   pub finds : line ≡ Mount → FindsNone damage areas answer old.device new.device
   pub few : line ≡ Mount → units_of answer ≤ mount_bound areas old.device
   pub undamaged : damage_in damage areas old.device ≡ None → damage_in damage areas new.device ≡ None

@@ -52,7 +52,7 @@ returns-in-Ok-clause-done g c =
     let units = c.spent.result - c.spent-before.result in
     let spent = units-are c.spent-before.result c.spent.result old.spent new.spent c.spent-before.ensures c.spent.ensures in
     let here = ended g.K.Backend.contents g.K.Backend.room g.K.Backend.chance g.K.Backend.tears old new (puts_of (exported asked hs)) c.save-saved.result.pairs up (g.K.Backend.mounted_on c.args.settings.now.backend) (active_area areas old) c.save-saved.result.end (Ok c.in-Ok.field-0) at c.in-Ok.is
-    (record { touches = c.save-saved.ensures.touches; count = c.save-saved.ensures.ends.0; ends = c.save-saved.ensures.ends.1; pairs_are = c.save-saved.ensures.ends.2 }) in
+    (record { touches = c.save-saved.ensures.touches; at_most = c.save-saved.ensures.at_most; count = c.save-saved.ensures.ends.0; ends = c.save-saved.ensures.ends.1; pairs_are = c.save-saved.ensures.ends.2 }) in
     λ pool. subst (λ (subtree : Option (List ℕ)). DoneWithin (meanings g.K.Backend.contents g.K.Backend.room g.K.Backend.chance g.K.Backend.tears) areas (Save subtree) (Saved c.save-saved.result.pairs units Whole) (moment old hs pool) (moment new hs pool)) c.as_ref.ensures.value
     (saved-whole g.K.Backend.contents g.K.Backend.room g.K.Backend.chance g.K.Backend.tears areas hs pool asked old new c.requires.on stays up c.save-saved.result.pairs units spent c.in-Ok.field-0 here)
 
@@ -72,7 +72,7 @@ returns-in-Err-NoSpace-clause-done g c =
     let which : c.in-Err-NoSpace.field-0 ≡ (NoSpace c.in-Err-NoSpace.need c.in-Err-NoSpace.live) = rw c.in-Err-NoSpace.is at c.in-Err-NoSpace.field-0-is in
     let end : c.save-saved.result.end ≡ Err (NoSpace c.in-Err-NoSpace.need c.in-Err-NoSpace.live) = c.in-Err-NoSpace.is ∙ ap (λ (fault : SaveFault). Err fault) which in
     let here = ended g.K.Backend.contents g.K.Backend.room g.K.Backend.chance g.K.Backend.tears old new (puts_of (exported asked hs)) c.save-saved.result.pairs up (g.K.Backend.mounted_on c.args.settings.now.backend) (active_area areas old) c.save-saved.result.end (Err (NoSpace c.in-Err-NoSpace.need c.in-Err-NoSpace.live)) at end
-    (record { touches = c.save-saved.ensures.touches; count = c.save-saved.ensures.ends.0; ends = c.save-saved.ensures.ends.1; pairs_are = c.save-saved.ensures.ends.2 }) in
+    (record { touches = c.save-saved.ensures.touches; at_most = c.save-saved.ensures.at_most; count = c.save-saved.ensures.ends.0; ends = c.save-saved.ensures.ends.1; pairs_are = c.save-saved.ensures.ends.2 }) in
     λ pool. subst (λ (subtree : Option (List ℕ)). DoneWithin (meanings g.K.Backend.contents g.K.Backend.room g.K.Backend.chance g.K.Backend.tears) areas (Save subtree) (Saved c.save-saved.result.pairs units (NoRoom c.in-Err-NoSpace.need c.in-Err-NoSpace.live)) (moment old hs pool) (moment new hs pool)) c.as_ref.ensures.value
     (saved-full g.K.Backend.contents g.K.Backend.room g.K.Backend.chance g.K.Backend.tears areas hs pool asked old new c.requires.on stays up c.save-saved.result.pairs units spent c.in-Err-NoSpace.need c.in-Err-NoSpace.live here)
 
@@ -92,7 +92,7 @@ returns-in-Err-TooManyNames-clause-done g c =
     let which : c.in-Err-TooManyNames.field-0 ≡ TooManyNames = rw c.in-Err-TooManyNames.is at c.in-Err-TooManyNames.field-0-is in
     let end : c.save-saved.result.end ≡ Err TooManyNames = c.in-Err-TooManyNames.is ∙ ap (λ (fault : SaveFault). Err fault) which in
     let here = ended g.K.Backend.contents g.K.Backend.room g.K.Backend.chance g.K.Backend.tears old new (puts_of (exported asked hs)) c.save-saved.result.pairs up (g.K.Backend.mounted_on c.args.settings.now.backend) (active_area areas old) c.save-saved.result.end (Err TooManyNames) at end
-    (record { touches = c.save-saved.ensures.touches; count = c.save-saved.ensures.ends.0; ends = c.save-saved.ensures.ends.1; pairs_are = c.save-saved.ensures.ends.2 }) in
+    (record { touches = c.save-saved.ensures.touches; at_most = c.save-saved.ensures.at_most; count = c.save-saved.ensures.ends.0; ends = c.save-saved.ensures.ends.1; pairs_are = c.save-saved.ensures.ends.2 }) in
     λ pool. subst (λ (subtree : Option (List ℕ)). DoneWithin (meanings g.K.Backend.contents g.K.Backend.room g.K.Backend.chance g.K.Backend.tears) areas (Save subtree) (Saved c.save-saved.result.pairs units TooMany) (moment old hs pool) (moment new hs pool)) c.as_ref.ensures.value
     (saved-many g.K.Backend.contents g.K.Backend.room g.K.Backend.chance g.K.Backend.tears areas hs pool asked old new c.requires.on stays up c.save-saved.result.pairs units spent here)
 
@@ -112,6 +112,6 @@ returns-in-Err-PowerLost-clause-done g c =
     let which : c.in-Err-PowerLost.field-0 ≡ PowerLost = rw c.in-Err-PowerLost.is at c.in-Err-PowerLost.field-0-is in
     let end : c.save-saved.result.end ≡ Err PowerLost = c.in-Err-PowerLost.is ∙ ap (λ (fault : SaveFault). Err fault) which in
     let here = ended g.K.Backend.contents g.K.Backend.room g.K.Backend.chance g.K.Backend.tears old new (puts_of (exported asked hs)) c.save-saved.result.pairs up (g.K.Backend.mounted_on c.args.settings.now.backend) (active_area areas old) c.save-saved.result.end (Err PowerLost) at end
-    (record { touches = c.save-saved.ensures.touches; count = c.save-saved.ensures.ends.0; ends = c.save-saved.ensures.ends.1; pairs_are = c.save-saved.ensures.ends.2 }) in
+    (record { touches = c.save-saved.ensures.touches; at_most = c.save-saved.ensures.at_most; count = c.save-saved.ensures.ends.0; ends = c.save-saved.ensures.ends.1; pairs_are = c.save-saved.ensures.ends.2 }) in
     λ pool. subst (λ (subtree : Option (List ℕ)). DoneWithin (meanings g.K.Backend.contents g.K.Backend.room g.K.Backend.chance g.K.Backend.tears) areas (Save subtree) (Lost units c.spells_another.result) (moment old hs pool) (moment new hs pool)) c.as_ref.ensures.value
     (saved-lost g.K.Backend.contents g.K.Backend.room g.K.Backend.chance g.K.Backend.tears areas hs pool asked old new c.requires.on stays up c.save-saved.result.pairs units spent c.spells_another.result (λ loss last. c.spells_another.ensures loss last ∙ ap (λ (a : Area). on g.K.Backend.chance new a loss) c.requires.area) here)

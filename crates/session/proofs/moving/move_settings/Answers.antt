@@ -8,14 +8,14 @@ pub returns-in-Ok-clause-done : goal.returns-in-Ok-clause-done
 returns-in-Ok-clause-done g c =
     let m = migrated g.K.Backend.mounted_on g.K.Backend.damage g.K.Backend.contents g.K.Backend.room g.K.Backend.chance g.K.Backend.tears c.args.map.now c.args.selector.now.ring.area (g.B.Flash.device c.args.bench.now) (g.B.Flash.device c.migrate-end.new.flash) (g.K.Backend.mounted_on c.backend.result.now) c.args.active.now c.migrate-end.result (Ok (c.in-Ok.backend, c.in-Ok.place)) c.requires.ready.is_active
     (ap g.K.Backend.mounted_on c.backend.ensures ∙ at_active c.args.map.now (g.B.Flash.device c.args.bench.now) c.args.active.now (g.K.Backend.mounted_on c.args.settings.now.backend) c.requires.ready.is_active c.requires.ready.there)
-    c.in-Ok.is c.requires.ready.selects.selected c.migrate-end.ensures.touches c.migrate-end.ensures.map c.migrate-end.ensures.ends in
+    c.in-Ok.is c.requires.ready.selects.selected c.migrate-end.ensures.touches c.migrate-end.ensures.map c.migrate-end.ensures.ends c.migrate-end.ensures.at_most in
     moved_by g.K.Backend.mounted_on g.K.Backend.damage g.K.Backend.contents g.K.Backend.room g.K.Backend.chance g.K.Backend.tears c.args.map.now c.args.selector.now.ring.area (g.B.Flash.device c.args.bench.now) (g.B.Flash.device c.migrate-end.new.flash) c.requires.on c.spent-before.result c.spent.result c.spent-before.ensures c.spent.ensures (c.in-Ok.backend, c.in-Ok.place) m
 
 pub returns-in-Ok-clause-sound : goal.returns-in-Ok-clause-sound
 returns-in-Ok-clause-sound g c =
     let m = migrated g.K.Backend.mounted_on g.K.Backend.damage g.K.Backend.contents g.K.Backend.room g.K.Backend.chance g.K.Backend.tears c.args.map.now c.args.selector.now.ring.area (g.B.Flash.device c.args.bench.now) (g.B.Flash.device c.migrate-end.new.flash) (g.K.Backend.mounted_on c.backend.result.now) c.args.active.now c.migrate-end.result (Ok (c.in-Ok.backend, c.in-Ok.place)) c.requires.ready.is_active
     (ap g.K.Backend.mounted_on c.backend.ensures ∙ at_active c.args.map.now (g.B.Flash.device c.args.bench.now) c.args.active.now (g.K.Backend.mounted_on c.args.settings.now.backend) c.requires.ready.is_active c.requires.ready.there)
-    c.in-Ok.is c.requires.ready.selects.selected c.migrate-end.ensures.touches c.migrate-end.ensures.map c.migrate-end.ensures.ends in
+    c.in-Ok.is c.requires.ready.selects.selected c.migrate-end.ensures.touches c.migrate-end.ensures.map c.migrate-end.ensures.ends c.migrate-end.ensures.at_most in
     sound_by g.K.Backend.mounted_on g.K.Backend.damage g.K.Backend.contents g.K.Backend.room g.K.Backend.chance g.K.Backend.tears c.args.map.now c.args.selector.now.ring.area (g.B.Flash.device c.args.bench.now) (g.B.Flash.device c.migrate-end.new.flash) (Ok (c.in-Ok.backend, c.in-Ok.place)) m
 
 pub returns-in-Ok-clause-ready : goal.returns-in-Ok-clause-ready
@@ -25,14 +25,14 @@ pub returns-in-Some-clause-done : goal.returns-in-Some-clause-done
 returns-in-Some-clause-done g c =
     let m = migrated g.K.Backend.mounted_on g.K.Backend.damage g.K.Backend.contents g.K.Backend.room g.K.Backend.chance g.K.Backend.tears c.args.map.now c.args.selector.now.ring.area (g.B.Flash.device c.args.bench.now) (g.B.Flash.device c.migrate-end.new.flash) (g.K.Backend.mounted_on c.backend.result.now) c.args.active.now c.migrate-end.result (Err c.in-Err.fault) c.requires.ready.is_active
     (ap g.K.Backend.mounted_on c.backend.ensures ∙ at_active c.args.map.now (g.B.Flash.device c.args.bench.now) c.args.active.now (g.K.Backend.mounted_on c.args.settings.now.backend) c.requires.ready.is_active c.requires.ready.there)
-    c.in-Err.is c.requires.ready.selects.selected c.migrate-end.ensures.touches c.migrate-end.ensures.map c.migrate-end.ensures.ends in
+    c.in-Err.is c.requires.ready.selects.selected c.migrate-end.ensures.touches c.migrate-end.ensures.map c.migrate-end.ensures.ends c.migrate-end.ensures.at_most in
     refused_by g.K.Backend.mounted_on g.K.Backend.damage g.K.Backend.contents g.K.Backend.room g.K.Backend.chance g.K.Backend.tears c.args.map.now c.args.selector.now.ring.area (g.B.Flash.device c.args.bench.now) (g.B.Flash.device c.migrate-end.new.flash) c.requires.on c.spent-before.result c.spent.result c.spent-before.ensures c.spent.ensures c.in-Err.fault c.in-Some.answer c.answer_to.result c.answer_to.ensures c.in-Some.is m
 
 pub returns-in-Some-clause-sound : goal.returns-in-Some-clause-sound
 returns-in-Some-clause-sound g c =
     let m = migrated g.K.Backend.mounted_on g.K.Backend.damage g.K.Backend.contents g.K.Backend.room g.K.Backend.chance g.K.Backend.tears c.args.map.now c.args.selector.now.ring.area (g.B.Flash.device c.args.bench.now) (g.B.Flash.device c.migrate-end.new.flash) (g.K.Backend.mounted_on c.backend.result.now) c.args.active.now c.migrate-end.result (Err c.in-Err.fault) c.requires.ready.is_active
     (ap g.K.Backend.mounted_on c.backend.ensures ∙ at_active c.args.map.now (g.B.Flash.device c.args.bench.now) c.args.active.now (g.K.Backend.mounted_on c.args.settings.now.backend) c.requires.ready.is_active c.requires.ready.there)
-    c.in-Err.is c.requires.ready.selects.selected c.migrate-end.ensures.touches c.migrate-end.ensures.map c.migrate-end.ensures.ends in
+    c.in-Err.is c.requires.ready.selects.selected c.migrate-end.ensures.touches c.migrate-end.ensures.map c.migrate-end.ensures.ends c.migrate-end.ensures.at_most in
     sound_by g.K.Backend.mounted_on g.K.Backend.damage g.K.Backend.contents g.K.Backend.room g.K.Backend.chance g.K.Backend.tears c.args.map.now c.args.selector.now.ring.area (g.B.Flash.device c.args.bench.now) (g.B.Flash.device c.migrate-end.new.flash) (Err c.in-Err.fault) m
 
 pub returns-in-Some-clause-ready : goal.returns-in-Some-clause-ready
@@ -42,12 +42,12 @@ pub returns-in-None-clause-sound : goal.returns-in-None-clause-sound
 returns-in-None-clause-sound g c =
     let m = migrated g.K.Backend.mounted_on g.K.Backend.damage g.K.Backend.contents g.K.Backend.room g.K.Backend.chance g.K.Backend.tears c.args.map.now c.args.selector.now.ring.area (g.B.Flash.device c.args.bench.now) (g.B.Flash.device c.migrate-end.new.flash) (g.K.Backend.mounted_on c.backend.result.now) c.args.active.now c.migrate-end.result (Err c.in-Err.fault) c.requires.ready.is_active
     (ap g.K.Backend.mounted_on c.backend.ensures ∙ at_active c.args.map.now (g.B.Flash.device c.args.bench.now) c.args.active.now (g.K.Backend.mounted_on c.args.settings.now.backend) c.requires.ready.is_active c.requires.ready.there)
-    c.in-Err.is c.requires.ready.selects.selected c.migrate-end.ensures.touches c.migrate-end.ensures.map c.migrate-end.ensures.ends in
+    c.in-Err.is c.requires.ready.selects.selected c.migrate-end.ensures.touches c.migrate-end.ensures.map c.migrate-end.ensures.ends c.migrate-end.ensures.at_most in
     sound_by g.K.Backend.mounted_on g.K.Backend.damage g.K.Backend.contents g.K.Backend.room g.K.Backend.chance g.K.Backend.tears c.args.map.now c.args.selector.now.ring.area (g.B.Flash.device c.args.bench.now) (g.B.Flash.device c.migrate-end.new.flash) (Err c.in-Err.fault) m
 
 pub returns-in-None-clause-stops : goal.returns-in-None-clause-stops
 returns-in-None-clause-stops g c =
     let m = migrated g.K.Backend.mounted_on g.K.Backend.damage g.K.Backend.contents g.K.Backend.room g.K.Backend.chance g.K.Backend.tears c.args.map.now c.args.selector.now.ring.area (g.B.Flash.device c.args.bench.now) (g.B.Flash.device c.migrate-end.new.flash) (g.K.Backend.mounted_on c.backend.result.now) c.args.active.now c.migrate-end.result (Err c.in-Err.fault) c.requires.ready.is_active
     (ap g.K.Backend.mounted_on c.backend.ensures ∙ at_active c.args.map.now (g.B.Flash.device c.args.bench.now) c.args.active.now (g.K.Backend.mounted_on c.args.settings.now.backend) c.requires.ready.is_active c.requires.ready.there)
-    c.in-Err.is c.requires.ready.selects.selected c.migrate-end.ensures.touches c.migrate-end.ensures.map c.migrate-end.ensures.ends in
+    c.in-Err.is c.requires.ready.selects.selected c.migrate-end.ensures.touches c.migrate-end.ensures.map c.migrate-end.ensures.ends c.migrate-end.ensures.at_most in
     begins_by g.K.Backend.mounted_on g.K.Backend.damage g.K.Backend.contents g.K.Backend.room g.K.Backend.chance g.K.Backend.tears c.args.map.now c.args.selector.now.ring.area (g.B.Flash.device c.args.bench.now) (g.B.Flash.device c.migrate-end.new.flash) c.in-Err.fault (c.spent.result - c.spent-before.result) c.answer_to.result c.answer_to.ensures c.in-None.is m

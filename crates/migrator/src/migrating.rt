@@ -189,8 +189,9 @@ fn move_to<F: Flash, K: Backend, L: Ledger>(
         MoveEnds K.mounted_on K.damage K.contents (room_on K.room d area) map.now selector.old.ring.area area index
         settings d (F.device flash.new) result }
     ensures stands { IfOk result (λ moved. StandsOn K.mounted_on K.stands (F.device flash.new) moved.0) }
-    ensures at_most { let d = F.device flash.old in let settings = on K.contents d (K.mounted_on from.now) in
-        SpendsAtMost d (F.device flash.new) (move_units d selector.old.ring.area area (finite.len settings)) }
+    ensures at_most { let d = F.device flash.old in let e = F.device flash.new in
+        let names = finite.len (on K.contents d (K.mounted_on from.now)) in
+        SpendsAtMost d e (move_units d selector.old.ring.area area names) }
 {
     let filled: Result<K, MigrateFault> = fill(alloc, from, flash, area, steps);
     let to = match filled {
@@ -238,8 +239,9 @@ pub fn migrate<F: Flash, K: Backend, L: Ledger>(
         → IsServed K.serves K.mounted_on K.stands map.now e selector.new.ring from.now active }
     ensures lost { let e = F.device flash.new in migrate_lost result ≡ true
         → (is_up selector.new.ring.stage ≡ false) ⊎ IsOpen e selector.new.ring }
-    ensures at_most { let d = F.device flash.old in let settings = on K.contents d (K.mounted_on from.now) in
-        SpendsAtMost d (F.device flash.new) (migrate_units d map.now selector.old.ring.area active (finite.len settings)) }
+    ensures at_most { let d = F.device flash.old in let e = F.device flash.new in
+        let names = finite.len (on K.contents d (K.mounted_on from.now)) in
+        SpendsAtMost d e (migrate_units d map.now selector.old.ring.area active names) }
 {
     match target(map, active) {
         Some(index) => {

@@ -53,8 +53,9 @@ impl<K: Backend> Settings<K> {
         ensures ends { (count : ℕ) × CarryEndsOn K.room K.contents K.chance K.tears (K.runs self.old.backend) (K.mounted_on self.old.backend) (F.device flash.old) (F.device flash.new)
             (puts_of (exported (option_map (λ name. name.now) subtree.entry) (registered state registry.now))) count result.end × (result.pairs ≡ more_pairs 0 count) }
         ensures at_most { let area = K.mounted_on self.old.backend in let d = F.device flash.old in
-            let pairs = exported (option_map (λ name. name.now) subtree.entry) (registered state registry.now) in
-            SpendsAtMost d (F.device flash.new) (due_units (geometry_of d area) (on K.contents d area) (puts_of pairs)) }
+            let e = F.device flash.new in let under = option_map (λ name. name.now) subtree.entry in
+            let puts = puts_of (exported under (registered state registry.now)) in
+            SpendsAtMost d e (due_units (geometry_of d area) (on K.contents d area) puts) }
         ensures sound { K.runs self.old.backend ≡ true → on K.damage (F.device flash.new) (K.mounted_on self.old.backend) ≡ None }
         ensures stands { K.runs self.new.backend ≡ true → StandsOn K.mounted_on K.stands (F.device flash.new) self.new.backend }
         ensures down { save_lost result.end ≡ true → K.runs self.new.backend ≡ false }

@@ -160,7 +160,8 @@ pub(crate) fn put<K: Backend, F: Flash, L: Ledger>(
     ensures area { K.mounted_on backend.new ≡ K.mounted_on backend.old }
     ensures ends { CarryEndsOn K.room K.contents K.chance K.tears true (K.mounted_on backend.old) (F.device flash.old) (F.device flash.new) (Put name.now value.now ∷ []) (put_count result) result }
     ensures at_most { let area = K.mounted_on backend.old in let d = F.device flash.old in
-        SpendsAtMost d (F.device flash.new) (due_units (geometry_of d area) (on K.contents d area) (Put name.now value.now ∷ [])) }
+        let puts = Put name.now value.now ∷ [] in
+        SpendsAtMost d (F.device flash.new) (due_units (geometry_of d area) (on K.contents d area) puts) }
     ensures sound { on K.damage (F.device flash.new) (K.mounted_on backend.old) ≡ None }
     ensures stands { save_lost result ≡ false → StandsOn K.mounted_on K.stands (F.device flash.new) backend.new }
     ensures down { save_lost result ≡ true → K.runs backend.new ≡ false }

@@ -1,8 +1,15 @@
 -- the settings were moved, or not
 use Rattle.std.proofs.Common.{Ok, Err, ap, sym, ◌∙◌, ◌-◌}
+use Rattle.flash_map.specs.Area.{geometry_of, sectors_of}
 use Rattle.session.proofs.MountLemmas.{at_active}
 use Rattle.session.proofs.MoveLemmas.{migrated, sound_by, moved_by, refused_by, begins_by, at_backend, refused_ready}
 use Rattle.session.proofs.moving.move_settings.Goals as goal
+
+pub of-requires : goal.of-requires
+of-requires g c =
+    let e = g.B.Flash.device c.migrate-end.new.flash in
+    let area = g.K.Backend.mounted_on c.in-Ok.backend in
+    g.met.K.Backend.stands_up c.in-Ok.backend (geometry_of e area) (sectors_of e area) c.in-Ok.ensures.goes_on.up
 
 pub returns-in-Ok-clause-done : goal.returns-in-Ok-clause-done
 returns-in-Ok-clause-done g c =

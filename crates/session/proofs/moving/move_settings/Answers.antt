@@ -9,7 +9,7 @@ pub of-requires : goal.of-requires
 of-requires g c =
     let e = g.B.Flash.device c.migrate-end.new.flash in
     let area = g.K.Backend.mounted_on c.in-Ok.backend in
-    g.met.K.Backend.stands_up c.in-Ok.backend (geometry_of e area) (sectors_of e area) c.in-Ok.ensures.goes_on.up
+    record { up = g.met.K.Backend.stands_up c.in-Ok.backend (geometry_of e area) (sectors_of e area) c.in-Ok.ensures.goes_on.up }
 
 pub returns-in-Ok-clause-done : goal.returns-in-Ok-clause-done
 returns-in-Ok-clause-done g c =

@@ -52,7 +52,7 @@ kept_both b one two new cycle long of_cycle first second is = stops b new (subst
 entry_bytes : (b : List ℕ) (cycle : ℕ) (entry : ZEntry) (bytes : List ℕ) → cycle ≡ next_cycle (cycle_of b) → entry ≡ empty_entry cycle → bytes ≡ encoded entry → bytes ≡ encoded (empty_entry (next_cycle (cycle_of b)))
 entry_bytes b cycle entry bytes of_cycle entry_is bytes_is = bytes_is ∙ ap encoded (entry_is ∙ ap empty_entry of_cycle)
 
-pub emptied : (kind : Kind) (b one two new : List ℕ) (cycle : ℕ) (entry : ZEntry) (bytes : List ℕ) → kind ≡ Rewritable → 48 ≤ length b → cycle ≡ next_cycle (cycle_of b) → one ≡ guarded Rewritable cycle 1 b → two ≡ guarded Rewritable cycle 2 one
+pub emptied : (kind : Kind) (b one two new : List ℕ) (cycle : ℕ) (entry : ZEntry) (bytes : List ℕ) → kind ≡ Rewritable → 64 ≤ length b → cycle ≡ next_cycle (cycle_of b) → one ≡ guarded Rewritable cycle 1 b → two ≡ guarded Rewritable cycle 2 one
     → entry ≡ empty_entry cycle → bytes ≡ encoded entry → new ≡ with_slot two 0 bytes → Empties kind b new
 emptied kind b one two new cycle entry bytes rewritable long of_cycle first second entry_is bytes_is is =
     let all = entry_bytes b cycle entry bytes of_cycle entry_is bytes_is in

@@ -14,7 +14,9 @@ use Rattle.ring_laws.specs.Slots.{Slot}
 use Rattle.ring_laws.proofs.SlotChanges.{SameFrom, slot_at-from}
 use Rattle.zms_cycle.specs.Areas.{kind_on}
 use Rattle.zms_cycle.specs.Sector.{slot_of, is_valid, cycle_of, valid_slots, data_len, low, data_end}
-use Rattle.zms_cycle.specs.Changes.{guarded, guard_units, with_value, next_cycle}
+use Rattle.zms_cycle.specs.Changes.{guarded, guard_units, with_value, next_cycle, Empties, first_guard}
+use Rattle.zms_cycle.specs.OnArea.{Makes, next_guard}
+use Rattle.zms_cycle.proofs.AreaFacts.{same_kind}
 use Rattle.zms_cycle.proofs.EntryCalls.{IsReady}
 use Rattle.zms_cycle.proofs.Frames.{data_len-long}
 use Rattle.zms_cycle.proofs.Slots16.{covers-guarded, covers-lower}
@@ -59,3 +61,15 @@ pub second_unit : (kind : Kind) (b one : List ℕ) (cycle : ℕ) → 48 ≤ leng
 second_unit kind b one cycle long is first =
     units_same kind (Some cycle) (Some (next_cycle (cycle_of b))) 2 2 b one (ap (λ (k : ℕ). Some k) is) refl
     (ap (λ (c : List ℕ). slot_of c 2) first ∙ covers-lower 1 2 b (guarded kind cycle 1 b) (covers-guarded kind cycle 1 b (omega arith)) (omega arith) (omega arith))
+
+-- the guard under the first entry of a sector that was emptied, as the sector tells it before
+pub emptied_guard : (kind : Kind) (b e : List ℕ) → Empties kind b e → guard_units kind (cycle_of e) (length (valid_slots e) + 2 + 1) e ≡ first_guard kind b
+emptied_guard Erasing b e empties = refl
+emptied_guard Rewritable b e empties =
+    units_same Rewritable (cycle_of e) (Some (next_cycle (cycle_of b))) (length (valid_slots e) + 2 + 1) 3 b e empties.cycle (ap (λ (ss : List Slot). length ss + 2 + 1) empties.slots) (empties.third refl)
+
+-- the same on a device
+pub emptied_guard_on : (old new : Device) (area : Area) (sector : ℕ) → new.banks ≡ old.banks → Makes Empties old new area sector → next_guard new area sector ≡ first_guard (kind_on old area) (sector_bytes old area sector)
+emptied_guard_on old new area sector banks empties =
+    ap (λ (k : Kind). guard_units k (cycle_of (sector_bytes new area sector)) (length (valid_slots (sector_bytes new area sector)) + 2 + 1) (sector_bytes new area sector)) (same_kind old new area banks)
+    ∙ emptied_guard (kind_on old area) (sector_bytes old area sector) (sector_bytes new area sector) empties

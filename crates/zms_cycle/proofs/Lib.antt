@@ -8,7 +8,7 @@ mod Ends
 mod EntryCalls
 pub mod ErasedSlots
 pub mod Frames
-mod GuardUnits
+pub mod GuardUnits
 mod Marks
 mod OverwrittenValue
 mod PairCalls

@@ -22,7 +22,7 @@ use Rattle.zms_cycle.specs.Changes.{with_slot, guarded, IsFilled, KeepsSlots, Ke
 use Rattle.zms_cycle.proofs.AreaFacts.{not_erasing}
 use Rattle.zms_cycle.proofs.Bytes.{length-encoded, decoded-encoded, IsEntry-close, IsEntry-empty, close-is_close, empty-is_empty}
 use Rattle.zms_cycle.proofs.ErasedSlots.{erased_invalid, written_below, written-never}
-use Rattle.zms_cycle.proofs.Slots16.{Covers, valid-is, close-is, cycle_of-is, not_valid, slot-put, with_slot-above, with_slot-below, decoded-put, covers-fill, covers-guarded, covers-higher, guarded-not_valid}
+use Rattle.zms_cycle.proofs.Slots16.{Covers, valid-is, close-is, cycle_of-is, not_valid, slot-put, with_slot-above, with_slot-below, decoded-put, covers-fill, covers-guarded, covers-higher, covers-lower, guarded-not_valid}
 use Rattle.zms_cycle.proofs.Frames.{IsSound, sound-parts, sound-ends, under-parts, pad, value_end-long, value-by, pairs-same, cycle_of-same, closed-same, slots-keep}
 
 from_start : (n : ℕ) (xs : List ℕ) → slice_range xs 0 n ≡ take n xs
@@ -224,7 +224,7 @@ unfolding can_close
 rewritable-closable b = refl
 
 -- and the empty entry of the next cycle in slot 0
-pub empties : (b : List ℕ) → 48 ≤ length b → Empties Rewritable b (with_slot (guarded Rewritable (next_cycle (cycle_of b)) 2 (guarded Rewritable (next_cycle (cycle_of b)) 1 b)) 0 (encoded (empty_entry (next_cycle (cycle_of b)))))
+pub empties : (b : List ℕ) → 64 ≤ length b → Empties Rewritable b (with_slot (guarded Rewritable (next_cycle (cycle_of b)) 2 (guarded Rewritable (next_cycle (cycle_of b)) 1 b)) 0 (encoded (empty_entry (next_cycle (cycle_of b)))))
 empties b long =
     let c = next_cycle (cycle_of b) in
     let one = guarded Rewritable (next_cycle (cycle_of b)) 1 b in
@@ -245,6 +245,9 @@ empties b long =
     let slot-one : slot_of new 1 ≡ slot_of one 1 =
     slot_at-same 16 two new 1 same.long (below (length two - (1 + 1) * 16) (length two - (1 + 1) * 16 + 16) (omega arith)) ∙ covers-higher 2 1 one two second (omega arith) in
     let slot-two : slot_of new 2 ≡ slot_of two 2 = slot_at-same 16 two new 2 same.long (below (length two - (2 + 1) * 16) (length two - (2 + 1) * 16 + 16) (omega arith)) in
+    let slot-three : slot_of new 3 ≡ slot_of b 3 =
+    slot_at-same 16 two new 3 same.long (below (length two - (3 + 1) * 16) (length two - (3 + 1) * 16 + 16) (omega arith))
+    ∙ covers-lower 2 3 one two second (omega arith) (omega arith) ∙ covers-lower 1 3 b one first (omega arith) (omega arith) in
     let first_not : is_valid_under c (slot_of new 1) ≡ false = ap (is_valid_under c) slot-one ∙ guarded-not_valid c 1 b (omega arith) in
     let second_not : is_valid_under c (slot_of new 2) ≡ false = ap (is_valid_under c) slot-two ∙ guarded-not_valid c 2 one (omega arith) in
     let none : valid_slots new ≡ [] = no_slots new (omega arith) (ap (λ (o : Option ℕ). is_valid o (slot_of new 2)) cycle ∙ second_not) in
@@ -256,6 +259,7 @@ empties b long =
       cycle = cycle;
       closed = and_left (is_valid (cycle_of new) (slot_of new 1)) (holds_close (slot_of new 1)) (ap (λ (o : Option ℕ). is_valid o (slot_of new 1)) cycle ∙ first_not);
       second = second_not;
+      third = λ rewritable. slot-three;
       slots = none;
       gc_done = ap (list_any holds_done) none;
       list = ap (λ (ss : List Slot). map (pair_of new) (filter_map entry_in ss)) none;
@@ -324,6 +328,7 @@ empties_blank b long =
       cycle = cycle;
       closed = and_left (is_valid (cycle_of new) (slot_of new 1)) (holds_close (slot_of new 1)) (ap (λ (o : Option ℕ). is_valid o (slot_of new 1)) cycle ∙ first_not);
       second = second_not;
+      third = λ rewritable. absurd (not_erasing (sym rewritable));
       slots = none;
       gc_done = ap (list_any holds_done) none;
       list = ap (λ (ss : List Slot). map (pair_of new) (filter_map entry_in ss)) none;

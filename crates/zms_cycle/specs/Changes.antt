@@ -123,12 +123,14 @@ closing_most Erasing room = 1
 abbrev pub next_cycle : Option ℕ → ℕ
 next_cycle cycle = option_map_or (λ c. (c + 1) % 256) cycle 1
 
--- The sector is used in the next cycle, not closed, and slot 2 is not valid. On a bank that is erased it is fresh.
+-- The sector is used in the next cycle, not closed, and slot 2 is not valid. Slot 3, under which the first entry's guard is
+-- looked at, stays on a bank that is never erased. On one that is erased the sector is fresh.
 pub record Empties (kind : Kind) (old new : List ℕ) : Type 0 where
   pub long : length new ≡ length old
   pub cycle : cycle_of new ≡ Some (next_cycle (cycle_of old))
   pub closed : is_closed new ≡ false
   pub second : is_valid_under (next_cycle (cycle_of old)) (slot_of new 2) ≡ false
+  pub third : kind ≡ Rewritable → slot_of new 3 ≡ slot_of old 3
   pub slots : valid_slots new ≡ []
   pub gc_done : has_gc_done new ≡ false
   pub list : pairs new ≡ []
@@ -142,6 +144,10 @@ pub record Empties (kind : Kind) (old new : List ℕ) : Type 0 where
 abbrev pub emptying : Kind → List ℕ → ℕ
 emptying Rewritable b = 1 + guard_units Rewritable (Some (next_cycle (cycle_of b))) 1 b + guard_units Rewritable (Some (next_cycle (cycle_of b))) 2 b
 emptying Erasing b = if is_erased b then 1 else 2
+
+-- the unit that the guard under the first entry behind an emptying takes, by the sector before the emptying
+abbrev pub first_guard : Kind → List ℕ → ℕ
+first_guard kind b = guard_units kind (Some (next_cycle (cycle_of b))) 3 b
 
 -- The sector's being closed, its gc-done and its list are as before. A sector that was overfull is so still, and has no list.
 pub record ReadsAsBefore (old new : List ℕ) : Type 0 where

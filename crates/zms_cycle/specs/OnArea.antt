@@ -5,7 +5,7 @@ use Rattle.flash_map.specs.declared.area.Area.{Area}
 use Rattle.flash_sim.specs.declared.flash.Kind.{Kind}
 use Rattle.flash_map.specs.Area.{sector_bytes}
 use Rattle.zms_cycle.specs.Areas.{kind_on}
-use Rattle.zms_cycle.specs.Changes.{guard_units, emptying, KeepsList, left_over, AddsPair, closing_most}
+use Rattle.zms_cycle.specs.Changes.{guard_units, emptying, first_guard, KeepsList, left_over, AddsPair, closing_most}
 use Rattle.zms_cycle.specs.Sector.{cycle_of, valid_slots, entry_len, pair_at, cost, data_len, free, is_sound, can_close, fits}
 
 abbrev pub IsUsedOn : Device → Area → ℕ → Type 0
@@ -69,6 +69,10 @@ next_guard d area sector = let b = sector_bytes d area sector in guard_units (ki
 
 abbrev pub emptying_units : Device → Area → ℕ → ℕ
 emptying_units d area sector = emptying (kind_on d area) (sector_bytes d area sector)
+
+-- the guard under the first entry behind the sector's emptying
+abbrev pub first_guard_units : Device → Area → ℕ → ℕ
+first_guard_units d area sector = first_guard (kind_on d area) (sector_bytes d area sector)
 
 -- a close, at most
 abbrev pub closing_units : Device → Area → ℕ → ℕ

@@ -7,7 +7,7 @@ ghost use Rattle.flash_sim.specs.declared.flash.Kind.TheVariants.{Erasing, Rewri
 ghost use Rattle.zms_cycle.specs.Areas.{IsZmsSector, HasSlot, kind_on};
 ghost use Rattle.zms_cycle.specs.Changes.{with_slot, IsFilled, KeepsList, StopsGuarding, StopsEmptying, Closes, Empties, next_cycle};
 ghost use Rattle.zms_cycle.specs.Entries.{fill, empty_entry, close_entry};
-ghost use Rattle.zms_cycle.specs.OnArea.{IsUsedOn, IsSoundOn, IsClosableOn, free_on, Makes, Keeps, emptying_units, closing_units};
+ghost use Rattle.zms_cycle.specs.OnArea.{IsUsedOn, IsSoundOn, IsClosableOn, free_on, Makes, Keeps, next_guard, emptying_units, first_guard_units, closing_units};
 ghost use Rattle.zms_cycle.specs.Sector.{cycle_of, valid_slots, low, data_end, free, is_sound};
 
 use crate::guarding::{put_unit, slot_start};
@@ -102,7 +102,8 @@ fn empty_by_erasing<F: Flash, L: Ledger>(
 }
 
 /// Empties a sector by the empty entry of the next cycle. On a bank that is never erased, slots 1 and 2 are made not valid
-/// under that cycle first; on one that is erased, the sector is erased first, unless it is all FF.
+/// under that cycle first; on one that is erased, the sector is erased first, unless it is all FF. What the guard of the first
+/// entry takes then is known before: slot 3 is not changed where it may be due.
 ///
 /// # Errors
 /// `PowerLost`. On a bank that is never erased: the sector's being closed, its gc-done and its list are as before, or it is not
@@ -120,6 +121,8 @@ pub fn empty_sector<F: Flash, L: Ledger>(
     ensures touches { Touches (area.now ∷ []) (F.device flash.old) (F.device flash.new) (is_err result) }
     ensures others { OthersStay (F.device flash.old) (F.device flash.new) area.now sector }
     ensures ok { OnOk result (Makes Empties (F.device flash.old) (F.device flash.new) area.now sector) }
+    ensures next_guard { let units = first_guard_units (F.device flash.old) area.now sector in
+        OnOk result (next_guard (F.device flash.new) area.now sector ≡ units) }
     ensures lost { OnErr result (Makes StopsEmptying (F.device flash.old) (F.device flash.new) area.now sector) }
     ensures spends { OnOk result (SpendsBetween (F.device flash.old) (F.device flash.new) 1 3) }
     ensures guards { let units = emptying_units (F.device flash.old) area.now sector in

@@ -1,5 +1,5 @@
 -- The kind of ZMS is one.
-use Rattle.std.proofs.Common.{inl, inr, ◌≡◌, ℕ, ◌+◌, ◌*◌, ◌/◌, ◌≤◌, max, ◌&&◌, Bool, true, false, cond, leb, List, [], ◌∷◌, length, map, Option, Some, None, refl, ap, ◌∙◌, arith}
+use Rattle.std.proofs.Common.{inl, inr, ◌≡◌, ℕ, ◌+◌, ◌*◌, ◌/◌, ◌≤◌, max, ◌&&◌, Bool, true, false, cond, leb, List, [], ◌∷◌, length, map, Option, Some, None, refl, sym, ap, ◌∙◌, arith}
 use Rattle.std.specs.Prelude.{IsSome, is_some}
 use Rattle.std.specs.List.{range_with_len}
 use Rattle.std.proofs.lemmas.Bool.{true≢false, and_parts, cases_lt, cond-true, cond-false, le-leb, lt-leb}
@@ -10,20 +10,22 @@ use Rattle.flash_sim.specs.declared.flash.Kind.{Kind as BankKind}
 use Rattle.flash_sim.specs.declared.flash.Kind.TheVariants.{Erasing, Rewritable}
 use Rattle.flash_map.specs.Units.{padded, is_erased}
 use Rattle.ring_laws.specs.Slots.{Slot}
-use Rattle.ring_store.specs.Kind.{LiesIn, CoversWhole, AreUnits, IsKind}
+use Rattle.ring_store.specs.Kind.{Range, LiesIn, CoversWhole, AreUnits, IsKind}
 use Rattle.ring_store.proofs.ReadLemmas as own
 use Rattle.ring_store.specs.declared.entry.Entry.{Entry}
 use Rattle.zms_cycle.specs.declared.reading.Found.{Found}
 use Rattle.zms_cycle.specs.Sector.{slot_of, is_valid, cycle_of, valid_slots, free, entry_in, pair_of, is_sound, value_of, cost, capacity, data_len}
 use Rattle.zms_cycle.proofs.CopyCalls.{ordinary_id}
-use Rattle.zms_cycle.specs.Changes.{guard_units, next_cycle, emptying, closing_most}
+use Rattle.zms_cycle.specs.Changes.{guard_units, next_cycle, Empties, emptying, first_guard, closing_most}
+use Rattle.zms_cycle.proofs.GuardUnits.{emptied_guard}
 use Rattle.zms_kind.specs.Area.{may_close, is_unused, is_clean}
 use Rattle.zms_kind.proofs.Roomy.{IsRoomy, roomy_of, clean_unused, unused_clean, clean_end, not_clean_cycle}
 use Rattle.zms_kind.proofs.Damages.{ring_undamaged, undamaged_ring}
 use Rattle.zms_kind.proofs.EntryReads.{bytes_len}
 use Rattle.zms_kind.proofs.Sectors.{laws, read_room, unused_slots}
 use Rattle.zms_kind.proofs.ZmsEntries.{are_zms}
-use Rattle.zms_kind.specs.Kinds.{entry_of, kind, just, guard_most, emptying_most, emptying_units, entry_units, units_of, opens_ready}
+use Rattle.zms_kind.specs.Kinds.{entry_of, kind, just, guard_most, emptying_most, emptying_units, next_guard, entry_units, units_of, opens_ready}
+use Rattle.zms_kind.specs.Units.{FirstEntryIsKnown}
 
 pub slot_is : (b : List ℕ) (n : ℕ) (f : Found) → entry_in (slot_of b n) ≡ Some f → (entry_of f).slot ≡ n
 slot_is b n f some = (are_zms Rewritable).slot b 0 n f some
@@ -63,6 +65,33 @@ guard_within Rewritable cycle slot b = by_flag (is_valid cycle (slot_of b slot))
     by_flag false = omega arith
 guard_within Erasing cycle slot b = omega arith
 
+next_within : (bank : BankKind) (b : List ℕ) → next_guard bank b ≤ guard_most bank
+next_within bank b = by_flag (is_some (cycle_of b))
+  where
+    by_flag : (used : Bool) → cond used (guard_units bank (cycle_of b) (length (valid_slots b) + 2 + 1) b) (first_guard bank b) ≤ guard_most bank
+    by_flag true = guard_within bank (cycle_of b) (length (valid_slots b) + 2 + 1) b
+    by_flag false = guard_within bank (Some (next_cycle (cycle_of b))) 3 b
+
+-- in a sector with a cycle it is the guard under its next slot
+pub used_guard : (bank : BankKind) (b : List ℕ) → is_some (cycle_of b) ≡ true → next_guard bank b ≡ guard_units bank (cycle_of b) (length (valid_slots b) + 2 + 1) b
+used_guard bank b some = cond-true (is_some (cycle_of b)) (guard_units bank (cycle_of b) (length (valid_slots b) + 2 + 1) b) (first_guard bank b) some
+
+-- in one without, that of the first entry behind its emptying
+begun_guard : (bank : BankKind) (b e : List ℕ) → cycle_of b ≡ None → Empties bank b e → next_guard bank e ≡ next_guard bank b
+begun_guard bank b e none empties =
+    used_guard bank e (ap (λ (o : Option ℕ). is_some o) empties.cycle) ∙ emptied_guard bank b e empties
+    ∙ sym (cond-false (is_some (cycle_of b)) (guard_units bank (cycle_of b) (length (valid_slots b) + 2 + 1) b) (first_guard bank b) (ap (λ (o : Option ℕ). is_some o) none))
+
+pub first_entry_is_known : FirstEntryIsKnown
+first_entry_is_known bank b e none empties =
+    let same : next_guard bank e ≡ next_guard bank b = begun_guard bank b e none empties in
+    let range : ℕ → ℕ → Range = λ units guard. record { least = units + guard; most = units + guard; lost = units + guard_most bank } in
+    record {
+      put = λ len. ap (range (cost len / 16)) same;
+      copy = λ len. ap (range (cost len / 16)) same;
+      done = ap (range 1) same;
+    }
+
 guard_one : (bank : BankKind) → guard_most bank ≤ 1
 guard_one Rewritable = omega arith
 guard_one Erasing = omega arith
@@ -91,10 +120,10 @@ module _ (bank : BankKind) where
   emptying_covers b = (emptying_within bank b).1
 
   entry_covers : (b : List ℕ) (units : ℕ) → CoversWhole (entry_units bank b units)
-  entry_covers b units = let guard = guard_within bank (cycle_of b) (length (valid_slots b) + 2 + 1) b in omega arith
+  entry_covers b units = let guard = next_within bank b in omega arith
 
   entry_in_any : (b : List ℕ) (units : ℕ) → LiesIn (entry_units bank b units) (record { least = units; most = units + guard_most bank; lost = units + guard_most bank })
-  entry_in_any b units = let guard = guard_within bank (cycle_of b) (length (valid_slots b) + 2 + 1) b in record { least = omega arith; most = omega arith; lost = omega arith }
+  entry_in_any b units = let guard = next_within bank b in record { least = omega arith; most = omega arith; lost = omega arith }
 
   begin_covers : (b : List ℕ) → CoversWhole ((units_of bank).begin b)
   begin_covers b = by_flag (is_some (cycle_of b))

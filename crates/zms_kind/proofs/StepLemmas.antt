@@ -3,7 +3,10 @@ use Rattle.std.proofs.Common.{inl, inr, ◌≡◌, ℕ, ◌+◌, ◌*◌, ◌<�
 use Rattle.std.specs.Prelude.{IsSome, is_some, Result, OnErr}
 use Rattle.std.proofs.lemmas.Result.{on_err_weaker}
 use Rattle.std.proofs.lemmas.Bool.{false≢true, and_parts, cond-true, cond-false, cases_eq, eq-eqb, ne_eqb, leb-true}
+use Rattle.flash_sim.specs.Device.{Device}
 use Rattle.flash_map.specs.declared.area.Geometry.{Geometry}
+use Rattle.flash_map.specs.Spending.{SpendsBetween}
+use Rattle.ring_store.specs.Standing.{SpendsIn}
 use Rattle.flash_sim.specs.declared.flash.Kind.{Kind as BankKind}
 use Rattle.flash_sim.specs.declared.flash.Kind.TheVariants.{Erasing, Rewritable}
 use Rattle.flash_map.proofs.PieceLemmas.{on_err}
@@ -11,15 +14,15 @@ use Rattle.ring_laws.specs.Slots.{Slot}
 use Rattle.ring_laws.specs.Reading.{is_sound as ring_sound}
 use Rattle.pair_laws.specs.Rounds.{stored_cost}
 use Rattle.ring_store.specs.Steps.{new_entry, Keeps, KeepsMarks, LeavesRoom, Begins, Adds, Marks, Closes, Clears, StopsClearing}
-use Rattle.zms_cycle.specs.Changes.{KeepsList, KeepsSlots, AddsPair, MarksDone, Closes as zms_closes, Empties, StopsEmptying}
+use Rattle.zms_cycle.specs.Changes.{guard_units, KeepsList, KeepsSlots, AddsPair, MarksDone, Closes as zms_closes, Empties, StopsEmptying}
 use Rattle.zms_cycle.specs.Sector.{slot_of, cycle_of, valid_slots, is_closed, has_gc_done, entries, cost, capacity, low, free, fits, is_sound, pairs}
 use Rattle.zms_cycle.proofs.Frames.{data_len-short}
 use Rattle.zms_kind.specs.Area.{reading, is_begun, may_close, is_unused, is_clean}
 use Rattle.zms_kind.proofs.Roomy.{IsRoomy, no_cycle, empties_unused, empties_clean, clean_blank, unused_clean, not_clean_cycle, roomy_of, ring_sound_of, ring_same, may_same}
 use Rattle.zms_kind.proofs.Sectors.{laws, begun_count, unused_slots, empty_end, written-none, closed_may, closable_may, may_closable}
-use Rattle.zms_kind.specs.Kinds.{entry_of, record_of, kind, opens_ready}
+use Rattle.zms_kind.specs.Kinds.{entry_of, record_of, kind, entry_units, opens_ready}
 use Rattle.zms_kind.proofs.Erased.{cycle_none}
-use Rattle.zms_kind.proofs.KindLemmas.{some_flag, and_true, slot_is, ready_of}
+use Rattle.zms_kind.proofs.KindLemmas.{some_flag, and_true, slot_is, used_guard, ready_of}
 use Rattle.std.specs.Option.{option_map, option_map_or}
 use Rattle.std.specs.List.{range_with_len}
 use Rattle.std.proofs.lemmas.List.{map_push, length-replicate}
@@ -48,6 +51,13 @@ module _ (bank : BankKind) (b : List ℕ) (ready : (is_some (cycle_of b) && (is_
 
   pub ready_may : may_close bank b ≡ true
   ready_may = (and_parts (is_sound b) (may_close bank b) ready_rest).1
+
+  pub ready_cycle : is_some (cycle_of b) ≡ true
+  ready_cycle = (and_parts (is_some (cycle_of b)) (is_sound b && may_close bank b) ready).0
+
+  -- what its next entry spends
+  pub ready_spends : (old new : Device) (units : ℕ) → SpendsBetween old new (units + guard_units bank (cycle_of b) (length (valid_slots b) + 2 + 1) b) (units + guard_units bank (cycle_of b) (length (valid_slots b) + 2 + 1) b) → SpendsIn old new (entry_units bank b units)
+  ready_spends old new units spends = subst (λ (n : ℕ). SpendsBetween old new (units + n) (units + n)) (sym (used_guard bank b ready_cycle)) spends
 
 -- an open sector that is sound and not clean can be closed
 pub open_closable : (bank : BankKind) (b : List ℕ) → 512 ≤ length b → ring_sound (reading bank) b ≡ true → is_closed b ≡ false → is_clean bank b ≡ false → can_close bank b ≡ true

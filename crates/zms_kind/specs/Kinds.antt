@@ -8,7 +8,7 @@ use Rattle.ring_store.specs.Kind.{Range, Units, Kind}
 use Rattle.zms_cycle.specs.declared.reading.Found.{Found}
 use Rattle.flash_sim.specs.declared.flash.Kind.{Kind as BankKind}
 use Rattle.flash_sim.specs.declared.flash.Kind.TheVariants.{Erasing, Rewritable}
-use Rattle.zms_cycle.specs.Changes.{guard_units, emptying, closing_most}
+use Rattle.zms_cycle.specs.Changes.{guard_units, emptying, first_guard, closing_most}
 use Rattle.zms_cycle.specs.Sector.{slot_of, cycle_of, valid_slots, entry_in, cost, capacity, free, is_sound, value_of}
 use Rattle.zms_kind.specs.declared.sector.Placed.{Placed as ZmsPlaced}
 use Rattle.zms_kind.specs.Area.{may_close, reading, is_clean, damage_of}
@@ -37,9 +37,9 @@ emptying_most Erasing = 2
 abbrev pub emptying_units : BankKind → List ℕ → Range
 emptying_units kind b = record { least = emptying kind b; most = emptying kind b; lost = emptying_most kind }
 
--- the guard under the next slot
+-- The guard under the next entry. A sector without a cycle is emptied before, which leaves slot 3 as it is.
 abbrev pub next_guard : BankKind → List ℕ → ℕ
-next_guard kind b = guard_units kind (cycle_of b) (length (valid_slots b) + 2 + 1) b
+next_guard kind b = if is_some (cycle_of b) then guard_units kind (cycle_of b) (length (valid_slots b) + 2 + 1) b else first_guard kind b
 
 -- an entry and its value, which take up so many units, and the guard; one that is cut is told with a guard
 abbrev pub entry_units : BankKind → List ℕ → ℕ → Range

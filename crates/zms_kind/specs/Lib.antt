@@ -2,3 +2,4 @@ pub mod Area
 pub mod Kinds
 pub mod Parts
 pub mod Sought
+pub mod Units

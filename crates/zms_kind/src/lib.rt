@@ -7,7 +7,7 @@ mod mounting;
 mod places;
 mod sector;
 
-pub use laws::parts_of_list;
+pub use laws::{first_entry_is_known, parts_of_list};
 pub use mounting::scan;
 pub use places::marks_at;
 pub use sector::{Marks, Placed, find_in, is_clean};

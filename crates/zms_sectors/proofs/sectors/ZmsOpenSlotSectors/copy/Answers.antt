@@ -1,17 +1,19 @@
-use Rattle.std.proofs.Common.{◌≡◌, ◌+◌, ◌/◌, ◌^◌, ◌≤◌, ℕ, List, length, Option, sym, ap, ◌∙◌, arith}
+use Rattle.std.proofs.Common.{◌≡◌, ◌+◌, ◌/◌, ◌^◌, ◌≤◌, ℕ, List, length, Option, sym, ap, subst, ◌∙◌, arith}
 use Rattle.std.specs.Option.{option_map_or}
 use Rattle.flash_sim.specs.Device.{Device}
 use Rattle.flash_map.specs.declared.area.Area.{Area}
 use Rattle.flash_map.specs.declared.area.Geometry.{Geometry}
 use Rattle.flash_map.specs.Area.{geometry_of, sectors_of, sector_at, sector_size}
+use Rattle.flash_map.specs.Spending.{SpendsBetween}
 use Rattle.flash_map.proofs.PieceLemmas.{on_err}
 use Rattle.flash_map.proofs.SpendingBounds.{between_within}
 use Rattle.ring_store.proofs.Areas.{large_there, size_there}
 use Rattle.zms_cycle.specs.declared.reading.Found.{Found}
+use Rattle.zms_cycle.specs.OnArea.{next_guard}
 use Rattle.zms_cycle.specs.Sector.{cost, free, entry_len, pair_at}
 use Rattle.zms_kind.proofs.Roomy.{roomy_of}
 use Rattle.zms_kind.specs.Kinds.{entry_units}
-use Rattle.zms_kind.proofs.StepLemmas.{is_there, ready_may, adds_copy, copied_len}
+use Rattle.zms_kind.proofs.StepLemmas.{is_there, ready_may, ready_spends, adds_copy, copied_len}
 use Rattle.flash_map.specs.declared.area.Role.TheVariants.{Zms as zms_role}
 use Rattle.zms_sectors.proofs.OpenLemmas.{cost_above, kept_few, end_room, kept_added}
 use Rattle.zms_sectors.proofs.sectors.ZmsOpenSlotSectors.copy.Goals as goal
@@ -101,3 +103,14 @@ returns-in_err-copy_entry-clause-spends_lost g c =
     let units : cost (entry_len (sector_at (sectors_of a area) c.args.from.now.sector) c.args.from.now.slot) / 16 ≡ cost c.args.from.now.len / 16 = ap (λ (n : ℕ). cost n / 16) len in
     on_err c.from_residual.result
     (between_within c.in_err-copy_entry.ensures.spends_lost 0 (entry_units u.kind (sector_at (sectors_of a area) c.args.place) (cost c.args.from.now.len / 16)).lost (omega arith) (omega arith))
+
+pub returns-clause-spends : goal.returns-clause-spends
+returns-clause-spends g c =
+    let a : Device = g.F.Flash.device c.args.flash.now in
+    let area : Area = c.args.area.now in
+    let u : Geometry = geometry_of a area in
+    let e : Device = g.F.Flash.device c.copy_entry.new.flash in
+    let there = is_there (sector_at (sectors_of a area) c.args.from.now.sector) c.args.from.now c.requires.there in
+    let len : entry_len (sector_at (sectors_of a area) c.args.from.now.sector) c.args.from.now.slot ≡ c.args.from.now.len = ap (λ (o : Option Found). option_map_or (λ f. f.entry.len) o 0) there.read ∙ sym there.len in
+    ready_spends u.kind (sector_at (sectors_of a area) c.args.place) c.requires.ready a e (cost c.args.from.now.len / 16)
+    (subst (λ (n : ℕ). SpendsBetween a e (cost n / 16 + next_guard a area c.args.place) (cost n / 16 + next_guard a area c.args.place)) len c.in_ok-copy_entry.ensures.guards)

@@ -1,11 +1,4 @@
-use Rattle.std.proofs.Common.{◌≡◌, ◌+◌, ◌<◌, ◌*◌, ◌≤◌, ℕ, List, length, sym, ap, subst, ◌∙◌, arith}
-use Rattle.flash_sim.specs.Device.{Device}
-use Rattle.flash_map.specs.declared.area.Area.{Area}
-use Rattle.flash_map.specs.declared.area.Geometry.{Geometry}
-use Rattle.flash_map.specs.Area.{geometry_of, sectors_of, sector_at}
-use Rattle.ring_store.proofs.Areas.{large_there}
-use Rattle.zms_kind.proofs.Sectors.{read_room}
-use Rattle.flash_map.specs.declared.area.Role.TheVariants.{Zms as zms_role}
+use Rattle.std.proofs.Common.{◌≡◌, ◌+◌, ◌<◌, ℕ, List, length, sym, ap, subst, ◌∙◌, arith}
 use Rattle.zms_cycle.specs.Sector.{slot_of, valid_slots}
 use Rattle.zms_cycle.proofs.CopyCalls.{ordinary_id}
 use Rattle.ring_store.specs.declared.entry.Placed.{Placed}

@@ -4,7 +4,7 @@ use Rattle.flash_map.specs.declared.area.Area.{Area}
 use Rattle.flash_map.specs.declared.area.Geometry.{Geometry}
 use Rattle.flash_map.specs.Area.{geometry_of, sectors_of, sector_at, sector_size}
 use Rattle.ring_store.proofs.Areas.{large_there, size_there}
-use Rattle.zms_kind.proofs.StepLemmas.{ready_may, marks}
+use Rattle.zms_kind.proofs.StepLemmas.{ready_may, ready_spends, marks}
 use Rattle.flash_map.specs.declared.area.Role.TheVariants.{Zms as zms_role}
 use Rattle.zms_sectors.proofs.OpenLemmas.{kept_few, kept_marked}
 use Rattle.zms_sectors.proofs.sectors.ZmsOpenSlotSectors.mark_done.Goals as goal
@@ -36,3 +36,11 @@ returns-clause-kept g c =
     let wide = large_there zms_role a area (g.met.F.Flash.is_lawful c.args.flash.now) c.requires.area c.args.place c.requires.inside in
     let e : Device = g.F.Flash.device c.put_done.new.flash in
     kept_marked u (sector_at (sectors_of a area) c.args.place) c.args.self.now c.requires.kept (sector_at (sectors_of e area) c.args.place) wide c.in_ok-put_done.ensures.ok
+
+pub returns-clause-spends : goal.returns-clause-spends
+returns-clause-spends g c =
+    let a : Device = g.F.Flash.device c.args.flash.now in
+    let area : Area = c.args.area.now in
+    let u : Geometry = geometry_of a area in
+    let e : Device = g.F.Flash.device c.put_done.new.flash in
+    ready_spends u.kind (sector_at (sectors_of a area) c.args.place) c.requires.ready a e 1 c.in_ok-put_done.ensures.guards

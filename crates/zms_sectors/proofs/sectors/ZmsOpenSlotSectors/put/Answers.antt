@@ -1,11 +1,11 @@
-use Rattle.std.proofs.Common.{◌≡◌, ◌+◌, ◌^◌, ◌≤◌, length, inl, arith}
+use Rattle.std.proofs.Common.{◌≡◌, ◌+◌, ◌/◌, ◌^◌, ◌≤◌, length, inl, arith}
 use Rattle.flash_sim.specs.Device.{Device}
 use Rattle.flash_map.specs.declared.area.Area.{Area}
 use Rattle.flash_map.specs.declared.area.Geometry.{Geometry}
 use Rattle.flash_map.specs.Area.{geometry_of, sectors_of, sector_at, sector_size}
 use Rattle.flash_map.proofs.PieceLemmas.{on_err}
 use Rattle.ring_store.proofs.Areas.{large_there, size_there}
-use Rattle.zms_kind.proofs.StepLemmas.{ready_may, keeps, adds, fits_cost, put_sound}
+use Rattle.zms_kind.proofs.StepLemmas.{ready_may, ready_spends, keeps, adds, fits_cost, put_sound}
 use Rattle.flash_map.specs.declared.area.Role.TheVariants.{Zms as zms_role}
 use Rattle.zms_cycle.specs.Changes.{left_over}
 use Rattle.zms_cycle.specs.Sector.{data_len, cost, free}
@@ -108,3 +108,11 @@ returns-clause-kept g c =
     let room : cost (length c.args.bytes.now) ≤ free u.kind (sector_at (sectors_of a area) c.args.place) = fits_cost u (sector_at (sectors_of a area) c.args.place) (sector_at (sectors_of a area) c.args.place) wide (length c.args.bytes.now) c.requires.fits in
     let price : c.cost.result ≡ cost (length c.args.bytes.now) = c.cost.ensures.value in
     kept_added u (sector_at (sectors_of a area) c.args.place) c.args.self.now c.requires.kept (sector_at (sectors_of e area) c.args.place) wide small c.args.id c.args.bytes.now c.cost.result price (omega arith) c.in_ok-put_entry.ensures.ok
+
+pub returns-clause-spends : goal.returns-clause-spends
+returns-clause-spends g c =
+    let a : Device = g.F.Flash.device c.args.flash.now in
+    let area : Area = c.args.area.now in
+    let u : Geometry = geometry_of a area in
+    let e : Device = g.F.Flash.device c.put_entry.new.flash in
+    ready_spends u.kind (sector_at (sectors_of a area) c.args.place) c.requires.ready a e (cost (length c.args.bytes.now) / 16) c.in_ok-put_entry.ensures.guards

@@ -11,13 +11,14 @@ ghost use Rattle.flash_map.specs.declared.pieces.TheConstants.{PIECE};
 ghost use Rattle.zms_cycle.specs.Areas.{IsZmsSector, HasSlot, CanPutAt};
 ghost use Rattle.zms_cycle.specs.Changes.{with_value, HasPart, MarksDone};
 ghost use Rattle.zms_cycle.specs.OnArea.{IsUsedOn, IsSoundOn, FitsOn, free_on, Makes, Keeps, KeepsBut, Adds, entry_units, next_guard};
+ghost use Rattle.zms_cycle.specs.States.{IsOpenedOn};
 ghost use Rattle.zms_cycle.specs.Entries.{value_entry, done_entry};
 ghost use Rattle.zms_cycle.specs.declared.reading.TheConstants.{SLOT};
 ghost use Rattle.zms_cycle.specs.Sector.{cycle_of, valid_slots, data_len, cost, free, is_sound, fits};
 
 use crate::ZEntry;
 use crate::guarding::put_slot;
-use crate::reading::{FIRST, SPECIAL_ID, TAIL, opened_sector};
+use crate::reading::{FIRST, Opened, SPECIAL_ID, TAIL, opened_sector};
 use flash_map::{Area, program_padded};
 use flash_sim::{Flash, PowerLost, Steps};
 use std::sync::ledger::Ledger;
@@ -119,6 +120,43 @@ fn put_value<F: Flash>(
 }
 
 /// Puts a value, in calls of at most `PIECE` bytes, and then its entry, under which the guard is set first on a bank that is
+/// never erased. No bytes are a delete. What it has to know of the sector is handed to it, so its list is not read.
+///
+/// # Errors
+/// `PowerLost`: the sector's list and marks are as before. On a bank that is erased, the units of the value that were put are
+/// gone of what was free.
+pub fn put_entry_at<F: Flash, L: Ledger>(
+    flash: &mut F,
+    area: &Area,
+    sector: u32,
+    opened: &Opened,
+    id: u32,
+    bytes: &[u8],
+    steps: &mut Steps<L>,
+) -> Result<(), PowerLost>
+    requires zms { IsZmsSector (F.device flash.old) area.now sector }
+    requires opened { IsOpenedOn (F.device flash.old) area.now sector opened.now }
+    requires sound { IsSoundOn (F.device flash.old) area.now sector }
+    requires ordinary { id < 0xFFFFFFFF }
+    requires room { FitsOn (F.device flash.old) area.now sector (length bytes.now) }
+
+    ensures touches { Touches (area.now ∷ []) (F.device flash.old) (F.device flash.new) (is_err result) }
+    ensures others { OthersStay (F.device flash.old) (F.device flash.new) area.now sector }
+    ensures ok { OnOk result (Adds (F.device flash.old) (F.device flash.new) area.now sector id bytes.now) }
+    ensures lost { OnErr result (KeepsBut (length bytes.now) (F.device flash.old) (F.device flash.new) area.now sector) }
+    ensures spends { let units = entry_units (length bytes.now) in
+        OnOk result (SpendsBetween (F.device flash.old) (F.device flash.new) units (units + 1)) }
+    ensures guards { let units = entry_units (length bytes.now) + next_guard (F.device flash.old) area.now sector in
+        OnOk result (SpendsBetween (F.device flash.old) (F.device flash.new) units units) }
+    ensures in_pieces { OnErr result (LosesWithin PIECE (F.device flash.old) (F.device flash.new)) }
+    ensures spends_lost { OnErr result (SpendsBetween (F.device flash.old) (F.device flash.new) 0 (entry_units (length bytes.now))) }
+{
+    let entry = value_entry(opened.cycle, id, bytes, opened.data_end);
+    put_value(flash, area, sector, opened.data_end, bytes)?;
+    put_slot(flash, area, sector, opened.slots + FIRST, &entry, steps)
+}
+
+/// Puts a value, in calls of at most `PIECE` bytes, and then its entry, under which the guard is set first on a bank that is
 /// never erased. No bytes are a delete.
 ///
 /// # Errors
@@ -150,9 +188,7 @@ pub fn put_entry<F: Flash, L: Ledger>(
     ensures spends_lost { OnErr result (SpendsBetween (F.device flash.old) (F.device flash.new) 0 (entry_units (length bytes.now))) }
 {
     let opened = opened_sector(flash, area, sector, steps);
-    let entry = value_entry(opened.cycle, id, bytes, opened.data_end);
-    put_value(flash, area, sector, opened.data_end, bytes)?;
-    put_slot(flash, area, sector, opened.slots + FIRST, &entry, steps)
+    put_entry_at(flash, area, sector, &opened, id, bytes, steps)
 }
 
 // The entry of gc-done.
@@ -166,6 +202,37 @@ fn done_entry(cycle: u8, data_end: u32) -> ZEntry
         id: SPECIAL_ID,
         tail: [end_0, end_1, end_2, end_3, 2, 0, 0, 0],
     }
+}
+
+/// Marks a sector into which a collection has copied all that it keeps: gc-done in the guard slot, under which the guard
+/// is set first on a bank that is never erased. What it has to know of the sector is handed to it, so its list is not read.
+///
+/// # Errors
+/// `PowerLost`: the sector's list and marks are as before.
+pub fn put_done_at<F: Flash, L: Ledger>(
+    flash: &mut F,
+    area: &Area,
+    sector: u32,
+    opened: &Opened,
+    steps: &mut Steps<L>,
+) -> Result<(), PowerLost>
+    requires zms { IsZmsSector (F.device flash.old) area.now sector }
+    requires opened { IsOpenedOn (F.device flash.old) area.now sector opened.now }
+    requires sound { IsSoundOn (F.device flash.old) area.now sector }
+    requires room { 32 ≤ free_on (F.device flash.old) area.now sector }
+
+    ensures touches { Touches (area.now ∷ []) (F.device flash.old) (F.device flash.new) (is_err result) }
+    ensures others { OthersStay (F.device flash.old) (F.device flash.new) area.now sector }
+    ensures ok { OnOk result (Makes MarksDone (F.device flash.old) (F.device flash.new) area.now sector) }
+    ensures lost { OnErr result (Keeps 0 (F.device flash.old) (F.device flash.new) area.now sector) }
+    ensures spends { OnOk result (SpendsBetween (F.device flash.old) (F.device flash.new) 1 2) }
+    ensures guards { let units = 1 + next_guard (F.device flash.old) area.now sector in
+        OnOk result (SpendsBetween (F.device flash.old) (F.device flash.new) units units) }
+    ensures in_pieces { OnErr result (LosesWithin SLOT (F.device flash.old) (F.device flash.new)) }
+    ensures spends_lost { OnErr result (SpendsBetween (F.device flash.old) (F.device flash.new) 0 1) }
+{
+    let entry = done_entry(opened.cycle, opened.data_end);
+    put_slot(flash, area, sector, opened.slots + FIRST, &entry, steps)
 }
 
 /// Marks a sector into which a collection has copied all that it keeps: gc-done in the guard slot, under which the guard
@@ -195,6 +262,5 @@ pub fn put_done<F: Flash, L: Ledger>(
     ensures spends_lost { OnErr result (SpendsBetween (F.device flash.old) (F.device flash.new) 0 1) }
 {
     let opened = opened_sector(flash, area, sector, steps);
-    let entry = done_entry(opened.cycle, opened.data_end);
-    put_slot(flash, area, sector, opened.slots + FIRST, &entry, steps)
+    put_done_at(flash, area, sector, &opened, steps)
 }

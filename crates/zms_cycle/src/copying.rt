@@ -11,12 +11,13 @@ ghost use Rattle.flash_map.specs.Units.{padded, padded_bytes};
 ghost use Rattle.zms_cycle.specs.Areas.{IsZmsSector, HasSlot, CanPutAt};
 ghost use Rattle.zms_cycle.specs.Changes.{with_value, HasPart};
 ghost use Rattle.zms_cycle.specs.OnArea.{IsUsedOn, IsSoundOn, IsListedOn, entry_len_on, free_on, KeepsBut, Copies, entry_units, next_guard};
+ghost use Rattle.zms_cycle.specs.States.{IsOpenedOn};
 ghost use Rattle.zms_cycle.specs.Entries.{moved_entry};
 ghost use Rattle.zms_cycle.specs.Sector.{slot_of, cycle_of, valid_slots, entry_in, entry_len, pair_at, value_of, data_len, cost, free, is_sound};
 
 use crate::appending::{long_tail, short_tail};
 use crate::guarding::{put_slot, slot_start};
-use crate::reading::{FIRST, SLOT, TAIL, offset_of, opened_sector};
+use crate::reading::{FIRST, Opened, SLOT, TAIL, offset_of, opened_sector};
 use crate::{ZEntry, decode_zentry};
 use flash_map::{Area, Source, area_view, copy_padded};
 use flash_sim::{Flash, PowerLost, Steps};
@@ -125,6 +126,62 @@ fn copy_value<F: Flash, L: Ledger>(
 }
 
 /// Copies an entry of another sector's list, its value in calls of at most `COPY_PIECE` bytes and then the entry, under
+/// which the guard is set first on a bank that is never erased. What it has to know of the sector that it copies to is handed
+/// to it, so the list of that is not read.
+///
+/// # Errors
+/// `PowerLost`: the list and marks of the sector that is copied to are as before. On a bank that is erased, the units of the value
+/// that were put are gone of what was free.
+pub fn copy_entry_at<F: Flash, L: Ledger>(
+    flash: &mut F,
+    area: &Area,
+    sector: u32,
+    opened: &Opened,
+    from_sector: u32,
+    from_slot: u32,
+    steps: &mut Steps<L>,
+) -> Result<(), PowerLost>
+    requires zms { IsZmsSector (F.device flash.old) area.now sector }
+    requires opened { IsOpenedOn (F.device flash.old) area.now sector opened.now }
+    requires sound { IsSoundOn (F.device flash.old) area.now sector }
+    requires from_zms { IsZmsSector (F.device flash.old) area.now from_sector }
+    requires from_sound { IsSoundOn (F.device flash.old) area.now from_sector }
+    requires other { from_sector ≢ sector }
+    requires from { 2 ≤ from_slot }
+    requires listed { IsListedOn (F.device flash.old) area.now from_sector from_slot }
+    requires some { 0 < entry_len_on (F.device flash.old) area.now from_sector from_slot }
+    requires room { let d = F.device flash.old in
+        cost (entry_len_on d area.now from_sector from_slot) + 48 ≤ free_on d area.now sector }
+
+    ensures touches { Touches (area.now ∷ []) (F.device flash.old) (F.device flash.new) (is_err result) }
+    ensures others { OthersStay (F.device flash.old) (F.device flash.new) area.now sector }
+    ensures ok { OnOk result (Copies (F.device flash.old) (F.device flash.new) area.now sector from_sector from_slot) }
+    ensures lost { let d = F.device flash.old in
+        OnErr result (KeepsBut (entry_len_on d area.now from_sector from_slot) d (F.device flash.new) area.now sector) }
+    ensures spends { let units = entry_units (entry_len_on (F.device flash.old) area.now from_sector from_slot) in
+        OnOk result (SpendsBetween (F.device flash.old) (F.device flash.new) units (units + 1)) }
+    ensures guards { let d = F.device flash.old in
+        let units = entry_units (entry_len_on d area.now from_sector from_slot) + next_guard d area.now sector in
+        OnOk result (SpendsBetween (F.device flash.old) (F.device flash.new) units units) }
+    ensures in_pieces { OnErr result (LosesWithin COPY_PIECE (F.device flash.old) (F.device flash.new)) }
+    ensures spends_lost { let units = entry_units (entry_len_on (F.device flash.old) area.now from_sector from_slot) in
+        OnErr result (SpendsBetween (F.device flash.old) (F.device flash.new) 0 units) }
+{
+    let from = ordinary_entry(flash, area, from_sector, from_slot, steps);
+    let entry = moved_entry(opened.cycle, &from, opened.data_end);
+    copy_value(
+        flash,
+        area,
+        sector,
+        opened.data_end,
+        from_sector,
+        &from,
+        steps,
+    )?;
+    put_slot(flash, area, sector, opened.slots + FIRST, &entry, steps)
+}
+
+/// Copies an entry of another sector's list, its value in calls of at most `COPY_PIECE` bytes and then the entry, under
 /// which the guard is set first on a bank that is never erased.
 ///
 /// # Errors
@@ -165,16 +222,5 @@ pub fn copy_entry<F: Flash, L: Ledger>(
         OnErr result (SpendsBetween (F.device flash.old) (F.device flash.new) 0 units) }
 {
     let opened = opened_sector(flash, area, sector, steps);
-    let from = ordinary_entry(flash, area, from_sector, from_slot, steps);
-    let entry = moved_entry(opened.cycle, &from, opened.data_end);
-    copy_value(
-        flash,
-        area,
-        sector,
-        opened.data_end,
-        from_sector,
-        &from,
-        steps,
-    )?;
-    put_slot(flash, area, sector, opened.slots + FIRST, &entry, steps)
+    copy_entry_at(flash, area, sector, &opened, from_sector, from_slot, steps)
 }

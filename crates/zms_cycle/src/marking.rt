@@ -8,6 +8,7 @@ ghost use Rattle.zms_cycle.specs.Areas.{IsZmsSector, HasSlot, kind_on};
 ghost use Rattle.zms_cycle.specs.Changes.{with_slot, IsFilled, KeepsList, StopsGuarding, StopsEmptying, Closes, Empties, next_cycle};
 ghost use Rattle.zms_cycle.specs.Entries.{fill, empty_entry, close_entry};
 ghost use Rattle.zms_cycle.specs.OnArea.{IsUsedOn, IsSoundOn, IsClosableOn, free_on, Makes, Keeps, next_guard, emptying_units, first_guard_units, closing_units};
+ghost use Rattle.zms_cycle.specs.States.{IsOpenedOn};
 ghost use Rattle.zms_cycle.specs.Sector.{cycle_of, valid_slots, low, data_end, free, is_sound};
 
 use crate::guarding::{put_unit, slot_start};
@@ -204,9 +205,7 @@ fn fill_free<F: Flash, L: Ledger>(
 ) -> Result<(), PowerLost>
     requires zms { IsZmsSector (F.device flash.old) area.now sector }
     requires sound { IsSoundOn (F.device flash.old) area.now sector }
-    requires slots { opened.now.slots ≡ length (valid_slots (sector_bytes (F.device flash.old) area.now sector)) }
-    requires data_end { let d = F.device flash.old in
-        opened.now.data_end ≡ min (data_end (kind_on d area.now) (sector_bytes d area.now sector)) (2 ^ 32 - 1) }
+    requires opened { IsOpenedOn (F.device flash.old) area.now sector opened.now }
 
     ensures touches { Touches (area.now ∷ []) (F.device flash.old) (F.device flash.new) (is_err result) }
     ensures others { OthersStay (F.device flash.old) (F.device flash.new) area.now sector }

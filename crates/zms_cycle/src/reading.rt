@@ -7,7 +7,7 @@ ghost use Rattle.ring_laws.specs.Slots.{used_slots};
 ghost use Rattle.zms_cycle.specs.Areas.{IsZmsSector, kind_on};
 ghost use Rattle.zms_cycle.specs.Entries.{decoded, offset_of, is_special, mark_of, is_empty, is_close, is_done};
 ghost use Rattle.zms_cycle.specs.Sector.{slot_of, is_valid_under, is_valid, cycle_of, valid_slots, holds_close, is_closed, entry_in, value_end, data_len, cost, capacity, written, data_end, is_fresh, can_close};
-ghost use Rattle.zms_cycle.specs.States.{state_of};
+ghost use Rattle.zms_cycle.specs.States.{state_of, IsOpenedOn};
 
 use crate::{ZEntry, decode_zentry, zentry_fields};
 use flash_map::{Area, area_view, geometry, is_erased, padded, trimmed_len};
@@ -398,15 +398,16 @@ pub(crate) fn sector_cycle<F: Flash, L: Ledger>(
     cycle_of(area_view(flash, area, sector, 0, size, steps))
 }
 
-/// A used sector: its cycle, the number of its valid slots, and where the next value goes, in bytes.
+/// What a step has to know of a used sector: its cycle, the number of its valid slots from slot 2 on, and where the next value
+/// goes, in bytes. The last number of 32 bits stands for all above it.
 #[derive(Clone, Copy, Debug, PartialEq, Eq)]
-pub(crate) struct Opened {
+pub struct Opened {
     pub cycle: u8,
     pub slots: u32,
     pub data_end: u32,
 }
 
-// What a step has to know of a used sector.
+// That of a sector, read from it.
 pub(crate) fn opened_sector<F: Flash, L: Ledger>(
     flash: &F,
     area: &Area,
@@ -415,10 +416,7 @@ pub(crate) fn opened_sector<F: Flash, L: Ledger>(
 ) -> Opened
     requires zms { IsZmsSector (F.device flash.now) area.now sector }
     requires used { IsSome (cycle_of (sector_bytes (F.device flash.now) area.now sector)) }
-    ensures cycle { cycle_of (sector_bytes (F.device flash.now) area.now sector) ≡ Some result.cycle }
-    ensures slots { result.slots ≡ length (valid_slots (sector_bytes (F.device flash.now) area.now sector)) }
-    ensures data_end { let d = F.device flash.now in
-        result.data_end ≡ min (data_end (kind_on d area.now) (sector_bytes d area.now sector)) (2 ^ 32 - 1) }
+    ensures { IsOpenedOn (F.device flash.now) area.now sector result }
 {
     match state(flash, area, sector, steps) {
         SectorState::Used {

@@ -36,11 +36,11 @@ module _ (kind : Kind) (b : List ℕ) where
   not_used : {c n e : ℕ} {s d : Bool} → Blank ≡ Used c s n e d → ⊥
   not_used h = cc
 
-  blank_is : (o : Option ℕ) → cycle_of b ≡ o → Blank ≡ state_of kind b → cycle_of b ≡ None
+  pub blank_is : (o : Option ℕ) → cycle_of b ≡ o → Blank ≡ state_of kind b → cycle_of b ≡ None
   blank_is None at is = at
   blank_is (Some cycle) at is = absurd (not_used (is ∙ state_some (Some cycle) at))
 
-record IsUsed (kind : Kind) (b : List ℕ) (cycle slots end : ℕ) (closed done : Bool) : Type 0 where
+pub record IsUsed (kind : Kind) (b : List ℕ) (cycle slots end : ℕ) (closed done : Bool) : Type 0 where
   pub of_cycle : cycle_of b ≡ Some cycle
   pub ends : end ≡ min (data_end kind b) (2 ^ 32 - 1)
   pub shut : closed ≡ is_closed b
@@ -50,7 +50,7 @@ record IsUsed (kind : Kind) (b : List ℕ) (cycle slots end : ℕ) (closed done 
 same_used : {a c n e m f : ℕ} {s d t g : Bool} → Used a s n e d ≡ Used c t m f g → (s ≡ t) × (n ≡ m) × (d ≡ g) × (a ≡ c) × (e ≡ f)
 same_used h = (cc, cc, cc, cc, cc)
 
-used_is : (kind : Kind) (b : List ℕ) (cycle slots end : ℕ) (closed done : Bool) (o : Option ℕ) → cycle_of b ≡ o → Used cycle closed slots end done ≡ state_of kind b → IsUsed kind b cycle slots end closed done
+pub used_is : (kind : Kind) (b : List ℕ) (cycle slots end : ℕ) (closed done : Bool) (o : Option ℕ) → cycle_of b ≡ o → Used cycle closed slots end done ≡ state_of kind b → IsUsed kind b cycle slots end closed done
 used_is kind b cycle slots end closed done None at is = absurd (not_used kind b (sym (is ∙ state_some kind b None at)))
 used_is kind b cycle slots end closed done (Some c) at is =
     let same = same_used (is ∙ state_some kind b (Some c) at) in

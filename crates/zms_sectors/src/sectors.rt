@@ -1,5 +1,5 @@
 // What is kept of the open sector, and the calls on sectors.
-ghost use Rattle.std.specs.Prelude.{◌≡◌, ◌+◌, ◌*◌, ◌^◌, ◌<◌, ◌≤◌, ℕ, IfSome, List, length, Some, is_some, not, ◌-◌, min};
+ghost use Rattle.std.specs.Prelude.{◌≡◌, ◌+◌, ◌*◌, ◌^◌, ◌<◌, ◌≤◌, ℕ, IfSome, IsSome, List, length, Some, ◌-◌, min};
 ghost use Rattle.std.specs.Option.{option_map};
 ghost use Rattle.flash_map.specs.declared.area.Role.TheVariants.{Zms as zms_role};
 ghost use Rattle.zms_cycle.specs.Entries.{entry_of as fields_of, offset_of};
@@ -13,21 +13,41 @@ use flash_sim::{Flash, Kind, PowerLost, Steps};
 use ring_store::{Placed, SlotSectors};
 use std::sync::ledger::Ledger;
 use zms_cycle::{
-    FIRST, Found, SLOT, TAIL, TAIL_AT, capacity, close, copy_entry, cost, empty_sector, has_close,
-    listed_entry, listed_slots, offset_of, put_done, put_entry, reach_in, reach_within,
+    FIRST, Found, Opened, SLOT, SectorState, TAIL, TAIL_AT, capacity, close, copy_entry_at, cost,
+    empty_sector, has_close, listed_entry, listed_slots, offset_of, put_done_at, put_entry_at,
+    reach_in, reach_within, state,
 };
-use zms_kind::{find_in, is_clean, marks_at, scan};
+use zms_kind::{find_in, is_clean, scan};
 
-/// What is kept of an open sector: what is free in it is known with no look at its list.
+/// What is kept of an open sector: what is free in it, and where its next entry goes, is known with no look at its list.
 #[derive(Clone, Copy, Debug, PartialEq, Eq)]
 pub struct ZmsOpen {
     gc_done: bool,
-    // it has no cycle yet
-    blank: bool,
+    // none where it is blank
+    cycle: Option<u8>,
     // how many slots its list has
     slots: u32,
     // where the next value goes, in bytes; the last number of 32 bits stands for all above it
     data_end: u32,
+}
+
+impl ZmsOpen {
+    // What a step has to know of a sector that is not blank.
+    fn opened(&self) -> Opened
+        requires { IsSome self.now.cycle }
+        ensures cycle { self.now.cycle ≡ Some result.cycle }
+        ensures slots { result.slots ≡ self.now.slots }
+        ensures data_end { result.data_end ≡ self.now.data_end }
+    {
+        match self.cycle {
+            Some(cycle) => Opened {
+                cycle,
+                slots: self.slots,
+                data_end: self.data_end,
+            },
+            None => unreachable!(),
+        }
+    }
 }
 
 // The entry in this sector, without what is its store's own.
@@ -83,7 +103,7 @@ impl SlotSectors for ZmsOpen {
 
     ghost kind = { kind };
 
-    ghost kept = { λ geometry b. record { gc_done = has_gc_done b; blank = not (is_some (cycle_of b)); slots = length (valid_slots b); data_end = min (data_end geometry.kind b) (2 ^ 32 - 1) } };
+    ghost kept = { λ geometry b. record { gc_done = has_gc_done b; cycle = cycle_of b; slots = length (valid_slots b); data_end = min (data_end geometry.kind b) (2 ^ 32 - 1) } };
 
     fn first_slot() -> u32 {
         2
@@ -137,12 +157,25 @@ impl SlotSectors for ZmsOpen {
         place: u32,
         steps: &mut Steps<L>,
     ) -> ZmsOpen {
-        let marks = marks_at(flash, area, place, steps);
-        ZmsOpen {
-            gc_done: marks.gc_done,
-            blank: marks.blank,
-            slots: marks.slots,
-            data_end: marks.data_end,
+        match state(flash, area, place, steps) {
+            SectorState::Blank => ZmsOpen {
+                gc_done: false,
+                cycle: None,
+                slots: 0,
+                data_end: 0,
+            },
+            SectorState::Used {
+                cycle,
+                slots,
+                data_end,
+                gc_done,
+                ..
+            } => ZmsOpen {
+                gc_done,
+                cycle: Some(cycle),
+                slots,
+                data_end,
+            },
         }
     }
 
@@ -260,13 +293,14 @@ impl SlotSectors for ZmsOpen {
         place: u32,
         steps: &mut Steps<L>,
     ) -> Result<(), PowerLost> {
-        if !self.blank {
+        if self.cycle.is_some() {
             return Ok(());
         }
         empty_sector(flash, area, place, steps)?;
         *self = ZmsOpen {
             gc_done: false,
-            blank: false,
+            // the first one
+            cycle: Some(1),
             slots: 0,
             data_end: 0,
         };
@@ -282,7 +316,8 @@ impl SlotSectors for ZmsOpen {
         bytes: &[u8],
         steps: &mut Steps<L>,
     ) -> Result<(), PowerLost> {
-        put_entry(flash, area, place, id, bytes, steps)?;
+        let opened = self.opened();
+        put_entry_at(flash, area, place, &opened, id, bytes, steps)?;
         self.slots += 1;
         self.data_end += cost(bytes.len() as u16) - SLOT;
         Ok(())
@@ -296,7 +331,8 @@ impl SlotSectors for ZmsOpen {
         from: &Placed,
         steps: &mut Steps<L>,
     ) -> Result<(), PowerLost> {
-        copy_entry(flash, area, place, from.sector, from.slot, steps)?;
+        let opened = self.opened();
+        copy_entry_at(flash, area, place, &opened, from.sector, from.slot, steps)?;
         self.slots += 1;
         self.data_end += cost(from.len as u16) - SLOT;
         Ok(())
@@ -309,7 +345,8 @@ impl SlotSectors for ZmsOpen {
         place: u32,
         steps: &mut Steps<L>,
     ) -> Result<(), PowerLost> {
-        put_done(flash, area, place, steps)?;
+        let opened = self.opened();
+        put_done_at(flash, area, place, &opened, steps)?;
         self.gc_done = true;
         self.slots += 1;
         Ok(())

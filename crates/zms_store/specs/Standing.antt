@@ -1,6 +1,6 @@
 -- When a store of ZMS stands on the bytes of its area: the definitions of the one store over any sectors, at
 -- those of ZMS.
-use Rattle.std.specs.Prelude.{ℕ, ◌-◌, ◌^◌, is_some, length, min, not, List}
+use Rattle.std.specs.Prelude.{ℕ, ◌-◌, ◌^◌, length, min, List}
 use Rattle.flash_sim.specs.Device.{Device}
 use Rattle.flash_sim.specs.declared.flash.Bank.{Bank}
 use Rattle.flash_map.specs.declared.area.Area.{Area}
@@ -27,7 +27,7 @@ kind_on d area = kind (geometry_of d area)
 
 -- what is kept of the open sector, by its bytes
 abbrev pub kept : Geometry → List ℕ → ZmsOpen
-kept geometry b = record { gc_done = has_gc_done b; blank = not (is_some (cycle_of b)); slots = length (valid_slots b); data_end = min (data_end geometry.kind b) (2 ^ 32 - 1) }
+kept geometry b = record { gc_done = has_gc_done b; cycle = cycle_of b; slots = length (valid_slots b); data_end = min (data_end geometry.kind b) (2 ^ 32 - 1) }
 
 -- an area on which a store may stand, on a bank of either kind
 abbrev pub IsZmsArea : List Bank → Area → Type 0

@@ -15,7 +15,7 @@ pub overflow_add-bottom : goal.overflow_add-bottom
 overflow_add-bottom g c =
     let size = size_is (g.F.Flash.device c.args.flash.now) c.args.area.now c.args.sector c.requires.zms (g.met.F.Flash.is_lawful c.args.flash.now) in
     let most = c.requires.zms.lawful.at_most in
-    let fits = (lowest_of (sector_bytes (g.F.Flash.device c.args.flash.now) c.args.area.now c.args.sector) (length (sector_bytes (g.F.Flash.device c.args.flash.now) c.args.area.now c.args.sector)) c.args.opened.now.slots c.requires.sound refl c.requires.slots).slots in
+    let fits = (lowest_of (sector_bytes (g.F.Flash.device c.args.flash.now) c.args.area.now c.args.sector) (length (sector_bytes (g.F.Flash.device c.args.flash.now) c.args.area.now c.args.sector)) c.args.opened.now.slots c.requires.sound refl c.requires.opened.slots).slots in
     omega arith
 
 pub fill_slots-requires-clause-guarded : goal.fill_slots-requires-clause-guarded
@@ -24,7 +24,7 @@ fill_slots-requires-clause-guarded g c =
     let shape = ap (λ (shape : Geometry). shape.sector) c.geometry-geometry.ensures in
     let most = c.requires.zms.lawful.at_most in
     let kind = sym (ap (λ (shape : Geometry). shape.kind) c.geometry-geometry.ensures) ∙ c.in-Rewritable.is in
-    let nums = numbers (kind_on (g.F.Flash.device c.args.flash.now) c.args.area.now) (sector_bytes (g.F.Flash.device c.args.flash.now) c.args.area.now c.args.sector) c.geometry-geometry.result.sector c.args.opened.now.slots c.args.opened.now.data_end c.saturating_sub-top.result kind c.requires.sound (size ∙ sym shape) (omega (arith, shape, most)) c.requires.slots c.requires.data_end c.saturating_sub-top.ensures in
+    let nums = numbers (kind_on (g.F.Flash.device c.args.flash.now) c.args.area.now) (sector_bytes (g.F.Flash.device c.args.flash.now) c.args.area.now c.args.sector) c.geometry-geometry.result.sector c.args.opened.now.slots c.args.opened.now.data_end c.saturating_sub-top.result kind c.requires.sound (size ∙ sym shape) (omega (arith, shape, most)) c.requires.opened.slots c.requires.opened.data_end c.saturating_sub-top.ensures in
     nums.guard
 
 pub fill_slots-requires-clause-top : goal.fill_slots-requires-clause-top
@@ -33,7 +33,7 @@ fill_slots-requires-clause-top g c =
     let shape = ap (λ (shape : Geometry). shape.sector) c.geometry-geometry.ensures in
     let most = c.requires.zms.lawful.at_most in
     let kind = sym (ap (λ (shape : Geometry). shape.kind) c.geometry-geometry.ensures) ∙ c.in-Rewritable.is in
-    let nums = numbers (kind_on (g.F.Flash.device c.args.flash.now) c.args.area.now) (sector_bytes (g.F.Flash.device c.args.flash.now) c.args.area.now c.args.sector) c.geometry-geometry.result.sector c.args.opened.now.slots c.args.opened.now.data_end c.saturating_sub-top.result kind c.requires.sound (size ∙ sym shape) (omega (arith, shape, most)) c.requires.slots c.requires.data_end c.saturating_sub-top.ensures in
+    let nums = numbers (kind_on (g.F.Flash.device c.args.flash.now) c.args.area.now) (sector_bytes (g.F.Flash.device c.args.flash.now) c.args.area.now c.args.sector) c.geometry-geometry.result.sector c.args.opened.now.slots c.args.opened.now.data_end c.saturating_sub-top.result kind c.requires.sound (size ∙ sym shape) (omega (arith, shape, most)) c.requires.opened.slots c.requires.opened.data_end c.saturating_sub-top.ensures in
     λ some. let fits = nums.top_fits some in omega (arith, fits, shape)
 
 pub returns-in-Rewritable-clause-filled : goal.returns-in-Rewritable-clause-filled
@@ -42,9 +42,9 @@ returns-in-Rewritable-clause-filled g c = λ rewritable.
     let shape = ap (λ (shape : Geometry). shape.sector) c.geometry-geometry.ensures in
     let most = c.requires.zms.lawful.at_most in
     let kind = sym (ap (λ (shape : Geometry). shape.kind) c.geometry-geometry.ensures) ∙ c.in-Rewritable.is in
-    let nums = numbers (kind_on (g.F.Flash.device c.args.flash.now) c.args.area.now) (sector_bytes (g.F.Flash.device c.args.flash.now) c.args.area.now c.args.sector) c.geometry-geometry.result.sector c.args.opened.now.slots c.args.opened.now.data_end c.saturating_sub-top.result kind c.requires.sound (size ∙ sym shape) (omega (arith, shape, most)) c.requires.slots c.requires.data_end c.saturating_sub-top.ensures in
+    let nums = numbers (kind_on (g.F.Flash.device c.args.flash.now) c.args.area.now) (sector_bytes (g.F.Flash.device c.args.flash.now) c.args.area.now c.args.sector) c.geometry-geometry.result.sector c.args.opened.now.slots c.args.opened.now.data_end c.saturating_sub-top.result kind c.requires.sound (size ∙ sym shape) (omega (arith, shape, most)) c.requires.opened.slots c.requires.opened.data_end c.saturating_sub-top.ensures in
     on_ok_weaker c.fill_slots.result
-    (λ filled. filled_as (sector_bytes (g.F.Flash.device c.fill_slots.new.flash) c.args.area.now c.args.sector) (c.args.opened.now.slots + 2) (c.saturating_sub-top.result / 16) (length (valid_slots (sector_bytes (g.F.Flash.device c.args.flash.now) c.args.area.now c.args.sector)) + 2) ((length (sector_bytes (g.F.Flash.device c.args.flash.now) c.args.area.now c.args.sector) - data_end Rewritable (sector_bytes (g.F.Flash.device c.args.flash.now) c.args.area.now c.args.sector)) / 16) filled (let count = c.requires.slots in omega arith) nums.all)
+    (λ filled. filled_as (sector_bytes (g.F.Flash.device c.fill_slots.new.flash) c.args.area.now c.args.sector) (c.args.opened.now.slots + 2) (c.saturating_sub-top.result / 16) (length (valid_slots (sector_bytes (g.F.Flash.device c.args.flash.now) c.args.area.now c.args.sector)) + 2) ((length (sector_bytes (g.F.Flash.device c.args.flash.now) c.args.area.now c.args.sector) - data_end Rewritable (sector_bytes (g.F.Flash.device c.args.flash.now) c.args.area.now c.args.sector)) / 16) filled (let count = c.requires.opened.slots in omega arith) nums.all)
     c.fill_slots.ensures.filled
 
 pub returns-in-Rewritable-clause-spends : goal.returns-in-Rewritable-clause-spends
@@ -53,5 +53,5 @@ returns-in-Rewritable-clause-spends g c =
     let shape = ap (λ (shape : Geometry). shape.sector) c.geometry-geometry.ensures in
     let most = c.requires.zms.lawful.at_most in
     let kind = sym (ap (λ (shape : Geometry). shape.kind) c.geometry-geometry.ensures) ∙ c.in-Rewritable.is in
-    let nums = numbers (kind_on (g.F.Flash.device c.args.flash.now) c.args.area.now) (sector_bytes (g.F.Flash.device c.args.flash.now) c.args.area.now c.args.sector) c.geometry-geometry.result.sector c.args.opened.now.slots c.args.opened.now.data_end c.saturating_sub-top.result kind c.requires.sound (size ∙ sym shape) (omega (arith, shape, most)) c.requires.slots c.requires.data_end c.saturating_sub-top.ensures in
+    let nums = numbers (kind_on (g.F.Flash.device c.args.flash.now) c.args.area.now) (sector_bytes (g.F.Flash.device c.args.flash.now) c.args.area.now c.args.sector) c.geometry-geometry.result.sector c.args.opened.now.slots c.args.opened.now.data_end c.saturating_sub-top.result kind c.requires.sound (size ∙ sym shape) (omega (arith, shape, most)) c.requires.opened.slots c.requires.opened.data_end c.saturating_sub-top.ensures in
     between_within c.fill_slots.ensures.spends 0 (closing_units (g.F.Flash.device c.args.flash.now) c.args.area.now c.args.sector - 1) (omega arith) (fill_few (kind_on (g.F.Flash.device c.args.flash.now) c.args.area.now) (sector_bytes (g.F.Flash.device c.args.flash.now) c.args.area.now c.args.sector) (c.saturating_sub-top.result / 16 - (c.args.opened.now.slots + 2)) kind nums.few)

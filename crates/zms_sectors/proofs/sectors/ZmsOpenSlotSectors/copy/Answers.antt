@@ -13,13 +13,13 @@ use Rattle.zms_cycle.specs.OnArea.{next_guard}
 use Rattle.zms_cycle.specs.Sector.{cost, free, entry_len, pair_at}
 use Rattle.zms_kind.proofs.Roomy.{roomy_of}
 use Rattle.zms_kind.specs.Kinds.{entry_units}
-use Rattle.zms_kind.proofs.StepLemmas.{is_there, ready_may, ready_spends, adds_copy, copied_len}
+use Rattle.zms_kind.proofs.StepLemmas.{is_there, ready_may, ready_cycle, ready_spends, adds_copy, copied_len}
 use Rattle.flash_map.specs.declared.area.Role.TheVariants.{Zms as zms_role}
-use Rattle.zms_sectors.proofs.OpenLemmas.{cost_above, kept_few, end_room, kept_added}
+use Rattle.zms_sectors.proofs.OpenLemmas.{kept_some, kept_opened, cost_above, kept_few, end_room, kept_added}
 use Rattle.zms_sectors.proofs.sectors.ZmsOpenSlotSectors.copy.Goals as goal
 
-pub copy_entry-requires-clause-from_sound : goal.copy_entry-requires-clause-from_sound
-copy_entry-requires-clause-from_sound g c =
+pub copy_entry_at-requires-clause-from_sound : goal.copy_entry_at-requires-clause-from_sound
+copy_entry_at-requires-clause-from_sound g c =
     let a : Device = g.F.Flash.device c.args.flash.now in
     let area : Area = c.args.area.now in
     let u : Geometry = geometry_of a area in
@@ -34,11 +34,11 @@ returns-clause-adds g c =
     let u : Geometry = geometry_of a area in
     let b : List ℕ = sector_at (sectors_of a area) c.args.place in
     let wide = large_there zms_role a area (g.met.F.Flash.is_lawful c.args.flash.now) c.requires.area c.args.place c.requires.inside in
-    let e : Device = g.F.Flash.device c.copy_entry.new.flash in
+    let e : Device = g.F.Flash.device c.copy_entry_at.new.flash in
     let there = large_there zms_role a area (g.met.F.Flash.is_lawful c.args.flash.now) c.requires.area c.args.from.now.sector c.requires.has_source in
     let sound = (roomy_of u.kind (sector_at (sectors_of a area) c.args.from.now.sector) (omega arith) c.requires.source).sound in
     let listed = c.requires.listed in
-    adds_copy u (sector_at (sectors_of a area) c.args.place) (sector_at (sectors_of e area) c.args.place) (sector_at (sectors_of a area) c.args.from.now.sector) c.args.from.now wide sound listed.0 listed.1 c.requires.there (ready_may u.kind (sector_at (sectors_of a area) c.args.place) c.requires.ready) c.requires.room c.in_ok-copy_entry.ensures.ok
+    adds_copy u (sector_at (sectors_of a area) c.args.place) (sector_at (sectors_of e area) c.args.place) (sector_at (sectors_of a area) c.args.from.now.sector) c.args.from.now wide sound listed.0 listed.1 c.requires.there (ready_may u.kind (sector_at (sectors_of a area) c.args.place) c.requires.ready) c.requires.room c.in_ok-copy_entry_at.ensures.ok
 
 pub overflow_cast-from : goal.overflow_cast-from
 overflow_cast-from g c =
@@ -84,17 +84,17 @@ returns-clause-kept g c =
     let size : length (sector_at (sectors_of a area) c.args.place) ≡ sector_size a area = size_there zms_role a area (g.met.F.Flash.is_lawful c.args.flash.now) c.requires.area c.args.place c.requires.inside in
     let wide = large_there zms_role a area (g.met.F.Flash.is_lawful c.args.flash.now) c.requires.area c.args.place c.requires.inside in
     let small : length (sector_at (sectors_of a area) c.args.place) ≤ 2 ^ 15 = omega (arith, c.requires.area.lawful.at_most) in
-    let e : Device = g.F.Flash.device c.copy_entry.new.flash in
+    let e : Device = g.F.Flash.device c.copy_entry_at.new.flash in
     let room : cost (c.args.from.now.len) ≤ free u.kind (sector_at (sectors_of a area) c.args.place) = omega (arith, c.requires.room) in
     let there = large_there zms_role a area (g.met.F.Flash.is_lawful c.args.flash.now) c.requires.area c.args.from.now.sector c.requires.has_source in
     let sound = (roomy_of u.kind (sector_at (sectors_of a area) c.args.from.now.sector) (omega arith) c.requires.source).sound in
     let listed = c.requires.listed in
     let long : length (pair_at (sector_at (sectors_of a area) c.args.from.now.sector) c.args.from.now.slot).1 ≡ c.args.from.now.len = copied_len (sector_at (sectors_of a area) c.args.from.now.sector) c.args.from.now sound listed.0 listed.1 c.requires.there in
     let price : c.cost.result ≡ cost (length (pair_at (sector_at (sectors_of a area) c.args.from.now.sector) c.args.from.now.slot).1) = c.cost.ensures.value ∙ ap cost (sym long) in
-    kept_added u (sector_at (sectors_of a area) c.args.place) c.args.self.now c.requires.kept (sector_at (sectors_of e area) c.args.place) wide small (pair_at (sector_at (sectors_of a area) c.args.from.now.sector) c.args.from.now.slot).0 (pair_at (sector_at (sectors_of a area) c.args.from.now.sector) c.args.from.now.slot).1 c.cost.result price (omega arith) c.in_ok-copy_entry.ensures.ok
+    kept_added u (sector_at (sectors_of a area) c.args.place) c.args.self.now c.requires.kept (sector_at (sectors_of e area) c.args.place) wide small (pair_at (sector_at (sectors_of a area) c.args.from.now.sector) c.args.from.now.slot).0 (pair_at (sector_at (sectors_of a area) c.args.from.now.sector) c.args.from.now.slot).1 c.cost.result price (omega arith) c.in_ok-copy_entry_at.ensures.ok
 
-pub returns-in_err-copy_entry-clause-spends_lost : goal.returns-in_err-copy_entry-clause-spends_lost
-returns-in_err-copy_entry-clause-spends_lost g c =
+pub returns-in_err-copy_entry_at-clause-spends_lost : goal.returns-in_err-copy_entry_at-clause-spends_lost
+returns-in_err-copy_entry_at-clause-spends_lost g c =
     let a : Device = g.F.Flash.device c.args.flash.now in
     let area : Area = c.args.area.now in
     let u : Geometry = geometry_of a area in
@@ -102,15 +102,29 @@ returns-in_err-copy_entry-clause-spends_lost g c =
     let len : entry_len (sector_at (sectors_of a area) c.args.from.now.sector) c.args.from.now.slot ≡ c.args.from.now.len = ap (λ (o : Option Found). option_map_or (λ f. f.entry.len) o 0) there.read ∙ sym there.len in
     let units : cost (entry_len (sector_at (sectors_of a area) c.args.from.now.sector) c.args.from.now.slot) / 16 ≡ cost c.args.from.now.len / 16 = ap (λ (n : ℕ). cost n / 16) len in
     on_err c.from_residual.result
-    (between_within c.in_err-copy_entry.ensures.spends_lost 0 (entry_units u.kind (sector_at (sectors_of a area) c.args.place) (cost c.args.from.now.len / 16)).lost (omega arith) (omega arith))
+    (between_within c.in_err-copy_entry_at.ensures.spends_lost 0 (entry_units u.kind (sector_at (sectors_of a area) c.args.place) (cost c.args.from.now.len / 16)).lost (omega arith) (omega arith))
 
 pub returns-clause-spends : goal.returns-clause-spends
 returns-clause-spends g c =
     let a : Device = g.F.Flash.device c.args.flash.now in
     let area : Area = c.args.area.now in
     let u : Geometry = geometry_of a area in
-    let e : Device = g.F.Flash.device c.copy_entry.new.flash in
+    let e : Device = g.F.Flash.device c.copy_entry_at.new.flash in
     let there = is_there (sector_at (sectors_of a area) c.args.from.now.sector) c.args.from.now c.requires.there in
     let len : entry_len (sector_at (sectors_of a area) c.args.from.now.sector) c.args.from.now.slot ≡ c.args.from.now.len = ap (λ (o : Option Found). option_map_or (λ f. f.entry.len) o 0) there.read ∙ sym there.len in
     ready_spends u.kind (sector_at (sectors_of a area) c.args.place) c.requires.ready a e (cost c.args.from.now.len / 16)
-    (subst (λ (n : ℕ). SpendsBetween a e (cost n / 16 + next_guard a area c.args.place) (cost n / 16 + next_guard a area c.args.place)) len c.in_ok-copy_entry.ensures.guards)
+    (subst (λ (n : ℕ). SpendsBetween a e (cost n / 16 + next_guard a area c.args.place) (cost n / 16 + next_guard a area c.args.place)) len c.in_ok-copy_entry_at.ensures.guards)
+
+pub opened-opened-requires : goal.opened-opened-requires
+opened-opened-requires g c =
+    let a : Device = g.F.Flash.device c.args.flash.now in
+    let area : Area = c.args.area.now in
+    let u : Geometry = geometry_of a area in
+    kept_some u (sector_at (sectors_of a area) c.args.place) c.args.self.now c.requires.kept (ready_cycle u.kind (sector_at (sectors_of a area) c.args.place) c.requires.ready)
+
+pub copy_entry_at-requires-clause-opened : goal.copy_entry_at-requires-clause-opened
+copy_entry_at-requires-clause-opened g c =
+    let a : Device = g.F.Flash.device c.args.flash.now in
+    let area : Area = c.args.area.now in
+    let u : Geometry = geometry_of a area in
+    kept_opened u (sector_at (sectors_of a area) c.args.place) c.args.self.now c.requires.kept c.opened-opened.result c.opened-opened.ensures.cycle c.opened-opened.ensures.slots c.opened-opened.ensures.data_end

@@ -5,11 +5,11 @@ use Rattle.flash_map.specs.declared.area.Geometry.{Geometry}
 use Rattle.flash_map.specs.Area.{geometry_of, sectors_of, sector_at, sector_size}
 use Rattle.flash_map.proofs.PieceLemmas.{on_err}
 use Rattle.ring_store.proofs.Areas.{large_there, size_there}
-use Rattle.zms_kind.proofs.StepLemmas.{ready_may, ready_spends, keeps, adds, fits_cost, put_sound}
+use Rattle.zms_kind.proofs.StepLemmas.{ready_may, ready_cycle, ready_spends, keeps, adds, fits_cost, put_sound}
 use Rattle.flash_map.specs.declared.area.Role.TheVariants.{Zms as zms_role}
 use Rattle.zms_cycle.specs.Changes.{left_over}
 use Rattle.zms_cycle.specs.Sector.{data_len, cost, free}
-use Rattle.zms_sectors.proofs.OpenLemmas.{cost_above, kept_few, end_room, kept_added}
+use Rattle.zms_sectors.proofs.OpenLemmas.{kept_some, kept_opened, cost_above, kept_few, end_room, kept_added}
 use Rattle.zms_sectors.proofs.RoomLemmas.{put_room}
 use Rattle.zms_sectors.proofs.sectors.ZmsOpenSlotSectors.put.Goals as goal
 
@@ -19,9 +19,9 @@ returns-clause-adds g c =
     let area : Area = c.args.area.now in
     let u : Geometry = geometry_of a area in
     let wide = large_there zms_role a area (g.met.F.Flash.is_lawful c.args.flash.now) c.requires.area c.args.place c.requires.inside in
-    let e : Device = g.F.Flash.device c.put_entry.new.flash in
+    let e : Device = g.F.Flash.device c.put_entry_at.new.flash in
     adds u (sector_at (sectors_of a area) c.args.place) (sector_at (sectors_of e area) c.args.place) wide c.args.id c.args.bytes.now (ready_may u.kind (sector_at (sectors_of a area) c.args.place) c.requires.ready)
-    (fits_cost u (sector_at (sectors_of a area) c.args.place) (sector_at (sectors_of e area) c.args.place) wide (length c.args.bytes.now) c.requires.fits) c.in_ok-put_entry.ensures.ok
+    (fits_cost u (sector_at (sectors_of a area) c.args.place) (sector_at (sectors_of e area) c.args.place) wide (length c.args.bytes.now) c.requires.fits) c.in_ok-put_entry_at.ensures.ok
 
 pub returns-clause-sound : goal.returns-clause-sound
 returns-clause-sound g c =
@@ -29,34 +29,34 @@ returns-clause-sound g c =
     let area : Area = c.args.area.now in
     let u : Geometry = geometry_of a area in
     let wide = large_there zms_role a area (g.met.F.Flash.is_lawful c.args.flash.now) c.requires.area c.args.place c.requires.inside in
-    let e : Device = g.F.Flash.device c.put_entry.new.flash in
-    put_sound u (sector_at (sectors_of a area) c.args.place) (sector_at (sectors_of e area) c.args.place) wide c.args.id c.args.bytes.now c.requires.fits c.in_ok-put_entry.ensures.ok
+    let e : Device = g.F.Flash.device c.put_entry_at.new.flash in
+    put_sound u (sector_at (sectors_of a area) c.args.place) (sector_at (sectors_of e area) c.args.place) wide c.args.id c.args.bytes.now c.requires.fits c.in_ok-put_entry_at.ensures.ok
 
-pub returns-in_err-put_entry-clause-lost : goal.returns-in_err-put_entry-clause-lost
-returns-in_err-put_entry-clause-lost g c =
+pub returns-in_err-put_entry_at-clause-lost : goal.returns-in_err-put_entry_at-clause-lost
+returns-in_err-put_entry_at-clause-lost g c =
     let a : Device = g.F.Flash.device c.args.flash.now in
     let area : Area = c.args.area.now in
     let u : Geometry = geometry_of a area in
     let wide = large_there zms_role a area (g.met.F.Flash.is_lawful c.args.flash.now) c.requires.area c.args.place c.requires.inside in
-    let e : Device = g.F.Flash.device c.put_entry.new.flash in
-    on_err c.from_residual.result (inl (keeps u (sector_at (sectors_of a area) c.args.place) (sector_at (sectors_of e area) c.args.place) wide (left_over u.kind (data_len (length c.args.bytes.now))) c.in_err-put_entry.ensures.lost))
+    let e : Device = g.F.Flash.device c.put_entry_at.new.flash in
+    on_err c.from_residual.result (inl (keeps u (sector_at (sectors_of a area) c.args.place) (sector_at (sectors_of e area) c.args.place) wide (left_over u.kind (data_len (length c.args.bytes.now))) c.in_err-put_entry_at.ensures.lost))
 
-pub returns-in_err-put_entry-clause-room_lost : goal.returns-in_err-put_entry-clause-room_lost
-returns-in_err-put_entry-clause-room_lost g c =
+pub returns-in_err-put_entry_at-clause-room_lost : goal.returns-in_err-put_entry_at-clause-room_lost
+returns-in_err-put_entry_at-clause-room_lost g c =
     let a : Device = g.F.Flash.device c.args.flash.now in
     let area : Area = c.args.area.now in
     let u : Geometry = geometry_of a area in
-    let e : Device = g.F.Flash.device c.put_entry.new.flash in
-    on_err c.from_residual.result (put_room u (sector_at (sectors_of a area) c.args.place) (sector_at (sectors_of e area) c.args.place) (length c.args.bytes.now) c.in_err-put_entry.ensures.lost)
+    let e : Device = g.F.Flash.device c.put_entry_at.new.flash in
+    on_err c.from_residual.result (put_room u (sector_at (sectors_of a area) c.args.place) (sector_at (sectors_of e area) c.args.place) (length c.args.bytes.now) c.in_err-put_entry_at.ensures.lost)
 
-pub returns-in_err-put_entry-clause-sound : goal.returns-in_err-put_entry-clause-sound
-returns-in_err-put_entry-clause-sound g c =
+pub returns-in_err-put_entry_at-clause-sound : goal.returns-in_err-put_entry_at-clause-sound
+returns-in_err-put_entry_at-clause-sound g c =
     let a : Device = g.F.Flash.device c.args.flash.now in
     let area : Area = c.args.area.now in
     let u : Geometry = geometry_of a area in
     let wide = large_there zms_role a area (g.met.F.Flash.is_lawful c.args.flash.now) c.requires.area c.args.place c.requires.inside in
-    let e : Device = g.F.Flash.device c.put_entry.new.flash in
-    (keeps u (sector_at (sectors_of a area) c.args.place) (sector_at (sectors_of e area) c.args.place) wide (left_over u.kind (data_len (length c.args.bytes.now))) c.in_err-put_entry.ensures.lost).sound
+    let e : Device = g.F.Flash.device c.put_entry_at.new.flash in
+    (keeps u (sector_at (sectors_of a area) c.args.place) (sector_at (sectors_of e area) c.args.place) wide (left_over u.kind (data_len (length c.args.bytes.now))) c.in_err-put_entry_at.ensures.lost).sound
 
 pub overflow_cast-bytes : goal.overflow_cast-bytes
 overflow_cast-bytes g c =
@@ -104,15 +104,29 @@ returns-clause-kept g c =
     let size : length (sector_at (sectors_of a area) c.args.place) ≡ sector_size a area = size_there zms_role a area (g.met.F.Flash.is_lawful c.args.flash.now) c.requires.area c.args.place c.requires.inside in
     let wide = large_there zms_role a area (g.met.F.Flash.is_lawful c.args.flash.now) c.requires.area c.args.place c.requires.inside in
     let small : length (sector_at (sectors_of a area) c.args.place) ≤ 2 ^ 15 = omega (arith, c.requires.area.lawful.at_most) in
-    let e : Device = g.F.Flash.device c.put_entry.new.flash in
+    let e : Device = g.F.Flash.device c.put_entry_at.new.flash in
     let room : cost (length c.args.bytes.now) ≤ free u.kind (sector_at (sectors_of a area) c.args.place) = fits_cost u (sector_at (sectors_of a area) c.args.place) (sector_at (sectors_of a area) c.args.place) wide (length c.args.bytes.now) c.requires.fits in
     let price : c.cost.result ≡ cost (length c.args.bytes.now) = c.cost.ensures.value in
-    kept_added u (sector_at (sectors_of a area) c.args.place) c.args.self.now c.requires.kept (sector_at (sectors_of e area) c.args.place) wide small c.args.id c.args.bytes.now c.cost.result price (omega arith) c.in_ok-put_entry.ensures.ok
+    kept_added u (sector_at (sectors_of a area) c.args.place) c.args.self.now c.requires.kept (sector_at (sectors_of e area) c.args.place) wide small c.args.id c.args.bytes.now c.cost.result price (omega arith) c.in_ok-put_entry_at.ensures.ok
 
 pub returns-clause-spends : goal.returns-clause-spends
 returns-clause-spends g c =
     let a : Device = g.F.Flash.device c.args.flash.now in
     let area : Area = c.args.area.now in
     let u : Geometry = geometry_of a area in
-    let e : Device = g.F.Flash.device c.put_entry.new.flash in
-    ready_spends u.kind (sector_at (sectors_of a area) c.args.place) c.requires.ready a e (cost (length c.args.bytes.now) / 16) c.in_ok-put_entry.ensures.guards
+    let e : Device = g.F.Flash.device c.put_entry_at.new.flash in
+    ready_spends u.kind (sector_at (sectors_of a area) c.args.place) c.requires.ready a e (cost (length c.args.bytes.now) / 16) c.in_ok-put_entry_at.ensures.guards
+
+pub opened-opened-requires : goal.opened-opened-requires
+opened-opened-requires g c =
+    let a : Device = g.F.Flash.device c.args.flash.now in
+    let area : Area = c.args.area.now in
+    let u : Geometry = geometry_of a area in
+    kept_some u (sector_at (sectors_of a area) c.args.place) c.args.self.now c.requires.kept (ready_cycle u.kind (sector_at (sectors_of a area) c.args.place) c.requires.ready)
+
+pub put_entry_at-requires-clause-opened : goal.put_entry_at-requires-clause-opened
+put_entry_at-requires-clause-opened g c =
+    let a : Device = g.F.Flash.device c.args.flash.now in
+    let area : Area = c.args.area.now in
+    let u : Geometry = geometry_of a area in
+    kept_opened u (sector_at (sectors_of a area) c.args.place) c.args.self.now c.requires.kept c.opened-opened.result c.opened-opened.ensures.cycle c.opened-opened.ensures.slots c.opened-opened.ensures.data_end

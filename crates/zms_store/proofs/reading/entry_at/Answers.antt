@@ -1,5 +1,4 @@
 use Rattle.std.proofs.Common.{◌≡◌, ◌+◌, ◌*◌, ◌≤◌, ℕ, List, length, Some, sym, ap, subst, ◌∙◌, arith}
-use Rattle.flash_sim.specs.Device.{Device}
 use Rattle.flash_map.specs.Area.{sectors_of, sector_at}
 use Rattle.ring_laws.proofs.AreaReads.{length-sectors}
 use Rattle.zms_cycle.specs.Sector.{slot_of, entry_in}

@@ -17,7 +17,7 @@ pub use appending::{put_done, put_done_at, put_entry, put_entry_at};
 pub use copying::{copy_entry, copy_entry_at};
 pub use entry::{ZEntry, decode_zentry, encode_zentry, fill_unit, zentry_fields};
 pub use guarding::guard;
-pub use marking::{close, empty_sector};
+pub use marking::{close, close_at, empty_sector};
 pub use reading::{
     FIRST, Found, Opened, SLOT, SectorState, TAIL, TAIL_AT, can_close, capacity, cost, data_len,
     entry_in, is_fresh, listed_entry, offset_of, read_sector, state,

@@ -228,6 +228,44 @@ fn fill_free<F: Flash, L: Ledger>(
 }
 
 /// Closes a sector by the close entry, which names the start of the lowest used slot. On a bank that is never erased, every unit
+/// between its values and its slots becomes the fill unit first. What it has to know of the sector is handed to it, so its list
+/// is not read.
+///
+/// # Errors
+/// `PowerLost`: the sector's list and marks are as before. On a bank that is erased no byte changed.
+pub fn close_at<F: Flash, L: Ledger>(
+    flash: &mut F,
+    area: &Area,
+    sector: u32,
+    opened: &Opened,
+    steps: &mut Steps<L>,
+) -> Result<(), PowerLost>
+    requires zms { IsZmsSector (F.device flash.old) area.now sector }
+    requires opened { IsOpenedOn (F.device flash.old) area.now sector opened.now }
+    requires sound { IsSoundOn (F.device flash.old) area.now sector }
+    requires closable { IsClosableOn (F.device flash.old) area.now sector }
+
+    ensures touches { Touches (area.now ∷ []) (F.device flash.old) (F.device flash.new) (is_err result) }
+    ensures others { OthersStay (F.device flash.old) (F.device flash.new) area.now sector }
+    ensures ok { OnOk result (Makes Closes (F.device flash.old) (F.device flash.new) area.now sector) }
+    ensures lost { OnErr result (Keeps 0 (F.device flash.old) (F.device flash.new) area.now sector) }
+    ensures idle_lost { let d = F.device flash.old in kind_on d area.now ≡ Erasing
+        → OnErr result (sector_bytes (F.device flash.new) area.now sector ≡ sector_bytes d area.now sector) }
+    ensures spends { OnOk result (SpendsBetween (F.device flash.old) (F.device flash.new) 1 (closing_units (F.device flash.old) area.now sector)) }
+    ensures spends_lost { OnErr result (SpendsBetween (F.device flash.old) (F.device flash.new) 0 (closing_units (F.device flash.old) area.now sector)) }
+{
+    let low = geometry(flash, area).sector - (opened.slots + FIRST) * SLOT;
+    fill_free(flash, area, sector, opened, steps)?;
+    put_unit(
+        flash,
+        area,
+        sector,
+        1,
+        &encode_zentry(&close_entry(opened.cycle, low)),
+    )
+}
+
+/// Closes a sector by the close entry, which names the start of the lowest used slot. On a bank that is never erased, every unit
 /// between its values and its slots becomes the fill unit first.
 ///
 /// # Errors
@@ -253,13 +291,5 @@ pub fn close<F: Flash, L: Ledger>(
     ensures spends_lost { OnErr result (SpendsBetween (F.device flash.old) (F.device flash.new) 0 (closing_units (F.device flash.old) area.now sector)) }
 {
     let opened = opened_sector(flash, area, sector, steps);
-    let low = geometry(flash, area).sector - (opened.slots + FIRST) * SLOT;
-    fill_free(flash, area, sector, &opened, steps)?;
-    put_unit(
-        flash,
-        area,
-        sector,
-        1,
-        &encode_zentry(&close_entry(opened.cycle, low)),
-    )
+    close_at(flash, area, sector, &opened, steps)
 }

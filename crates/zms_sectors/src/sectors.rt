@@ -13,9 +13,9 @@ use flash_sim::{Flash, Kind, PowerLost, Steps};
 use ring_store::{Placed, SlotSectors};
 use std::sync::ledger::Ledger;
 use zms_cycle::{
-    FIRST, Found, Opened, SLOT, SectorState, TAIL, TAIL_AT, capacity, close, copy_entry_at, cost,
-    empty_sector, has_close, listed_entry, listed_slots, offset_of, put_done_at, put_entry_at,
-    reach_in, reach_within, state,
+    FIRST, Found, Opened, SLOT, SectorState, TAIL, TAIL_AT, capacity, close_at, copy_entry_at,
+    cost, empty_sector, has_close, listed_entry, listed_slots, offset_of, put_done_at,
+    put_entry_at, reach_in, reach_within, state,
 };
 use zms_kind::{find_in, is_clean, scan};
 
@@ -359,7 +359,7 @@ impl SlotSectors for ZmsOpen {
         place: u32,
         steps: &mut Steps<L>,
     ) -> Result<(), PowerLost> {
-        close(flash, area, place, steps)
+        close_at(flash, area, place, &self.opened(), steps)
     }
 
     fn clear<F: Flash, L: Ledger>(

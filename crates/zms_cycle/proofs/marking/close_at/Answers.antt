@@ -11,14 +11,14 @@ use Rattle.zms_cycle.specs.OnArea.{free_on, closing_units}
 use Rattle.zms_cycle.proofs.AreaFacts.{size_is, same_kind, still_zms, others_then}
 use Rattle.zms_cycle.proofs.EmptyCalls.{same_bytes}
 use Rattle.zms_cycle.proofs.CloseCalls.{lowest_of, still_closable, close_ok, keeps_equal, closing_some}
-use Rattle.zms_cycle.proofs.marking.close.Goals as goal
+use Rattle.zms_cycle.proofs.marking.close_at.Goals as goal
 
 pub overflow_add-low : goal.overflow_add-low
 overflow_add-low g c =
     let size = size_is (g.F.Flash.device c.args.flash.now) c.args.area.now c.args.sector c.requires.zms (g.met.F.Flash.is_lawful c.args.flash.now) in
     let shape = ap (λ (shape : Geometry). shape.sector) c.geometry.ensures in
     let most = c.requires.zms.lawful.at_most in
-    let lowest = lowest_of (sector_bytes (g.F.Flash.device c.args.flash.now) c.args.area.now c.args.sector) c.geometry.result.sector c.opened_sector-opened.result.slots c.requires.sound (size ∙ sym shape) c.opened_sector-opened.ensures.slots in
+    let lowest = lowest_of (sector_bytes (g.F.Flash.device c.args.flash.now) c.args.area.now c.args.sector) c.geometry.result.sector c.args.opened.now.slots c.requires.sound (size ∙ sym shape) c.requires.opened.slots in
     let fits = lowest.slots in
     omega (arith, fits, shape, most)
 
@@ -27,7 +27,7 @@ overflow_mul-low g c =
     let size = size_is (g.F.Flash.device c.args.flash.now) c.args.area.now c.args.sector c.requires.zms (g.met.F.Flash.is_lawful c.args.flash.now) in
     let shape = ap (λ (shape : Geometry). shape.sector) c.geometry.ensures in
     let most = c.requires.zms.lawful.at_most in
-    let lowest = lowest_of (sector_bytes (g.F.Flash.device c.args.flash.now) c.args.area.now c.args.sector) c.geometry.result.sector c.opened_sector-opened.result.slots c.requires.sound (size ∙ sym shape) c.opened_sector-opened.ensures.slots in
+    let lowest = lowest_of (sector_bytes (g.F.Flash.device c.args.flash.now) c.args.area.now c.args.sector) c.geometry.result.sector c.args.opened.now.slots c.requires.sound (size ∙ sym shape) c.requires.opened.slots in
     let fits = lowest.slots in
     omega (arith, fits, shape, most)
 
@@ -36,7 +36,7 @@ overflow_sub-low g c =
     let size = size_is (g.F.Flash.device c.args.flash.now) c.args.area.now c.args.sector c.requires.zms (g.met.F.Flash.is_lawful c.args.flash.now) in
     let shape = ap (λ (shape : Geometry). shape.sector) c.geometry.ensures in
     let most = c.requires.zms.lawful.at_most in
-    let lowest = lowest_of (sector_bytes (g.F.Flash.device c.args.flash.now) c.args.area.now c.args.sector) c.geometry.result.sector c.opened_sector-opened.result.slots c.requires.sound (size ∙ sym shape) c.opened_sector-opened.ensures.slots in
+    let lowest = lowest_of (sector_bytes (g.F.Flash.device c.args.flash.now) c.args.area.now c.args.sector) c.geometry.result.sector c.args.opened.now.slots c.requires.sound (size ∙ sym shape) c.requires.opened.slots in
     let fits = lowest.slots in
     omega (arith, fits, shape, most)
 
@@ -60,9 +60,9 @@ pub returns-clause-ok : goal.returns-clause-ok
 returns-clause-ok g c =
     let size = size_is (g.F.Flash.device c.args.flash.now) c.args.area.now c.args.sector c.requires.zms (g.met.F.Flash.is_lawful c.args.flash.now) in
     let shape = ap (λ (shape : Geometry). shape.sector) c.geometry.ensures in
-    let lowest = lowest_of (sector_bytes (g.F.Flash.device c.args.flash.now) c.args.area.now c.args.sector) c.geometry.result.sector c.opened_sector-opened.result.slots c.requires.sound (size ∙ sym shape) c.opened_sector-opened.ensures.slots in
+    let lowest = lowest_of (sector_bytes (g.F.Flash.device c.args.flash.now) c.args.area.now c.args.sector) c.geometry.result.sector c.args.opened.now.slots c.requires.sound (size ∙ sym shape) c.requires.opened.slots in
     on_ok_weaker c.put_unit.result
-    (close_ok (kind_on (g.F.Flash.device c.args.flash.now) c.args.area.now) (sector_bytes (g.F.Flash.device c.args.flash.now) c.args.area.now c.args.sector) (sector_bytes (g.F.Flash.device c.fill_free.new.flash) c.args.area.now c.args.sector) (sector_bytes (g.F.Flash.device c.put_unit.new.flash) c.args.area.now c.args.sector) c.opened_sector-opened.result.cycle (c.geometry.result.sector - (c.opened_sector-opened.result.slots + 2) * 16) c.close_entry.result c.encode_zentry.result c.requires.sound c.in_ok-fill_free.ensures.keeps c.opened_sector-opened.ensures.cycle lowest.lowest c.in_ok-fill_free.ensures.filled c.close_entry.ensures c.encode_zentry.ensures)
+    (close_ok (kind_on (g.F.Flash.device c.args.flash.now) c.args.area.now) (sector_bytes (g.F.Flash.device c.args.flash.now) c.args.area.now c.args.sector) (sector_bytes (g.F.Flash.device c.fill_free.new.flash) c.args.area.now c.args.sector) (sector_bytes (g.F.Flash.device c.put_unit.new.flash) c.args.area.now c.args.sector) c.args.opened.now.cycle (c.geometry.result.sector - (c.args.opened.now.slots + 2) * 16) c.close_entry.result c.encode_zentry.result c.requires.sound c.in_ok-fill_free.ensures.keeps c.requires.opened.cycle lowest.lowest c.in_ok-fill_free.ensures.filled c.close_entry.ensures c.encode_zentry.ensures)
     c.put_unit.ensures.ok
 
 pub returns-clause-lost : goal.returns-clause-lost

@@ -44,7 +44,7 @@ module _ {T : Type 0} (role : Role) (kind : Geometry → Kind) (kept : Geometry 
         room = room;
         puts = puts;
         list = puts.list ∙ ap (λ ps. ps ++ (id, bytes) ∷ []) list;
-        spends = between_then makes.spends puts.entry.spends;
+        spends = between_then makes.spends puts.entry;
       }
 
   pub stops_in_entry : (e : Device) → StopsPutting (kind (geometry_of d area)) d e area id bytes → StopsAppending (kind (geometry_of a area)) a e area id bytes

@@ -14,12 +14,13 @@ use Rattle.ring_laws.specs.Reading.{is_sound}
 use Rattle.ring_laws.proofs.RingSteps.{reads}
 use Rattle.ring_laws.proofs.Rings.{open-not_closed}
 use Rattle.ring_store.specs.Cached.{AddsEntry}
-use Rattle.ring_store.specs.Kind.{Kind, IsKind, fits}
+use Rattle.ring_store.specs.Kind.{Range, Kind, IsKind, fits}
 use Rattle.ring_store.specs.Room.{has_room, open_bytes}
 use Rattle.ring_store.specs.Standing.{IsStoreArea, RestsAt, SpendsIn, SpendsUpTo}
 use Rattle.ring_store.specs.Stands.{StandsAt}
 use Rattle.ring_store.specs.Steps.{Keeps, LeavesRoom, Begins, Adds}
-use Rattle.ring_store.specs.Writing.{open_at, SpendsEntry, StopsInValue, StopsEntry, PutsPair, StopsPutting}
+use Rattle.ring_store.specs.Spending.{both}
+use Rattle.ring_store.specs.Writing.{open_at, SpendsEntry, StopsEntry, PutsPair, StopsPutting}
 use Rattle.ring_store.proofs.Areas.{still_area, large_there, only_then}
 use Rattle.ring_store.proofs.CallFacts.{to_geometry, from_geometry}
 use Rattle.ring_store.proofs.CollectSteps.{rest_closed}
@@ -139,7 +140,7 @@ module _ {T : Type 0} (role : Role) (kind : Geometry → Kind) (kept : Geometry 
             undamaged = has.undamaged;
             rests = rests_in e has.form;
             room = omega arith;
-            entry = subst (λ (p : ℕ). SpendsEntry k a e (sector_at old p) (length bytes)) on.current (record { begun = sector_at (sectors_of b area) place; begins = begins; spends = between_then spends there });
+            entry = subst (λ (p : ℕ). SpendsEntry k a e (sector_at old p) (length bytes)) on.current (subst (λ (r : Range). SpendsIn a e (both (k.units.begin (sector_at old place)) r)) (begins.put (length bytes)) (between_then spends there));
           }
 
       -- power was lost
@@ -156,11 +157,9 @@ module _ {T : Type 0} (role : Role) (kind : Geometry → Kind) (kept : Geometry 
           let there : SpendsUpTo b e (k.units.put (sector_at (sectors_of b area) place) (length bytes)) = to_geometry (λ u. SpendsUpTo b e ((kind u).units.put (sector_at (sectors_of b area) place) (length bytes))) a b area banks more in
           let le = law.entry (sector_at old place) (sector_at (sectors_of b area) place) (length bytes) in
           let covers = law.units.begins (sector_at old place) in
-          let cut : StopsInValue k a e (sector_at old place) (length bytes) = record {
-            begun = sector_at (sectors_of b area) place;
-            begins = begins;
-            spends = then-lost a b e (k.units.begin (sector_at old place)) (k.units.put (sector_at (sectors_of b area) place) (length bytes)) spends there;
-          } in
+          let cut : SpendsUpTo a e (both (k.units.begin (sector_at old place)) (k.units.put (sector_at old place) (length bytes))) =
+          subst (λ (r : Range). SpendsUpTo a e (both (k.units.begin (sector_at old place)) r)) (begins.put (length bytes))
+          (then-lost a b e (k.units.begin (sector_at old place)) (k.units.put (sector_at (sectors_of b area) place) (length bytes)) spends there) in
           let own : StopsEntry k a e (open_bytes k old) (length bytes) = subst (λ (p : ℕ). StopsEntry k a e (sector_at old p) (length bytes)) on.current (inr cut) in
           let all = between_within (between_then spends there) 0 (k.units.entry (length bytes)) (omega arith) (omega arith) in
           elim either [

@@ -96,11 +96,11 @@ module _ (k : Kind) (law : IsKind k) (a : Device) (area : Area) (form : AtRest k
 
     appended-most : (rounds : ℕ) → length appends.makes.before ≤ rounds → SpendsBetween a e 0 (most_units k (sector_size a area) rounds (length bytes))
     appended-most rounds few =
-        let entry = appends.puts.entry in
-        let le = law.entry (open_bytes k (sectors_of appends.mid area)) entry.begun (length bytes) in
-        let first = law.units.begins (open_bytes k (sectors_of appends.mid area)) in
-        let second = law.units.puts entry.begun (length bytes) in
-        most_then appends.mid e (length bytes) (length appends.makes.before) rounds few appends.makes.at_most (between_within entry.spends 0 (k.units.entry (length bytes)) (omega arith) (omega arith))
+        let opened : List ℕ = open_bytes k (sectors_of appends.mid area) in
+        let le = law.entry opened opened (length bytes) in
+        let first = law.units.begins opened in
+        let second = law.units.puts opened (length bytes) in
+        most_then appends.mid e (length bytes) (length appends.makes.before) rounds few appends.makes.at_most (between_within appends.puts.entry 0 (k.units.entry (length bytes)) (omega arith) (omega arith))
 
   module _ (e : Device) (id : ℕ) (bytes : List ℕ) (stops : StopsAppending k a e area id bytes) where
     stopped-items : (items k (sectors_of e area) ≡ items k (sectors_of a area)) ⊎ (items k (sectors_of e area) ≡ with_pair (items k (sectors_of a area)) (id, bytes))

@@ -22,13 +22,15 @@ pub record KeepsMarks (k : Kind) (old new : List ℕ) : Type 0 where
   pub closed : k.reading.is_closed new ≡ k.reading.is_closed old
   pub gc_done : k.reading.has_gc_done new ≡ k.reading.has_gc_done old
 
--- A sector with no entry is ready for one, and has none yet; one in use, or ready before, is as it was. A clean one stays so.
+-- A sector with no entry is ready for one, and has none yet; one in use, or ready before, is as it was. A clean one stays so. What an
+-- entry spends in it is known before.
 pub record Begins (k : Kind) (old new : List ℕ) : Type 0 where
   pub blank : k.reading.is_blank old ≡ true → k.reading.is_blank new ≡ true
   pub clean : k.is_clean old ≡ true → k.is_clean new ≡ true
   pub idle : k.is_ready old ≡ true → new ≡ old
   pub used : k.reading.is_blank old ≡ false → new ≡ old
   pub ready : k.is_ready new ≡ true
+  pub put : (len : ℕ) → k.units.put new len ≡ k.units.put old len
   pub long : length new ≡ length old
 
 -- the entry of an id in a slot, with so many bytes

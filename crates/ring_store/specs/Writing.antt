@@ -13,27 +13,19 @@ use Rattle.ring_store.specs.Kind.{Kind}
 use Rattle.ring_store.specs.Room.{open_bytes, has_room_at, IsShort, parts_at, collected, rounds_units, MakesRoom, FindsFull, StopsMakingRoom}
 use Rattle.ring_store.specs.Spending.{both}
 use Rattle.ring_store.specs.Standing.{list_at, items_at, IsUndamagedAt, RestsAt, SpendsIn, SpendsUpTo}
-use Rattle.ring_store.specs.Steps.{Begins}
 use Rattle.ring_store.specs.Versions.{KeepsVersions, AddsVersion}
 
 -- ---- one entry
 
 -- A value of this length and its entry, in this sector: it is made ready for entries first.
-pub record SpendsEntry (k : Kind) (old new : Device) (sector : List ℕ) (len : ℕ) : Type 0 where
-  pub begun : List ℕ
-  pub begins : Begins k sector begun
-  pub spends : SpendsIn old new (both (k.units.begin sector) (k.units.put begun len))
+abbrev pub SpendsEntry : Kind → Device → Device → List ℕ → ℕ → Type 0
+SpendsEntry k old new sector len = SpendsIn old new (both (k.units.begin sector) (k.units.put sector len))
 
--- Power was lost in it, behind what made its sector ready.
-pub record StopsInValue (k : Kind) (old new : Device) (sector : List ℕ) (len : ℕ) : Type 0 where
-  pub begun : List ℕ
-  pub begins : Begins k sector begun
-  pub spends : SpendsUpTo old new (both (k.units.begin sector) (k.units.put begun len))
-
--- Power was lost in it, or while its sector was made ready.
+-- Power was lost while its sector was made ready, or behind that.
 abbrev pub StopsEntry : Kind → Device → Device → List ℕ → ℕ → Type 0
 StopsEntry k old new sector len =
-    SpendsUpTo old new (k.units.begin sector) ⊎ StopsInValue k old new sector len
+    SpendsUpTo old new (k.units.begin sector)
+    ⊎ SpendsUpTo old new (both (k.units.begin sector) (k.units.put sector len))
 
 -- the bytes of the open sector
 abbrev pub open_at : Kind → Device → Area → List ℕ
@@ -80,7 +72,8 @@ pub record Appends (k : Kind) (old new : Device) (area : Area) (id : ℕ) (bytes
       let left = collected (length makes.before) (parts_at k old area) in
       list_at k new area ≡ joined left ++ (id, bytes) ∷ []
   pub spends :
-      let entry = both (k.units.begin (open_at k mid area)) (k.units.put puts.entry.begun (length bytes)) in
+      let sector = open_at k mid area in
+      let entry = both (k.units.begin sector) (k.units.put sector (length bytes)) in
       SpendsIn old new (both (rounds_units k makes.before) entry)
 
 -- power was lost in the entry, behind the last round

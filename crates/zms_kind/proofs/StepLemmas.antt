@@ -22,7 +22,7 @@ use Rattle.zms_kind.proofs.Roomy.{IsRoomy, no_cycle, empties_unused, empties_cle
 use Rattle.zms_kind.proofs.Sectors.{laws, begun_count, unused_slots, empty_end, written-none, closed_may, closable_may, may_closable}
 use Rattle.zms_kind.specs.Kinds.{entry_of, record_of, kind, entry_units, opens_ready}
 use Rattle.zms_kind.proofs.Erased.{cycle_none}
-use Rattle.zms_kind.proofs.KindLemmas.{some_flag, and_true, slot_is, used_guard, ready_of}
+use Rattle.zms_kind.proofs.KindLemmas.{some_flag, and_true, slot_is, used_guard, ready_of, first_entry_is_known as known}
 use Rattle.std.specs.Option.{option_map, option_map_or}
 use Rattle.std.specs.List.{range_with_len}
 use Rattle.std.proofs.lemmas.List.{map_push, length-replicate}
@@ -185,7 +185,7 @@ module _ (geometry : Geometry) (b e : List ℕ) (wide : 512 ≤ length b) where
   pub begins_as : IsSome (cycle_of b) → ring_sound (reading geometry.kind) b ≡ true → Begins (kind geometry) b b
   begins_as cycle sound =
       let roomy : IsRoomy geometry.kind b = roomy_of geometry.kind b (omega arith) sound in
-      record { blank = λ h. h; clean = λ h. h; idle = λ h. refl; used = λ h. refl; ready = ready_of geometry.kind b cycle roomy.sound roomy.may; long = refl }
+      record { blank = λ h. h; clean = λ h. h; idle = λ h. refl; used = λ h. refl; ready = ready_of geometry.kind b cycle roomy.sound roomy.may; put = λ len. refl; long = refl }
 
   -- what is put leaves a sound sector sound
   pub put_sound : (id : ℕ) (bytes : List ℕ) → fits geometry.kind b (length bytes) ≡ true → AddsPair geometry.kind b e id bytes → ring_sound (reading geometry.kind) b ≡ true → ring_sound (reading geometry.kind) e ≡ true
@@ -258,6 +258,7 @@ begins_empty geometry b e none empties = record {
   idle = λ ready. absurd (none_ready ready);
   used = λ used. absurd (false≢true (sym used ∙ no_cycle geometry.kind b none));
   ready = and_true (is_some (cycle_of e)) (is_sound e && may_close geometry.kind e) (ap (λ (x : Option ℕ). is_some x) empties.cycle) (and_true (is_sound e) (may_close geometry.kind e) empties.sound (closable_may geometry.kind e empties.closable));
+  put = (known geometry.kind b e none empties).put;
   long = empties.long;
 }
   where

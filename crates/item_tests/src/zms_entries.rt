@@ -67,7 +67,7 @@ fn one_sector_read(rt: HostRuntime) {
         }
     );
     let found = (entry_in(&sector, 2), entry_in(&sector, 0));
-    assert_eq!(rt; found, (Some(Found { slot: 2, entry }), None));
+    assert_eq!(rt; found, (Some(SlotEntry { slot: 2, entry }), None));
     assert_eq!(rt; offset_of(&entry), 16);
     for (len, data) in [(0, 0), (8, 0), (9, 16), (16, 16), (17, 32)] {
         assert_eq!(rt; (data_len(len), cost(len)), (data, data + 16));

@@ -16,7 +16,7 @@ use Rattle.ring_store.specs.Kind.{placed_at, slots, entries as kind_entries}
 use Rattle.ring_store.specs.Lasts.{in_range, IsOther, AreOthers}
 use Rattle.ring_store.proofs.ReadLemmas as own
 use Rattle.nvs_store.specs.declared.entry.Entry.{Entry as NvsEntry}
-use Rattle.nvs_store.specs.declared.scan.Found.{Found}
+use Rattle.nvs_store.specs.declared.scan.SlotEntry.{SlotEntry}
 use Rattle.nvs_store.specs.Entries.{entry_of as entry_from}
 use Rattle.nvs_store.specs.Geometry.{slot_size}
 use Rattle.nvs_store.specs.Sector.{slot_at, used_slots, counts, counting_entry, entries, entries_within, last_found}
@@ -38,7 +38,7 @@ last_same unit b place id n enough =
     ∙ ap (option_map (placed_at place)) (sym (own.last_read (λ n. counting_entry unit (slot_at unit b n)) entry_of (found_bytes b) (slot_is unit b) id (entries unit b) None)
     ∙ ap (λ es. last_in (slots (kind_in unit)) place id es) (ap (map entry_of) ((are_nvs unit).listed b) ∙ sym (own.entries_read (λ n. counting_entry unit (slot_at unit b n)) entry_of (found_bytes b) (slot_is unit b) (range_with_len 1 (length (used_slots unit b))))))
   where
-    both_ways : (o : Option Found) → option_map placed_of (option_map (nvs_placed_at place) o) ≡ option_map (placed_at place) (option_map entry_of o)
+    both_ways : (o : Option SlotEntry) → option_map placed_of (option_map (nvs_placed_at place) o) ≡ option_map (placed_at place) (option_map entry_of o)
     both_ways None = refl
     both_ways (Some f) = refl
 
@@ -63,22 +63,22 @@ module _ (unit : ℕ) (b : List ℕ) (is-unit : IsUnit unit) (small : (k : ℕ) 
       let byte = small (length b - (n + 1) * slot_size unit + k) in
       omega arith
 
-  entry_small : (n : ℕ) (f : Found) → counting_entry unit (slot_at unit b n) ≡ Some f → f.entry.id < 2 ^ 16
+  entry_small : (n : ℕ) (f : SlotEntry) → counting_entry unit (slot_at unit b n) ≡ Some f → f.entry.id < 2 ^ 16
   entry_small n f is =
       elim (decoded_cases (slot_at unit b n).bytes) [
         | inl none ↦ absurd (some_none f (sym is ∙ counting_entry-is unit (slot_at unit b n) None none))
         | inr some ↦
             let read = counting_entry-is unit (slot_at unit b n) (Some (entry_from (slot_at unit b n).bytes)) some in
-            let found : Found = record { slot = (slot_at unit b n).index; entry = entry_from (slot_at unit b n).bytes } in
+            let found : SlotEntry = record { slot = (slot_at unit b n).index; entry = entry_from (slot_at unit b n).bytes } in
             elim (cases_Bool (counts unit (slot_at unit b n).start (entry_from (slot_at unit b n).bytes))) [
               | inl counted ↦
                   let same : found ≡ f = some_same found f (sym (read ∙ ap (λ (t : Bool). cond t (Some found) None) counted) ∙ is) in
-                  subst (λ (x : Found). x.entry.id < 2 ^ 16) same (id_small (slot_at unit b n).bytes (slot_small n 0 (omega arith)) (slot_small n 1 (omega arith)))
+                  subst (λ (x : SlotEntry). x.entry.id < 2 ^ 16) same (id_small (slot_at unit b n).bytes (slot_small n 0 (omega arith)) (slot_small n 1 (omega arith)))
               | inr passed ↦ absurd (some_none f (sym is ∙ read ∙ ap (λ (t : Bool). cond t (Some found) None) passed))
             ]
       ]
     where
-      some_same : (x y : Found) → Some x ≡ Some y → x ≡ y
+      some_same : (x y : SlotEntry) → Some x ≡ Some y → x ≡ y
       some_same x y e = cc
 
   module _ (place id : ℕ) (large : 2 ^ 16 ≤ id) where
@@ -123,18 +123,18 @@ named_from unit b n start is-unit at =
 pub named : (unit : ℕ) (b : List ℕ) (slot id : ℕ) → id ≡ (entry_from (slot_at unit b slot).bytes).id → IfSome ((kind_in unit).in_slot b slot) (λ e. e.id ≡ id)
 named unit b slot id is =
     elim (counting_cases unit (slot_at unit b slot)) [
-      | inl none ↦ subst (λ (o : Option Found). IfSome (option_map entry_of o) (λ e. e.id ≡ id)) (sym none) tt
-      | inr (f, some, same) ↦ subst (λ (o : Option Found). IfSome (option_map entry_of o) (λ e. e.id ≡ id)) (sym some) (ap (λ (e : NvsEntry). e.id) same ∙ sym is)
+      | inl none ↦ subst (λ (o : Option SlotEntry). IfSome (option_map entry_of o) (λ e. e.id ≡ id)) (sym none) tt
+      | inr (f, some, same) ↦ subst (λ (o : Option SlotEntry). IfSome (option_map entry_of o) (λ e. e.id ≡ id)) (sym some) (ap (λ (e : NvsEntry). e.id) same ∙ sym is)
     ]
 
 -- so a slot that names an id out of a range has no entry of that range
 pub other_named : (unit : ℕ) (b : List ℕ) (least most slot id : ℕ) → id ≡ (entry_from (slot_at unit b slot).bytes).id → in_range least most id ≡ false → IsOther least most ((kind_in unit).in_slot b slot)
 other_named unit b least most slot id is other =
     elim (counting_cases unit (slot_at unit b slot)) [
-      | inl none ↦ subst (λ (o : Option Found). IsOther least most (option_map entry_of o)) (sym none) tt
+      | inl none ↦ subst (λ (o : Option SlotEntry). IsOther least most (option_map entry_of o)) (sym none) tt
       | inr (f, some, same) ↦
           let own : f.entry.id ≡ id = ap (λ (e : NvsEntry). e.id) same ∙ sym is in
-          subst (λ (o : Option Found). IsOther least most (option_map entry_of o)) (sym some) (ap (in_range least most) own ∙ other)
+          subst (λ (o : Option SlotEntry). IsOther least most (option_map entry_of o)) (sym some) (ap (in_range least most) own ∙ other)
     ]
 
 -- the code's test of a range

@@ -10,7 +10,7 @@ use Rattle.pair_laws.specs.Rounds.{copies_cost}
 use Rattle.ring_store.specs.declared.entry.Entry.{Entry}
 use Rattle.ring_store.specs.Kind.{LiesIn, CoversWhole, AreUnits, IsKind}
 use Rattle.ring_store.proofs.ReadLemmas as own
-use Rattle.nvs_store.specs.declared.scan.Found.{Found}
+use Rattle.nvs_store.specs.declared.scan.SlotEntry.{SlotEntry}
 use Rattle.nvs_store.specs.Geometry.{slot_size, cost, capacity}
 use Rattle.nvs_store.specs.Sector.{slot_at, counting_entry, pair_of}
 use Rattle.nvs_store.proofs.Blank.{reads-blank}
@@ -21,7 +21,7 @@ use Rattle.nvs_store.proofs.SlotReads.{slot_widths}
 use Rattle.nvs_store.proofs.Sound.{sound-costs}
 use Rattle.nvs_kind.specs.Kinds.{entry_of, found_bytes, just, units_of, kind_in}
 
-pub slot_is : (unit : ℕ) (b : List ℕ) (n : ℕ) (f : Found) → counting_entry unit (slot_at unit b n) ≡ Some f → (entry_of f).slot ≡ n
+pub slot_is : (unit : ℕ) (b : List ℕ) (n : ℕ) (f : SlotEntry) → counting_entry unit (slot_at unit b n) ≡ Some f → (entry_of f).slot ≡ n
 slot_is unit b n p some = (are_nvs unit).slot b 0 n p some
 
 -- ---- what a round and a mount spend at most

@@ -18,8 +18,8 @@ use Rattle.ring_store.specs.declared.entry.Placed.{Placed}
 use Rattle.ring_store.specs.Kind.{placed_at, fits, entries as kind_entries}
 use Rattle.ring_store.specs.Steps.{new_entry, Keeps, KeepsMarks, Adds, Marks, Closes, StopsClearing}
 use Rattle.ring_store.proofs.ReadLemmas as own
+use Rattle.nvs_store.specs.declared.scan.SlotEntry.{SlotEntry}
 use Rattle.nvs_store.specs.declared.scan.Found.{Found}
-use Rattle.nvs_store.specs.declared.scan.Placed.{Placed as NvsPlaced}
 use Rattle.nvs_store.specs.declared.scan.Scan.{Scan}
 use Rattle.nvs_store.specs.Geometry.{slot_size, cost, capacity}
 use Rattle.nvs_store.specs.Sector.{slot_at, used_slots, entries, counting_entry, low, data_end, has_gc_done, is_closed, is_sound, pairs, pairs_cost, KeepsList, AddsPair, StopsAdding, MarksDone, Closes as nvs_closes}
@@ -135,31 +135,31 @@ module _ (unit : ℕ) (old new : List (List ℕ)) (place : ℕ) (within : place 
 
 -- ---- the entry that is copied
 
-pub reads_as : (unit : ℕ) (sectors : List (List ℕ)) (p : Placed) (f : NvsPlaced) → Some f ≡ option_map (nvs_placed_at p.sector) (counting_entry unit (slot_at unit (sector_at sectors p.sector) p.slot))
+pub reads_as : (unit : ℕ) (sectors : List (List ℕ)) (p : Placed) (f : Found) → Some f ≡ option_map (nvs_placed_at p.sector) (counting_entry unit (slot_at unit (sector_at sectors p.sector) p.slot))
     → option_map (placed_at p.sector) (option_map entry_of (counting_entry unit (slot_at unit (sector_at sectors p.sector) p.slot))) ≡ Some p → ReadsAs unit sectors p f
 reads_as unit sectors p f read is =
     elim (option_cases (counting_entry unit (slot_at unit (sector_at sectors p.sector) p.slot))) [
-      | inl none ↦ absurd (some_none p (sym is ∙ ap (λ (o : Option Found). option_map (placed_at p.sector) (option_map entry_of o)) none))
+      | inl none ↦ absurd (some_none p (sym is ∙ ap (λ (o : Option SlotEntry). option_map (placed_at p.sector) (option_map entry_of o)) none))
       | inr (x, some) ↦
           let there : f ≡ nvs_placed_at p.sector x = some_same f (nvs_placed_at p.sector x) (read ∙ ap (option_map (nvs_placed_at p.sector)) some) in
-          let placed : placed_at p.sector (entry_of x) ≡ p = some_same (placed_at p.sector (entry_of x)) p (sym (ap (λ (o : Option Found). option_map (placed_at p.sector) (option_map entry_of o)) some) ∙ is) in
+          let placed : placed_at p.sector (entry_of x) ≡ p = some_same (placed_at p.sector (entry_of x)) p (sym (ap (λ (o : Option SlotEntry). option_map (placed_at p.sector) (option_map entry_of o)) some) ∙ is) in
           record {
-            read = some ∙ ap (λ (g : NvsPlaced). Some (record { slot = g.slot; entry = g.entry })) (sym there);
-            sector = ap (λ (g : NvsPlaced). g.sector) there;
-            id = ap (λ (g : NvsPlaced). g.entry.id) there ∙ ap (λ (q : Placed). q.id) placed;
-            len = ap (λ (g : NvsPlaced). g.entry.len) there ∙ ap (λ (q : Placed). q.len) placed;
+            read = some ∙ ap (λ (g : Found). Some (record { slot = g.slot; entry = g.entry })) (sym there);
+            sector = ap (λ (g : Found). g.sector) there;
+            id = ap (λ (g : Found). g.entry.id) there ∙ ap (λ (q : Placed). q.id) placed;
+            len = ap (λ (g : Found). g.entry.len) there ∙ ap (λ (q : Placed). q.len) placed;
           }
     ]
   where
     some_same : {X : Type 0} (x y : X) → Some x ≡ Some y → x ≡ y
     some_same x y e = cc
 
-pub adds_copy : (unit : ℕ) (b e : List ℕ) (sectors : List (List ℕ)) (p : Placed) (f : NvsPlaced) → ReadsAs unit sectors p f → cost unit p.len + 3 * slot_size unit ≤ low unit b - data_end unit b
+pub adds_copy : (unit : ℕ) (b e : List ℕ) (sectors : List (List ℕ)) (p : Placed) (f : Found) → ReadsAs unit sectors p f → cost unit p.len + 3 * slot_size unit ≤ low unit b - data_end unit b
     → AddsPair unit b e f.entry.id (placed_bytes sectors f) → Adds (kind_in unit) b e p.id ((kind_in unit).bytes (sector_at sectors p.sector) p.slot)
 adds_copy unit b e sectors p f same room h =
     let from : List ℕ = sector_at sectors p.sector in
-    let x : Found = record { slot = f.slot; entry = f.entry } in
-    let own : found_bytes from x ≡ (kind_in unit).bytes from p.slot = sym (ap (λ (o : Option Found). option_map_or (found_bytes from) o []) same.read) in
+    let x : SlotEntry = record { slot = f.slot; entry = f.entry } in
+    let own : found_bytes from x ≡ (kind_in unit).bytes from p.slot = sym (ap (λ (o : Option SlotEntry). option_map_or (found_bytes from) o []) same.read) in
     let there : placed_bytes sectors f ≡ found_bytes from x = ap (λ (place : ℕ). slice_range (sector_at sectors place) f.entry.offset (f.entry.offset + f.entry.len)) same.sector in
     let own_len : cost unit (length (placed_bytes sectors f)) ≡ cost unit p.len = ap (cost unit) (ap length there ∙ bytes_len unit from p.slot x same.read ∙ same.len) in
     subst (λ (bs : List ℕ). Adds (kind_in unit) b e p.id bs) (there ∙ own)

@@ -6,29 +6,29 @@ use Rattle.flash_map.specs.Area.{sector_at}
 use Rattle.ring_store.specs.declared.entry.Entry.{Entry}
 use Rattle.ring_store.specs.declared.entry.Placed.{Placed}
 use Rattle.ring_store.specs.Kind.{Range, Units, Kind}
+use Rattle.nvs_store.specs.declared.scan.SlotEntry.{SlotEntry}
 use Rattle.nvs_store.specs.declared.scan.Found.{Found}
-use Rattle.nvs_store.specs.declared.scan.Placed.{Placed as NvsPlaced}
 use Rattle.nvs_store.specs.Geometry.{slot_size, cost, capacity}
 use Rattle.nvs_store.specs.Sector.{slot_at, used_slots, counting_entry, low, data_end}
 use Rattle.nvs_store.specs.Scans.{reading, damage_of}
 
 -- an entry without what is its store's own
-abbrev pub entry_of : Found → Entry
+abbrev pub entry_of : SlotEntry → Entry
 entry_of f = record { slot = f.slot; id = f.entry.id; len = f.entry.len }
 
 -- the same of one at its place
-abbrev pub placed_of : NvsPlaced → Placed
+abbrev pub placed_of : Found → Placed
 placed_of p = record { sector = p.sector; slot = p.slot; id = p.entry.id; len = p.entry.len }
 
 -- the entry at a place, as NVS reads it
-pub record ReadsAs (unit : ℕ) (sectors : List (List ℕ)) (p : Placed) (own : NvsPlaced) : Type 0 where
+pub record ReadsAs (unit : ℕ) (sectors : List (List ℕ)) (p : Placed) (own : Found) : Type 0 where
   pub read : counting_entry unit (slot_at unit (sector_at sectors p.sector) p.slot) ≡ Some (record { slot = own.slot; entry = own.entry })
   pub sector : own.sector ≡ p.sector
   pub id : own.entry.id ≡ p.id
   pub len : own.entry.len ≡ p.len
 
 -- the bytes that an entry names
-abbrev pub found_bytes : List ℕ → Found → List ℕ
+abbrev pub found_bytes : List ℕ → SlotEntry → List ℕ
 found_bytes b f = slice_range b f.entry.offset (f.entry.offset + f.entry.len)
 
 -- a step that ends whole spends just so many, and one that is cut no more

@@ -18,8 +18,8 @@ ghost use Rattle.ring_store.specs.Standing.{IsStoreArea};
 use flash_map::{Area, Damaged, Geometry, area_erase, geometry, sector_view};
 use flash_sim::{Flash, PowerLost, Steps};
 use nvs_store::{
-    Placed as NvsPlaced, Redo, Scan, append, capacity, copy_entry, cost, counting_entry, find_in,
-    is_blank, is_closed, mount_scan, put_close, put_done, scan_sector, slot_size, used_count,
+    Found, Redo, Scan, append, capacity, copy_entry, cost, counting_entry, find_in, is_blank,
+    is_closed, mount_scan, put_close, put_done, scan_sector, slot_size, used_count,
 };
 use ring_store::{Placed, SlotSectors};
 use std::sync::ledger::Ledger;
@@ -36,7 +36,7 @@ pub struct NvsOpen {
 }
 
 // The entry at its place, without what is its store's own.
-fn placed(own: NvsPlaced) -> Placed
+fn placed(own: Found) -> Placed
     ensures value { result ≡ placed_of own }
     ensures small { result.id < 2 ^ 16 }
     ensures short { result.len < 2 ^ 16 }
@@ -55,7 +55,7 @@ fn read_again<F: Flash, L: Ledger>(
     area: &Area,
     at: &Placed,
     steps: &mut Steps<L>,
-) -> NvsPlaced
+) -> Found
     requires area { IsStoreArea nvs_role (F.device flash.now).banks area.now }
     requires inside { at.now.sector < area.now.sectors }
     requires listed { let d = F.device flash.now in

@@ -6,7 +6,7 @@ use Rattle.std.proofs.lemmas.Bool.{cases_lt, not_from_true, not-false}
 use Rattle.std.proofs.lemmas.List.{length-take-le, length-append, length-drop, length-replicate, append-nil, map_push, take_at, ext_get_or, get_or-take, get_or-drop, get_or-replicate}
 use Rattle.std.proofs.lemmas.List.Elements.{filter_map-append}
 use Rattle.nvs_store.specs.declared.entry.Entry.{Entry}
-use Rattle.nvs_store.specs.declared.scan.Found.{Found}
+use Rattle.nvs_store.specs.declared.scan.SlotEntry.{SlotEntry}
 use Rattle.flash_map.specs.Units.{IsUnit, padded, is_erased}
 use Rattle.nvs_store.specs.Geometry.{slot_size}
 use Rattle.nvs_store.specs.Entries.{encoded}
@@ -29,7 +29,7 @@ use Rattle.nvs_store.specs.Images.{data_image, entry_image, with_slot}
 
 -- ---- pairs whose data stays
 
-pub pairs_kept : (unit limit : ℕ) (old new : List ℕ) → ((i j : ℕ) → j ≤ limit → slice_range new i j ≡ slice_range old i j) → (pad : IsPadding unit) → (fs : List Found) (a : ℕ) → fold max a (map (entry_end unit) fs) ≤ limit
+pub pairs_kept : (unit limit : ℕ) (old new : List ℕ) → ((i j : ℕ) → j ≤ limit → slice_range new i j ≡ slice_range old i j) → (pad : IsPadding unit) → (fs : List SlotEntry) (a : ℕ) → fold max a (map (entry_end unit) fs) ≤ limit
     → map (pair_of new) fs ≡ map (pair_of old) fs
 pairs_kept unit limit old new same pad [] a le = refl
 pairs_kept unit limit old new same pad (f ∷ fs) a le =
@@ -220,12 +220,12 @@ put_entry unit b e bytes h next =
     let start : slot.start ≡ low unit b - slot_size unit = at.0 in
     let counted : counts unit slot.start e ≡ true =
     counts-ordinary unit slot.start e next.ordinary (ap (λ (x : ℕ). x % unit) next.place ∙ data_end-aligned unit b h.is_unit) (omega (arith, start)) in
-    let f : Found = record { slot = slot.index; entry = e } in
+    let f : SlotEntry = record { slot = slot.index; entry = e } in
     let read : counting_entry unit slot ≡ Some f = counting_entry-encoded unit slot e (replicate (slot_size unit - 8) 0xFF) entry counted slot-bytes in
     let more = has_slot_more unit b (length bytes) (data_image unit bytes) (entry_image unit e) h lower-long (omega arith) (is_used-encoded slot e (replicate (slot_size unit - 8) 0xFF) next.ordinary slot-bytes) in
     let found : entries unit new ≡ entries unit b ++ f ∷ [] =
     ap (filter_map (counting_entry unit)) more.slots ∙ filter_map-append (counting_entry unit) (used_slots unit b) (slot ∷ [])
-    ∙ ap (λ (o : Option Found). entries unit b ++ cons_option o []) read in
+    ∙ ap (λ (o : Option SlotEntry). entries unit b ++ cons_option o []) read in
     let inside : data_end unit b + length (data_image unit bytes) ≤ length b = omega arith in
     let long-mid : length (overwritten b (data_end unit b) (data_image unit bytes)) ≡ length b = length-overwritten b (data_end unit b) (data_image unit bytes) inside in
     let stored : slice_range new (data_end unit b) (data_end unit b + length bytes) ≡ bytes =
@@ -299,7 +299,7 @@ put_cut b e len lower h lower-long used =
     let more = has_slot_more 4 b len lower (take 4 (encoded e)) h lower-long (omega arith) (used slot slot-bytes) in
     let found : entries 4 new ≡ entries 4 b =
     ap (filter_map (counting_entry 4)) more.slots ∙ filter_map-append (counting_entry 4) (used_slots 4 b) (slot ∷ [])
-    ∙ ap (λ (o : Option Found). entries 4 b ++ cons_option o []) (counting_entry-cut 4 slot e (omega arith) slot-bytes) ∙ append-nil (entries 4 b) in (
+    ∙ ap (λ (o : Option SlotEntry). entries 4 b ++ cons_option o []) (counting_entry-cut 4 slot e (omega arith) slot-bytes) ∙ append-nil (entries 4 b) in (
       record {
         list = ap (map (pair_of new)) found ∙ kept 4 (data_end 4 b) b new h.is_unit refl more.below;
         gc_done = ap (list_any is_gc_done) more.slots ∙ any_push is_gc_done (used_slots 4 b) slot (is_gc_done-cut slot e slot-bytes);

@@ -6,7 +6,7 @@ use Rattle.std.specs.Int.{w16, to_le_bytes}
 use Rattle.std.proofs.lemmas.Bool.{and_left, and_right, cases_eq, ne_eqb, lt-leb, not_from_false, and_from, le-leb}
 use Rattle.crc8_entry.specs.Crc.{crc}
 use Rattle.nvs_store.specs.declared.entry.Entry.{Entry}
-use Rattle.nvs_store.specs.declared.scan.Found.{Found}
+use Rattle.nvs_store.specs.declared.scan.SlotEntry.{SlotEntry}
 use Rattle.nvs_store.specs.Entries.{fields, encoded, entry_of, decoded}
 use Rattle.flash_map.specs.Units.{is_erased}
 use Rattle.ring_laws.specs.Slots.{Slot}
@@ -59,7 +59,7 @@ entry_of-cut e = refl
 counts-long : (unit start : ℕ) (e : Entry) → start < 65535 → e.len ≡ 65535 → counts unit start e ≡ false
 counts-long unit start e low long = and_right (not (eqb e.id 65535) && eqb (e.offset % unit) 0) (leb (e.offset + e.len) start) (lt-leb _ _ (omega arith))
 
-abbrev found_in : ℕ → Slot → Option Entry → Option Found
+abbrev found_in : ℕ → Slot → Option Entry → Option SlotEntry
 found_in unit slot o = option_and_then (λ e. cond (counts unit slot.start e) (Some (record { slot = slot.index; entry = e })) None) o
 
 pub counting_entry-is : (unit : ℕ) (slot : Slot) (o : Option Entry) → decoded slot.bytes ≡ o → counting_entry unit slot ≡ found_in unit slot o

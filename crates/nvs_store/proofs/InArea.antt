@@ -18,8 +18,8 @@ use Rattle.ring_laws.specs.Area.{round, counts_at, open_sector}
 use Rattle.ring_laws.proofs.Newest.{last-all}
 use Rattle.ring_laws.proofs.Places.{All-range}
 use Rattle.ring_laws.proofs.Stays.{open_within}
+use Rattle.nvs_store.specs.declared.scan.SlotEntry.{SlotEntry}
 use Rattle.nvs_store.specs.declared.scan.Found.{Found}
-use Rattle.nvs_store.specs.declared.scan.Placed.{Placed}
 use Rattle.nvs_store.specs.Geometry.{slot_size}
 use Rattle.nvs_store.specs.Sector.{counts, counting_entry, is_used, is_wanted, entries, slot_at, used_slots}
 use Rattle.nvs_store.specs.Scans.{reading, placed_at, placed_bytes, counted_in, all_placed, last_of, last_placed, list_of, IsInArea}
@@ -29,11 +29,11 @@ use Rattle.nvs_store.proofs.Marks.{counting_entry_counts}
 use Rattle.ring_laws.proofs.AreaReads.{length-sectors}
 
 -- what an entry that counts says of itself, in a sector of this size
-record IsOrdinary (size : ℕ) (f : Found) : Type 0 where
+record IsOrdinary (size : ℕ) (f : SlotEntry) : Type 0 where
   inside : f.entry.offset + f.entry.len ≤ size
   ordinary : f.entry.id ≡ 0xFFFF → ⊥
 
-ordinary_by : (unit start size : ℕ) (f : Found) → start ≤ size → counts unit start f.entry ≡ true → IsOrdinary size f
+ordinary_by : (unit start size : ℕ) (f : SlotEntry) → start ≤ size → counts unit start f.entry ≡ true → IsOrdinary size f
 ordinary_by unit start size f under counted =
     let parts = and_parts _ _ counted in
     let ends : f.entry.offset + f.entry.len ≤ start = leb-true _ _ parts.1 in
@@ -54,7 +54,7 @@ ordinary_from unit b a (suc n) =
     ]
 
 -- the entry of one slot, in its sector of an area
-pub slot-in : (unit : ℕ) (b : List ℕ) (k sectors size place : ℕ) (f : Found) → Some f ≡ counting_entry unit (slot_at unit b k) → length b ≡ size → place < sectors → IsInArea sectors size (placed_at place f)
+pub slot-in : (unit : ℕ) (b : List ℕ) (k sectors size place : ℕ) (f : SlotEntry) → Some f ≡ counting_entry unit (slot_at unit b k) → length b ≡ size → place < sectors → IsInArea sectors size (placed_at place f)
 slot-in unit b k sectors size place f is long within =
     let start = start-slot_at (slot_size unit) b k in
     elim (counting_entry_counts unit (slot_at unit b k)) [
@@ -64,15 +64,15 @@ slot-in unit b k sectors size place f is long within =
           let own = ordinary_by unit (slot_at unit b k).start size g (omega arith) counted in
           record {
             sector = within;
-            inside = subst (λ (p : Found). p.entry.offset + p.entry.len ≤ size) (sym same) own.inside;
-            ordinary = subst (λ (p : Found). p.entry.id ≡ 0xFFFF → ⊥) (sym same) own.ordinary;
+            inside = subst (λ (p : SlotEntry). p.entry.offset + p.entry.len ≤ size) (sym same) own.inside;
+            ordinary = subst (λ (p : SlotEntry). p.entry.id ≡ 0xFFFF → ⊥) (sym same) own.ordinary;
           }
     ]
   where
-    some_not_none : (f : Found) → Some f ≡ None → ⊥
+    some_not_none : (f : SlotEntry) → Some f ≡ None → ⊥
     some_not_none f e = cc
 
-    same_found : (f g : Found) → Some f ≡ Some g → f ≡ g
+    same_found : (f g : SlotEntry) → Some f ≡ Some g → f ≡ g
     same_found f g e = cc
 
 entries-ordinary : (unit : ℕ) (b : List ℕ) → All (IsOrdinary (length b)) (entries unit b)
@@ -121,7 +121,7 @@ last_placed-in d area id lawful is_area some = last-all (λ f. is_wanted (Some i
 
 -- ---- the reserved id
 
-none_reserved : (sectors size : ℕ) (fs : List Placed) → All (IsInArea sectors size) fs → last_of 0xFFFF fs ≡ None
+none_reserved : (sectors size : ℕ) (fs : List Found) → All (IsInArea sectors size) fs → last_of 0xFFFF fs ≡ None
 none_reserved sectors size [] all = refl
 none_reserved sectors size (f ∷ fs) all =
     ap (λ (t : Bool). fold (λ last g. cond (eqb g.entry.id 0xFFFF) (Some g) last) (cond t (Some f) None) fs) (ne_eqb f.entry.id 0xFFFF (All-head (IsInArea sectors size) f fs all).ordinary)
@@ -131,5 +131,5 @@ none_reserved sectors size (f ∷ fs) all =
 pub reserved-absent : (d : Device) (area : Area) → IsLawful d.banks d.bytes → IsLawfulArea d.banks area → 0 < area.sectors → last (list_of (unit_of d area) (sectors_of d area)) 0xFFFF ≡ None
 reserved-absent d area lawful is_area some =
     found-value (unit_of d area) (sectors_of d area) 0xFFFF
-    ∙ ap (λ (o : Option Placed). option_and_then (λ f. value_of (placed_bytes (sectors_of d area) f)) o)
+    ∙ ap (λ (o : Option Found). option_and_then (λ f. value_of (placed_bytes (sectors_of d area) f)) o)
     (none_reserved area.sectors (sector_size d area) (all_placed (unit_of d area) (sectors_of d area)) (listed-in d area lawful is_area some))

@@ -8,7 +8,7 @@ use Rattle.std.proofs.lemmas.Nat.{le-div}
 use Rattle.std.proofs.lemmas.List.{length-take-le}
 use Rattle.std.proofs.lemmas.List.FromFn.{length-map-range_with_len}
 use Rattle.nvs_store.specs.declared.entry.Entry.{Entry}
-use Rattle.nvs_store.specs.declared.scan.Found.{Found}
+use Rattle.nvs_store.specs.declared.scan.SlotEntry.{SlotEntry}
 use Rattle.flash_map.specs.Units.{padded, is_erased}
 use Rattle.nvs_store.specs.Geometry.{slot_size, capacity}
 use Rattle.nvs_store.specs.Entries.{decoded}
@@ -44,7 +44,7 @@ used_inside unit b k positive room le = counting.used_inside is_used 1 (slot_siz
 
 -- ---- going over the used slots
 
-abbrev pub entries_to : ℕ → List ℕ → ℕ → List Found
+abbrev pub entries_to : ℕ → List ℕ → ℕ → List SlotEntry
 entries_to unit b n = walk.entries_to (counting_entry unit) 1 (slot_size unit) b n
 
 pub entries_to_more : (unit : ℕ) (b : List ℕ) (n : ℕ) → entries_to unit b (n + 1) ≡ entries_to unit b n ++ cons_option (counting_entry unit (slot_at unit b (n + 1))) []
@@ -95,6 +95,6 @@ fence_test unit b used count is at =
 pub overfull_is : (unit : ℕ) (b : List ℕ) (fence cap costs : ℕ) (passes : Bool) → fence ≡ low unit b - slot_size unit → cap ≡ capacity unit (length b) → passes ≡ list_any (λ f. ltb fence (f.entry.offset + f.entry.len)) (entries unit b)
     → costs ≡ sum_by (entry_cost unit) (entries unit b) → (passes || ltb cap costs) ≡ is_overfull unit b
 overfull_is unit b fence cap costs passes at room ends sums =
-    ap (λ (t : Bool). t || ltb cap costs) (ends ∙ ap (λ (n : ℕ). list_any (λ (f : Found). ltb n (f.entry.offset + f.entry.len)) (entries unit b)) at)
+    ap (λ (t : Bool). t || ltb cap costs) (ends ∙ ap (λ (n : ℕ). list_any (λ (f : SlotEntry). ltb n (f.entry.offset + f.entry.len)) (entries unit b)) at)
     ∙ ap (λ (n : ℕ). list_any (λ f. ltb (low unit b - slot_size unit) (f.entry.offset + f.entry.len)) (entries unit b) || ltb n costs) room
     ∙ ap (λ (n : ℕ). list_any (λ f. ltb (low unit b - slot_size unit) (f.entry.offset + f.entry.len)) (entries unit b) || ltb (capacity unit (length b)) n) sums

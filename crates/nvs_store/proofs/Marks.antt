@@ -7,7 +7,7 @@ use Rattle.std.proofs.lemmas.List.{length-take, get_or-take, append-nil, take_at
 use Rattle.std.proofs.lemmas.List.Folds.{list_any-append, list_all_at}
 use Rattle.std.proofs.lemmas.List.Edits.{length-between, get_or-between}
 use Rattle.std.proofs.lemmas.List.Elements.{filter_map-append}
-use Rattle.nvs_store.specs.declared.scan.Found.{Found}
+use Rattle.nvs_store.specs.declared.scan.SlotEntry.{SlotEntry}
 use Rattle.flash_map.specs.Units.{IsUnit, padded, is_erased}
 use Rattle.ring_laws.proofs.SlotLemmas.{start-slot_at}
 use Rattle.nvs_store.specs.Geometry.{slot_size}
@@ -77,7 +77,7 @@ data_end-by : (unit : ℕ) (old new : List ℕ) → written_end unit (low unit n
 unfolding data_end
 data_end-by unit old new written same =
     ap (λ (x : ℕ). max x (max (fold max 0 (map (entry_end unit) (entries unit new))) (sum_by (λ f. padded unit f.entry.len) (entries unit new)))) written
-    ∙ ap (λ (fs : List Found). max (written_end unit (low unit old - slot_size unit) old) (max (fold max 0 (map (entry_end unit) fs)) (sum_by (λ f. padded unit f.entry.len) fs))) same
+    ∙ ap (λ (fs : List SlotEntry). max (written_end unit (low unit old - slot_size unit) old) (max (fold max 0 (map (entry_end unit) fs)) (sum_by (λ f. padded unit f.entry.len) fs))) same
 
 -- gc-done in the next slot
 pub put_done : (unit : ℕ) (b : List ℕ) → HasRoom unit b 0 → MarksDone unit b (with_mark unit b (entry_image unit (special_entry (data_end unit b))))
@@ -99,7 +99,7 @@ put_done unit b h =
     let read = special_entry-read unit slot (data_end unit b) rest (omega arith) slot-bytes in
     let found : entries unit new ≡ entries unit b =
     ap (filter_map (counting_entry unit)) more.slots ∙ filter_map-append (counting_entry unit) (used_slots unit b) (slot ∷ [])
-    ∙ ap (λ (o : Option Found). entries unit b ++ cons_option o []) read.0 ∙ append-nil (entries unit b) in
+    ∙ ap (λ (o : Option SlotEntry). entries unit b ++ cons_option o []) read.0 ∙ append-nil (entries unit b) in
     let lower = more.lower in
     let long = more.long in
     let mid : overwritten b (data_end unit b) [] ≡ b = overwritten_nil b (data_end unit b) in
@@ -133,11 +133,11 @@ put_cut_done b h =
 
 -- ---- the close entry, in slot 0
 
-abbrev pub entries_from : ℕ → List ℕ → ℕ → ℕ → List Found
+abbrev pub entries_from : ℕ → List ℕ → ℕ → ℕ → List SlotEntry
 entries_from unit b a n = filter_map (counting_entry unit) (map (slot_at unit b) (range_with_len a n))
 
 -- a slot's entry, where there is one that counts
-pub counting_entry_counts : (unit : ℕ) (slot : Slot) → (counting_entry unit slot ≡ None) ⊎ ((f : Found) × (counting_entry unit slot ≡ Some f) × (counts unit slot.start f.entry ≡ true) × (f.slot ≡ slot.index))
+pub counting_entry_counts : (unit : ℕ) (slot : Slot) → (counting_entry unit slot ≡ None) ⊎ ((f : SlotEntry) × (counting_entry unit slot ≡ Some f) × (counts unit slot.start f.entry ≡ true) × (f.slot ≡ slot.index))
 counting_entry_counts unit slot =
     elim (decoded_cases slot.bytes) [
       | inl none ↦ inl (counting_entry-is unit slot None none)
@@ -151,7 +151,7 @@ counting_entry_counts unit slot =
     ]
 
 -- its data ends under its own slot
-pub counting_entry_under : (unit : ℕ) (slot : Slot) → (counting_entry unit slot ≡ None) ⊎ ((f : Found) × (counting_entry unit slot ≡ Some f) × (f.entry.offset + f.entry.len ≤ slot.start))
+pub counting_entry_under : (unit : ℕ) (slot : Slot) → (counting_entry unit slot ≡ None) ⊎ ((f : SlotEntry) × (counting_entry unit slot ≡ Some f) × (f.entry.offset + f.entry.len ≤ slot.start))
 counting_entry_under unit slot =
     elim (counting_entry_counts unit slot) [
       | inl none ↦ inl none

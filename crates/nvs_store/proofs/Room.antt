@@ -8,7 +8,7 @@ use Rattle.std.proofs.lemmas.List.{map_push}
 use Rattle.std.proofs.lemmas.List.Sums.{fold_push, sum_by_push, list_all-from_AllPass, AllPass-from_list_all}
 use Rattle.std.proofs.lemmas.List.Elements.{All-from_get_or}
 use Rattle.nvs_store.specs.declared.entry.Entry.{Entry}
-use Rattle.nvs_store.specs.declared.scan.Found.{Found}
+use Rattle.nvs_store.specs.declared.scan.SlotEntry.{SlotEntry}
 use Rattle.flash_map.specs.Units.{IsUnit, padded, is_erased}
 use Rattle.nvs_store.specs.Geometry.{slot_size}
 use Rattle.nvs_store.specs.Entries.{entry_of}
@@ -43,7 +43,7 @@ max_keeps P a b p q =
     ]
 
 -- what counts is aligned
-pub counting_entry_cases : (unit : ℕ) (slot : Slot) → (counting_entry unit slot ≡ None) ⊎ ((f : Found) × (counting_entry unit slot ≡ Some f) × (f.entry.offset % unit ≡ 0))
+pub counting_entry_cases : (unit : ℕ) (slot : Slot) → (counting_entry unit slot ≡ None) ⊎ ((f : SlotEntry) × (counting_entry unit slot ≡ Some f) × (f.entry.offset % unit ≡ 0))
 counting_entry_cases unit slot =
     elim (decoded_cases slot.bytes) [
       | inl none ↦ inl (counting_entry-is unit slot None none)
@@ -66,7 +66,7 @@ ends-aligned unit pad (slot ∷ slots) a aligned =
       | inr (f, some, at) ↦ rw some (ends-aligned unit pad slots (max a (entry_end unit f)) (max_keeps (λ x. x % unit ≡ 0) a (entry_end unit f) aligned (pad.sum_aligned f.entry.offset (padded unit f.entry.len) at (pad.aligned f.entry.len))))
     ]
 
-sum-aligned : (unit : ℕ) → IsPadding unit → (fs : List Found) (a : ℕ) → a % unit ≡ 0 → fold (λ a f. a + padded unit f.entry.len) a fs % unit ≡ 0
+sum-aligned : (unit : ℕ) → IsPadding unit → (fs : List SlotEntry) (a : ℕ) → a % unit ≡ 0 → fold (λ a f. a + padded unit f.entry.len) a fs % unit ≡ 0
 sum-aligned unit pad [] a aligned = aligned
 sum-aligned unit pad (f ∷ fs) a aligned = sum-aligned unit pad fs (a + padded unit f.entry.len) (pad.sum_aligned a (padded unit f.entry.len) aligned (pad.aligned f.entry.len))
 
@@ -92,18 +92,18 @@ pub data_end-bounded : (unit : ℕ) (old new : List ℕ) (limit : ℕ) → entri
 unfolding data_end
 data_end-bounded unit old new limit same below written =
     let above = data_end-above unit old in
-    let ends : fold max 0 (map (entry_end unit) (entries unit new)) ≡ fold max 0 (map (entry_end unit) (entries unit old)) = ap (λ (fs : List Found). fold max 0 (map (entry_end unit) fs)) same in
-    let sums : sum_by (λ f. padded unit f.entry.len) (entries unit new) ≡ sum_by (λ f. padded unit f.entry.len) (entries unit old) = ap (sum_by (λ (f : Found). padded unit f.entry.len)) same in
+    let ends : fold max 0 (map (entry_end unit) (entries unit new)) ≡ fold max 0 (map (entry_end unit) (entries unit old)) = ap (λ (fs : List SlotEntry). fold max 0 (map (entry_end unit) fs)) same in
+    let sums : sum_by (λ f. padded unit f.entry.len) (entries unit new) ≡ sum_by (λ f. padded unit f.entry.len) (entries unit old) = ap (sum_by (λ (f : SlotEntry). padded unit f.entry.len)) same in
     omega arith
 
 -- one more entry whose data stands at the data end
-pub data_end-grown : (unit : ℕ) (old new : List ℕ) (f : Found) → entries unit new ≡ entries unit old ++ f ∷ [] → f.entry.offset ≡ data_end unit old
+pub data_end-grown : (unit : ℕ) (old new : List ℕ) (f : SlotEntry) → entries unit new ≡ entries unit old ++ f ∷ [] → f.entry.offset ≡ data_end unit old
     → written_end unit (low unit new - slot_size unit) new ≤ data_end unit old + padded unit f.entry.len → data_end unit new ≡ data_end unit old + padded unit f.entry.len
 unfolding data_end
 data_end-grown unit old new f more at written =
     let above = data_end-above unit old in
     let ends : fold max 0 (map (entry_end unit) (entries unit new)) ≡ max (fold max 0 (map (entry_end unit) (entries unit old))) (entry_end unit f) =
-    ap (λ (fs : List Found). fold max 0 (map (entry_end unit) fs)) more ∙ ap (fold max 0) (map_push (entry_end unit) (entries unit old) f) ∙ fold_push max 0 (map (entry_end unit) (entries unit old)) (entry_end unit f) in
+    ap (λ (fs : List SlotEntry). fold max 0 (map (entry_end unit) fs)) more ∙ ap (fold max 0) (map_push (entry_end unit) (entries unit old) f) ∙ fold_push max 0 (map (entry_end unit) (entries unit old)) (entry_end unit f) in
     let sums : sum_by (λ f. padded unit f.entry.len) (entries unit new) ≡ sum_by (λ f. padded unit f.entry.len) (entries unit old) + padded unit f.entry.len =
     ap (sum_by (λ f. padded unit f.entry.len)) more ∙ sum_by_push (λ f. padded unit f.entry.len) (entries unit old) f in
     omega arith

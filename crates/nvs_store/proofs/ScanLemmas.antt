@@ -8,7 +8,7 @@ use Rattle.std.proofs.lemmas.List.Sums.{AllPass-from_list_all, list_all-from_All
 use Rattle.std.proofs.lemmas.List.Elements.{All-replicate}
 use Rattle.flash_map.specs.Units.{IsUnit, padded, is_erased}
 use Rattle.ring_laws.specs.Slots.{Slot}
-use Rattle.nvs_store.specs.declared.scan.Found.{Found}
+use Rattle.nvs_store.specs.declared.scan.SlotEntry.{SlotEntry}
 use Rattle.nvs_store.specs.declared.scan.Redo.TheVariants.{Nothing}
 use Rattle.nvs_store.specs.declared.scan.Scan.{Scan}
 use Rattle.nvs_store.specs.Geometry.{slot_size}
@@ -49,8 +49,8 @@ pub blank-data_end : (unit : ℕ) (b : List ℕ) → IsUnit unit → is_erased b
 unfolding data_end
 blank-data_end unit b is-unit blank =
     let none : entries unit b ≡ [] = ap (filter_map (counting_entry unit)) (blank-used unit b blank) in
-    let ends : fold max 0 (map (entry_end unit) (entries unit b)) ≡ 0 = ap (λ (fs : List Found). fold max 0 (map (entry_end unit) fs)) none in
-    let sums : sum_by (λ f. padded unit f.entry.len) (entries unit b) ≡ 0 = ap (sum_by (λ (f : Found). padded unit f.entry.len)) none in
+    let ends : fold max 0 (map (entry_end unit) (entries unit b)) ≡ 0 = ap (λ (fs : List SlotEntry). fold max 0 (map (entry_end unit) fs)) none in
+    let sums : sum_by (λ f. padded unit f.entry.len) (entries unit b) ≡ 0 = ap (sum_by (λ (f : SlotEntry). padded unit f.entry.len)) none in
     let written : written_end unit (low unit b - slot_size unit) b ≤ 0 =
     written_end-le unit (low unit b - slot_size unit) b 0 is-unit (zero-mod unit) (omega arith) (λ k from below. blank-byte b blank k (omega arith)) in
     omega arith

@@ -6,7 +6,7 @@ use Rattle.std.proofs.lemmas.Nat.{le-div}
 use Rattle.std.proofs.lemmas.Bool.{false≢true, cases_Bool, cond-true, cond-false, lt-ltb, le-ltb, ltb-false, leb-true, ne_eqb, and_parts, and_left, or_parts, or_from, or_right, or_cases, and_from, not_from_false, not-true}
 use Rattle.std.proofs.lemmas.List.Sums.{sum_by_push}
 use Rattle.std.proofs.lemmas.List.FromFn.{length-map-range_with_len}
-use Rattle.nvs_store.specs.declared.scan.Found.{Found}
+use Rattle.nvs_store.specs.declared.scan.SlotEntry.{SlotEntry}
 use Rattle.flash_map.specs.Units.{IsUnit, padded, is_erased}
 use Rattle.nvs_store.specs.Geometry.{slot_size, cost, capacity}
 use Rattle.nvs_store.specs.Entries.{entry_of}
@@ -36,7 +36,7 @@ entries_cost unit b = sym (costs_are (nvs unit) (are_nvs unit) b 0 refl)
 
 -- ---- sound, from the room under the fence
 
-ends_within : (unit limit : ℕ) → IsPadding unit → (fs : List Found) (a : ℕ) → fold max a (map (entry_end unit) fs) ≤ limit → list_any (λ f. ltb limit (f.entry.offset + f.entry.len)) fs ≡ false
+ends_within : (unit limit : ℕ) → IsPadding unit → (fs : List SlotEntry) (a : ℕ) → fold max a (map (entry_end unit) fs) ≤ limit → list_any (λ f. ltb limit (f.entry.offset + f.entry.len)) fs ≡ false
 ends_within unit limit pad [] a le = refl
 ends_within unit limit pad (f ∷ fs) a le =
     let least = fold_max-ge (max a (entry_end unit f)) (map (entry_end unit) fs) in
@@ -82,7 +82,7 @@ keeps-further unit len old new h sound keeps =
     let above = data_end-above unit old in
     let room = h.room in
     let lower = keeps.lower in
-    let ends : fold max 0 (map (entry_end unit) (entries unit new)) ≡ fold max 0 (map (entry_end unit) (entries unit old)) = ap (λ (fs : List Found). fold max 0 (map (entry_end unit) fs)) keeps.same_entries in
+    let ends : fold max 0 (map (entry_end unit) (entries unit new)) ≡ fold max 0 (map (entry_end unit) (entries unit old)) = ap (λ (fs : List SlotEntry). fold max 0 (map (entry_end unit) fs)) keeps.same_entries in
     let costs = sound-costs unit old sound in
     let same_costs : pairs_cost unit (pairs unit new) ≡ pairs_cost unit (pairs unit old) = ap (pairs_cost unit) keeps.list in
     let same_cap : capacity unit (length new) ≡ capacity unit (length old) = ap (capacity unit) keeps.long in
@@ -129,8 +129,8 @@ close-sound unit old new full sound closes =
     ∙ ap (λ (n : ℕ). ltb (length (used_slots unit old)) n)
     (length-map-range_with_len (slot_at unit new) 1 (length new / slot_size unit - 1) ∙ ap (λ (m : ℕ). m / slot_size unit - 1) closes.long ∙ sym (length-map-range_with_len (slot_at unit old) 1 (length old / slot_size unit - 1))) in
     let over : is_overfull unit new ≡ is_overfull unit old =
-    ap (λ (xs : List Slot). list_any (λ (f : Found). ltb (length new - (length xs + 1) * slot_size unit - slot_size unit) (f.entry.offset + f.entry.len)) (filter_map (counting_entry unit) xs) || ltb (capacity unit (length new)) (sum_by (entry_cost unit) (filter_map (counting_entry unit) xs))) closes.same_slots
-    ∙ ap (λ (m : ℕ). list_any (λ (f : Found). ltb (m - (length (used_slots unit old) + 1) * slot_size unit - slot_size unit) (f.entry.offset + f.entry.len)) (entries unit old) || ltb (capacity unit m) (sum_by (entry_cost unit) (entries unit old))) closes.long in
+    ap (λ (xs : List Slot). list_any (λ (f : SlotEntry). ltb (length new - (length xs + 1) * slot_size unit - slot_size unit) (f.entry.offset + f.entry.len)) (filter_map (counting_entry unit) xs) || ltb (capacity unit (length new)) (sum_by (entry_cost unit) (filter_map (counting_entry unit) xs))) closes.same_slots
+    ∙ ap (λ (m : ℕ). list_any (λ (f : SlotEntry). ltb (m - (length (used_slots unit old) + 1) * slot_size unit - slot_size unit) (f.entry.offset + f.entry.len)) (entries unit old) || ltb (capacity unit m) (sum_by (entry_cost unit) (entries unit old))) closes.long in
     elim (or_cases (is_erased old) (has_fence unit old && not (is_overfull unit old)) sound) [
       | inl blank ↦ absurd (false≢true (sym full ∙ blank))
       | inr parts ↦
@@ -142,7 +142,7 @@ close-sound unit old new full sound closes =
 -- ---- what fits keeps within the capacity
 
 -- a slot of an entry that counts is no gc-done
-counts_not_done : (unit : ℕ) (slot : Slot) → (counting_entry unit slot ≡ None) ⊎ ((f : Found) × (counting_entry unit slot ≡ Some f) × (is_gc_done slot ≡ false))
+counts_not_done : (unit : ℕ) (slot : Slot) → (counting_entry unit slot ≡ None) ⊎ ((f : SlotEntry) × (counting_entry unit slot ≡ Some f) × (is_gc_done slot ≡ false))
 counts_not_done unit slot =
     elim (decoded_cases slot.bytes) [
       | inl none ↦ inl (counting_entry-is unit slot None none)
@@ -157,7 +157,7 @@ counts_not_done unit slot =
           ]
     ]
 
-entry_unmarked : (unit : ℕ) (slot : Slot) (f : Found) → counting_entry unit slot ≡ Some f → is_gc_done slot ≡ false
+entry_unmarked : (unit : ℕ) (slot : Slot) (f : SlotEntry) → counting_entry unit slot ≡ Some f → is_gc_done slot ≡ false
 entry_unmarked unit slot f is =
     elim (counts_not_done unit slot) [
       | inl none ↦ absurd (none_some (sym none ∙ is))
@@ -167,7 +167,7 @@ entry_unmarked unit slot f is =
     none_some : None ≡ Some f → ⊥
     none_some e = cc
 
-entry_cost-le : (unit : ℕ) (f : Found) → entry_cost unit f ≤ padded unit f.entry.len + slot_size unit
+entry_cost-le : (unit : ℕ) (f : SlotEntry) → entry_cost unit f ≤ padded unit f.entry.len + slot_size unit
 entry_cost-le unit f =
     elim (cases_Bool (eqb f.entry.len 0)) [
       | inl none ↦ let e : entry_cost unit f ≡ 0 = cond-true (eqb f.entry.len 0) 0 (cost unit f.entry.len) none in omega arith

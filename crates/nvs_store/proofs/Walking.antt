@@ -5,21 +5,21 @@ use Rattle.flash_map.specs.Area.{sector_at}
 use Rattle.ring_laws.specs.Area.{open_sector}
 use Rattle.ring_laws.proofs.Newest.{last-each}
 use Rattle.ring_laws.proofs.WalkLemmas as walks
-use Rattle.nvs_store.specs.declared.scan.Placed.{Placed}
+use Rattle.nvs_store.specs.declared.scan.Found.{Found}
 use Rattle.nvs_store.specs.Scans.{reading, placed_up_to, all_placed, last_wanted, IsNextOlder, nvs}
 use Rattle.nvs_store.proofs.LastLemmas.{few_slots}
 use Rattle.nvs_store.proofs.NvsEntries.{are_nvs}
 
 -- a part of the list has what the list has
-pub part_all : (unit : ℕ) (sectors : List (List ℕ)) (current place n : ℕ) → open_sector (reading unit) sectors ≡ current → current < length sectors → place < length sectors → (P : Placed → Type 0) → All P (all_placed unit sectors) → All P (placed_up_to unit sectors current place n)
+pub part_all : (unit : ℕ) (sectors : List (List ℕ)) (current place n : ℕ) → open_sector (reading unit) sectors ≡ current → current < length sectors → place < length sectors → (P : Found → Type 0) → All P (all_placed unit sectors) → All P (placed_up_to unit sectors current place n)
 part_all unit sectors current place n is low high P all = walks.part_all (nvs unit) (are_nvs unit) sectors current place n is low high P all
 
-pub walked-newest : (unit : ℕ) (sectors : List (List ℕ)) (current n : ℕ) (o : Option Placed) → open_sector (reading unit) sectors ≡ current → current < length sectors → length (sector_at sectors current) ≤ n → o ≡ last_wanted None (placed_up_to unit sectors current current n) → IsNextOlder (all_placed unit sectors) None o
+pub walked-newest : (unit : ℕ) (sectors : List (List ℕ)) (current n : ℕ) (o : Option Found) → open_sector (reading unit) sectors ≡ current → current < length sectors → length (sector_at sectors current) ≤ n → o ≡ last_wanted None (placed_up_to unit sectors current current n) → IsNextOlder (all_placed unit sectors) None o
 walked-newest unit sectors current n o is low enough found =
     let few = few_slots unit (sector_at sectors current) in
     found ∙ ap (last_wanted None) (walks.whole-list (nvs unit) (are_nvs unit) sectors current n is low (omega arith)) ∙ last-each (all_placed unit sectors) None
 
-pub walked-older : (unit : ℕ) (sectors : List (List ℕ)) (current sector slot n : ℕ) (o : Option Placed) → open_sector (reading unit) sectors ≡ current → current < length sectors → sector < length sectors → n ≡ slot - 1 → o ≡ last_wanted None (placed_up_to unit sectors current sector n)
+pub walked-older : (unit : ℕ) (sectors : List (List ℕ)) (current sector slot n : ℕ) (o : Option Found) → open_sector (reading unit) sectors ≡ current → current < length sectors → sector < length sectors → n ≡ slot - 1 → o ≡ last_wanted None (placed_up_to unit sectors current sector n)
     → IsNextOlder (all_placed unit sectors) (Some (sector, slot)) o
 walked-older unit sectors current sector slot n o is low high slots found = λ older newer f split at.
     let in_sector : f.sector ≡ sector = sym (ap (λ (p : ℕ × ℕ). p.0) at) in

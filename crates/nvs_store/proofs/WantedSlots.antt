@@ -5,7 +5,7 @@ use Rattle.std.proofs.lemmas.Option.{cond_some, none-some}
 use Rattle.ring_laws.specs.Slots.{Slot}
 use Rattle.ring_laws.proofs.LiveLemmas.{option_cases}
 use Rattle.ring_laws.proofs.SlotWalks.{found_other, found_none}
-use Rattle.nvs_store.specs.declared.scan.Found.{Found}
+use Rattle.nvs_store.specs.declared.scan.SlotEntry.{SlotEntry}
 use Rattle.nvs_store.specs.Geometry.{slot_size}
 use Rattle.nvs_store.specs.Entries.{entry_of}
 use Rattle.nvs_store.specs.Sector.{slot_at, counts, counting_entry, is_wanted, last_found}
@@ -14,9 +14,9 @@ use Rattle.nvs_store.proofs.EntryBytes.{decoded_cases, counting_entry-is}
 use Rattle.nvs_store.proofs.Lookups.{entries_to}
 
 -- an entry that counts has the fields that its slot names
-pub counting_cases : (unit : ℕ) (slot : Slot) → (counting_entry unit slot ≡ None) ⊎ ((f : Found) × (counting_entry unit slot ≡ Some f) × (f.entry ≡ entry_of slot.bytes))
+pub counting_cases : (unit : ℕ) (slot : Slot) → (counting_entry unit slot ≡ None) ⊎ ((f : SlotEntry) × (counting_entry unit slot ≡ Some f) × (f.entry ≡ entry_of slot.bytes))
 counting_cases unit slot =
-    let found : Found = record { slot = slot.index; entry = entry_of slot.bytes } in
+    let found : SlotEntry = record { slot = slot.index; entry = entry_of slot.bytes } in
     elim (decoded_cases slot.bytes) [
       | inl none ↦ inl (counting_entry-is unit slot None none)
       | inr some ↦
@@ -41,13 +41,13 @@ named_read unit slot wanted false named =
     ]
 
 -- what is found is what the slot holds
-pub wanted_some : (wanted : Option ℕ) (read : Option Found) (f : Found) → Some f ≡ wanted_in wanted read → (Some f ≡ read) × (is_wanted wanted f.entry ≡ true)
+pub wanted_some : (wanted : Option ℕ) (read : Option SlotEntry) (f : SlotEntry) → Some f ≡ wanted_in wanted read → (Some f ≡ read) × (is_wanted wanted f.entry ≡ true)
 wanted_some wanted None f is = absurd (none-some f (sym is))
 wanted_some wanted (Some g) f is =
     let parts = cond_some (is_wanted wanted g.entry) g f (sym is) in
-    (ap (λ (x : Found). Some x) (sym parts.1), ap (λ (x : Found). is_wanted wanted x.entry) (sym parts.1) ∙ parts.0)
+    (ap (λ (x : SlotEntry). Some x) (sym parts.1), ap (λ (x : SlotEntry). is_wanted wanted x.entry) (sym parts.1) ∙ parts.0)
 
-other_wanted : (wanted : Option ℕ) (f : Found) → None ≡ wanted_in wanted (Some f) → is_wanted wanted f.entry ≡ false
+other_wanted : (wanted : Option ℕ) (f : SlotEntry) → None ≡ wanted_in wanted (Some f) → is_wanted wanted f.entry ≡ false
 other_wanted wanted f is =
     elim (cases_Bool (is_wanted wanted f.entry)) [
       | inl same ↦ absurd (none-some f (is ∙ ap (λ (t : Bool). cond t (Some f) None) same))
@@ -55,7 +55,7 @@ other_wanted wanted f is =
     ]
 
 -- where a slot holds none, those above it decide
-pub wanted_none : (unit : ℕ) (b : List ℕ) (wanted : Option ℕ) (count : ℕ) (rest : Option Found) → 0 < count → None ≡ wanted_in wanted (counting_entry unit (slot_at unit b count)) → last_found wanted (entries_to unit b count) ≡ rest → last_found wanted (entries_to unit b (count - 1)) ≡ rest
+pub wanted_none : (unit : ℕ) (b : List ℕ) (wanted : Option ℕ) (count : ℕ) (rest : Option SlotEntry) → 0 < count → None ≡ wanted_in wanted (counting_entry unit (slot_at unit b count)) → last_found wanted (entries_to unit b count) ≡ rest → last_found wanted (entries_to unit b (count - 1)) ≡ rest
 wanted_none unit b wanted count rest some none later =
     elim (option_cases (counting_entry unit (slot_at unit b count))) [
       | inl nothing ↦ found_none (counting_entry unit) 1 (slot_size unit) b (λ f. is_wanted wanted f.entry) count count some (omega arith) rest (sym nothing) later

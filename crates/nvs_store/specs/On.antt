@@ -7,7 +7,7 @@ use Rattle.flash_map.specs.Area.{unit_of, sector_size, sectors_of, sector_bytes}
 use Rattle.flash_map.specs.Units.{is_erased}
 use Rattle.pair_laws.specs.Items.{Items, items_of}
 use Rattle.ring_laws.specs.Area.{is_closed_at, counts_at, open_sector}
-use Rattle.nvs_store.specs.declared.scan.Placed.{Placed}
+use Rattle.nvs_store.specs.declared.scan.Found.{Found}
 use Rattle.nvs_store.specs.declared.scan.Redo.{Redo}
 use Rattle.nvs_store.specs.declared.scan.Scan.{Scan}
 use Rattle.nvs_store.specs.Geometry.{slot_size, cost, capacity}
@@ -34,15 +34,15 @@ abbrev pub items_on : Device → Area → Items
 items_on d area = items_of (list_on d area)
 
 -- the entries of the list, with their places
-abbrev pub placed_on : Device → Area → List Placed
+abbrev pub placed_on : Device → Area → List Found
 placed_on d area = all_placed (unit_of d area) (sectors_of d area)
 
 -- the last entry of an id, a delete too
-abbrev pub last_placed_on : Device → Area → ℕ → Option Placed
+abbrev pub last_placed_on : Device → Area → ℕ → Option Found
 last_placed_on d area id = last_placed (unit_of d area) (sectors_of d area) id
 
 -- the data of an entry
-abbrev pub bytes_on : Device → Area → Placed → List ℕ
+abbrev pub bytes_on : Device → Area → Found → List ℕ
 bytes_on d area placed = placed_bytes (sectors_of d area) placed
 
 abbrev pub open_on : Device → Area → ℕ
@@ -59,7 +59,7 @@ abbrev pub counts_on : Device → Area → ℕ → ℕ → Bool
 counts_on d area current place = counts_at (reading (unit_of d area)) (sectors_of d area) current place
 
 -- the entries of a sector, where it counts with this one open
-abbrev pub counted_on : Device → Area → ℕ → ℕ → List Placed
+abbrev pub counted_on : Device → Area → ℕ → ℕ → List Found
 counted_on d area current place = counted_in (unit_of d area) (sectors_of d area) current place
 
 -- what a mount has to do with this sector open

@@ -9,8 +9,8 @@ use Rattle.ring_laws.specs.Reading.{Reading}
 use Rattle.ring_laws.specs.Entries.{Entries}
 use Rattle.ring_laws.specs.Live as live
 use Rattle.ring_laws.specs.Walk as walk
+use Rattle.nvs_store.specs.declared.scan.SlotEntry.{SlotEntry}
 use Rattle.nvs_store.specs.declared.scan.Found.{Found}
-use Rattle.nvs_store.specs.declared.scan.Placed.{Placed}
 use Rattle.nvs_store.specs.declared.scan.Redo.{Redo}
 use Rattle.nvs_store.specs.declared.scan.Redo.TheVariants.{Nothing, EraseNext, CollectAgain}
 use Rattle.nvs_store.specs.declared.scan.Scan.{Scan}
@@ -28,11 +28,11 @@ reading unit = record {
   is_overfull = is_overfull unit;
 }
 
-abbrev pub placed_at : ℕ → Found → Placed
+abbrev pub placed_at : ℕ → SlotEntry → Found
 placed_at place found = record { sector = place; slot = found.slot; entry = found.entry }
 
 -- how the entries of NVS stand in slots, and what they say
-abbrev pub nvs : ℕ → Entries Found Placed
+abbrev pub nvs : ℕ → Entries SlotEntry Found
 nvs unit = record {
   reading = reading unit;
   entries = entries unit;
@@ -97,45 +97,45 @@ abbrev pub list_of : ℕ → List (List ℕ) → List (ℕ × List ℕ)
 list_of unit sectors = live.list_of (nvs unit) sectors
 
 -- the entries of a sector with their places, where it counts with this one open
-abbrev pub counted_in : ℕ → List (List ℕ) → ℕ → ℕ → List Placed
+abbrev pub counted_in : ℕ → List (List ℕ) → ℕ → ℕ → List Found
 counted_in unit sectors current place = live.counted_in (nvs unit) sectors current place
 
 -- those of them in the first so many slots
-abbrev pub counted_within : ℕ → List (List ℕ) → ℕ → ℕ → ℕ → List Placed
+abbrev pub counted_within : ℕ → List (List ℕ) → ℕ → ℕ → ℕ → List Found
 counted_within unit sectors current place n = walk.counted_within (nvs unit) sectors current place n
 
 -- the entries of the sectors before this one, and those in its first so many slots
-abbrev pub placed_up_to : ℕ → List (List ℕ) → ℕ → ℕ → ℕ → List Placed
+abbrev pub placed_up_to : ℕ → List (List ℕ) → ℕ → ℕ → ℕ → List Found
 placed_up_to unit sectors current place n = walk.placed_up_to (nvs unit) sectors current place n
 
 -- the entries of the list, with their places
-abbrev pub all_placed : ℕ → List (List ℕ) → List Placed
+abbrev pub all_placed : ℕ → List (List ℕ) → List Found
 all_placed unit sectors = live.all_placed (nvs unit) sectors
 
 -- the last entry that is looked for
-abbrev pub last_wanted : Option ℕ → List Placed → Option Placed
+abbrev pub last_wanted : Option ℕ → List Found → Option Found
 last_wanted wanted placed = fold (λ last p. if is_wanted wanted p.entry then Some p else last) None placed
 
-abbrev pub last_of : ℕ → List Placed → Option Placed
+abbrev pub last_of : ℕ → List Found → Option Found
 last_of id placed = last_wanted (Some id) placed
 
 -- the last entry of an id, a delete too
-abbrev pub last_placed : ℕ → List (List ℕ) → ℕ → Option Placed
+abbrev pub last_placed : ℕ → List (List ℕ) → ℕ → Option Found
 last_placed unit sectors id = live.last_placed (nvs unit) sectors id
 
 -- The next older entry of a list: the one before the entry at this place, or the newest where no place is named.
-abbrev pub IsNextOlder : List Placed → Option (ℕ × ℕ) → Option Placed → Type 0
+abbrev pub IsNextOlder : List Found → Option (ℕ × ℕ) → Option Found → Type 0
 IsNextOlder all None next = next ≡ last_or None all
-IsNextOlder all (Some place) next = (older newer : List Placed) (p : Placed) → all ≡ older ++ p ∷ newer → place ≡ (p.sector, p.slot) → next ≡ last_or None older
+IsNextOlder all (Some place) next = (older newer : List Found) (p : Found) → all ≡ older ++ p ∷ newer → place ≡ (p.sector, p.slot) → next ≡ last_or None older
 
 -- It is an ordinary entry of one of so many sectors of this size, and its data ends in its sector.
-pub record IsInArea (sectors size : ℕ) (p : Placed) : Type 0 where
+pub record IsInArea (sectors size : ℕ) (p : Found) : Type 0 where
   pub sector : p.sector < sectors
   pub inside : p.entry.offset + p.entry.len ≤ size
   pub ordinary : p.entry.id ≡ 0xFFFF → ⊥
 
 -- the data of an entry
-abbrev pub placed_bytes : List (List ℕ) → Placed → List ℕ
+abbrev pub placed_bytes : List (List ℕ) → Found → List ℕ
 placed_bytes sectors p = slice_range (sector_at sectors p.sector) p.entry.offset (p.entry.offset + p.entry.len)
 
 -- ---- what a step leaves

@@ -6,7 +6,7 @@ use Rattle.flash_map.specs.Units.{padded, is_erased, written_end}
 use Rattle.ring_laws.specs.Slots as shared
 use Rattle.ring_laws.specs.Slots.{Slot}
 use Rattle.nvs_store.specs.declared.entry.Entry.{Entry}
-use Rattle.nvs_store.specs.declared.scan.Found.{Found}
+use Rattle.nvs_store.specs.declared.scan.SlotEntry.{SlotEntry}
 use Rattle.nvs_store.specs.Geometry.{slot_size, cost, capacity}
 use Rattle.nvs_store.specs.Entries.{decoded}
 
@@ -33,12 +33,12 @@ used_slots unit sector = shared.used_slots is_used 1 (slot_size unit) sector
 abbrev pub counts : ℕ → ℕ → Entry → Bool
 counts unit start e = not (e.id == 0xFFFF) && (e.offset % unit == 0) && nat_le (e.offset + e.len) start
 
-unfoldable pub counting_entry : ℕ → Slot → Option Found
+unfoldable pub counting_entry : ℕ → Slot → Option SlotEntry
 counting_entry unit slot =
     option_and_then (λ e. if counts unit slot.start e then Some (record { slot = slot.index; entry = e }) else None) (decoded slot.bytes)
 
 -- the entries that count, in slot order
-abbrev pub entries : ℕ → List ℕ → List Found
+abbrev pub entries : ℕ → List ℕ → List SlotEntry
 entries unit sector = filter_map (counting_entry unit) (used_slots unit sector)
 
 -- the entry of close and of gc-done
@@ -60,7 +60,7 @@ is_closed unit sector = is_used (slot_at unit sector 0)
 abbrev pub low : ℕ → List ℕ → ℕ
 low unit sector = shared.low is_used 1 (slot_size unit) sector
 
-abbrev pub entry_end : ℕ → Found → ℕ
+abbrev pub entry_end : ℕ → SlotEntry → ℕ
 entry_end unit f = f.entry.offset + padded unit f.entry.len
 
 -- where the next data goes: above the written units, the data of the entries that count, and the sum of their lengths
@@ -71,7 +71,7 @@ data_end unit sector =
 
 -- ---- pairs
 
-abbrev pub pair_of : List ℕ → Found → ℕ × List ℕ
+abbrev pub pair_of : List ℕ → SlotEntry → ℕ × List ℕ
 pair_of sector f = (f.entry.id, slice_range sector f.entry.offset (f.entry.offset + f.entry.len))
 
 -- the sector's part of the list: ids with their bytes, in the order in which they were put
@@ -84,11 +84,11 @@ is_wanted (Some id) e = e.id == id
 is_wanted None e = true
 
 -- the last entry that is looked for, a delete too
-abbrev pub last_found : Option ℕ → List Found → Option Found
+abbrev pub last_found : Option ℕ → List SlotEntry → Option SlotEntry
 last_found wanted found = fold (λ last f. if is_wanted wanted f.entry then Some f else last) None found
 
 -- those of the first so many slots
-abbrev pub entries_within : ℕ → List ℕ → ℕ → List Found
+abbrev pub entries_within : ℕ → List ℕ → ℕ → List SlotEntry
 entries_within unit sector n = filter_map (counting_entry unit) (take n (used_slots unit sector))
 
 -- what the pairs with bytes cost
@@ -98,7 +98,7 @@ pairs_cost unit pairs = sum_by (λ pair. if length pair.1 == 0 then 0 else cost 
 -- ---- soundness
 
 -- what an entry with data takes up
-abbrev pub entry_cost : ℕ → Found → ℕ
+abbrev pub entry_cost : ℕ → SlotEntry → ℕ
 entry_cost unit f = if f.entry.len == 0 then 0 else cost unit f.entry.len
 
 abbrev pub has_fence : ℕ → List ℕ → Bool
@@ -135,7 +135,7 @@ pub record AddsPair (unit : ℕ) (old new : List ℕ) (id : ℕ) (bytes : List �
   pub closed : is_closed unit new ≡ is_closed unit old
   pub long : length new ≡ length old
   -- the entry that was put, in what was the fence
-  pub found : Found
+  pub found : SlotEntry
   pub more : entries unit new ≡ entries unit old ++ found ∷ []
   pub slot : found.slot ≡ length (used_slots unit old) + 1
   pub entry_id : found.entry.id ≡ id

@@ -16,7 +16,7 @@ ghost use Rattle.nvs_store.specs.On.{AddsPairOn, AppendsOn, ClosesOn, FitsOn, Ke
 
 use crate::entry::{Entry, SPECIAL_ID, encode_entry};
 use crate::geometry::slot_size;
-use crate::scan::{Placed, Scan};
+use crate::scan::{Found, Scan};
 use flash_map::{Area, Source, copy_padded, geometry, padded, program_padded};
 use flash_sim::{Flash, PowerLost, Steps};
 use std::sync::ledger::Ledger;
@@ -89,7 +89,7 @@ pub fn copy_entry<F: Flash, L: Ledger>(
     flash: &mut F,
     area: &Area,
     scan: &mut Scan,
-    from: &Placed,
+    from: &Found,
     steps: &mut Steps<L>,
 ) -> Result<(), PowerLost>
     requires lawful { IsLawfulFor (F.device flash.old).banks area.now }

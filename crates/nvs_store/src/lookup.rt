@@ -10,7 +10,7 @@ ghost use Rattle.ring_laws.specs.RoundParts.{places_before};
 ghost use Rattle.nvs_store.specs.Scans.{counted_within, last_wanted, placed_up_to, IsInArea, IsNextOlder};
 ghost use Rattle.nvs_store.specs.On.{bytes_on, counted_on, placed_on, last_placed_on, list_on, scan_on};
 
-use crate::scan::{Placed, Scan, is_hidden};
+use crate::scan::{Found, Scan, is_hidden};
 use crate::sector::find_in;
 use flash_map::{Area, geometry, sector_view};
 use flash_sim::{Flash, Steps};
@@ -28,7 +28,7 @@ fn find_at<F: Flash, L: Ledger>(
     wanted: Option<u16>,
     slots: u32,
     steps: &mut Steps<L>,
-) -> Option<Placed>
+) -> Option<Found>
     requires lawful { IsLawfulFor (F.device flash.now).banks area.now }
     requires role { area.now.role ≡ Nvs }
     requires scan { scan.now ≡ scan_on (F.device flash.now) area.now }
@@ -56,7 +56,7 @@ fn find_among<F: Flash, L: Ledger>(
     end: u32,
     wanted: Option<u16>,
     steps: &mut Steps<L>,
-) -> Option<Placed>
+) -> Option<Found>
     requires lawful { IsLawfulFor (F.device flash.now).banks area.now }
     requires role { area.now.role ≡ Nvs }
     requires scan { scan.now ≡ scan_on (F.device flash.now) area.now }
@@ -84,7 +84,7 @@ pub fn find<F: Flash, L: Ledger>(
     scan: &Scan,
     id: u16,
     steps: &mut Steps<L>,
-) -> Option<Placed>
+) -> Option<Found>
     requires lawful { IsLawfulFor (F.device flash.now).banks area.now }
     requires role { area.now.role ≡ Nvs }
     requires scan { scan.now ≡ scan_on (F.device flash.now) area.now }
@@ -118,7 +118,7 @@ fn newest_before<F: Flash, L: Ledger>(
     scan: &Scan,
     place: u32,
     steps: &mut Steps<L>,
-) -> Option<Placed>
+) -> Option<Found>
     requires lawful { IsLawfulFor (F.device flash.now).banks area.now }
     requires role { area.now.role ≡ Nvs }
     requires scan { scan.now ≡ scan_on (F.device flash.now) area.now }
@@ -146,7 +146,7 @@ fn newest_up_to<F: Flash, L: Ledger>(
     place: u32,
     slots: u32,
     steps: &mut Steps<L>,
-) -> Option<Placed>
+) -> Option<Found>
     requires lawful { IsLawfulFor (F.device flash.now).banks area.now }
     requires role { area.now.role ≡ Nvs }
     requires scan { scan.now ≡ scan_on (F.device flash.now) area.now }
@@ -170,7 +170,7 @@ pub fn walk<F: Flash, L: Ledger>(
     scan: &Scan,
     after: Option<(u32, u32)>,
     steps: &mut Steps<L>,
-) -> Option<Placed>
+) -> Option<Found>
     requires lawful { IsLawfulFor (F.device flash.now).banks area.now }
     requires role { area.now.role ≡ Nvs }
     requires scan { scan.now ≡ scan_on (F.device flash.now) area.now }

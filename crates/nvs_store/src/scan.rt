@@ -9,17 +9,17 @@ use flash_map::Area;
 
 /// An entry that counts, and its slot. Slots of entries are numbered from 1, downward from the sector's end.
 #[derive(Clone, Copy, Debug, PartialEq, Eq)]
-pub struct Found {
+pub struct SlotEntry {
     pub slot: u32,
     pub entry: Entry,
 }
 
-impl Found {
+impl SlotEntry {
     /// The entry in this sector of the area.
-    pub fn at(self, sector: u32) -> Placed
+    pub fn at(self, sector: u32) -> Found
         ensures { result ≡ placed_at sector self }
     {
-        Placed {
+        Found {
             sector,
             slot: self.slot,
             entry: self.entry,
@@ -29,7 +29,7 @@ impl Found {
 
 /// An entry that counts, and where it stands in the area.
 #[derive(Clone, Copy, Debug, PartialEq, Eq)]
-pub struct Placed {
+pub struct Found {
     pub sector: u32,
     pub slot: u32,
     pub entry: Entry,

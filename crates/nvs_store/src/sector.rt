@@ -9,7 +9,7 @@ ghost use Rattle.nvs_store.specs.Searches.{wanted_in};
 ghost use Rattle.nvs_store.specs.Scans.{sector_scan, placed_at};
 
 use crate::geometry::{capacity, cost, slot_size};
-use crate::scan::{Found, Placed, Redo, Scan};
+use crate::scan::{Found, Redo, Scan, SlotEntry};
 use crate::slots::{counting_entry, end_of, is_gc_done, len_of, slot_of, slot_start, used_count};
 use flash_map::{is_erased, padded, trimmed_len};
 
@@ -46,7 +46,7 @@ pub fn scan_sector(bytes: &[u8], unit: u32, place: u32) -> Scan
 }
 
 /// What an entry's data and the entry take up, if there is one that has data.
-fn data_cost(found: &Option<Found>, unit: u32) -> u64
+fn data_cost(found: &Option<SlotEntry>, unit: u32) -> u64
     requires { IsUnit unit }
     ensures value { result ≡ option_map_or (entry_cost unit) found.now 0 }
     ensures small { result < 2 ^ 17 }
@@ -58,7 +58,7 @@ fn data_cost(found: &Option<Found>, unit: u32) -> u64
 }
 
 /// Whether an entry's data ends above this place.
-fn ends_above(found: &Option<Found>, place: u32) -> bool
+fn ends_above(found: &Option<SlotEntry>, place: u32) -> bool
     ensures { result ≡ option_map_or (λ f. nat_lt place (f.entry.offset + f.entry.len)) found.now false }
 {
     match found {
@@ -116,7 +116,7 @@ fn names(wanted: Option<u16>, slot: &[u8]) -> bool
 }
 
 /// The entry in a slot, if it counts and is looked for. Most slots are of other ids, so the id is read before the CRC.
-fn wanted_entry(bytes: &[u8], unit: u32, index: u32, wanted: Option<u16>) -> Option<Found>
+fn wanted_entry(bytes: &[u8], unit: u32, index: u32, wanted: Option<u16>) -> Option<SlotEntry>
     requires unit { IsUnit unit }
     requires short { length bytes.now ≤ 2 ^ 15 }
     requires inside { (index + 1) * slot_size unit ≤ length bytes.now }
@@ -136,7 +136,7 @@ pub fn find_in(
     place: u32,
     wanted: Option<u16>,
     slots: u32,
-) -> Option<Placed>
+) -> Option<Found>
     requires unit { IsUnit unit }
     requires long { 16 ≤ length bytes.now }
     requires short { length bytes.now ≤ 2 ^ 15 }

@@ -8,7 +8,7 @@ ghost use Rattle.nvs_store.specs.Sector.{slot_at, used_slots, counts, counting_e
 
 use crate::entry::{Entry, SPECIAL_ID, decode_entry};
 use crate::geometry::slot_size;
-use crate::scan::Found;
+use crate::scan::SlotEntry;
 use flash_map::{is_erased, padded};
 
 /// Where a slot starts in a sector of this length.
@@ -87,17 +87,16 @@ fn counts(entry: &Entry, unit: u32, start: u32) -> bool
 }
 
 /// The entry in a slot, if it counts.
-pub fn counting_entry(bytes: &[u8], unit: u32, index: u32) -> Option<Found>
+pub fn counting_entry(bytes: &[u8], unit: u32, index: u32) -> Option<SlotEntry>
     requires unit { IsUnit unit }
     requires short { length bytes.now ≤ 2 ^ 15 }
     requires inside { (index + 1) * slot_size unit ≤ length bytes.now }
     ensures { result ≡ counting_entry unit (slot_at unit bytes.now index) }
 {
     match entry_in(bytes, unit, index) {
-        Some(entry) if counts(&entry, unit, slot_start(bytes.len(), unit, index)) => Some(Found {
-            slot: index,
-            entry,
-        }),
+        Some(entry) if counts(&entry, unit, slot_start(bytes.len(), unit, index)) => Some(
+            SlotEntry { slot: index, entry },
+        ),
         _ => None,
     }
 }
@@ -116,7 +115,7 @@ pub fn is_gc_done(bytes: &[u8], unit: u32, index: u32) -> bool
 }
 
 /// The end of the data that an entry names, if there is one.
-pub fn end_of(found: &Option<Found>, unit: u32) -> u32
+pub fn end_of(found: &Option<SlotEntry>, unit: u32) -> u32
     requires { IsUnit unit }
     ensures value { result ≡ option_map_or (entry_end unit) found.now 0 }
     ensures small { result < 2 ^ 18 }
@@ -128,7 +127,7 @@ pub fn end_of(found: &Option<Found>, unit: u32) -> u32
 }
 
 /// The padded length of the data that an entry names, if there is one.
-pub fn len_of(found: &Option<Found>, unit: u32) -> u32
+pub fn len_of(found: &Option<SlotEntry>, unit: u32) -> u32
     requires { IsUnit unit }
     ensures value { result ≡ option_map_or (λ f. padded unit f.entry.len) found.now 0 }
     ensures small { result < 2 ^ 17 }

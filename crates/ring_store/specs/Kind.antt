@@ -31,7 +31,7 @@ CoversWhole range = range.most ≤ range.lost
 pub record Units : Type 0 where
   -- making a sector that is in use by no list ready for entries
   pub begin : List ℕ → Range
-  -- a value of this length and its entry, in a ready sector
+  -- a value of this length and its entry, in a sector that is ready, or is made so before
   pub put : List ℕ → ℕ → Range
   -- a copy of an entry with a value of this length, in a ready sector
   pub copy : List ℕ → ℕ → Range

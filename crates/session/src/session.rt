@@ -87,8 +87,8 @@ impl<K: Backend> Session<K> {
     }
 
     /// Carries out a line. With power off every line but `mount`, `cut` and `uncut` answers `off`. A mount of a map at rest
-    /// spends nothing, and no mount spends more than its bound (`mount_bound`). A map without damage has none afterwards, whatever
-    /// the result.
+    /// spends nothing, and no mount, save or migration spends more than its bound (`mount_bound`, `save_bound`, `move_bound`). A map
+    /// without damage has none afterwards, whatever the result.
     ///
     /// # Errors
     /// `Damaged` where the line is a mount, with the damage that the map shows. `NoMemory` where a line that takes memory was begun,

@@ -15,7 +15,7 @@ use Rattle.ring_laws.proofs.SlotChanges.{SameFrom, slot_at-same, slot_at-from, u
 use Rattle.ring_laws.proofs.SlotLemmas.{index-slot_at}
 use Rattle.zms_cycle.specs.declared.entry.ZEntry.{ZEntry}
 use Rattle.zms_cycle.specs.Entries.{encoded, decoded, offset_of, value_entry, done_entry}
-use Rattle.zms_cycle.specs.declared.reading.Found.{Found}
+use Rattle.zms_cycle.specs.declared.reading.SlotEntry.{SlotEntry}
 use Rattle.zms_cycle.specs.Sector.{slot_of, is_valid, cycle_of, valid_slots, is_closed, entry_in, entries, holds_done, data_len, low, value_end, end_of, data_end, is_under, is_sound, value_of, pair_of, pairs}
 use Rattle.flash_map.specs.Units.{padded_bytes}
 use Rattle.zms_cycle.specs.Changes.{with_slot, KeepsList, left_over, AddsPair, MarksDone}
@@ -76,30 +76,30 @@ list_all_push : {X : Type 0} (p : X → Bool) (xs : List X) (x : X) → list_all
 list_all_push p [] x all last = and_from (p x) true last refl
 list_all_push p (y ∷ xs) x all last = let parts = and_parts (p y) (list_all p xs) all in and_from (p y) (list_all p (xs ++ x ∷ [])) parts.0 (list_all_push p xs x parts.1 last)
 
-is_under-short : (limit : ℕ) (f : Found) → leb f.entry.len 8 ≡ true → is_under limit f ≡ true
+is_under-short : (limit : ℕ) (f : SlotEntry) → leb f.entry.len 8 ≡ true → is_under limit f ≡ true
 unfolding is_under
 is_under-short limit f short = cond-true (leb f.entry.len 8) true (eqb (offset_of f.entry % 16) 0 && leb (offset_of f.entry + padded 16 f.entry.len) limit) short
 
-is_under-long : (limit : ℕ) (f : Found) → leb f.entry.len 8 ≡ false → offset_of f.entry % 16 ≡ 0 → offset_of f.entry + padded 16 f.entry.len ≤ limit → is_under limit f ≡ true
+is_under-long : (limit : ℕ) (f : SlotEntry) → leb f.entry.len 8 ≡ false → offset_of f.entry % 16 ≡ 0 → offset_of f.entry + padded 16 f.entry.len ≤ limit → is_under limit f ≡ true
 unfolding is_under
 is_under-long limit f long aligned le =
     cond-false (leb f.entry.len 8) true (eqb (offset_of f.entry % 16) 0 && leb (offset_of f.entry + padded 16 f.entry.len) limit) long
     ∙ and_from (eqb (offset_of f.entry % 16) 0) (leb (offset_of f.entry + padded 16 f.entry.len) limit) (eq-eqb (offset_of f.entry % 16) 0 aligned) (le-leb (offset_of f.entry + padded 16 f.entry.len) limit le)
 
-is_under-aligned : (limit : ℕ) (f : Found) → leb f.entry.len 8 ≡ false → is_under limit f ≡ true → offset_of f.entry % 16 ≡ 0
+is_under-aligned : (limit : ℕ) (f : SlotEntry) → leb f.entry.len 8 ≡ false → is_under limit f ≡ true → offset_of f.entry % 16 ≡ 0
 unfolding is_under
 is_under-aligned limit f long is =
     let parts = and_parts (eqb (offset_of f.entry % 16) 0) (leb (offset_of f.entry + padded 16 f.entry.len) limit) (sym (cond-false (leb f.entry.len 8) true (eqb (offset_of f.entry % 16) 0 && leb (offset_of f.entry + padded 16 f.entry.len) limit) long) ∙ is) in
     eqb-true (offset_of f.entry % 16) 0 parts.0
 
 -- under a lower limit that the ends keep
-is_under-lower : (limit lower : ℕ) (f : Found) → is_under limit f ≡ true → value_end f ≤ lower → is_under lower f ≡ true
+is_under-lower : (limit lower : ℕ) (f : SlotEntry) → is_under limit f ≡ true → value_end f ≤ lower → is_under lower f ≡ true
 is_under-lower limit lower f is end = elim (cases_Bool (leb f.entry.len 8)) [
   | inl short ↦ is_under-short lower f short
   | inr long ↦ let ends = value_end-long f long in is_under-long lower f long (is_under-aligned limit f long is) (omega arith)
 ]
 
-under-lower : (limit lower : ℕ) (fs : List Found) (a : ℕ) → list_all (is_under limit) fs ≡ true → fold max a (map value_end fs) ≤ lower → list_all (is_under lower) fs ≡ true
+under-lower : (limit lower : ℕ) (fs : List SlotEntry) (a : ℕ) → list_all (is_under limit) fs ≡ true → fold max a (map value_end fs) ≤ lower → list_all (is_under lower) fs ≡ true
 under-lower limit lower [] a all le = refl
 under-lower limit lower (f ∷ fs) a all le =
     let parts = and_parts (is_under limit f) (list_all (is_under limit) fs) all in
@@ -114,7 +114,7 @@ sound-lower b new sound lower room same end =
     and_from (leb 16 (low new)) (list_all (is_under (low new - 16)) (entries new)) (le-leb 16 (low new) (omega arith))
     (ap (λ (n : ℕ). list_all (is_under n) (entries new)) limit ∙ ap (list_all (is_under (low b - 32))) same ∙ under-lower (low b - 16) (low b - 32) (entries b) 0 sound.under (omega arith))
 
-pub sound-more : (b new : List ℕ) (f : Found) → IsSound b → low new + 16 ≡ low b → 32 ≤ low b → entries new ≡ entries b ++ f ∷ [] → end_of (entries b) ≤ low b - 32 → is_under (low b - 32) f ≡ true → is_sound new ≡ true
+pub sound-more : (b new : List ℕ) (f : SlotEntry) → IsSound b → low new + 16 ≡ low b → 32 ≤ low b → entries new ≡ entries b ++ f ∷ [] → end_of (entries b) ≤ low b - 32 → is_under (low b - 32) f ≡ true → is_sound new ≡ true
 sound-more b new f sound lower room more end here =
     let above = (end_of-above (entries b)).ends in
     let limit : low new - 16 ≡ low b - 32 = omega arith in
@@ -132,7 +132,7 @@ marks_done kind b mid new cycle sound of_cycle keeps room more =
     let slot = slot_of new (length (valid_slots mid) + 2) in
     let found : entries new ≡ entries mid =
     ap (filter_map entry_in) more.slots ∙ filter_map-append entry_in (valid_slots mid) (slot ∷ [])
-    ∙ ap (λ (o : Option Found). entries mid ++ cons_option o []) (entry_in-is slot (Some (done_entry cycle (data_end kind b))) more.read) ∙ append-nil (entries mid) in
+    ∙ ap (λ (o : Option SlotEntry). entries mid ++ cons_option o []) (entry_in-is slot (Some (done_entry cycle (data_end kind b))) more.read) ∙ append-nil (entries mid) in
     let all : entries new ≡ entries b = found ∙ keeps.kept.same_entries in
     let lower : low new + 16 ≡ low b = more.lower ∙ keeps.kept.lower in
     let above = (end_of-above (entries mid)).ends in
@@ -166,12 +166,12 @@ pub adds_pair : (kind : Kind) (b mid new : List ℕ) (cycle id : ℕ) (bytes : L
 adds_pair kind b mid new cycle id bytes sound size of_cycle keeps room ordinary stored whole more =
     let e = value_entry cycle id bytes (data_end kind b) in
     let slot = slot_of new (length (valid_slots mid) + 2) in
-    let f : Found = record { slot = slot.index; entry = value_entry cycle id bytes (data_end kind b) } in
+    let f : SlotEntry = record { slot = slot.index; entry = value_entry cycle id bytes (data_end kind b) } in
     let plain = ordinary-not_special e ordinary in
     let read : entry_in slot ≡ Some f = entry_in-is slot (Some (value_entry cycle id bytes (data_end kind b))) more.read ∙ ap (λ (t : Bool). cond t None (Some f)) plain in
     let found : entries new ≡ entries mid ++ f ∷ [] =
-    ap (filter_map entry_in) more.slots ∙ filter_map-append entry_in (valid_slots mid) (slot ∷ []) ∙ ap (λ (o : Option Found). entries mid ++ cons_option o []) read in
-    let all : entries new ≡ entries b ++ f ∷ [] = found ∙ ap (λ (fs : List Found). fs ++ f ∷ []) keeps.kept.same_entries in
+    ap (filter_map entry_in) more.slots ∙ filter_map-append entry_in (valid_slots mid) (slot ∷ []) ∙ ap (λ (o : Option SlotEntry). entries mid ++ cons_option o []) read in
+    let all : entries new ≡ entries b ++ f ∷ [] = found ∙ ap (λ (fs : List SlotEntry). fs ++ f ∷ []) keeps.kept.same_entries in
     let lower : low new + 16 ≡ low b = more.lower ∙ keeps.kept.lower in
     let low-mid = keeps.kept.lower in
     let lower-mid = more.lower in

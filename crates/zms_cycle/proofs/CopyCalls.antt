@@ -14,7 +14,7 @@ use Rattle.std.proofs.lemmas.List.FromFn.{get_or-map-range_with_len}
 use Rattle.ring_laws.specs.Slots.{Slot, slot_at}
 use Rattle.ring_laws.proofs.SlotLemmas.{index-slot_at, used_slots-from}
 use Rattle.zms_cycle.specs.declared.entry.ZEntry.{ZEntry}
-use Rattle.zms_cycle.specs.declared.reading.Found.{Found}
+use Rattle.zms_cycle.specs.declared.reading.SlotEntry.{SlotEntry}
 use Rattle.zms_cycle.specs.Changes.{with_value}
 use Rattle.zms_cycle.specs.Entries.{decoded, offset_of, is_special, value_entry, moved_entry}
 use Rattle.zms_cycle.specs.Sector.{slot_of, is_valid, cycle_of, entry_in, entry_len, pair_at, pair_of, value_of, low, is_under, is_sound, valid_slots}
@@ -29,7 +29,7 @@ found_some slot e index at read some =
     elim (cases_Bool (is_special e)) [
       | inl special ↦
           let none : entry_in slot ≡ None = is ∙ cond-true (is_special e) None (Some (record { slot = slot.index; entry = e })) special in
-          let zero : option_map_or (λ f. f.entry.len) (entry_in slot) 0 ≡ 0 = ap (λ (o : Option Found). option_map_or (λ f. f.entry.len) o 0) none in
+          let zero : option_map_or (λ f. f.entry.len) (entry_in slot) 0 ≡ 0 = ap (λ (o : Option SlotEntry). option_map_or (λ f. f.entry.len) o 0) none in
           absurd (omega arith)
       | inr ordinary ↦ is ∙ cond-false (is_special e) None (Some (record { slot = slot.index; entry = e })) ordinary ∙ ap (λ (k : ℕ). Some (record { slot = k; entry = e })) at
     ]
@@ -40,7 +40,7 @@ ordinary_is b slot e read some = found_some (slot_of b slot) e slot (index-slot_
 pub ordinary_none : (b : List ℕ) (slot : ℕ) → decoded (slot_of b slot).bytes ≡ None → 0 < entry_len b slot → ⊥
 ordinary_none b slot read some =
     let none : entry_in (slot_of b slot) ≡ None = entry_in-is (slot_of b slot) None read in
-    let zero : entry_len b slot ≡ 0 = ap (λ (o : Option Found). option_map_or (λ f. f.entry.len) o 0) none in
+    let zero : entry_len b slot ≡ 0 = ap (λ (o : Option SlotEntry). option_map_or (λ f. f.entry.len) o 0) none in
     omega arith
 
 -- a part of a range
@@ -58,20 +58,20 @@ other_stays old new area sector other apart others = ap (λ (l : List (List ℕ)
 
 -- The value of an entry.
 
-all_found : (p : Found → Bool) (xs : List Slot) (k : ℕ) (slot : Slot) (f : Found) → list_all p (filter_map entry_in xs) ≡ true → k < length xs → get_or xs k slot ≡ slot → entry_in slot ≡ Some f → p f ≡ true
+all_found : (p : SlotEntry → Bool) (xs : List Slot) (k : ℕ) (slot : Slot) (f : SlotEntry) → list_all p (filter_map entry_in xs) ≡ true → k < length xs → get_or xs k slot ≡ slot → entry_in slot ≡ Some f → p f ≡ true
 all_found p [] k slot f all below here is = absurd (omega arith)
 all_found p (x ∷ xs) zero slot f all below here is =
     let this : entry_in x ≡ Some f = ap entry_in here ∙ is in
-    let parts = and_parts (p f) (list_all p (filter_map entry_in xs)) (sym (ap (λ (o : Option Found). list_all p (cons_option o (filter_map entry_in xs))) this) ∙ all) in
+    let parts = and_parts (p f) (list_all p (filter_map entry_in xs)) (sym (ap (λ (o : Option SlotEntry). list_all p (cons_option o (filter_map entry_in xs))) this) ∙ all) in
     parts.0
 all_found p (x ∷ xs) (suc k) slot f all below here is = all_found p xs k slot f (later (entry_in x) all) (omega arith) here is
   where
-    later : (o : Option Found) → list_all p (cons_option o (filter_map entry_in xs)) ≡ true → list_all p (filter_map entry_in xs) ≡ true
+    later : (o : Option SlotEntry) → list_all p (cons_option o (filter_map entry_in xs)) ≡ true → list_all p (filter_map entry_in xs) ≡ true
     later None h = h
     later (Some g) h = (and_parts (p g) (list_all p (filter_map entry_in xs)) h).1
 
 -- an entry of a sound sector's list stands under the guard slot
-pub listed_under : (b : List ℕ) (slot : ℕ) (f : Found) → IsSound b → 2 ≤ slot → slot < length (valid_slots b) + 2 → entry_in (slot_of b slot) ≡ Some f → is_under (low b - 16) f ≡ true
+pub listed_under : (b : List ℕ) (slot : ℕ) (f : SlotEntry) → IsSound b → 2 ≤ slot → slot < length (valid_slots b) + 2 → entry_in (slot_of b slot) ≡ Some f → is_under (low b - 16) f ≡ true
 listed_under b slot f sound from below is =
     let n = length (valid_slots b) in
     let slots : valid_slots b ≡ map (slot_at 16 b) (range_with_len 2 (length (valid_slots b))) = used_slots-from (is_valid (cycle_of b)) 2 16 b (length (valid_slots b)) (omega arith) (fence_of b sound.guard) in
@@ -80,7 +80,7 @@ listed_under b slot f sound from below is =
     ap (λ (xs : List Slot). get_or xs (slot - 2) (slot_of b slot)) slots ∙ get_or-map-range_with_len (slot_at 16 b) 2 (length (valid_slots b)) (slot - 2) slot (slot_of b slot) (omega arith) back in
     all_found (is_under (low b - 16)) (valid_slots b) (slot - 2) (slot_of b slot) f sound.under (omega arith) at is
 
-pub value_len : (b : List ℕ) (f : Found) (limit : ℕ) → length f.entry.tail ≡ 8 → is_under limit f ≡ true → limit ≤ length b → length (value_of b f.entry) ≡ f.entry.len
+pub value_len : (b : List ℕ) (f : SlotEntry) (limit : ℕ) → length f.entry.tail ≡ 8 → is_under limit f ≡ true → limit ≤ length b → length (value_of b f.entry) ≡ f.entry.len
 value_len b f limit eight under inside = elim (cases_Bool (leb f.entry.len 8)) [
   | inl short ↦
       ap length (cond-true (leb f.entry.len 8) (take f.entry.len f.entry.tail) (slice_range b (offset_of f.entry) (offset_of f.entry + f.entry.len)) short)
@@ -115,10 +115,10 @@ moved_is b e cycle offset len =
     ∙ ap (λ (n : ℕ). record { cycle = cycle; len = n; id = e.id; tail = cond (leb n 8) (value_of b e ++ replicate (8 - n) 0) (to_le_bytes w32 offset ++ replicate 4 0) }) (sym len)
 
 pub pair_is : (b : List ℕ) (slot : ℕ) (e : ZEntry) → entry_in (slot_of b slot) ≡ Some (record { slot = slot; entry = e }) → pair_at b slot ≡ (e.id, value_of b e)
-pair_is b slot e is = ap (λ (o : Option Found). option_map_or (pair_of b) o (0, [])) is
+pair_is b slot e is = ap (λ (o : Option SlotEntry). option_map_or (pair_of b) o (0, [])) is
 
 pub entry_len_is : (b : List ℕ) (slot : ℕ) (e : ZEntry) → entry_in (slot_of b slot) ≡ Some (record { slot = slot; entry = e }) → entry_len b slot ≡ e.len
-entry_len_is b slot e is = ap (λ (o : Option Found). option_map_or (λ f. f.entry.len) o 0) is
+entry_len_is b slot e is = ap (λ (o : Option SlotEntry). option_map_or (λ f. f.entry.len) o 0) is
 
 -- a value that has its length stands in the sector
 pub range_fits : (b : List ℕ) (from len : ℕ) → 0 < len → length (slice_range b from (from + len)) ≡ len → from + len ≤ length b
@@ -140,7 +140,7 @@ pub record IsCopied (b : List ℕ) (slot : ℕ) (e : ZEntry) : Type 0 where
 pub copied : (b : List ℕ) (slot : ℕ) (e : ZEntry) → is_sound b ≡ true → 2 ≤ slot → slot < length (valid_slots b) + 2 → length e.tail ≡ 8 → entry_in (slot_of b slot) ≡ Some (record { slot = slot; entry = e }) → IsCopied b slot e
 copied b slot e sound from below eight is =
     let parts = sound-parts b sound in
-    let f : Found = record { slot = slot; entry = e } in
+    let f : SlotEntry = record { slot = slot; entry = e } in
     record {
       len = value_len b f (low b - 16) eight (listed_under b slot f parts from below is) (omega arith);
       listed_len = entry_len_is b slot e is;
@@ -154,14 +154,14 @@ ordinary_id slot e index small is = elim (cases_eq e.id 0xFFFFFFFF) [
   | inr other ↦ omega (arith, other)
 ]
   where
-    from_cond : (t : Bool) (x y : Found) → cond t None (Some x) ≡ Some y → (t ≡ false) × (x ≡ y)
+    from_cond : (t : Bool) (x y : SlotEntry) → cond t None (Some x) ≡ Some y → (t ≡ false) × (x ≡ y)
     from_cond true x y h = cc
     from_cond false x y h = (refl, cc)
 
-    never : (o : Option ZEntry) → option_and_then {U = Found} (λ e. cond (is_special e) None (Some (record { slot = slot.index; entry = e }))) o ≡ Some (record { slot = index; entry = e }) → e.id ≡ 0xFFFFFFFF → ⊥
+    never : (o : Option ZEntry) → option_and_then {U = SlotEntry} (λ e. cond (is_special e) None (Some (record { slot = slot.index; entry = e }))) o ≡ Some (record { slot = index; entry = e }) → e.id ≡ 0xFFFFFFFF → ⊥
     never None h special = cc
     never (Some x) h special =
         let parts = from_cond (is_special x) (record { slot = slot.index; entry = x }) (record { slot = index; entry = e }) h in
-        let same : x ≡ e = ap (λ (f : Found). f.entry) parts.1 in
+        let same : x ≡ e = ap (λ (f : SlotEntry). f.entry) parts.1 in
         let id : x.id ≡ 0xFFFFFFFF = ap (λ (z : ZEntry). z.id) same ∙ special in
         false≢true (sym parts.0 ∙ eq-eqb x.id 0xFFFFFFFF id)

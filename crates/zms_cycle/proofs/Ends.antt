@@ -15,7 +15,7 @@ use Rattle.flash_map.proofs.WrittenEnds.{written_end-le}
 use Rattle.ring_laws.specs.Slots.{Slot}
 use Rattle.ring_laws.proofs.SlotChanges.{SameFrom, slot_at-from}
 use Rattle.zms_cycle.specs.Entries.{offset_of}
-use Rattle.zms_cycle.specs.declared.reading.Found.{Found}
+use Rattle.zms_cycle.specs.declared.reading.SlotEntry.{SlotEntry}
 use Rattle.zms_cycle.specs.Sector.{slot_of, is_valid, cycle_of, valid_slots, entries, data_len, low, value_end, end_of, written, data_end}
 use Rattle.zms_cycle.specs.Changes.{guarded, KeepsSlots, KeepsList, left_over}
 use Rattle.zms_cycle.proofs.ErasedSlots.{written-is, written-never, written_aligned, written_below, above_written, above_end, slot_free}
@@ -65,7 +65,7 @@ written_put Erasing old new c most used still lower aligned whole room below abo
   written_below new c (data_end Erasing old + most) still (omega arith) (λ k from lt. above k from ∙ above_end old c used k (omega arith) (omega arith)),
 )
 
-end_of-short : (fs : List Found) (f : Found) → leb f.entry.len 8 ≡ true → end_of (fs ++ f ∷ []) ≡ end_of fs
+end_of-short : (fs : List SlotEntry) (f : SlotEntry) → leb f.entry.len 8 ≡ true → end_of (fs ++ f ∷ []) ≡ end_of fs
 unfolding end_of
 end_of-short fs f short =
     let ends : fold max 0 (map value_end (fs ++ f ∷ [])) ≡ max (fold max 0 (map value_end fs)) (value_end f) = ap (fold max 0) (map_push value_end fs f) ∙ fold_push max 0 (map value_end fs) (value_end f) in
@@ -74,7 +74,7 @@ end_of-short fs f short =
     let nothing = data_len-short f.entry.len (leb-true f.entry.len 8 short) in
     omega arith
 
-end_of-long : (fs : List Found) (f : Found) (at : ℕ) → leb f.entry.len 8 ≡ false → offset_of f.entry ≡ at → end_of fs ≤ at → end_of (fs ++ f ∷ []) ≡ at + data_len f.entry.len
+end_of-long : (fs : List SlotEntry) (f : SlotEntry) (at : ℕ) → leb f.entry.len 8 ≡ false → offset_of f.entry ≡ at → end_of fs ≤ at → end_of (fs ++ f ∷ []) ≡ at + data_len f.entry.len
 unfolding end_of
 end_of-long fs f at long place above =
     let ends : fold max 0 (map value_end (fs ++ f ∷ [])) ≡ max (fold max 0 (map value_end fs)) (value_end f) = ap (fold max 0) (map_push value_end fs f) ∙ fold_push max 0 (map value_end fs) (value_end f) in
@@ -84,7 +84,7 @@ end_of-long fs f at long place above =
     omega arith
 
 -- an entry more, whose value stands at the data end
-pub end_more : (kind : Kind) (b new : List ℕ) (f : Found) → entries new ≡ entries b ++ f ∷ [] → (leb f.entry.len 8 ≡ false → offset_of f.entry ≡ data_end kind b) → written kind new ≤ data_end kind b + data_len f.entry.len → data_end kind b ≤ max (end_of (entries b)) (written kind new)
+pub end_more : (kind : Kind) (b new : List ℕ) (f : SlotEntry) → entries new ≡ entries b ++ f ∷ [] → (leb f.entry.len 8 ≡ false → offset_of f.entry ≡ data_end kind b) → written kind new ≤ data_end kind b + data_len f.entry.len → data_end kind b ≤ max (end_of (entries b)) (written kind new)
     → data_end kind new ≡ data_end kind b + data_len f.entry.len
 end_more kind b new f more at most least =
     let all = ap end_of more in

@@ -12,7 +12,7 @@ use Rattle.ring_laws.proofs.SlotCosts.{fold_max-ge}
 use Rattle.ring_laws.proofs.SlotLemmas.{HasFence, HasFence-from_low}
 use Rattle.ring_laws.proofs.SlotChanges.{SameFrom, slot_at-from, used_slots-kept}
 use Rattle.zms_cycle.specs.Entries.{offset_of, decoded}
-use Rattle.zms_cycle.specs.declared.reading.Found.{Found}
+use Rattle.zms_cycle.specs.declared.reading.SlotEntry.{SlotEntry}
 use Rattle.zms_cycle.specs.Sector.{slot_of, is_valid, cycle_of, valid_slots, holds_close, is_closed, entry_in, entries, holds_done, data_len, capacity, low, value_end, end_of, written, data_end, is_under, has_guard, is_sound, entry_cost, holds_too_much, is_overfull, value_of, pair_of, pairs, part_of_list}
 use Rattle.zms_cycle.specs.Changes.{KeepsSlots, KeepsList}
 use Rattle.zms_cycle.proofs.ErasedSlots.{written_aligned, written-never}
@@ -34,26 +34,26 @@ pub data_len-long : (len : ℕ) → leb len 8 ≡ false → data_len len ≡ pad
 unfolding data_len
 data_len-long len long = cond-false (leb len 8) 0 (padded 16 len) long
 
-pub value_end-long : (f : Found) → leb f.entry.len 8 ≡ false → value_end f ≡ offset_of f.entry + padded 16 f.entry.len
+pub value_end-long : (f : SlotEntry) → leb f.entry.len 8 ≡ false → value_end f ≡ offset_of f.entry + padded 16 f.entry.len
 unfolding value_end
 value_end-long f long = cond-false (leb f.entry.len 8) 0 (offset_of f.entry + padded 16 f.entry.len) long
 
-pub value_end-short : (f : Found) → leb f.entry.len 8 ≡ true → value_end f ≡ 0
+pub value_end-short : (f : SlotEntry) → leb f.entry.len 8 ≡ true → value_end f ≡ 0
 unfolding value_end
 value_end-short f short = cond-true (leb f.entry.len 8) 0 (offset_of f.entry + padded 16 f.entry.len) short
 
-pub record IsEndOf (found : List Found) (limit : ℕ) : Type 0 where
+pub record IsEndOf (found : List SlotEntry) (limit : ℕ) : Type 0 where
   pub ends : fold max 0 (map value_end found) ≤ limit
   pub sums : sum_by (λ f. data_len f.entry.len) found ≤ limit
 
-pub end_of-above : (found : List Found) → IsEndOf found (end_of found)
+pub end_of-above : (found : List SlotEntry) → IsEndOf found (end_of found)
 unfolding end_of
 end_of-above found = record { ends = omega arith; sums = omega arith }
 
 -- Values that stay.
 
 -- a value is the same where its range reads the same
-pub value-by : (old new : List ℕ) (f : Found) → (leb f.entry.len 8 ≡ false → slice_range new (offset_of f.entry) (offset_of f.entry + f.entry.len) ≡ slice_range old (offset_of f.entry) (offset_of f.entry + f.entry.len)) → value_of new f.entry ≡ value_of old f.entry
+pub value-by : (old new : List ℕ) (f : SlotEntry) → (leb f.entry.len 8 ≡ false → slice_range new (offset_of f.entry) (offset_of f.entry + f.entry.len) ≡ slice_range old (offset_of f.entry) (offset_of f.entry + f.entry.len)) → value_of new f.entry ≡ value_of old f.entry
 value-by old new f same = elim (cases_Bool (leb f.entry.len 8)) [
   | inl short ↦
       cond-true (leb f.entry.len 8) (take f.entry.len f.entry.tail) (slice_range new (offset_of f.entry) (offset_of f.entry + f.entry.len)) short
@@ -64,13 +64,13 @@ value-by old new f same = elim (cases_Bool (leb f.entry.len 8)) [
       ∙ sym (cond-false (leb f.entry.len 8) (take f.entry.len f.entry.tail) (slice_range old (offset_of f.entry) (offset_of f.entry + f.entry.len)) long)
 ]
 
-pub value-same : (limit : ℕ) (old new : List ℕ) → ((i j : ℕ) → j ≤ limit → slice_range new i j ≡ slice_range old i j) → (f : Found) → value_end f ≤ limit → value_of new f.entry ≡ value_of old f.entry
+pub value-same : (limit : ℕ) (old new : List ℕ) → ((i j : ℕ) → j ≤ limit → slice_range new i j ≡ slice_range old i j) → (f : SlotEntry) → value_end f ≤ limit → value_of new f.entry ≡ value_of old f.entry
 value-same limit old new same f le = value-by old new f (λ long.
     let end = value_end-long f long in
     let rounded = pad f.entry.len in
     same (offset_of f.entry) (offset_of f.entry + f.entry.len) (omega arith))
 
-pub pairs-same : (limit : ℕ) (old new : List ℕ) → ((i j : ℕ) → j ≤ limit → slice_range new i j ≡ slice_range old i j) → (fs : List Found) (a : ℕ) → fold max a (map value_end fs) ≤ limit → map (pair_of new) fs ≡ map (pair_of old) fs
+pub pairs-same : (limit : ℕ) (old new : List ℕ) → ((i j : ℕ) → j ≤ limit → slice_range new i j ≡ slice_range old i j) → (fs : List SlotEntry) (a : ℕ) → fold max a (map value_end fs) ≤ limit → map (pair_of new) fs ≡ map (pair_of old) fs
 pairs-same limit old new same [] a le = refl
 pairs-same limit old new same (f ∷ fs) a le =
     let least = fold_max-ge (max a (value_end f)) (map value_end fs) in
@@ -88,7 +88,7 @@ sound-parts b is =
     let parts = and_parts (has_guard b) (list_all (is_under (low b - 16)) (entries b)) is in
     record { guard = leb-true 16 (low b) parts.0; under = parts.1 }
 
-none_over : (p : Found → Bool) (fs : List Found) → list_any (λ f. not (p f)) fs ≡ false → list_all p fs ≡ true
+none_over : (p : SlotEntry → Bool) (fs : List SlotEntry) → list_any (λ f. not (p f)) fs ≡ false → list_all p fs ≡ true
 none_over p [] h = refl
 none_over p (f ∷ fs) h =
     elim (cases_Bool (p f)) [
@@ -104,7 +104,7 @@ sound_of b roomy =
     let under = none_over (is_under (low b - 16)) (entries b) (or_parts (list_any (λ f. not (is_under (low b - 16) f)) (entries b)) (ltb (capacity (length b)) (sum_by entry_cost (entries b))) rows.1).0 in
     ap (λ (t : Bool). t && list_all (is_under (low b - 16)) (entries b)) (not-false (has_guard b) rows.0) ∙ under
 
-pub under-parts : (limit : ℕ) (f : Found) → is_under limit f ≡ true → (value_end f ≤ limit) × (value_end f % 16 ≡ 0)
+pub under-parts : (limit : ℕ) (f : SlotEntry) → is_under limit f ≡ true → (value_end f ≤ limit) × (value_end f % 16 ≡ 0)
 unfolding is_under
 under-parts limit f is = elim (cases_Bool (leb f.entry.len 8)) [
   | inl short ↦ let end = value_end-short f short in (omega arith, ap (λ (n : ℕ). n % 16) end)
@@ -117,7 +117,7 @@ under-parts limit f is = elim (cases_Bool (leb f.entry.len 8)) [
       (omega arith, omega arith)
 ]
 
-ends-aligned : (limit : ℕ) (fs : List Found) (a : ℕ) → list_all (is_under limit) fs ≡ true → a % 16 ≡ 0 → fold max a (map value_end fs) % 16 ≡ 0
+ends-aligned : (limit : ℕ) (fs : List SlotEntry) (a : ℕ) → list_all (is_under limit) fs ≡ true → a % 16 ≡ 0 → fold max a (map value_end fs) % 16 ≡ 0
 ends-aligned limit [] a all aligned = aligned
 ends-aligned limit (f ∷ fs) a all aligned =
     let parts = and_parts (is_under limit f) (list_all (is_under limit) fs) all in
@@ -134,7 +134,7 @@ data_len-aligned len = elim (cases_Bool (leb len 8)) [
   | inr long ↦ ap (λ (n : ℕ). n % 16) (data_len-long len long) ∙ padded-aligned len
 ]
 
-sum-aligned : (fs : List Found) (a : ℕ) → a % 16 ≡ 0 → fold (λ a f. a + data_len f.entry.len) a fs % 16 ≡ 0
+sum-aligned : (fs : List SlotEntry) (a : ℕ) → a % 16 ≡ 0 → fold (λ a f. a + data_len f.entry.len) a fs % 16 ≡ 0
 sum-aligned [] a aligned = aligned
 sum-aligned (f ∷ fs) a aligned = let here = data_len-aligned f.entry.len in sum-aligned fs (a + data_len f.entry.len) (omega arith)
 
@@ -155,7 +155,7 @@ pub data_end-aligned : (kind : Kind) (b : List ℕ) → IsSound b → data_end k
 data_end-aligned kind b sound = max-aligned (end_of (entries b)) (written kind b) (end_of-aligned b sound) (written_aligned kind b)
 
 -- every value of a sound sector stands under its guard slot
-ends-under : (limit : ℕ) (fs : List Found) (a : ℕ) → list_all (is_under limit) fs ≡ true → a ≤ limit → fold max a (map value_end fs) ≤ limit
+ends-under : (limit : ℕ) (fs : List SlotEntry) (a : ℕ) → list_all (is_under limit) fs ≡ true → a ≤ limit → fold max a (map value_end fs) ≤ limit
 ends-under limit [] a all le = le
 ends-under limit (f ∷ fs) a all le =
     let parts = and_parts (is_under limit f) (list_all (is_under limit) fs) all in
@@ -237,13 +237,13 @@ pub keeps_same : (kind : Kind) (most : ℕ) (b : List ℕ) → KeepsList kind mo
 keeps_same kind most b = record { kept = slots-keep b b refl refl refl refl; list = refl; close_slot = refl; end_from = omega arith; end_to = omega arith }
 
 pub sound-same : (old new : List ℕ) → KeepsSlots old new → is_sound new ≡ is_sound old
-sound-same old new kept = ap (λ (n : ℕ). leb 16 n && list_all (is_under (n - 16)) (entries new)) kept.lower ∙ ap (λ (fs : List Found). leb 16 (low old) && list_all (is_under (low old - 16)) fs) kept.same_entries
+sound-same old new kept = ap (λ (n : ℕ). leb 16 n && list_all (is_under (n - 16)) (entries new)) kept.lower ∙ ap (λ (fs : List SlotEntry). leb 16 (low old) && list_all (is_under (low old - 16)) fs) kept.same_entries
 
 pub overfull-same : (old new : List ℕ) → KeepsSlots old new → is_overfull new ≡ is_overfull old
 unfolding holds_too_much
 overfull-same old new kept =
     ap (λ (n : ℕ). not (leb 16 n) || (list_any (λ f. not (is_under (n - 16) f)) (entries new) || ltb (capacity (length new)) (sum_by entry_cost (entries new)))) kept.lower
-    ∙ ap (λ (fs : List Found). not (has_guard old) || (list_any (λ f. not (is_under (low old - 16) f)) fs || ltb (capacity (length new)) (sum_by entry_cost fs))) kept.same_entries
+    ∙ ap (λ (fs : List SlotEntry). not (has_guard old) || (list_any (λ f. not (is_under (low old - 16) f)) fs || ltb (capacity (length new)) (sum_by entry_cost fs))) kept.same_entries
     ∙ ap (λ (n : ℕ). not (has_guard old) || (list_any (λ f. not (is_under (low old - 16) f)) (entries old) || ltb (capacity n) (sum_by entry_cost (entries old)))) kept.long
 
 -- the sector's part of the list stays where its slots do, and its values unless it is overfull

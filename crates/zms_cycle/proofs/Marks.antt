@@ -16,7 +16,7 @@ use Rattle.ring_laws.proofs.SlotChanges.{slot_at-same, slot_at-from, used_slots-
 use Rattle.ring_laws.proofs.SlotLemmas.{bytes-slot_at, used_slots-from}
 use Rattle.zms_cycle.specs.declared.entry.ZEntry.{ZEntry}
 use Rattle.zms_cycle.specs.Entries.{encoded, decoded, fill, offset_of, is_empty, close_entry, empty_entry}
-use Rattle.zms_cycle.specs.declared.reading.Found.{Found}
+use Rattle.zms_cycle.specs.declared.reading.SlotEntry.{SlotEntry}
 use Rattle.zms_cycle.specs.Sector.{slot_of, is_valid_under, is_valid, cycle_of, valid_slots, holds_close, is_closed, is_fresh, can_close, entry_in, entries, holds_done, value_end, end_of, written, data_end, is_under, is_sound, low, value_of, pair_of, pairs}
 use Rattle.zms_cycle.specs.Changes.{with_slot, guarded, IsFilled, KeepsSlots, KeepsList, Closes, next_cycle, Empties, reaches_slot_1, guards_over_value}
 use Rattle.zms_cycle.proofs.AreaFacts.{not_erasing}
@@ -67,12 +67,12 @@ closes kind a b cycle place sound keeps of_cycle at filled =
     let counted : length (valid_slots new) ≡ length (valid_slots b) = ap length under in
     let lower-b : low new ≡ low b = omega arith in
     let reads : data_end kind new ≡ data_end kind b =
-    ap (λ (fs : List Found). max (end_of fs) (written kind new)) found
+    ap (λ (fs : List SlotEntry). max (end_of fs) (written kind new)) found
     ∙ ap (λ (n : ℕ). max (end_of (entries b)) n) (written-same kind b new cycle-b lower-b (below 0 (low b) (omega arith))) in
     let from : data_end kind a ≤ data_end kind b = keeps.end_from in
     let to : data_end kind b ≤ data_end kind a + 0 = keeps.end_to in
     let stays : data_end kind b ≡ data_end kind a = omega arith in
-    let ends : fold max 0 (map value_end (entries b)) ≤ low a - 16 = subst (λ (fs : List Found). fold max 0 (map value_end fs) ≤ low a - 16) (sym keeps.kept.same_entries) (sound-ends a sound) in
+    let ends : fold max 0 (map value_end (entries b)) ≤ low a - 16 = subst (λ (fs : List SlotEntry). fold max 0 (map value_end fs) ≤ low a - 16) (sym keeps.kept.same_entries) (sound-ends a sound) in
     record {
       list = ap (map (pair_of new)) found ∙ pairs-same (low a - 16) b new (λ i j le. below i j (omega arith)) (entries b) 0 ends ∙ keeps.list;
       long = long;
@@ -109,7 +109,7 @@ other_cycle (Some c) slot valid =
 
 -- Values that the guard of slot 1 does not touch.
 
-value-apart : (old new : List ℕ) (f : Found) → Covers 1 old new → reaches_slot_1 (length old) f ≡ false → value_of new f.entry ≡ value_of old f.entry
+value-apart : (old new : List ℕ) (f : SlotEntry) → Covers 1 old new → reaches_slot_1 (length old) f ≡ false → value_of new f.entry ≡ value_of old f.entry
 unfolding reaches_slot_1
 value-apart old new f covers apart = value-by old new f (λ long.
     let over : (ltb (offset_of f.entry) (length old - 16) && ltb (length old - 32) (offset_of f.entry + f.entry.len)) ≡ false =
@@ -122,14 +122,14 @@ value-apart old new f covers apart = value-by old new f (λ long.
       ]
     ])
 
-pairs-apart : (old new : List ℕ) (fs : List Found) → Covers 1 old new → list_any (reaches_slot_1 (length old)) fs ≡ false → map (pair_of new) fs ≡ map (pair_of old) fs
+pairs-apart : (old new : List ℕ) (fs : List SlotEntry) → Covers 1 old new → list_any (reaches_slot_1 (length old)) fs ≡ false → map (pair_of new) fs ≡ map (pair_of old) fs
 pairs-apart old new [] covers apart = refl
 pairs-apart old new (f ∷ fs) covers apart =
     let parts = or_parts (reaches_slot_1 (length old) f) (list_any (reaches_slot_1 (length old)) fs) apart in
     ap (λ (bytes : List ℕ). (f.entry.id, bytes) ∷ map (pair_of new) fs) (value-apart old new f covers parts.0)
     ∙ ap (λ ps. pair_of old f ∷ ps) (pairs-apart old new fs covers parts.1)
 
-under-apart : (limit size : ℕ) (f : Found) → is_under limit f ≡ true → limit + 32 ≤ size → reaches_slot_1 size f ≡ false
+under-apart : (limit size : ℕ) (f : SlotEntry) → is_under limit f ≡ true → limit + 32 ≤ size → reaches_slot_1 size f ≡ false
 unfolding reaches_slot_1
 under-apart limit size f under le = elim (cases_Bool (leb f.entry.len 8)) [
   | inl short ↦ ap (λ (t : Bool). not t && ltb (offset_of f.entry) (size - 16) && ltb (size - 32) (offset_of f.entry + f.entry.len)) short
@@ -141,7 +141,7 @@ under-apart limit size f under le = elim (cases_Bool (leb f.entry.len 8)) [
       and_right (not (leb f.entry.len 8) && ltb (offset_of f.entry) (size - 16)) (ltb (size - 32) (offset_of f.entry + f.entry.len)) (le-ltb (size - 32) (offset_of f.entry + f.entry.len) (omega arith))
 ]
 
-all-apart : (limit size : ℕ) (fs : List Found) → list_all (is_under limit) fs ≡ true → limit + 32 ≤ size → list_any (reaches_slot_1 size) fs ≡ false
+all-apart : (limit size : ℕ) (fs : List SlotEntry) → list_all (is_under limit) fs ≡ true → limit + 32 ≤ size → list_any (reaches_slot_1 size) fs ≡ false
 all-apart limit size [] under le = refl
 all-apart limit size (f ∷ fs) under le =
     let parts = and_parts (is_under limit f) (list_all (is_under limit) fs) under in

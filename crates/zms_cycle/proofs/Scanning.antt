@@ -9,7 +9,7 @@ use Rattle.ring_laws.proofs.SlotLemmas.{index-slot_at}
 use Rattle.ring_laws.proofs.SlotCounts.{slots_to, slots_to_used, used_count_fits}
 use Rattle.ring_laws.proofs.SlotWalks.{most_step, slot_step, sum_step}
 use Rattle.zms_cycle.specs.declared.entry.ZEntry.{ZEntry}
-use Rattle.zms_cycle.specs.declared.reading.Found.{Found}
+use Rattle.zms_cycle.specs.declared.reading.SlotEntry.{SlotEntry}
 use Rattle.zms_cycle.specs.declared.reading.SectorState.{SectorState}
 use Rattle.zms_cycle.specs.declared.reading.SectorState.TheVariants.{Blank, Used}
 use Rattle.zms_cycle.specs.Entries.{decoded, is_special, is_done}
@@ -18,19 +18,19 @@ use Rattle.zms_cycle.specs.States.{state_of}
 use Rattle.zms_cycle.proofs.Slots16.{entry_in-is, done-is}
 
 -- the entries of so many slots
-abbrev pub entries_to : List ℕ → ℕ → List Found
+abbrev pub entries_to : List ℕ → ℕ → List SlotEntry
 entries_to b n = filter_map entry_in (slots_to 2 16 b n)
 
 -- what the code reads of a slot
-pub found_is : (b : List ℕ) (k : ℕ) (entry : Option ZEntry) (found : Option Found) → entry ≡ decoded (slot_of b k).bytes → found ≡ option_and_then (λ e. cond (is_special e) None (Some (record { slot = k; entry = e }))) entry → found ≡ entry_in (slot_of b k)
+pub found_is : (b : List ℕ) (k : ℕ) (entry : Option ZEntry) (found : Option SlotEntry) → entry ≡ decoded (slot_of b k).bytes → found ≡ option_and_then (λ e. cond (is_special e) None (Some (record { slot = k; entry = e }))) entry → found ≡ entry_in (slot_of b k)
 found_is b k entry found read is =
     is ∙ ap (λ (i : ℕ). option_and_then (λ e. cond (is_special e) None (Some (record { slot = i; entry = e }))) entry) (sym (index-slot_at 16 b k)) ∙ sym (entry_in-is (slot_of b k) entry (sym read))
 
-pub ends_step : (b : List ℕ) (n k : ℕ) (found : Option Found) (ends : ℕ) → k ≡ 2 + n → found ≡ entry_in (slot_of b k) → ends ≡ fold max 0 (map value_end (entries_to b n)) → max (option_map_or value_end found 0) ends ≡ fold max 0 (map value_end (entries_to b (n + 1)))
+pub ends_step : (b : List ℕ) (n k : ℕ) (found : Option SlotEntry) (ends : ℕ) → k ≡ 2 + n → found ≡ entry_in (slot_of b k) → ends ≡ fold max 0 (map value_end (entries_to b n)) → max (option_map_or value_end found 0) ends ≡ fold max 0 (map value_end (entries_to b (n + 1)))
 ends_step b n k found ends at is so_far = most_step entry_in 2 16 b value_end n k (n + 1) found ends (option_map_or value_end found 0) at refl is so_far refl
 
-pub lens_step : (b : List ℕ) (n k : ℕ) (found : Option Found) (lens : ℕ) → k ≡ 2 + n → found ≡ entry_in (slot_of b k) → lens ≡ sum_by (λ f. data_len f.entry.len) (entries_to b n) → lens + option_map_or (λ f. data_len f.entry.len) found 0 ≡ sum_by (λ f. data_len f.entry.len) (entries_to b (n + 1))
-lens_step b n k found lens at is so_far = sum_step entry_in 2 16 b (λ (f : Found). data_len f.entry.len) n k (n + 1) found lens (option_map_or (λ f. data_len f.entry.len) found 0) at refl is so_far refl
+pub lens_step : (b : List ℕ) (n k : ℕ) (found : Option SlotEntry) (lens : ℕ) → k ≡ 2 + n → found ≡ entry_in (slot_of b k) → lens ≡ sum_by (λ f. data_len f.entry.len) (entries_to b n) → lens + option_map_or (λ f. data_len f.entry.len) found 0 ≡ sum_by (λ f. data_len f.entry.len) (entries_to b (n + 1))
+lens_step b n k found lens at is so_far = sum_step entry_in 2 16 b (λ (f : SlotEntry). data_len f.entry.len) n k (n + 1) found lens (option_map_or (λ f. data_len f.entry.len) found 0) at refl is so_far refl
 
 pub done_step : (b : List ℕ) (n k : ℕ) (entry : Option ZEntry) (done : Bool) → k ≡ 2 + n → entry ≡ decoded (slot_of b k).bytes → done ≡ list_any holds_done (slots_to 2 16 b n) → (done || option_map_or is_done entry false) ≡ list_any holds_done (slots_to 2 16 b (n + 1))
 done_step b n k entry done at read so_far = slot_step holds_done 2 16 b n k (n + 1) done (option_map_or is_done entry false) at refl so_far (sym (done-is (slot_of b k) entry (sym read)))
@@ -42,7 +42,7 @@ state_with kind cycle b =
     (λ c. Used c (is_valid cycle (slot_of b 1) && holds_close (slot_of b 1)) (length (used_slots (is_valid cycle) 2 16 b)) (min (max (end_of (filter_map entry_in (used_slots (is_valid cycle) 2 16 b))) (written kind b)) (2 ^ 32 - 1)) (list_any holds_done (used_slots (is_valid cycle) 2 16 b)))
     cycle Blank
 
-end_of-is : (fs : List Found) (ends lens : ℕ) → ends ≡ fold max 0 (map value_end fs) → lens ≡ sum_by (λ f. data_len f.entry.len) fs → max ends lens ≡ end_of fs
+end_of-is : (fs : List SlotEntry) (ends lens : ℕ) → ends ≡ fold max 0 (map value_end fs) → lens ≡ sum_by (λ f. data_len f.entry.len) fs → max ends lens ≡ end_of fs
 unfolding end_of
 end_of-is fs ends lens ends-is lens-is = omega arith
 

@@ -9,7 +9,7 @@ use Rattle.ring_laws.proofs.SlotCounts.{used_count_is, used_count_fits}
 use Rattle.ring_laws.proofs.SlotLemmas.{length-used_slots, HasFence-from_low}
 use Rattle.crc8_entry.specs.Crc.{crc}
 use Rattle.zms_cycle.specs.declared.entry.ZEntry.{ZEntry}
-use Rattle.zms_cycle.specs.declared.reading.Found.{Found}
+use Rattle.zms_cycle.specs.declared.reading.SlotEntry.{SlotEntry}
 use Rattle.zms_cycle.specs.Entries.{entry_of, decoded, is_special}
 use Rattle.zms_cycle.specs.Sector.{slot_of, is_valid, cycle_of, valid_slots, entry_in}
 use Rattle.zms_cycle.specs.Searches.{names}
@@ -33,15 +33,15 @@ other_cycle cycle slot other =
       | inr some ↦ valid-is cycle slot (Some (entry_of slot.bytes)) some ∙ ne_eqb (entry_of slot.bytes).cycle cycle other
     ]
 
-abbrev found_in : Bool → ℕ → ZEntry → Option Found
+abbrev found_in : Bool → ℕ → ZEntry → Option SlotEntry
 found_in special k e = cond special None (Some (record { slot = k; entry = e }))
 
-found_cases : (special : Bool) (k : ℕ) (e : ZEntry) → (found_in special k e ≡ None) ⊎ ((f : Found) × (found_in special k e ≡ Some f) × (f.entry ≡ e))
+found_cases : (special : Bool) (k : ℕ) (e : ZEntry) → (found_in special k e ≡ None) ⊎ ((f : SlotEntry) × (found_in special k e ≡ Some f) × (f.entry ≡ e))
 found_cases true k e = inl refl
 found_cases false k e = inr (record { slot = k; entry = e }, refl, refl)
 
 -- an entry that is read has the fields that its slot names
-pub entry_in-cases : (slot : Slot) → (entry_in slot ≡ None) ⊎ ((f : Found) × (entry_in slot ≡ Some f) × (f.entry ≡ entry_of slot.bytes))
+pub entry_in-cases : (slot : Slot) → (entry_in slot ≡ None) ⊎ ((f : SlotEntry) × (entry_in slot ≡ Some f) × (f.entry ≡ entry_of slot.bytes))
 entry_in-cases slot =
     elim (decoded_cases slot.bytes) [
       | inl none ↦ inl (entry_in-is slot None none)

@@ -7,7 +7,7 @@ use Rattle.flash_sim.specs.declared.flash.Kind.{Kind}
 use Rattle.flash_sim.specs.declared.flash.Kind.TheVariants.{Erasing, Rewritable}
 use Rattle.flash_map.specs.Units.{padded_bytes, is_erased}
 use Rattle.zms_cycle.specs.Entries.{decoded, fill, offset_of, close_entry, done_entry, value_entry}
-use Rattle.zms_cycle.specs.declared.reading.Found.{Found}
+use Rattle.zms_cycle.specs.declared.reading.SlotEntry.{SlotEntry}
 use Rattle.zms_cycle.specs.Sector.{slot_of, is_valid_under, is_valid, cycle_of, valid_slots, is_closed, entries, has_gc_done, data_len, low, data_end, is_sound, is_fresh, can_close, pairs, part_of_list}
 
 -- the sector with these bytes in a slot
@@ -68,7 +68,7 @@ pub record AddsPair (kind : Kind) (old new : List ℕ) (id : ℕ) (bytes : List 
   pub closed : is_closed new ≡ is_closed old
   pub gc_done : has_gc_done new ≡ has_gc_done old
   -- the entry that was put, in what was the guard slot
-  pub found : Found
+  pub found : SlotEntry
   pub more : entries new ≡ entries old ++ found ∷ []
   pub slot : found.slot ≡ length (valid_slots old) + 2
   pub entry_id : found.entry.id ≡ id
@@ -163,7 +163,7 @@ pub record HoldsNothing (sector : List ℕ) : Type 0 where
   pub list : part_of_list sector ≡ Some []
 
 -- bytes of a value of more than 8 bytes stand in the sixteen bytes of slot 1
-unfoldable pub reaches_slot_1 : ℕ → Found → Bool
+unfoldable pub reaches_slot_1 : ℕ → SlotEntry → Bool
 reaches_slot_1 size f = not (nat_le f.entry.len 8) && nat_lt (offset_of f.entry) (size - 16) && nat_lt (size - 32) (offset_of f.entry + f.entry.len)
 
 -- the sector's emptying guards slot 1, and bytes of a value of its entries stand there; such a sector is overfull

@@ -8,7 +8,7 @@ use Rattle.flash_sim.specs.declared.flash.Kind.TheVariants.{Erasing, Rewritable}
 use Rattle.flash_map.specs.Units.{padded, is_erased, written_end}
 use Rattle.ring_laws.specs.Slots.{Slot, slot_at, used_slots, low as low_of}
 use Rattle.zms_cycle.specs.declared.entry.ZEntry.{ZEntry}
-use Rattle.zms_cycle.specs.declared.reading.Found.{Found}
+use Rattle.zms_cycle.specs.declared.reading.SlotEntry.{SlotEntry}
 use Rattle.zms_cycle.specs.Entries.{decoded, offset_of, is_special, is_empty, is_close, is_done}
 
 -- Slots and cycles.
@@ -51,10 +51,10 @@ can_close Erasing sector = is_erased (slot_of sector 1).bytes
 -- Entries.
 
 -- special entries are passed over
-unfoldable pub entry_in : Slot → Option Found
+unfoldable pub entry_in : Slot → Option SlotEntry
 entry_in slot = option_and_then (λ e. if is_special e then None else Some (record { slot = slot.index; entry = e })) (decoded slot.bytes)
 
-abbrev pub entries : List ℕ → List Found
+abbrev pub entries : List ℕ → List SlotEntry
 entries sector = filter_map entry_in (valid_slots sector)
 
 unfoldable pub holds_done : Slot → Bool
@@ -81,11 +81,11 @@ abbrev pub low : List ℕ → ℕ
 low sector = low_of (is_valid (cycle_of sector)) 2 16 sector
 
 -- the end of the value that an entry names, where it has more than 8 bytes
-unfoldable pub value_end : Found → ℕ
+unfoldable pub value_end : SlotEntry → ℕ
 value_end f = if nat_le f.entry.len 8 then 0 else offset_of f.entry + padded 16 f.entry.len
 
 -- above every value, and no less than the sum of their lengths
-unfoldable pub end_of : List Found → ℕ
+unfoldable pub end_of : List SlotEntry → ℕ
 end_of found = max (fold max 0 (map value_end found)) (sum_by (λ f. data_len f.entry.len) found)
 
 -- The end of the last unit under the slots that is not erased, where the bank is one that is erased: nothing can be put
@@ -106,7 +106,7 @@ abbrev pub fits : Kind → List ℕ → ℕ → Bool
 fits kind sector len = if len == 0 then nat_le 32 (free kind sector) else nat_le (cost len + (if has_gc_done sector then 2 else 3) * 16) (free kind sector)
 
 -- the value stands in whole units that end at the limit or under it
-unfoldable pub is_under : ℕ → Found → Bool
+unfoldable pub is_under : ℕ → SlotEntry → Bool
 is_under limit f = if nat_le f.entry.len 8 then true else (offset_of f.entry % 16 == 0) && nat_le (offset_of f.entry + padded 16 f.entry.len) limit
 
 -- there is a guard slot under the entries
@@ -118,7 +118,7 @@ abbrev pub is_sound : List ℕ → Bool
 is_sound sector = has_guard sector && list_all (is_under (low sector - 16)) (entries sector)
 
 -- what an entry and its value take up; a delete is not counted
-unfoldable pub entry_cost : Found → ℕ
+unfoldable pub entry_cost : SlotEntry → ℕ
 entry_cost f = if f.entry.len == 0 then 0 else cost f.entry.len
 
 -- a value stands outside whole units or passes the start of the guard slot, or the values cost more than a sector has for them
@@ -134,7 +134,7 @@ is_overfull sector = not (has_guard sector) || holds_too_much sector
 abbrev pub value_of : List ℕ → ZEntry → List ℕ
 value_of sector e = if nat_le e.len 8 then take e.len e.tail else slice_range sector (offset_of e) (offset_of e + e.len)
 
-abbrev pub pair_of : List ℕ → Found → ℕ × List ℕ
+abbrev pub pair_of : List ℕ → SlotEntry → ℕ × List ℕ
 pair_of sector f = (f.entry.id, value_of sector f.entry)
 
 -- ids with their bytes, in the order in which they were put

@@ -19,7 +19,7 @@ pub use entry::{ZEntry, decode_zentry, encode_zentry, fill_unit, zentry_fields};
 pub use guarding::guard;
 pub use marking::{close, close_at, empty_sector};
 pub use reading::{
-    FIRST, Found, Opened, SLOT, SectorState, TAIL, TAIL_AT, can_close, capacity, cost, data_len,
-    entry_in, is_fresh, listed_entry, offset_of, read_sector, state,
+    FIRST, Opened, SLOT, SectorState, SlotEntry, TAIL, TAIL_AT, can_close, capacity, cost,
+    data_len, entry_in, is_fresh, listed_entry, offset_of, read_sector, state,
 };
 pub use searching::{has_close, listed_slots, reach_in, reach_within};

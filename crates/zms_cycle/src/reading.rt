@@ -47,7 +47,7 @@ pub enum SectorState {
 
 /// An ordinary entry, and its slot.
 #[derive(Clone, Copy, Debug, PartialEq, Eq)]
-pub struct Found {
+pub struct SlotEntry {
     pub slot: u32,
     pub entry: ZEntry,
 }
@@ -168,17 +168,17 @@ pub(crate) fn valid_count(sector: &[u8], cycle: u8) -> u32
 }
 
 // The entry of a slot, where it is no special one.
-fn ordinary(entry: Option<ZEntry>, slot: u32) -> Option<Found>
+fn ordinary(entry: Option<ZEntry>, slot: u32) -> Option<SlotEntry>
     ensures { result ≡ option_and_then (λ e. if is_special e then None else Some (record { slot = slot; entry = e })) entry }
 {
     match entry {
-        Some(entry) if entry.id != SPECIAL_ID => Some(Found { slot, entry }),
+        Some(entry) if entry.id != SPECIAL_ID => Some(SlotEntry { slot, entry }),
         _ => None,
     }
 }
 
 /// The entry in a slot, where it checks and is no special one.
-pub fn entry_in(sector: &[u8], slot: u32) -> Option<Found>
+pub fn entry_in(sector: &[u8], slot: u32) -> Option<SlotEntry>
     requires { (slot + 1) * 16 ≤ length sector.now }
     ensures { result ≡ entry_in (slot_of sector.now slot) }
 {
@@ -195,7 +195,7 @@ fn listed_at(sector: &[u8], slot: u32) -> ZEntry
 }
 
 /// The entry in a slot of a sector's list, where it is no special one.
-pub fn listed_entry(sector: &[u8], slot: u32) -> Option<Found>
+pub fn listed_entry(sector: &[u8], slot: u32) -> Option<SlotEntry>
     requires from { 2 ≤ slot }
     requires listed { slot < length (valid_slots sector.now) + 2 }
     ensures { result ≡ entry_in (slot_of sector.now slot) }
@@ -249,7 +249,7 @@ pub fn capacity(size: u32) -> u32
 
 // The end of the value that an entry names.
 #[tactic(auto, unfolding(crate::specs::Sector::value_end))]
-fn value_end(found: &Found) -> u64
+fn value_end(found: &SlotEntry) -> u64
     ensures value { result ≡ value_end found.now }
     ensures small { result < 2 ^ 33 }
 {
@@ -262,7 +262,7 @@ fn value_end(found: &Found) -> u64
 }
 
 // The same of an entry, if there is one.
-fn end_of(found: &Option<Found>) -> u64
+fn end_of(found: &Option<SlotEntry>) -> u64
     ensures value { result ≡ option_map_or value_end found.now 0 }
     ensures small { result < 2 ^ 33 }
 {
@@ -272,7 +272,7 @@ fn end_of(found: &Option<Found>) -> u64
     }
 }
 
-fn len_of(found: &Option<Found>) -> u64
+fn len_of(found: &Option<SlotEntry>) -> u64
     ensures value { result ≡ option_map_or (λ f. data_len f.entry.len) found.now 0 }
     ensures small { result < 2 ^ 17 }
 {

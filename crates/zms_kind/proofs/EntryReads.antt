@@ -6,7 +6,7 @@ use Rattle.crc8_entry.specs.Crc.{crc}
 use Rattle.ring_laws.specs.Slots.{Slot}
 use Rattle.ring_laws.proofs.SlotLemmas.{bytes-slot_at}
 use Rattle.zms_cycle.specs.declared.entry.ZEntry.{ZEntry}
-use Rattle.zms_cycle.specs.declared.reading.Found.{Found}
+use Rattle.zms_cycle.specs.declared.reading.SlotEntry.{SlotEntry}
 use Rattle.zms_cycle.specs.Entries.{decoded, entry_of, offset_of, is_special}
 use Rattle.zms_cycle.specs.Sector.{slot_of, valid_slots, entry_in, low, is_under, is_sound, value_of}
 use Rattle.zms_cycle.proofs.CopyCalls.{length-range, range_part, listed_under, value_len, long_value_is}
@@ -20,28 +20,28 @@ some_is : {X : Type 0} (x y : X) → Some x ≡ Some y → x ≡ y
 some_is x y h = cc
 
 -- what stands in the slot
-pub record IsRead (slot : Slot) (f : Found) : Type 0 where
+pub record IsRead (slot : Slot) (f : SlotEntry) : Type 0 where
   pub read : decoded slot.bytes ≡ Some f.entry
   pub slot_is : f.slot ≡ slot.index
 
-read_from : (slot : Slot) (o : Option ZEntry) (f : Found) → decoded slot.bytes ≡ o → entry_in slot ≡ Some f → IsRead slot f
+read_from : (slot : Slot) (o : Option ZEntry) (f : SlotEntry) → decoded slot.bytes ≡ o → entry_in slot ≡ Some f → IsRead slot f
 read_from slot None f read is = absurd (none_some (sym (entry_in-is slot None read) ∙ is))
 read_from slot (Some e) f read is =
     elim (cases_Bool (is_special e)) [
       | inl special ↦ absurd (none_some (sym (entry_in-is slot (Some e) read ∙ cond-true (is_special e) None (Some (record { slot = slot.index; entry = e })) special) ∙ is))
       | inr ordinary ↦
           let same : record { slot = slot.index; entry = e } ≡ f = some_is (record { slot = slot.index; entry = e }) f (sym (entry_in-is slot (Some e) read ∙ cond-false (is_special e) None (Some (record { slot = slot.index; entry = e })) ordinary) ∙ is) in
-          record { read = read ∙ ap (λ (g : Found). Some g.entry) same; slot_is = sym (ap (λ (g : Found). g.slot) same) }
+          record { read = read ∙ ap (λ (g : SlotEntry). Some g.entry) same; slot_is = sym (ap (λ (g : SlotEntry). g.slot) same) }
     ]
 
-pub is_read : (slot : Slot) (f : Found) → entry_in slot ≡ Some f → IsRead slot f
+pub is_read : (slot : Slot) (f : SlotEntry) → entry_in slot ≡ Some f → IsRead slot f
 is_read slot f is = read_from slot (decoded slot.bytes) f refl is
 
 -- nothing, or an entry of this slot
-pub entry_cases : (slot : Slot) → (entry_in slot ≡ None) ⊎ ((f : Found) × (entry_in slot ≡ Some f) × (f.slot ≡ slot.index))
+pub entry_cases : (slot : Slot) → (entry_in slot ≡ None) ⊎ ((f : SlotEntry) × (entry_in slot ≡ Some f) × (f.slot ≡ slot.index))
 entry_cases slot = cases (entry_in slot) refl
   where
-    cases : (o : Option Found) → entry_in slot ≡ o → (entry_in slot ≡ None) ⊎ ((f : Found) × (entry_in slot ≡ Some f) × (f.slot ≡ slot.index))
+    cases : (o : Option SlotEntry) → entry_in slot ≡ o → (entry_in slot ≡ None) ⊎ ((f : SlotEntry) × (entry_in slot ≡ Some f) × (f.slot ≡ slot.index))
     cases None is = inl is
     cases (Some f) is = inr (f, is, (is_read slot f is).slot_is)
 
@@ -59,7 +59,7 @@ take_take (suc n) zero xs le = absurd (omega arith)
 take_take (suc n) (suc m) [] le = refl
 take_take (suc n) (suc m) (x ∷ xs) le = ap (λ (ys : List ℕ). x ∷ ys) (take_take n m xs (omega arith))
 
-module _ (b : List ℕ) (k : ℕ) (f : Found) (inside : (k + 1) * 16 ≤ length b) (is : entry_in (slot_of b k) ≡ Some f) where
+module _ (b : List ℕ) (k : ℕ) (f : SlotEntry) (inside : (k + 1) * 16 ≤ length b) (is : entry_in (slot_of b k) ≡ Some f) where
   start : ℕ
   start = length b - (k + 1) * 16
 
@@ -86,7 +86,7 @@ pub long_there : (b : List ℕ) (e : ZEntry) → 8 < e.len → value_of b e ≡ 
 long_there b e long = long_value_is b e long
 
 -- An entry of a sound sector: its value lies in the sector, and has its length.
-module _ (b : List ℕ) (k : ℕ) (f : Found) (sound : is_sound b ≡ true) (from : 2 ≤ k) (listed : k < length (valid_slots b) + 2) (inside : (k + 1) * 16 ≤ length b) (is : entry_in (slot_of b k) ≡ Some f) where
+module _ (b : List ℕ) (k : ℕ) (f : SlotEntry) (sound : is_sound b ≡ true) (from : 2 ≤ k) (listed : k < length (valid_slots b) + 2) (inside : (k + 1) * 16 ≤ length b) (is : entry_in (slot_of b k) ≡ Some f) where
   under : is_under (low b - 16) f ≡ true
   under = listed_under b k f (sound-parts b sound) from listed is
 

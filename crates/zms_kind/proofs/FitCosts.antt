@@ -7,7 +7,7 @@ use Rattle.flash_sim.specs.declared.flash.Kind.{Kind}
 use Rattle.ring_laws.specs.Slots.{Slot}
 use Rattle.ring_laws.proofs.SlotCosts.{slots_cost}
 use Rattle.zms_cycle.specs.declared.entry.ZEntry.{ZEntry}
-use Rattle.zms_cycle.specs.declared.reading.Found.{Found}
+use Rattle.zms_cycle.specs.declared.reading.SlotEntry.{SlotEntry}
 use Rattle.zms_cycle.specs.Entries.{is_special, is_done, mark_of}
 use Rattle.zms_cycle.specs.Sector.{valid_slots, entry_in, entries, has_gc_done, holds_done, data_len, cost, capacity, data_end, free, fits, is_sound, pairs, entry_cost}
 use Rattle.zms_cycle.proofs.Frames.{end_of-above}
@@ -16,7 +16,7 @@ use Rattle.zms_kind.proofs.EntryReads.{is_read}
 use Rattle.zms_kind.proofs.Roomy.{costs_are}
 
 -- a slot with an entry holds no gc-done
-entry_not_done : (slot : Slot) (f : Found) → entry_in slot ≡ Some f → holds_done slot ≡ false
+entry_not_done : (slot : Slot) (f : SlotEntry) → entry_in slot ≡ Some f → holds_done slot ≡ false
 unfolding holds_done is_done
 entry_not_done slot f is =
     let read = (is_read slot f is).read in
@@ -28,7 +28,7 @@ entry_not_done slot f is =
     none_some : {X : Type 0} {x : X} → None ≡ Some x → ⊥
     none_some h = cc
 
-entry_cost-le : (f : Found) → entry_cost f ≤ data_len f.entry.len + 16
+entry_cost-le : (f : SlotEntry) → entry_cost f ≤ data_len f.entry.len + 16
 unfolding entry_cost
 entry_cost-le f = let le : entry_cost f ≤ 16 + data_len f.entry.len = at_most (eqb f.entry.len 0) (16 + data_len f.entry.len) in omega arith
   where
@@ -39,7 +39,7 @@ entry_cost-le f = let le : entry_cost f ≤ 16 + data_len f.entry.len = at_most 
 stored-le_slots : (kind : Kind) (b : List ℕ) → is_sound b ≡ true → stored_cost cost (pairs b) + cond (has_gc_done b) 16 0 ≤ 16 * length (valid_slots b) + data_end kind b
 stored-le_slots kind b sound =
     let costs = costs_are b sound in
-    let slots = slots_cost entry_in holds_done 16 entry_cost (λ (f : Found). data_len f.entry.len) entry_cost-le entry_not_done (valid_slots b) in
+    let slots = slots_cost entry_in holds_done 16 entry_cost (λ (f : SlotEntry). data_len f.entry.len) entry_cost-le entry_not_done (valid_slots b) in
     let above = end_of-above (entries b) in
     let sums = above.sums in
     omega arith

@@ -13,7 +13,7 @@ use Rattle.ring_laws.specs.Slots.{Slot}
 use Rattle.ring_store.specs.Kind.{Range, LiesIn, CoversWhole, AreUnits, IsKind}
 use Rattle.ring_store.proofs.ReadLemmas as own
 use Rattle.ring_store.specs.declared.entry.Entry.{Entry}
-use Rattle.zms_cycle.specs.declared.reading.Found.{Found}
+use Rattle.zms_cycle.specs.declared.reading.SlotEntry.{SlotEntry}
 use Rattle.zms_cycle.specs.Sector.{slot_of, is_valid, cycle_of, valid_slots, free, entry_in, pair_of, is_sound, value_of, cost, capacity, data_len}
 use Rattle.zms_cycle.proofs.CopyCalls.{ordinary_id}
 use Rattle.zms_cycle.specs.Changes.{guard_units, next_cycle, Empties, emptying, first_guard, closing_most}
@@ -27,7 +27,7 @@ use Rattle.zms_kind.proofs.ZmsEntries.{are_zms}
 use Rattle.zms_kind.specs.Kinds.{entry_of, kind, just, guard_most, emptying_most, emptying_units, next_guard, entry_units, units_of, opens_ready}
 use Rattle.zms_kind.specs.Units.{FirstEntryIsKnown}
 
-pub slot_is : (b : List ℕ) (n : ℕ) (f : Found) → entry_in (slot_of b n) ≡ Some f → (entry_of f).slot ≡ n
+pub slot_is : (b : List ℕ) (n : ℕ) (f : SlotEntry) → entry_in (slot_of b n) ≡ Some f → (entry_of f).slot ≡ n
 slot_is b n f some = (are_zms Rewritable).slot b 0 n f some
 
 pub some_flag : {X : Type 0} (o : Option X) → IsSome o → is_some o ≡ true

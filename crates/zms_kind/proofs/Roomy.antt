@@ -9,7 +9,7 @@ use Rattle.flash_sim.specs.declared.flash.Kind.TheVariants.{Erasing, Rewritable}
 use Rattle.ring_laws.specs.Slots.{Slot}
 use Rattle.ring_laws.specs.Reading.{is_sound as ring_sound}
 use Rattle.ring_laws.proofs.SectorCosts.{costs_are as sector_costs}
-use Rattle.zms_cycle.specs.declared.reading.Found.{Found}
+use Rattle.zms_cycle.specs.declared.reading.SlotEntry.{SlotEntry}
 use Rattle.zms_cycle.specs.Changes.{Empties}
 use Rattle.zms_cycle.specs.Sector.{slot_of, is_valid, cycle_of, holds_close, is_closed, is_fresh, can_close, entry_in, entries, cost, capacity, low, written, data_end, has_guard, is_under, is_sound, pair_of, pairs, entry_cost, holds_too_much}
 use Rattle.std.proofs.lemmas.List.{get_or-take, get_or-replicate, length-take-le}
@@ -197,7 +197,7 @@ ring_sound_of kind b may sound fits =
     or_right true e = refl
     or_right false e = e
 
-    none_over : (p : Found → Bool) (fs : List Found) → list_all p fs ≡ true → list_any (λ f. not (p f)) fs ≡ false
+    none_over : (p : SlotEntry → Bool) (fs : List SlotEntry) → list_all p fs ≡ true → list_any (λ f. not (p f)) fs ≡ false
     none_over p [] h = refl
     none_over p (f ∷ fs) h =
         let both = and_parts (p f) (list_all p fs) h in
@@ -229,7 +229,7 @@ roomy_of kind b long sound =
 -- A sector whose slots and values stay.
 
 sound_same : (old new : List ℕ) → low new ≡ low old → entries new ≡ entries old → is_sound new ≡ is_sound old
-sound_same old new lower same = ap (λ (n : ℕ). leb 16 n && list_all (is_under (n - 16)) (entries new)) lower ∙ ap (λ (fs : List Found). leb 16 (low old) && list_all (is_under (low old - 16)) fs) same
+sound_same old new lower same = ap (λ (n : ℕ). leb 16 n && list_all (is_under (n - 16)) (entries new)) lower ∙ ap (λ (fs : List SlotEntry). leb 16 (low old) && list_all (is_under (low old - 16)) fs) same
 
 pub ring_same : (kind : Kind) (old new : List ℕ) → 48 ≤ length old → may_close kind new ≡ true → length new ≡ length old → low new ≡ low old → entries new ≡ entries old → pairs new ≡ pairs old → ring_sound (reading kind) old ≡ true → ring_sound (reading kind) new ≡ true
 ring_same kind old new large may long lower same list sound =

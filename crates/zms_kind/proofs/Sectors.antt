@@ -16,7 +16,7 @@ use Rattle.flash_sim.specs.declared.flash.Kind.{Kind}
 use Rattle.flash_sim.specs.declared.flash.Kind.TheVariants.{Erasing, Rewritable}
 use Rattle.ring_laws.specs.Reading.{IsReading}
 use Rattle.zms_cycle.specs.declared.entry.ZEntry.{ZEntry}
-use Rattle.zms_cycle.specs.declared.reading.Found.{Found}
+use Rattle.zms_cycle.specs.declared.reading.SlotEntry.{SlotEntry}
 use Rattle.zms_cycle.specs.declared.reading.SectorState.TheVariants.{Blank, Used}
 use Rattle.zms_cycle.specs.Sector.{slot_of, is_valid, cycle_of, valid_slots, holds_close, is_closed, entry_in, entries, holds_done, has_gc_done, capacity, low, written, data_end, end_of, is_under, has_guard, is_sound, pair_of, entry_cost, holds_too_much, is_overfull, can_close}
 use Rattle.zms_cycle.specs.Entries.{decoded, is_special}
@@ -237,15 +237,15 @@ unused_roomy kind b long unused =
     let guard = (sound-parts b (unused_sound kind b long unused)).guard in
     let empty : entries b ≡ [] = ap (filter_map entry_in) (unused_slots kind b unused) in
     ap (λ (t : Bool). not t || holds_too_much b) (le-leb 16 (low b) guard)
-    ∙ ap (λ (found : List Found). list_any (λ f. not (is_under (low b - 16) f)) found || ltb (capacity (length b)) (sum_by entry_cost found)) empty
+    ∙ ap (λ (found : List SlotEntry). list_any (λ f. not (is_under (low b - 16) f)) found || ltb (capacity (length b)) (sum_by entry_cost found)) empty
     ∙ le-ltb (capacity (length b)) 0 (omega arith)
 
 -- Going over the entries.
 
-pub sum_step : (g : Found → ℕ) (b : List ℕ) (n k : ℕ) (o : Option Found) (sum add : ℕ) → k ≡ 2 + n → o ≡ entry_in (slot_of b k) → sum ≡ sum_by g (entries_to b n) → add ≡ option_map_or g o 0 → sum + add ≡ sum_by g (entries_to b (n + 1))
+pub sum_step : (g : SlotEntry → ℕ) (b : List ℕ) (n k : ℕ) (o : Option SlotEntry) (sum add : ℕ) → k ≡ 2 + n → o ≡ entry_in (slot_of b k) → sum ≡ sum_by g (entries_to b n) → add ≡ option_map_or g o 0 → sum + add ≡ sum_by g (entries_to b (n + 1))
 sum_step g b n k o sum add at is so_far more = walks.sum_step entry_in 2 16 b g n k (n + 1) o sum add at refl is so_far more
 
-pub any_step : (p : Found → Bool) (b : List ℕ) (n k : ℕ) (o : Option Found) (before here : Bool) → k ≡ 2 + n → o ≡ entry_in (slot_of b k) → before ≡ list_any p (entries_to b n) → here ≡ option_map_or p o false → (before || here) ≡ list_any p (entries_to b (n + 1))
+pub any_step : (p : SlotEntry → Bool) (b : List ℕ) (n k : ℕ) (o : Option SlotEntry) (before here : Bool) → k ≡ 2 + n → o ≡ entry_in (slot_of b k) → before ≡ list_any p (entries_to b n) → here ≡ option_map_or p o false → (before || here) ≡ list_any p (entries_to b (n + 1))
 any_step p b n k o before here at is so_far more = walks.any_step entry_in 2 16 b p n k (n + 1) o before here at refl is so_far more
 
 pub entries_all : (b : List ℕ) (n : ℕ) → n ≡ length (valid_slots b) → entries_to b n ≡ entries b
@@ -275,18 +275,18 @@ too_much_is b limit cap costs slots n over count to at room any sum =
 
 -- The search for an id, from the lowest slot up.
 
-pub find_here : (b : List ℕ) (id count k : ℕ) (f : Found) (rest : Option Found) → 0 < count → k ≡ count + 1 → Some f ≡ entry_in (slot_of b k) → f.entry.id ≡ id → last_in id (entries_to b count) ≡ rest → Some f ≡ rest
-find_here b id count k f rest positive at is same later = walks.found_here entry_in 2 16 b (λ (g : Found). eqb g.entry.id id) count k positive (omega arith) f rest is (eq-eqb f.entry.id id same) later
+pub find_here : (b : List ℕ) (id count k : ℕ) (f : SlotEntry) (rest : Option SlotEntry) → 0 < count → k ≡ count + 1 → Some f ≡ entry_in (slot_of b k) → f.entry.id ≡ id → last_in id (entries_to b count) ≡ rest → Some f ≡ rest
+find_here b id count k f rest positive at is same later = walks.found_here entry_in 2 16 b (λ (g : SlotEntry). eqb g.entry.id id) count k positive (omega arith) f rest is (eq-eqb f.entry.id id same) later
 
-pub find_other : (b : List ℕ) (id count k : ℕ) (f : Found) (rest : Option Found) → 0 < count → k ≡ count + 1 → Some f ≡ entry_in (slot_of b k) → (f.entry.id ≡ id → ⊥) → last_in id (entries_to b count) ≡ rest → last_in id (entries_to b (count - 1)) ≡ rest
-find_other b id count k f rest positive at is other later = walks.found_other entry_in 2 16 b (λ (g : Found). eqb g.entry.id id) count k positive (omega arith) f rest is (ne_eqb f.entry.id id other) later
+pub find_other : (b : List ℕ) (id count k : ℕ) (f : SlotEntry) (rest : Option SlotEntry) → 0 < count → k ≡ count + 1 → Some f ≡ entry_in (slot_of b k) → (f.entry.id ≡ id → ⊥) → last_in id (entries_to b count) ≡ rest → last_in id (entries_to b (count - 1)) ≡ rest
+find_other b id count k f rest positive at is other later = walks.found_other entry_in 2 16 b (λ (g : SlotEntry). eqb g.entry.id id) count k positive (omega arith) f rest is (ne_eqb f.entry.id id other) later
 
-pub find_none : (b : List ℕ) (id count k : ℕ) (rest : Option Found) → 0 < count → k ≡ count + 1 → None ≡ entry_in (slot_of b k) → last_in id (entries_to b count) ≡ rest → last_in id (entries_to b (count - 1)) ≡ rest
-find_none b id count k rest positive at is later = walks.found_none entry_in 2 16 b (λ (g : Found). eqb g.entry.id id) count k positive (omega arith) rest is later
+pub find_none : (b : List ℕ) (id count k : ℕ) (rest : Option SlotEntry) → 0 < count → k ≡ count + 1 → None ≡ entry_in (slot_of b k) → last_in id (entries_to b count) ≡ rest → last_in id (entries_to b (count - 1)) ≡ rest
+find_none b id count k rest positive at is later = walks.found_none entry_in 2 16 b (λ (g : SlotEntry). eqb g.entry.id id) count k positive (omega arith) rest is later
 
 -- The slot of an entry.
 
-entry_slot : (slot : Slot) (o : Option ZEntry) (f : Found) → decoded slot.bytes ≡ o → entry_in slot ≡ Some f → f.slot ≡ slot.index
+entry_slot : (slot : Slot) (o : Option ZEntry) (f : SlotEntry) → decoded slot.bytes ≡ o → entry_in slot ≡ Some f → f.slot ≡ slot.index
 entry_slot slot None f read is = absurd (none_some (sym (entry_in-is slot None read) ∙ is))
   where
     none_some : {X : Type 0} {x : X} → None ≡ Some x → ⊥
@@ -300,11 +300,11 @@ entry_slot slot (Some e) f read is =
     none_some : {X : Type 0} {x : X} → None ≡ Some x → ⊥
     none_some h = cc
 
-    same_slot : (f g : Found) → Some f ≡ Some g → f.slot ≡ g.slot
-    same_slot f g h = let e : f ≡ g = cc in ap (λ (x : Found). x.slot) e
+    same_slot : (f g : SlotEntry) → Some f ≡ Some g → f.slot ≡ g.slot
+    same_slot f g h = let e : f ≡ g = cc in ap (λ (x : SlotEntry). x.slot) e
 
 -- an entry that is read from a valid slot
-pub listed_here : (b : List ℕ) (place k : ℕ) (f : Found) → 2 ≤ k → k < length (valid_slots b) + 2 → Some f ≡ entry_in (slot_of b k) → IsListed b (placed_at place f)
+pub listed_here : (b : List ℕ) (place k : ℕ) (f : SlotEntry) → 2 ≤ k → k < length (valid_slots b) + 2 → Some f ≡ entry_in (slot_of b k) → IsListed b (placed_at place f)
 listed_here b place k f from lt is =
     let at : f.slot ≡ k = entry_slot (slot_of b k) (decoded (slot_of b k).bytes) f refl (sym is) ∙ index-slot_at 16 b k in
     record {

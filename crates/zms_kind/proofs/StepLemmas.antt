@@ -20,7 +20,7 @@ use Rattle.zms_cycle.proofs.Frames.{data_len-short}
 use Rattle.zms_kind.specs.Area.{reading, is_begun, may_close, is_unused, is_clean}
 use Rattle.zms_kind.proofs.Roomy.{IsRoomy, no_cycle, empties_unused, empties_clean, clean_blank, unused_clean, not_clean_cycle, roomy_of, ring_sound_of, ring_same, may_same}
 use Rattle.zms_kind.proofs.Sectors.{laws, begun_count, unused_slots, empty_end, written-none, closed_may, closable_may, may_closable}
-use Rattle.zms_kind.specs.Kinds.{entry_of, record_of, kind, entry_units, opens_ready}
+use Rattle.zms_kind.specs.Kinds.{entry_of, placed_of, kind, entry_units, opens_ready}
 use Rattle.zms_kind.proofs.Erased.{cycle_none}
 use Rattle.zms_kind.proofs.KindLemmas.{some_flag, and_true, slot_is, used_guard, ready_of, first_entry_is_known as known}
 use Rattle.std.specs.Option.{option_map, option_map_or}
@@ -33,7 +33,7 @@ use Rattle.ring_store.specs.declared.entry.Entry.{Entry}
 use Rattle.ring_store.specs.declared.entry.Placed.{Placed}
 use Rattle.ring_store.specs.Kind.{placed_at, slots, entries as kind_entries}
 use Rattle.ring_store.proofs.ReadLemmas as own
-use Rattle.zms_cycle.specs.declared.reading.Found.{Found}
+use Rattle.zms_cycle.specs.declared.reading.SlotEntry.{SlotEntry}
 use Rattle.zms_cycle.specs.Sector.{entry_in, value_of, pair_of, pair_at, can_close, has_guard, holds_too_much}
 use Rattle.zms_kind.specs.Area.{placed_at as zms_placed_at, last_in}
 use Rattle.zms_kind.proofs.EntryReads.{bytes_len}
@@ -201,7 +201,7 @@ module _ (geometry : Geometry) (b e : List ℕ) (wide : 512 ≤ length b) where
 -- The entry that is copied.
 
 pub record IsThere (from : List ℕ) (p : Placed) : Type 0 where
-  pub found : Found
+  pub found : SlotEntry
   pub read : entry_in (slot_of from p.slot) ≡ Some found
   pub id : p.id ≡ found.entry.id
   pub len : p.len ≡ found.entry.len
@@ -209,9 +209,9 @@ pub record IsThere (from : List ℕ) (p : Placed) : Type 0 where
 pub is_there : (from : List ℕ) (p : Placed) → option_map (placed_at p.sector) (option_map entry_of (entry_in (slot_of from p.slot))) ≡ Some p → IsThere from p
 is_there from p is =
     elim (option_cases (entry_in (slot_of from p.slot))) [
-      | inl none ↦ absurd (some_none p (sym is ∙ ap (λ (o : Option Found). option_map (placed_at p.sector) (option_map entry_of o)) none))
+      | inl none ↦ absurd (some_none p (sym is ∙ ap (λ (o : Option SlotEntry). option_map (placed_at p.sector) (option_map entry_of o)) none))
       | inr (f, some) ↦
-          let same : placed_at p.sector (entry_of f) ≡ p = some_same (placed_at p.sector (entry_of f)) p (sym (ap (λ (o : Option Found). option_map (placed_at p.sector) (option_map entry_of o)) some) ∙ is) in
+          let same : placed_at p.sector (entry_of f) ≡ p = some_same (placed_at p.sector (entry_of f)) p (sym (ap (λ (o : Option SlotEntry). option_map (placed_at p.sector) (option_map entry_of o)) some) ∙ is) in
           record { found = f; read = some; id = ap (λ (q : Placed). q.id) (sym same); len = ap (λ (q : Placed). q.len) (sym same) }
     ]
   where
@@ -222,7 +222,7 @@ is_there from p is =
 pub copied_len : (from : List ℕ) (p : Placed) → is_sound from ≡ true → 2 ≤ p.slot → p.slot < 2 + length (valid_slots from) → option_map (placed_at p.sector) (option_map entry_of (entry_in (slot_of from p.slot))) ≡ Some p → length (pair_at from p.slot).1 ≡ p.len
 copied_len from p sound first listed is =
     let t = is_there from p is in
-    let pair : pair_at from p.slot ≡ (t.found.entry.id, value_of from t.found.entry) = ap (λ (o : Option Found). option_map_or (pair_of from) o (0, [])) t.read in
+    let pair : pair_at from p.slot ≡ (t.found.entry.id, value_of from t.found.entry) = ap (λ (o : Option SlotEntry). option_map_or (pair_of from) o (0, [])) t.read in
     let long = bytes_len from p.slot t.found sound first (omega arith) (read_room from p.slot first (omega arith)) t.read in
     ap (λ (q : ℕ × List ℕ). length q.1) pair ∙ long ∙ sym t.len
 
@@ -230,8 +230,8 @@ pub adds_copy : (geometry : Geometry) (b e from : List ℕ) (p : Placed) → 512
     → AddsPair geometry.kind b e (pair_at from p.slot).0 (pair_at from p.slot).1 → Adds (kind geometry) b e p.id (option_map_or (λ f. value_of from f.entry) (entry_in (slot_of from p.slot)) [])
 adds_copy geometry b e from p wide sound first listed is may room h =
     let t = is_there from p is in
-    let bytes : option_map_or (λ f. value_of from f.entry) (entry_in (slot_of from p.slot)) [] ≡ value_of from t.found.entry = ap (λ (o : Option Found). option_map_or (λ f. value_of from f.entry) o []) t.read in
-    let pair : pair_at from p.slot ≡ (t.found.entry.id, value_of from t.found.entry) = ap (λ (o : Option Found). option_map_or (pair_of from) o (0, [])) t.read in
+    let bytes : option_map_or (λ f. value_of from f.entry) (entry_in (slot_of from p.slot)) [] ≡ value_of from t.found.entry = ap (λ (o : Option SlotEntry). option_map_or (λ f. value_of from f.entry) o []) t.read in
+    let pair : pair_at from p.slot ≡ (t.found.entry.id, value_of from t.found.entry) = ap (λ (o : Option SlotEntry). option_map_or (pair_of from) o (0, [])) t.read in
     let own_len : cost (length (value_of from t.found.entry)) ≡ cost p.len = ap cost (sym (ap (λ (q : ℕ × List ℕ). length q.1) pair) ∙ copied_len from p sound first listed is) in
     let put : AddsPair geometry.kind b e t.found.entry.id (value_of from t.found.entry) = subst (λ (q : ℕ × List ℕ). AddsPair geometry.kind b e q.0 q.1) pair h in
     subst (λ (bs : List ℕ). Adds (kind geometry) b e p.id bs) (sym bytes)
@@ -239,13 +239,13 @@ adds_copy geometry b e from p wide sound first listed is may room h =
 
 -- The last entry of an id.
 
-pub last_same : (geometry : Geometry) (b : List ℕ) (place id : ℕ) → option_map record_of (option_map (zms_placed_at place) (last_in id (entries b))) ≡ option_map (placed_at place) (last_here (slots (kind geometry)) place id (kind_entries (kind geometry) b))
+pub last_same : (geometry : Geometry) (b : List ℕ) (place id : ℕ) → option_map placed_of (option_map (zms_placed_at place) (last_in id (entries b))) ≡ option_map (placed_at place) (last_here (slots (kind geometry)) place id (kind_entries (kind geometry) b))
 last_same geometry b place id =
     both_ways (last_in id (entries b))
     ∙ ap (option_map (placed_at place)) (sym (own.last_read (λ n. entry_in (slot_of b n)) entry_of (λ f. value_of b f.entry) (slot_is b) id (entries b) None)
     ∙ ap (λ es. last_here (slots (kind geometry)) place id es) (ap (map entry_of) ((are_zms Rewritable).listed b) ∙ sym (own.entries_read (λ n. entry_in (slot_of b n)) entry_of (λ f. value_of b f.entry) (slot_is b) (range_with_len 2 (length (valid_slots b))))))
   where
-    both_ways : (o : Option Found) → option_map record_of (option_map (zms_placed_at place) o) ≡ option_map (placed_at place) (option_map entry_of o)
+    both_ways : (o : Option SlotEntry) → option_map placed_of (option_map (zms_placed_at place) o) ≡ option_map (placed_at place) (option_map entry_of o)
     both_ways None = refl
     both_ways (Some f) = refl
 

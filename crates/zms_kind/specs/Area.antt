@@ -10,10 +10,10 @@ use Rattle.flash_map.specs.Area.{sector_at}
 use Rattle.ring_laws.specs.Area.{places, previous, is_closed_at, counts_at, looked_at, open_sector, area_pairs, first_of_kind}
 use Rattle.ring_laws.specs.Reading.{Reading}
 use Rattle.ring_laws.specs.Entries.{Entries}
-use Rattle.zms_cycle.specs.declared.reading.Found.{Found}
+use Rattle.zms_cycle.specs.declared.reading.SlotEntry.{SlotEntry}
 use Rattle.zms_cycle.specs.Sector.{slot_of, is_valid, cycle_of, valid_slots, is_closed, entry_in, entries, has_gc_done, cost, data_end, has_guard, is_sound, holds_too_much, is_overfull, is_fresh, can_close, value_of, pairs}
 use Rattle.zms_kind.specs.declared.sector.Marks.{Marks}
-use Rattle.zms_kind.specs.declared.sector.Placed.{Placed}
+use Rattle.zms_kind.specs.declared.sector.Found.{Found}
 
 -- One sector.
 
@@ -95,11 +95,11 @@ list_of kind sectors = area_pairs (reading kind) sectors (open_sector (reading k
 
 -- Entries at their places.
 
-abbrev pub placed_at : ℕ → Found → Placed
+abbrev pub placed_at : ℕ → SlotEntry → Found
 placed_at place f = record { sector = place; slot = f.slot; entry = f.entry }
 
 -- how the entries of ZMS stand in their slots, and what they say
-abbrev pub zms : BankKind → Entries Found Placed
+abbrev pub zms : BankKind → Entries SlotEntry Found
 zms kind = record {
   reading = reading kind;
   entries = entries;
@@ -117,17 +117,17 @@ zms kind = record {
 }
 
 -- the last entry of an id in one sector
-abbrev pub last_in : ℕ → List Found → Option Found
+abbrev pub last_in : ℕ → List SlotEntry → Option SlotEntry
 last_in id found = fold (λ last f. if f.entry.id == id then Some f else last) None found
 
 -- an entry that is read from this slot of the sector
-pub record IsListed (sector : List ℕ) (p : Placed) : Type 0 where
+pub record IsListed (sector : List ℕ) (p : Found) : Type 0 where
   pub from : 2 ≤ p.slot
   pub listed : p.slot < length (valid_slots sector) + 2
   pub entry : entry_in (slot_of sector p.slot) ≡ Some (record { slot = p.slot; entry = p.entry })
 
 -- an entry of a sector that counts with this one open
-pub record IsPlaced (sectors : List (List ℕ)) (current : ℕ) (p : Placed) : Type 0 where
+pub record IsPlaced (sectors : List (List ℕ)) (current : ℕ) (p : Found) : Type 0 where
   pub within : p.sector < length sectors
   pub counts : counts_at plain sectors current p.sector ≡ true
   pub listed : IsListed (sector_at sectors p.sector) p

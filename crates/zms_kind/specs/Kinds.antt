@@ -5,20 +5,20 @@ use Rattle.flash_map.specs.declared.area.Geometry.{Geometry}
 use Rattle.ring_store.specs.declared.entry.Entry.{Entry}
 use Rattle.ring_store.specs.declared.entry.Placed.{Placed}
 use Rattle.ring_store.specs.Kind.{Range, Units, Kind}
-use Rattle.zms_cycle.specs.declared.reading.Found.{Found}
+use Rattle.zms_cycle.specs.declared.reading.SlotEntry.{SlotEntry}
 use Rattle.flash_sim.specs.declared.flash.Kind.{Kind as BankKind}
 use Rattle.flash_sim.specs.declared.flash.Kind.TheVariants.{Erasing, Rewritable}
 use Rattle.zms_cycle.specs.Changes.{guard_units, emptying, first_guard, closing_most}
 use Rattle.zms_cycle.specs.Sector.{slot_of, cycle_of, valid_slots, entry_in, cost, capacity, free, is_sound, value_of}
-use Rattle.zms_kind.specs.declared.sector.Placed.{Placed as ZmsPlaced}
+use Rattle.zms_kind.specs.declared.sector.Found.{Found}
 use Rattle.zms_kind.specs.Area.{may_close, reading, is_clean, damage_of}
 
-abbrev pub entry_of : Found → Entry
+abbrev pub entry_of : SlotEntry → Entry
 entry_of f = record { slot = f.slot; id = f.entry.id; len = f.entry.len }
 
 -- an entry in its sector, as a store of items has it
-abbrev pub record_of : ZmsPlaced → Placed
-record_of p = record { sector = p.sector; slot = p.slot; id = p.entry.id; len = p.entry.len }
+abbrev pub placed_of : Found → Placed
+placed_of p = record { sector = p.sector; slot = p.slot; id = p.entry.id; len = p.entry.len }
 
 abbrev pub just : ℕ → Range
 just units = record { least = units; most = units; lost = units }
@@ -37,7 +37,7 @@ emptying_most Erasing = 2
 abbrev pub emptying_units : BankKind → List ℕ → Range
 emptying_units kind b = record { least = emptying kind b; most = emptying kind b; lost = emptying_most kind }
 
--- The guard under the next entry. A sector without a cycle is emptied before, which leaves slot 3 as it is.
+-- The guard under the next entry. A sector without a cycle is emptied before, which leaves slot 3 as it is on a bank that is never erased.
 abbrev pub next_guard : BankKind → List ℕ → ℕ
 next_guard kind b = if is_some (cycle_of b) then guard_units kind (cycle_of b) (length (valid_slots b) + 2 + 1) b else first_guard kind b
 

@@ -10,4 +10,4 @@ mod sector;
 pub use laws::{first_entry_is_known, parts_of_list};
 pub use mounting::scan;
 pub use places::marks_at;
-pub use sector::{Marks, Placed, find_in, is_clean};
+pub use sector::{Found, Marks, find_in, is_clean};

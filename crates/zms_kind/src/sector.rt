@@ -7,7 +7,7 @@ ghost use Rattle.zms_kind.specs.Area.{marks_of, may_close, is_clean, placed_at, 
 use flash_map::padded;
 use flash_sim::Kind;
 use zms_cycle::{
-    FIRST, Found, SLOT, SectorState, TAIL, ZEntry, can_close, capacity, cost, is_fresh,
+    FIRST, SLOT, SectorState, SlotEntry, TAIL, ZEntry, can_close, capacity, cost, is_fresh,
     listed_entry, offset_of, reach_in, read_sector,
 };
 
@@ -16,7 +16,7 @@ const UNLISTED: u64 = 3;
 
 /// An entry that counts, and where it stands in the area.
 #[derive(Clone, Copy, Debug, PartialEq, Eq)]
-pub struct Placed {
+pub struct Found {
     pub sector: u32,
     pub slot: u32,
     pub entry: ZEntry,
@@ -110,10 +110,10 @@ pub fn is_clean(sector: &[u8], kind: Kind) -> bool
 }
 
 /// The entry in this sector of the area.
-pub fn placed_in(found: Found, sector: u32) -> Placed
+pub fn placed_in(found: SlotEntry, sector: u32) -> Found
     ensures { result ≡ placed_at sector found }
 {
-    Placed {
+    Found {
         sector,
         slot: found.slot,
         entry: found.entry,
@@ -122,7 +122,7 @@ pub fn placed_in(found: Found, sector: u32) -> Placed
 
 /// What an entry and its value take up, if there is one that has a value.
 #[tactic(auto, unfolding(zms_cycle::specs::Sector::entry_cost))]
-fn cost_of(found: &Option<Found>) -> u64
+fn cost_of(found: &Option<SlotEntry>) -> u64
     ensures value { result ≡ option_map_or entry_cost found.now 0 }
     ensures small { result < 2 ^ 18 }
 {
@@ -134,7 +134,7 @@ fn cost_of(found: &Option<Found>) -> u64
 
 /// Whether an entry's value stands outside whole units or ends above the limit.
 #[tactic(auto, unfolding(zms_cycle::specs::Sector::is_under))]
-fn passes(found: &Option<Found>, limit: u64) -> bool
+fn passes(found: &Option<SlotEntry>, limit: u64) -> bool
     ensures { result ≡ option_map_or (λ f. not (is_under limit f)) found.now false }
 {
     match found {
@@ -175,7 +175,7 @@ pub fn holds_too_much(sector: &[u8], slots: u32) -> bool
 }
 
 /// The last entry of the id in a sector, a delete too. The sector has this number.
-pub fn find_in(sector: &[u8], place: u32, id: u32) -> Option<Placed>
+pub fn find_in(sector: &[u8], place: u32, id: u32) -> Option<Found>
     requires long { 48 ≤ length sector.now }
     requires short { length sector.now ≤ 2 ^ 15 }
     ensures last { result ≡ option_map (placed_at place) (last_in id (entries sector.now)) }

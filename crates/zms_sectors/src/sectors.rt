@@ -13,7 +13,7 @@ use flash_sim::{Flash, Kind, PowerLost, Steps};
 use ring_store::{Placed, SlotSectors};
 use std::sync::ledger::Ledger;
 use zms_cycle::{
-    FIRST, Found, Opened, SLOT, SectorState, TAIL, TAIL_AT, capacity, close_at, copy_entry_at,
+    FIRST, Opened, SLOT, SectorState, SlotEntry, TAIL, TAIL_AT, capacity, close_at, copy_entry_at,
     cost, empty_sector, has_close, listed_entry, listed_slots, offset_of, put_done_at,
     put_entry_at, reach_in, reach_within, state,
 };
@@ -51,7 +51,7 @@ impl ZmsOpen {
 }
 
 // The entry in this sector, without what is its store's own.
-fn placed(found: Found, sector: u32) -> Placed
+fn placed(found: SlotEntry, sector: u32) -> Placed
     ensures placed { result ≡ placed_at sector (entry_of found) }
     ensures wide { result.id < 2 ^ 32 }
 {
@@ -64,7 +64,7 @@ fn placed(found: Found, sector: u32) -> Placed
 }
 
 // The bytes that an entry of a sector gives its id: they stand in its tail, or where it says.
-fn value_in<'a>(bytes: &'a [u8], found: &Found) -> &'a [u8]
+fn value_in<'a>(bytes: &'a [u8], found: &SlotEntry) -> &'a [u8]
     requires short { length bytes.now ≤ 2 ^ 15 }
     requires inside { (found.now.slot + 1) * 16 ≤ length bytes.now }
     requires there { entry_in (slot_of bytes.now found.now.slot) ≡ Some found.now }

@@ -4,26 +4,26 @@ use Rattle.std.specs.Option.{option_map}
 use Rattle.flash_map.specs.Area.{sector_at}
 use Rattle.flash_map.specs.declared.area.Geometry.{Geometry}
 use Rattle.ring_laws.specs.Area.{counts_at}
-use Rattle.ring_store.specs.declared.entry.Placed.{Placed as PlacedEntry}
+use Rattle.ring_store.specs.declared.entry.Placed.{Placed}
 use Rattle.ring_store.specs.Kind.{placed_at}
 use Rattle.ring_store.specs.Listed as ring
-use Rattle.zms_cycle.specs.declared.reading.Found.{Found}
+use Rattle.zms_cycle.specs.declared.reading.SlotEntry.{SlotEntry}
 use Rattle.zms_cycle.specs.Sector.{slot_of, entry_in}
-use Rattle.zms_kind.specs.declared.sector.Placed.{Placed}
+use Rattle.zms_kind.specs.declared.sector.Found.{Found}
 use Rattle.zms_kind.specs.Area.{plain, IsListed, IsPlaced}
-use Rattle.zms_kind.specs.Kinds.{entry_of, record_of, kind}
+use Rattle.zms_kind.specs.Kinds.{entry_of, placed_of, kind}
 
-some_same : (x y : PlacedEntry) → Some x ≡ Some y → x ≡ y
+some_same : (x y : Placed) → Some x ≡ Some y → x ≡ y
 some_same x y e = cc
 
 -- the entry that is read in the slot of one of the list is that one
-pub read_same : (b : List ℕ) (p : PlacedEntry) (f : Found) → entry_in (slot_of b p.slot) ≡ Some f → option_map (placed_at p.sector) (option_map entry_of (entry_in (slot_of b p.slot))) ≡ Some p → placed_at p.sector (entry_of f) ≡ p
-read_same b p f read is = some_same (placed_at p.sector (entry_of f)) p (sym (ap (λ (o : Option Found). option_map (placed_at p.sector) (option_map entry_of o)) read) ∙ is)
+pub read_same : (b : List ℕ) (p : Placed) (f : SlotEntry) → entry_in (slot_of b p.slot) ≡ Some f → option_map (placed_at p.sector) (option_map entry_of (entry_in (slot_of b p.slot))) ≡ Some p → placed_at p.sector (entry_of f) ≡ p
+read_same b p f read is = some_same (placed_at p.sector (entry_of f)) p (sym (ap (λ (o : Option SlotEntry). option_map (placed_at p.sector) (option_map entry_of o)) read) ∙ is)
 
 -- its sector counts
-pub placed_there : (geometry : Geometry) (sectors : List (List ℕ)) (current : ℕ) (q : PlacedEntry) (p : Placed) → record_of p ≡ q → ring.IsPlaced (kind geometry) sectors current q → IsListed (sector_at sectors q.sector) p → IsPlaced sectors current p
+pub placed_there : (geometry : Geometry) (sectors : List (List ℕ)) (current : ℕ) (q : Placed) (p : Found) → placed_of p ≡ q → ring.IsPlaced (kind geometry) sectors current q → IsListed (sector_at sectors q.sector) p → IsPlaced sectors current p
 placed_there geometry sectors current q p e placed listed =
-    let same : p.sector ≡ q.sector = ap (λ (x : PlacedEntry). x.sector) e in
+    let same : p.sector ≡ q.sector = ap (λ (x : Placed). x.sector) e in
     record {
       within = subst (λ (k : ℕ). k < length sectors) (sym same) placed.listed.within;
       counts = ap (counts_at plain sectors current) same ∙ placed.counts;

@@ -9,13 +9,13 @@ use Rattle.flash_map.specs.declared.area.Role.TheVariants.{Zms as ZmsRole}
 use Rattle.flash_map.specs.Area.{geometry_of, sectors_of}
 use Rattle.pair_laws.specs.Items.{Items}
 use Rattle.pair_laws.specs.Rounds.{live_cost}
-use Rattle.ring_store.specs.declared.entry.Placed.{Placed as PlacedEntry}
+use Rattle.ring_store.specs.declared.entry.Placed.{Placed}
 use Rattle.ring_store.specs.Kind.{Kind}
 use Rattle.ring_store.specs.Listed as listed
 use Rattle.ring_store.specs.Standing as ring
 use Rattle.ring_store.specs.Stands as stands
 use Rattle.zms_cycle.specs.Sector.{cost, cycle_of, data_end, has_gc_done, valid_slots}
-use Rattle.zms_kind.specs.declared.sector.Placed.{Placed}
+use Rattle.zms_kind.specs.declared.sector.Found.{Found}
 use Rattle.zms_kind.specs.Area.{IsPlaced}
 use Rattle.zms_kind.specs.Kinds.{kind}
 use Rattle.zms_sectors.specs.declared.sectors.ZmsOpen.{ZmsOpen}
@@ -46,11 +46,11 @@ abbrev pub live_cost_on : Device → Area → ℕ
 live_cost_on d area = live_cost cost (list_on d area)
 
 -- the entries of the list, with their places
-abbrev pub entries_on : Device → Area → List PlacedEntry
+abbrev pub entries_on : Device → Area → List Placed
 entries_on d area = listed.entries_on kind d area
 
 -- an entry of a sector that counts, as its slot has it
-abbrev pub IsPlacedOn : Device → Zms → Placed → Type 0
+abbrev pub IsPlacedOn : Device → Zms → Found → Type 0
 IsPlacedOn d zms p = IsPlaced (sectors_of d zms.store.area) zms.store.current p
 
 abbrev pub IsUndamaged : Device → Area → Type 0

@@ -7,4 +7,4 @@ mod writing;
 
 pub use ring_store::LastSlots;
 pub use store::Zms;
-pub use zms_kind::Placed;
+pub use zms_kind::Found;

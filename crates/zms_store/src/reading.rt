@@ -11,7 +11,7 @@ ghost use Rattle.ring_store.specs.Latest.{IsTold, TellsOn};
 ghost use Rattle.ring_store.specs.Listed.{IsListedOn};
 ghost use Rattle.ring_store.specs.Older.{IsNextOlder, newest_before};
 ghost use Rattle.zms_kind.specs.Area.{IsListed};
-ghost use Rattle.zms_kind.specs.Kinds.{kind, record_of};
+ghost use Rattle.zms_kind.specs.Kinds.{kind, placed_of};
 ghost use Rattle.zms_store.specs.Standing.{IsZmsArea, StandsOn, IsPlacedOn, kind_on, entries_on, items_on, live_cost_on};
 
 use crate::store::Zms;
@@ -20,7 +20,7 @@ use flash_sim::{Flash, Steps};
 use ring_store::LastSlots;
 use std::sync::ledger::Ledger;
 use zms_cycle::entry_in;
-use zms_kind::Placed;
+use zms_kind::Found;
 
 // The entry in a slot of the list, as the slot has it.
 fn entry_at<F: Flash, L: Ledger>(
@@ -28,15 +28,15 @@ fn entry_at<F: Flash, L: Ledger>(
     area: &Area,
     placed: &ring_store::Placed,
     steps: &mut Steps<L>,
-) -> Placed
+) -> Found
     requires area { IsZmsArea (F.device flash.now).banks area.now }
     requires listed { IsListedOn kind (F.device flash.now) area.now placed.now }
-    ensures same { record_of result ≡ placed.now }
+    ensures same { placed_of result ≡ placed.now }
     ensures listed { let d = F.device flash.now in
         IsListed (sector_at (sectors_of d area.now) placed.now.sector) result }
 {
     match entry_in(sector_view(flash, area, placed.sector, steps), placed.slot) {
-        Some(found) => Placed {
+        Some(found) => Found {
             sector: placed.sector,
             slot: found.slot,
             entry: found.entry,
@@ -198,14 +198,14 @@ impl Zms {
         flash: &F,
         after: Option<(u32, u32)>,
         steps: &mut Steps<L>,
-    ) -> Option<Placed>
+    ) -> Option<Found>
         requires stands { StandsOn (F.device flash.now) self.now }
         requires inside { IfSome after (λ place. place.0 < self.now.store.area.sectors) }
 
-        ensures older { let next = option_map record_of result in
+        ensures older { let next = option_map placed_of result in
             IsNextOlder (entries_on (F.device flash.now) self.now.store.area) after next }
         ensures before { let d = F.device flash.now in let area = self.now.store.area in
-            IfSome after (λ place. option_map record_of result
+            IfSome after (λ place. option_map placed_of result
             ≡ newest_before (kind_on d area) (sectors_of d area) place) }
         ensures placed { IfSome result (IsPlacedOn (F.device flash.now) self.now) }
     {

@@ -5,7 +5,7 @@ use Rattle.flash_map.specs.declared.area.Geometry.{Geometry}
 use Rattle.flash_map.specs.declared.area.Role.TheVariants.{Nvs as nvs_role}
 use Rattle.flash_map.specs.Area.{unit_of, sector_at, sector_size, sectors_of}
 use Rattle.ring_store.proofs.Areas.{size_there}
-use Rattle.nvs_store.specs.declared.scan.Placed.{Placed as NvsPlaced}
+use Rattle.nvs_store.specs.declared.scan.Found.{Found}
 use Rattle.nvs_store.specs.Geometry.{slot_size}
 use Rattle.nvs_store.specs.Sector.{slot_at, counting_entry}
 use Rattle.nvs_store.specs.Scans.{placed_at as nvs_placed_at, IsInArea}
@@ -39,7 +39,7 @@ returns-clause-own g c =
     ∙ ap (λ (x : Geometry). counting_entry x.unit (slot_at x.unit c.sector_view.result.now c.args.at.now.slot)) c.geometry-unit.ensures
     ∙ ap (λ (xs : List ℕ). counting_entry unit (slot_at unit xs c.args.at.now.slot)) c.sector_view.ensures.bytes in
     let at : Some c.at.result ≡ option_map (nvs_placed_at c.args.at.now.sector) (counting_entry unit (slot_at unit b c.args.at.now.slot)) =
-    ap (λ (f : NvsPlaced). Some f) c.at.ensures ∙ ap (option_map (nvs_placed_at c.args.at.now.sector)) read in
+    ap (λ (f : Found). Some f) c.at.ensures ∙ ap (option_map (nvs_placed_at c.args.at.now.sector)) read in
     reads_as unit (sectors_of d c.args.area.now) c.args.at.now c.at.result at c.requires.there
 
 pub returns-clause-in_area : goal.returns-clause-in_area

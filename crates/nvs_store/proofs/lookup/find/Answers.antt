@@ -6,7 +6,7 @@ use Rattle.flash_map.specs.Area.{unit_of, sector_size, sectors_of}
 use Rattle.pair_laws.specs.Items.{value_of}
 use Rattle.ring_laws.specs.Area.{open_sector}
 use Rattle.ring_laws.proofs.Stays.{open_within}
-use Rattle.nvs_store.specs.declared.scan.Placed.{Placed}
+use Rattle.nvs_store.specs.declared.scan.Found.{Found}
 use Rattle.nvs_store.specs.Scans.{reading, last_placed, placed_bytes, IsInArea}
 use Rattle.nvs_store.proofs.Appending.{open_is}
 use Rattle.nvs_store.proofs.LastLemmas.{found-value, newest-decides, older-decides}
@@ -67,7 +67,7 @@ returns-then-is_some-clause-value g c =
     let is : open_sector (reading unit) sectors ≡ c.args.scan.now.current = open_is unit sectors c.args.scan.now c.requires.scan in
     let inside : open_sector (reading unit) sectors < length sectors = open_within (reading unit) sectors (omega (arith, c.requires.lawful.several)) in
     let within : c.args.scan.now.current < c.args.area.now.sectors = omega arith in
-    found-value unit sectors c.args.id ∙ ap (λ (o : Option Placed). option_and_then (λ f. value_of (placed_bytes sectors f)) o) (sym (newest-decides unit sectors c.args.scan.now.current (Some c.args.id) c.args.area.now.sectors c.find_among-newest.result (sym count) is c.find_among-newest.ensures (sym c.is_some.ensures ∙ c.if-is_some.true)))
+    found-value unit sectors c.args.id ∙ ap (λ (o : Option Found). option_and_then (λ f. value_of (placed_bytes sectors f)) o) (sym (newest-decides unit sectors c.args.scan.now.current (Some c.args.id) c.args.area.now.sectors c.find_among-newest.result (sym count) is c.find_among-newest.ensures (sym c.is_some.ensures ∙ c.if-is_some.true)))
 
 pub overflow_add-current-2 : goal.overflow_add-current-2
 overflow_add-current-2 g c =
@@ -122,7 +122,7 @@ returns-clause-value g c =
     let is : open_sector (reading unit) sectors ≡ c.args.scan.now.current = open_is unit sectors c.args.scan.now c.requires.scan in
     let inside : open_sector (reading unit) sectors < length sectors = open_within (reading unit) sectors (omega (arith, c.requires.lawful.several)) in
     let within : c.args.scan.now.current < c.args.area.now.sectors = omega arith in
-    found-value unit sectors c.args.id ∙ ap (λ (o : Option Placed). option_and_then (λ f. value_of (placed_bytes sectors f)) o) (sym (older-decides unit sectors c.args.scan.now.current (Some c.args.id) c.args.area.now.sectors c.find_among-newest.result c.find_among.result (sym count) is c.find_among-newest.ensures (sym c.is_some.ensures ∙ c.if-is_some.false) c.find_among.ensures))
+    found-value unit sectors c.args.id ∙ ap (λ (o : Option Found). option_and_then (λ f. value_of (placed_bytes sectors f)) o) (sym (older-decides unit sectors c.args.scan.now.current (Some c.args.id) c.args.area.now.sectors c.find_among-newest.result c.find_among.result (sym count) is c.find_among-newest.ensures (sym c.is_some.ensures ∙ c.if-is_some.false) c.find_among.ensures))
 
 pub returns-then-is_some-clause-in_area : goal.returns-then-is_some-clause-in_area
 returns-then-is_some-clause-in_area g c =
@@ -132,7 +132,7 @@ returns-then-is_some-clause-in_area g c =
     let count : length sectors ≡ c.args.area.now.sectors = length-sectors d c.args.area.now in
     let is : open_sector (reading unit) sectors ≡ c.args.scan.now.current = open_is unit sectors c.args.scan.now c.requires.scan in
     let found : c.find_among-newest.result ≡ last_placed unit sectors c.args.id = newest-decides unit sectors c.args.scan.now.current (Some c.args.id) c.args.area.now.sectors c.find_among-newest.result (sym count) is c.find_among-newest.ensures (sym c.is_some.ensures ∙ c.if-is_some.true) in
-    subst (λ (o : Option Placed). IfSome o (IsInArea c.args.area.now.sectors (sector_size d c.args.area.now))) (sym found)
+    subst (λ (o : Option Found). IfSome o (IsInArea c.args.area.now.sectors (sector_size d c.args.area.now))) (sym found)
     (last_placed-in d c.args.area.now c.args.id (g.met.F.Flash.is_lawful c.args.flash.now) c.requires.lawful.in_bank (omega (arith, c.requires.lawful.several)))
 
 pub returns-clause-in_area : goal.returns-clause-in_area
@@ -143,5 +143,5 @@ returns-clause-in_area g c =
     let count : length sectors ≡ c.args.area.now.sectors = length-sectors d c.args.area.now in
     let is : open_sector (reading unit) sectors ≡ c.args.scan.now.current = open_is unit sectors c.args.scan.now c.requires.scan in
     let found : c.find_among.result ≡ last_placed unit sectors c.args.id = older-decides unit sectors c.args.scan.now.current (Some c.args.id) c.args.area.now.sectors c.find_among-newest.result c.find_among.result (sym count) is c.find_among-newest.ensures (sym c.is_some.ensures ∙ c.if-is_some.false) c.find_among.ensures in
-    subst (λ (o : Option Placed). IfSome o (IsInArea c.args.area.now.sectors (sector_size d c.args.area.now))) (sym found)
+    subst (λ (o : Option Found). IfSome o (IsInArea c.args.area.now.sectors (sector_size d c.args.area.now))) (sym found)
     (last_placed-in d c.args.area.now c.args.id (g.met.F.Flash.is_lawful c.args.flash.now) c.requires.lawful.in_bank (omega (arith, c.requires.lawful.several)))

@@ -2,7 +2,7 @@ use Rattle.std.proofs.Common.{◌≡◌, ◌-◌, ℕ, Option, sym, ap, ◌∙�
 use Rattle.std.specs.Prelude.{is_some}
 use Rattle.flash_sim.specs.Device.{Device}
 use Rattle.flash_map.specs.Area.{unit_of, sectors_of}
-use Rattle.nvs_store.specs.declared.scan.Placed.{Placed}
+use Rattle.nvs_store.specs.declared.scan.Found.{Found}
 use Rattle.flash_map.proofs.MapLemmas.{not_some}
 use Rattle.ring_laws.proofs.Newest.{last-step, last-suffix}
 use Rattle.nvs_store.specs.Sector.{is_wanted}
@@ -27,7 +27,7 @@ returns-then-is_some g c =
     let here : last_wanted c.args.wanted (among (unit_of d c.args.area.now) (sectors_of d c.args.area.now) c.args.scan.now.current (c.loop-place.place - 1) (c.args.end - (c.loop-place.place - 1))) ≡ c.find_at-placed.result =
     last-step (λ f. is_wanted c.args.wanted f.entry) (counted_in (unit_of d c.args.area.now) (sectors_of d c.args.area.now) c.args.scan.now.current) c.loop-place.place c.args.end c.find_at-placed.result (omega arith) kept.high kept.none (c.find_at-placed.ensures.whole (omega arith)) in
     sym here ∙ last-suffix (λ f. is_wanted c.args.wanted f.entry) (counted_in (unit_of d c.args.area.now) (sectors_of d c.args.area.now) c.args.scan.now.current) c.args.first (c.loop-place.place - 1) c.args.end (omega arith) (omega (arith, kept.high))
-    (ap (λ (o : Option Placed). is_some o) here ∙ sym c.is_some.ensures ∙ c.if-is_some.true)
+    (ap (λ (o : Option Found). is_some o) here ∙ sym c.is_some.ensures ∙ c.if-is_some.true)
 
 pub loop-place-preserved : goal.loop-place-preserved
 loop-place-preserved g c =

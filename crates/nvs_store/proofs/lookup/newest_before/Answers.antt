@@ -2,7 +2,7 @@ use Rattle.std.proofs.Common.{◌≡◌, ◌+◌, ◌-◌, ℕ, List, None, leng
 use Rattle.std.specs.List.{flat_map, range_with_len}
 use Rattle.flash_sim.specs.Device.{Device}
 use Rattle.flash_map.specs.Area.{unit_of, sectors_of}
-use Rattle.nvs_store.specs.declared.scan.Placed.{Placed}
+use Rattle.nvs_store.specs.declared.scan.Found.{Found}
 use Rattle.nvs_store.specs.Sector.{is_wanted}
 use Rattle.nvs_store.specs.Scans.{counted_in, last_wanted}
 use Rattle.ring_laws.proofs.AreaReads.{length-sectors}
@@ -16,8 +16,8 @@ returns-then-is_some g c =
     let unit : ℕ = unit_of d c.args.area.now in
     let sectors : List (List ℕ) = sectors_of d c.args.area.now in
     let current : ℕ = c.args.scan.now.current in
-    let older : List Placed = flat_map (counted_in unit sectors current) (range_with_len (current + 1) (length sectors - (current + 1))) in
-    let newer : List Placed = flat_map (counted_in unit sectors current) (range_with_len 0 (c.args.place - 0)) in
+    let older : List Found = flat_map (counted_in unit sectors current) (range_with_len (current + 1) (length sectors - (current + 1))) in
+    let newer : List Found = flat_map (counted_in unit sectors current) (range_with_len 0 (c.args.place - 0)) in
     newest-behind (λ f. is_wanted None f.entry) older newer c.find_among-newest.result c.find_among-newest.ensures (sym c.is_some.ensures ∙ c.if-is_some.true)
     ∙ ap (last_wanted None) (before-round (counted_in unit sectors current) (length sectors) current c.args.place c.if-current-place.false)
 
@@ -27,8 +27,8 @@ returns g c =
     let unit : ℕ = unit_of d c.args.area.now in
     let sectors : List (List ℕ) = sectors_of d c.args.area.now in
     let current : ℕ = c.args.scan.now.current in
-    let older : List Placed = flat_map (counted_in unit sectors current) (range_with_len (current + 1) (length sectors - (current + 1))) in
-    let newer : List Placed = flat_map (counted_in unit sectors current) (range_with_len 0 (c.args.place - 0)) in
+    let older : List Found = flat_map (counted_in unit sectors current) (range_with_len (current + 1) (length sectors - (current + 1))) in
+    let newer : List Found = flat_map (counted_in unit sectors current) (range_with_len 0 (c.args.place - 0)) in
     let count : c.args.area.now.sectors ≡ length sectors = sym (length-sectors d c.args.area.now) in
     newest-before (λ f. is_wanted None f.entry) older newer c.find_among-newest.result c.find_among-2.result c.find_among-newest.ensures (sym c.is_some.ensures ∙ c.if-is_some.false)
     (c.find_among-2.ensures ∙ ap (λ (n : ℕ). last_wanted None (flat_map (counted_in unit sectors current) (range_with_len (current + 1) (n - (current + 1))))) count)

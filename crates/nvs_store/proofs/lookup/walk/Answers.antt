@@ -6,7 +6,7 @@ use Rattle.flash_map.specs.Area.{unit_of, sector_size, sectors_of, sector_at}
 use Rattle.flash_map.proofs.Places.{length-sector}
 use Rattle.ring_laws.specs.Area.{open_sector}
 use Rattle.ring_laws.proofs.Stays.{open_within}
-use Rattle.nvs_store.specs.declared.scan.Placed.{Placed}
+use Rattle.nvs_store.specs.declared.scan.Found.{Found}
 use Rattle.nvs_store.specs.Scans.{reading, all_placed, placed_up_to, IsInArea, IsNextOlder}
 use Rattle.nvs_store.proofs.Appending.{open_is}
 use Rattle.ring_laws.proofs.Newest.{last-all}
@@ -76,7 +76,7 @@ returns-in-Some-clause-in_area g c =
     let within : c.in-Some.sector < c.args.area.now.sectors = rw c.in-Some.is at c.requires.inside in
     let high : c.in-Some.sector < length sectors = omega arith in
     let all : All (IsInArea c.args.area.now.sectors (sector_size d c.args.area.now)) (all_placed unit sectors) = listed-in d c.args.area.now (g.met.F.Flash.is_lawful c.args.flash.now) c.requires.lawful.in_bank (omega (arith, c.requires.lawful.several)) in
-    subst (λ (o : Option Placed). IfSome o (IsInArea c.args.area.now.sectors (sector_size d c.args.area.now))) (sym c.newest_up_to.ensures)
+    subst (λ (o : Option Found). IfSome o (IsInArea c.args.area.now.sectors (sector_size d c.args.area.now))) (sym c.newest_up_to.ensures)
     (last-all (λ f. is_wanted None f.entry) (IsInArea c.args.area.now.sectors (sector_size d c.args.area.now)) (placed_up_to unit sectors c.args.scan.now.current c.in-Some.sector c.saturating_sub.result) None tt
     (part_all unit sectors c.args.scan.now.current c.in-Some.sector c.saturating_sub.result is low high (IsInArea c.args.area.now.sectors (sector_size d c.args.area.now)) all))
 
@@ -104,6 +104,6 @@ returns-in-None-clause-in_area g c =
     let inside : open_sector (reading unit) sectors < length sectors = open_within (reading unit) sectors (omega (arith, c.requires.lawful.several)) in
     let low : c.args.scan.now.current < length sectors = omega arith in
     let all : All (IsInArea c.args.area.now.sectors (sector_size d c.args.area.now)) (all_placed unit sectors) = listed-in d c.args.area.now (g.met.F.Flash.is_lawful c.args.flash.now) c.requires.lawful.in_bank (omega (arith, c.requires.lawful.several)) in
-    subst (λ (o : Option Placed). IfSome o (IsInArea c.args.area.now.sectors (sector_size d c.args.area.now))) (sym c.newest_up_to-in-None.ensures)
+    subst (λ (o : Option Found). IfSome o (IsInArea c.args.area.now.sectors (sector_size d c.args.area.now))) (sym c.newest_up_to-in-None.ensures)
     (last-all (λ f. is_wanted None f.entry) (IsInArea c.args.area.now.sectors (sector_size d c.args.area.now)) (placed_up_to unit sectors c.args.scan.now.current c.args.scan.now.current 32768) None tt
     (part_all unit sectors c.args.scan.now.current c.args.scan.now.current 32768 is low low (IsInArea c.args.area.now.sectors (sector_size d c.args.area.now)) all))

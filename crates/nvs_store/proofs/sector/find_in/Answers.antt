@@ -1,6 +1,6 @@
 use Rattle.std.proofs.Common.{◌≡◌, ℕ, Some, ap, ◌∙◌, sym, arith}
 use Rattle.std.specs.Option.{option_map}
-use Rattle.nvs_store.specs.declared.scan.Placed.{Placed}
+use Rattle.nvs_store.specs.declared.scan.Found.{Found}
 use Rattle.nvs_store.specs.Sector.{slot_at, counting_entry, is_wanted, last_found}
 use Rattle.nvs_store.specs.Scans.{placed_at}
 use Rattle.nvs_store.proofs.SlotReads.{slot_size_bounds}
@@ -24,7 +24,7 @@ wanted_entry-requires-clause-inside c =
 pub returns-in-Some : goal.returns-in-Some
 returns-in-Some c =
     let found = wanted_some c.args.wanted (counting_entry c.args.unit (slot_at c.args.unit c.args.bytes.now c.loop-index.index)) c.in-Some.found c.in-Some.ensures in
-    ap (λ (f : Placed). Some f) c.at.ensures ∙ ap (option_map (placed_at c.args.place)) (found_here (counting_entry c.args.unit) 1 (slot_size c.args.unit) c.args.bytes.now (λ f. is_wanted c.args.wanted f.entry) c.loop-index.index c.loop-index.index c.loop-index-test.true (omega arith) c.in-Some.found _ found.0 found.1 c.loop-index.invariant.later)
+    ap (λ (f : Found). Some f) c.at.ensures ∙ ap (option_map (placed_at c.args.place)) (found_here (counting_entry c.args.unit) 1 (slot_size c.args.unit) c.args.bytes.now (λ f. is_wanted c.args.wanted f.entry) c.loop-index.index c.loop-index.index c.loop-index-test.true (omega arith) c.in-Some.found _ found.0 found.1 c.loop-index.invariant.later)
 
 pub loop-index-preserved : goal.loop-index-preserved
 loop-index-preserved c = record {

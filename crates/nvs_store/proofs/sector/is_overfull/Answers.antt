@@ -1,7 +1,7 @@
 use Rattle.std.proofs.Common.{◌≡◌, ℕ, ◌+◌, ◌-◌, ◌*◌, ◌||◌, Bool, List, length, ltb, refl, sym, ap, ◌∙◌, arith}
 use Rattle.std.specs.Prelude.{sum_by}
 use Rattle.std.specs.List.{list_any}
-use Rattle.nvs_store.specs.declared.scan.Found.{Found}
+use Rattle.nvs_store.specs.declared.scan.SlotEntry.{SlotEntry}
 use Rattle.nvs_store.specs.Geometry.{slot_size, capacity}
 use Rattle.nvs_store.specs.Sector.{counting_entry, used_slots, low, entry_cost}
 use Rattle.nvs_store.proofs.SlotReads.{slot_size_bounds}
@@ -37,7 +37,7 @@ returns-then-passes c =
     let fence : c.saturating_sub-fence.result ≡ low unit b - slot_size unit = omega (arith, lower) in
     c.if-passes.true ∙ sym (ap (λ (t : Bool). t || ltb (capacity unit (length b)) c.loop-index.costs) c.if-passes.true)
     ∙ overfull_is unit b c.saturating_sub-fence.result (capacity unit (length b)) c.loop-index.costs c.loop-index.passes fence refl
-    (c.loop-index.invariant.passes ∙ ap (list_any (λ (f : Found). ltb c.saturating_sub-fence.result (f.entry.offset + f.entry.len))) all) (c.loop-index.invariant.costs ∙ ap (sum_by (entry_cost unit)) all)
+    (c.loop-index.invariant.passes ∙ ap (list_any (λ (f : SlotEntry). ltb c.saturating_sub-fence.result (f.entry.offset + f.entry.len))) all) (c.loop-index.invariant.costs ∙ ap (sum_by (entry_cost unit)) all)
 
 pub returns-else-passes : goal.returns-else-passes
 returns-else-passes c =
@@ -49,4 +49,4 @@ returns-else-passes c =
     let fence : c.saturating_sub-fence.result ≡ low unit b - slot_size unit = omega (arith, lower) in
     sym (ap (λ (t : Bool). t || ltb c.from.result c.loop-index.costs) c.if-passes.false)
     ∙ overfull_is unit b c.saturating_sub-fence.result c.from.result c.loop-index.costs c.loop-index.passes fence (c.from.ensures ∙ c.capacity.ensures)
-    (c.loop-index.invariant.passes ∙ ap (list_any (λ (f : Found). ltb c.saturating_sub-fence.result (f.entry.offset + f.entry.len))) all) (c.loop-index.invariant.costs ∙ ap (sum_by (entry_cost unit)) all)
+    (c.loop-index.invariant.passes ∙ ap (list_any (λ (f : SlotEntry). ltb c.saturating_sub-fence.result (f.entry.offset + f.entry.len))) all) (c.loop-index.invariant.costs ∙ ap (sum_by (entry_cost unit)) all)

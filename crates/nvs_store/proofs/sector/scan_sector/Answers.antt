@@ -1,7 +1,7 @@
 use Rattle.std.proofs.Common.{◌≡◌, ℕ, ◌+◌, ◌-◌, ◌*◌, max, map, take, List, length, ap, ◌∙◌, sym, arith}
 use Rattle.std.specs.Prelude.{fold, sum_by}
 use Rattle.std.specs.List.{list_any}
-use Rattle.nvs_store.specs.declared.scan.Found.{Found}
+use Rattle.nvs_store.specs.declared.scan.SlotEntry.{SlotEntry}
 use Rattle.nvs_store.specs.Geometry.{slot_size}
 use Rattle.flash_map.specs.Units.{padded}
 use Rattle.nvs_store.specs.Sector.{counting_entry, is_gc_done, is_used, used_slots, low, data_end, entry_end}
@@ -55,7 +55,7 @@ data_end-is c =
     let fence : c.saturating_sub.result ≡ low c.args.unit c.args.bytes.now - slot_size c.args.unit = omega (arith, lower) in
     c.max-2.ensures ∙ ap (max c.padded-written.result) c.max.ensures
     ∙ data_end_is c.args.unit c.args.bytes.now _ c.trimmed_len.result c.padded-written.result c.loop-index.ends c.loop-index.lens (omega arith) (ap (λ (n : ℕ). take n c.args.bytes.now) fence) c.trimmed_len.ensures c.padded-written.ensures.value
-    (c.loop-index.invariant.ends ∙ ap (λ (fs : List Found). fold max 0 (map (entry_end c.args.unit) fs)) all) (c.loop-index.invariant.lens ∙ ap (sum_by (λ f. padded c.args.unit f.entry.len)) all)
+    (c.loop-index.invariant.ends ∙ ap (λ (fs : List SlotEntry). fold max 0 (map (entry_end c.args.unit) fs)) all) (c.loop-index.invariant.lens ∙ ap (sum_by (λ f. padded c.args.unit f.entry.len)) all)
 
 pub returns : goal.returns
 returns c =

@@ -2,7 +2,7 @@ use Rattle.std.proofs.Common.{◌≡◌, ℕ, ◌+◌, ◌-◌, length, Some, re
 use Rattle.std.specs.Option.{option_map}
 use Rattle.zms_cycle.specs.Sector.{valid_slots, entries}
 use Rattle.zms_cycle.proofs.Scanning.{entries_to}
-use Rattle.zms_kind.specs.declared.sector.Placed.{Placed}
+use Rattle.zms_kind.specs.declared.sector.Found.{Found}
 use Rattle.zms_kind.specs.Area.{placed_at, last_in, IsListed}
 use Rattle.zms_kind.proofs.Sectors.{few_slots, entries_all, listed_here, find_here, find_other, find_none}
 use Rattle.zms_kind.proofs.PassedSlots.{find_past}
@@ -32,7 +32,7 @@ overflow_add-count c = let few = few_slots c.args.sector.now in omega (arith, c.
 
 pub returns-then-found-id-clause-listed : goal.returns-then-found-id-clause-listed
 returns-then-found-id-clause-listed c =
-    subst (λ (p : Placed). IsListed c.args.sector.now p) (sym c.placed_in.ensures)
+    subst (λ (p : Found). IsListed c.args.sector.now p) (sym c.placed_in.ensures)
     (listed_here c.args.sector.now c.args.place (c.loop-count.count + 1) c.in-Some.found (omega arith) (omega (arith, c.loop-count.invariant.inside)) c.in-Some.ensures)
 
 pub loop-count-preserved : goal.loop-count-preserved

@@ -3,7 +3,7 @@ use Rattle.std.specs.Prelude.{IfSome}
 use Rattle.std.specs.Option.{option_map}
 use Rattle.ring_laws.proofs.SlotLemmas.{bytes-slot_at}
 use Rattle.zms_cycle.specs.declared.entry.ZEntry.{ZEntry}
-use Rattle.zms_cycle.specs.declared.reading.Found.{Found}
+use Rattle.zms_cycle.specs.declared.reading.SlotEntry.{SlotEntry}
 use Rattle.zms_cycle.specs.Entries.{entry_of as fields_of}
 use Rattle.zms_cycle.specs.Sector.{slot_of, entry_in}
 use Rattle.zms_cycle.proofs.SlotSearch.{entry_in-cases}
@@ -14,8 +14,8 @@ use Rattle.zms_sectors.proofs.sectors.named_id.Goals as goal
 named : (b : List ℕ) (slot id : ℕ) → id ≡ (fields_of (slot_of b slot).bytes).id → IfSome (option_map entry_of (entry_in (slot_of b slot))) (λ e. e.id ≡ id)
 named b slot id is =
     elim (entry_in-cases (slot_of b slot)) [
-      | inl none ↦ subst (λ (o : Option Found). IfSome (option_map entry_of o) (λ e. e.id ≡ id)) (sym none) tt
-      | inr (f, some, same) ↦ subst (λ (o : Option Found). IfSome (option_map entry_of o) (λ e. e.id ≡ id)) (sym some) (ap (λ (e : ZEntry). e.id) same ∙ sym is)
+      | inl none ↦ subst (λ (o : Option SlotEntry). IfSome (option_map entry_of o) (λ e. e.id ≡ id)) (sym none) tt
+      | inr (f, some, same) ↦ subst (λ (o : Option SlotEntry). IfSome (option_map entry_of o) (λ e. e.id ≡ id)) (sym some) (ap (λ (e : ZEntry). e.id) same ∙ sym is)
     ]
 
 pub returns : goal.returns

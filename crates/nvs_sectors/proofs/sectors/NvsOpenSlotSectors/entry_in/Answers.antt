@@ -6,7 +6,7 @@ use Rattle.flash_map.specs.declared.area.Role.TheVariants.{Nvs as nvs_role}
 use Rattle.flash_map.specs.Area.{unit_of, sector_at, sector_size, sectors_of}
 use Rattle.ring_store.specs.declared.entry.Placed.{Placed}
 use Rattle.ring_store.proofs.Areas.{size_there}
-use Rattle.nvs_store.specs.declared.scan.Placed.{Placed as NvsPlaced}
+use Rattle.nvs_store.specs.declared.scan.Found.{Found}
 use Rattle.nvs_store.specs.Sector.{slot_at, counting_entry}
 use Rattle.nvs_store.proofs.InArea.{slot-in}
 use Rattle.nvs_store.specs.Geometry.{slot_size}
@@ -40,6 +40,6 @@ returns-in-Some-clause-small g c =
     ∙ ap (λ (x : Geometry). counting_entry x.unit (slot_at x.unit c.sector_view.result.now c.args.slot)) c.geometry-unit.ensures
     ∙ ap (λ (xs : List ℕ). counting_entry unit (slot_at unit xs c.args.slot)) c.sector_view.ensures.bytes in
     let other = (slot-in unit b c.args.slot area.sectors (sector_size d area) c.args.place c.in-Some.found read long c.requires.inside).ordinary in
-    let same : c.placed.result.id ≡ c.in-Some.found.entry.id = ap (λ (p : Placed). p.id) c.placed.ensures.value ∙ ap (λ (f : NvsPlaced). f.entry.id) c.at.ensures in
+    let same : c.placed.result.id ≡ c.in-Some.found.entry.id = ap (λ (p : Placed). p.id) c.placed.ensures.value ∙ ap (λ (f : Found). f.entry.id) c.at.ensures in
     let small = c.placed.ensures.small in
     omega (arith, same, other, small)

@@ -8,7 +8,7 @@ use Rattle.flash_map.specs.Spending.{SpendsBetween}
 use Rattle.flash_map.proofs.PieceLemmas.{on_err}
 use Rattle.flash_map.proofs.SpendingBounds.{between_within}
 use Rattle.ring_store.proofs.Areas.{large_there, size_there}
-use Rattle.zms_cycle.specs.declared.reading.Found.{Found}
+use Rattle.zms_cycle.specs.declared.reading.SlotEntry.{SlotEntry}
 use Rattle.zms_cycle.specs.OnArea.{next_guard}
 use Rattle.zms_cycle.specs.Sector.{cost, free, entry_len, pair_at}
 use Rattle.zms_kind.proofs.Roomy.{roomy_of}
@@ -99,7 +99,7 @@ returns-in_err-copy_entry_at-clause-spends_lost g c =
     let area : Area = c.args.area.now in
     let u : Geometry = geometry_of a area in
     let there = is_there (sector_at (sectors_of a area) c.args.from.now.sector) c.args.from.now c.requires.there in
-    let len : entry_len (sector_at (sectors_of a area) c.args.from.now.sector) c.args.from.now.slot ≡ c.args.from.now.len = ap (λ (o : Option Found). option_map_or (λ f. f.entry.len) o 0) there.read ∙ sym there.len in
+    let len : entry_len (sector_at (sectors_of a area) c.args.from.now.sector) c.args.from.now.slot ≡ c.args.from.now.len = ap (λ (o : Option SlotEntry). option_map_or (λ f. f.entry.len) o 0) there.read ∙ sym there.len in
     let units : cost (entry_len (sector_at (sectors_of a area) c.args.from.now.sector) c.args.from.now.slot) / 16 ≡ cost c.args.from.now.len / 16 = ap (λ (n : ℕ). cost n / 16) len in
     on_err c.from_residual.result
     (between_within c.in_err-copy_entry_at.ensures.spends_lost 0 (entry_units u.kind (sector_at (sectors_of a area) c.args.place) (cost c.args.from.now.len / 16)).lost (omega arith) (omega arith))
@@ -111,7 +111,7 @@ returns-clause-spends g c =
     let u : Geometry = geometry_of a area in
     let e : Device = g.F.Flash.device c.copy_entry_at.new.flash in
     let there = is_there (sector_at (sectors_of a area) c.args.from.now.sector) c.args.from.now c.requires.there in
-    let len : entry_len (sector_at (sectors_of a area) c.args.from.now.sector) c.args.from.now.slot ≡ c.args.from.now.len = ap (λ (o : Option Found). option_map_or (λ f. f.entry.len) o 0) there.read ∙ sym there.len in
+    let len : entry_len (sector_at (sectors_of a area) c.args.from.now.sector) c.args.from.now.slot ≡ c.args.from.now.len = ap (λ (o : Option SlotEntry). option_map_or (λ f. f.entry.len) o 0) there.read ∙ sym there.len in
     ready_spends u.kind (sector_at (sectors_of a area) c.args.place) c.requires.ready a e (cost c.args.from.now.len / 16)
     (subst (λ (n : ℕ). SpendsBetween a e (cost n / 16 + next_guard a area c.args.place) (cost n / 16 + next_guard a area c.args.place)) len c.in_ok-copy_entry_at.ensures.guards)
 

@@ -6,7 +6,7 @@ use Rattle.flash_map.specs.Area.{geometry_of, sectors_of, sector_at}
 use Rattle.zms_kind.proofs.StepLemmas.{last_same}
 use Rattle.std.specs.Option.{option_map}
 use Rattle.zms_cycle.specs.Sector.{entries}
-use Rattle.zms_kind.specs.Kinds.{record_of}
+use Rattle.zms_kind.specs.Kinds.{placed_of}
 use Rattle.zms_kind.specs.Area.{placed_at as zms_placed_at, last_in}
 use Rattle.zms_sectors.proofs.sectors.ZmsOpenSlotSectors.find_in.Goals as goal
 
@@ -17,7 +17,7 @@ returns-in-Some g c =
     let u : Geometry = geometry_of a area in
     let bytes = c.sector_view.ensures.bytes in
     let found = c.find_in.ensures.last ∙ ap (λ (b : List ℕ). option_map (zms_placed_at c.args.place) (last_in c.args.id (entries b))) bytes in
-    (rw c.from.ensures (ap (option_map record_of) (sym c.in-Some.is ∙ found) ∙ last_same u (sector_at (sectors_of a area) c.args.place) c.args.place c.args.id))
+    (rw c.from.ensures (ap (option_map placed_of) (sym c.in-Some.is ∙ found) ∙ last_same u (sector_at (sectors_of a area) c.args.place) c.args.place c.args.id))
 
 pub returns-in-None : goal.returns-in-None
 returns-in-None g c =
@@ -26,4 +26,4 @@ returns-in-None g c =
     let u : Geometry = geometry_of a area in
     let bytes = c.sector_view.ensures.bytes in
     let found = c.find_in.ensures.last ∙ ap (λ (b : List ℕ). option_map (zms_placed_at c.args.place) (last_in c.args.id (entries b))) bytes in
-    ap (option_map record_of) (sym c.in-None.is ∙ found) ∙ last_same u (sector_at (sectors_of a area) c.args.place) c.args.place c.args.id
+    ap (option_map placed_of) (sym c.in-None.is ∙ found) ∙ last_same u (sector_at (sectors_of a area) c.args.place) c.args.place c.args.id

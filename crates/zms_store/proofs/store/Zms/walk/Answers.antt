@@ -3,7 +3,7 @@ use Rattle.std.specs.Prelude.{IfSome}
 use Rattle.flash_sim.specs.Device.{Device}
 use Rattle.flash_map.specs.declared.area.Area.{Area}
 use Rattle.flash_map.specs.Area.{geometry_of, sectors_of, sector_at}
-use Rattle.ring_store.specs.declared.entry.Placed.{Placed as PlacedEntry}
+use Rattle.ring_store.specs.declared.entry.Placed.{Placed}
 use Rattle.ring_store.specs.Older.{IsNextOlder, newest_before}
 use Rattle.zms_kind.specs.Area.{IsListed}
 use Rattle.zms_store.specs.Standing.{entries_on, kind_on}
@@ -13,8 +13,8 @@ use Rattle.zms_store.proofs.store.Zms.walk.Goals as goal
 pub returns-in-Some-clause-older : goal.returns-in-Some-clause-older
 returns-in-Some-clause-older g c =
     let d : Device = g.F.Flash.device c.args.flash.now in
-    subst (λ (o : Option PlacedEntry). IsNextOlder (entries_on d c.args.self.now.store.area) c.args.after o)
-    (c.in-Some.is ∙ ap (λ (p : PlacedEntry). Some p) (sym c.entry_at.ensures.same)) c.walk.ensures.older
+    subst (λ (o : Option Placed). IsNextOlder (entries_on d c.args.self.now.store.area) c.args.after o)
+    (c.in-Some.is ∙ ap (λ (p : Placed). Some p) (sym c.entry_at.ensures.same)) c.walk.ensures.older
 
 pub returns-in-Some-clause-placed : goal.returns-in-Some-clause-placed
 returns-in-Some-clause-placed g c =
@@ -27,11 +27,11 @@ pub returns-in-Some-clause-before : goal.returns-in-Some-clause-before
 returns-in-Some-clause-before g c =
     let d : Device = g.F.Flash.device c.args.flash.now in
     let area : Area = c.args.self.now.store.area in
-    subst (λ (o : Option PlacedEntry). IfSome c.args.after (λ place. o ≡ newest_before (kind_on d area) (sectors_of d area) place))
-    (c.in-Some.is ∙ ap (λ (p : PlacedEntry). Some p) (sym c.entry_at.ensures.same)) c.walk.ensures.before
+    subst (λ (o : Option Placed). IfSome c.args.after (λ place. o ≡ newest_before (kind_on d area) (sectors_of d area) place))
+    (c.in-Some.is ∙ ap (λ (p : Placed). Some p) (sym c.entry_at.ensures.same)) c.walk.ensures.before
 
 pub returns-in-None-clause-before : goal.returns-in-None-clause-before
 returns-in-None-clause-before g c =
     let d : Device = g.F.Flash.device c.args.flash.now in
     let area : Area = c.args.self.now.store.area in
-    subst (λ (o : Option PlacedEntry). IfSome c.args.after (λ place. o ≡ newest_before (kind_on d area) (sectors_of d area) place)) c.in-None.is c.walk.ensures.before
+    subst (λ (o : Option Placed). IfSome c.args.after (λ place. o ≡ newest_before (kind_on d area) (sectors_of d area) place)) c.in-None.is c.walk.ensures.before

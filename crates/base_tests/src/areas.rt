@@ -36,29 +36,33 @@ fn added(map: &mut FlashMap, area: Area) -> Result<(), AddFault>
     map.add(&[BANK], area)
 }
 
+// The label, the bank, the first sector and the count of sectors of each area that is added, and how that ends.
+const ADDED: [(&str, usize, u32, u32, Result<(), AddFault>); 8] = [
+    ("n", 0, 0, 2, Ok(())),
+    ("f", 0, 2, 2, Ok(())),
+    ("n", 0, 4, 2, Err(AddFault::Exists)),
+    ("x", 1, 0, 2, Err(AddFault::OutOfBank)),
+    ("x", 0, 4, 1, Err(AddFault::OutOfBank)),
+    ("x", 0, 4, 3, Err(AddFault::OutOfBank)),
+    ("x", 0, 3, 2, Err(AddFault::Overlaps)),
+    ("s", 0, 4, 2, Ok(())),
+];
+
 #[test]
 fn areas_side_by_side(rt: HostRuntime) -> Result<(), Fail> {
     let mut map = FlashMap::new(rt.alloc());
-    let rows = [
-        ("n", 0, 0, 2, Ok(())),
-        ("f", 0, 2, 2, Ok(())),
-        ("n", 0, 4, 2, Err(AddFault::Exists)),
-        ("x", 1, 0, 2, Err(AddFault::OutOfBank)),
-        ("x", 0, 4, 1, Err(AddFault::OutOfBank)),
-        ("x", 0, 4, 3, Err(AddFault::OutOfBank)),
-        ("x", 0, 3, 2, Err(AddFault::Overlaps)),
-        ("s", 0, 4, 2, Ok(())),
-    ];
-    for (label, bank, first, sectors, answer) in rows {
+    for (label, bank, first, sectors, answer) in ADDED {
         let result = added(&mut map, area(label, bank, first, sectors)?);
         assert_eq!(rt; result, answer);
     }
+    let Some(second) = map.at(1) else {
+        return Err(Fail::new("three areas stand there"));
+    };
+    let places = (map.len(), map.index_of("s"), map.index_of("x"));
     assert_eq!(rt;
-        (map.len(), map.index_of("s"), map.index_of("x")),
-        (3, Some(2), None)
+        (places, second.first, second.value_limit()),
+        ((3, Some(2), None), 2, 256)
     );
-    let second = map.at(1).ok_or("three areas stand there")?;
-    assert_eq!(rt; (second.first, second.value_limit()), (2, 256));
     Ok(())
 }
 
@@ -77,6 +81,11 @@ fn load_blank<B: Bench>(alloc: Global, bench: &mut B) -> Result<(), Fail>
     bench.load(alloc, banks, bytes)?;
     Ok(())
 }
+
+// Five bytes behind the first unit, and else FF.
+const COPIED: [u8; 16] = [
+    255, 255, 255, 255, 1, 2, 3, 4, 5, 255, 255, 255, 255, 255, 255, 255,
+];
 
 // Programs two units of the second sector, copies five bytes of them behind the first unit of the first, and erases the second.
 #[tactic(auto, unfolding(flash_map::specs::Units::padded))]
@@ -99,7 +108,7 @@ fn exercise<B: Bench, L: Ledger, R: Abort>(
         sectors: 2,
         kind: Kind::Erasing,
     };
-    assert_eq!(rt; geometry(bench, &area), shape);
+    let on_bench = geometry(bench, &area);
     program_all(bench, &area, 1, 0, &[1, 2, 3, 4, 5, 6, 7, 8])?;
     let from = Source {
         sector: 1,
@@ -107,16 +116,13 @@ fn exercise<B: Bench, L: Ledger, R: Abort>(
         len: 5,
     };
     copy_padded(bench, &area, from, 0, 4, &mut steps)?;
-    assert!(rt;
-        sector_view(bench, &area, 0, &mut steps)
-            == [
-                255, 255, 255, 255, 1, 2, 3, 4, 5, 255, 255, 255, 255, 255, 255, 255
-            ]
-            .as_slice()
-    );
+    let laid = sector_view(bench, &area, 0, &mut steps) == COPIED.as_slice();
     area_erase(bench, &area, 1)?;
-    assert!(rt; is_erased(area_view(bench, &area, 1, 6, 4, &mut steps)));
-    assert_eq!(rt; bench.spent(), 5);
+    let erased = is_erased(area_view(bench, &area, 1, 6, 4, &mut steps));
+    assert_eq!(rt;
+        (on_bench, laid, erased, bench.spent()),
+        (shape, true, true, 5)
+    );
     Ok(())
 }
 
@@ -130,7 +136,7 @@ fn sectors_of_an_area(rt: HostRuntime) -> Result<(), Fail> {
 #[test]
 fn places_in_a_ring(rt: HostRuntime) {
     let area = Area::new(ArrayString::new(), Role::Fcb, 0, 2, 2, 1);
-    assert_eq!(rt; (area.next(0), area.next(1)), (1, 0));
-    assert_eq!(rt; (area.previous(0), area.previous(1)), (1, 0));
-    assert_eq!(rt; padded(4, 409), 412);
+    let next = (area.next(0), area.next(1));
+    let previous = (area.previous(0), area.previous(1));
+    assert_eq!(rt; (next, previous, padded(4, 409)), ((1, 0), (1, 0), 412));
 }

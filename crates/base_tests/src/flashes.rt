@@ -26,6 +26,12 @@ fn load<B: Bench>(alloc: Global, bench: &mut B) -> Result<(), Fail>
     Ok(())
 }
 
+// The sectors once the first one is erased.
+const ERASED: [u8; 32] = [
+    255, 255, 255, 255, 255, 255, 255, 255, 255, 255, 255, 255, 255, 255, 255, 255, 7, 7, 7, 7, 7,
+    7, 7, 7, 7, 7, 7, 7, 7, 7, 7, 7,
+];
+
 // A cut program, power back, what stands there, and an erase: the sector is FF, and the other one is as it was loaded.
 fn exercise<B: Bench, L: Ledger, R: Abort>(
     rt: &R,
@@ -42,16 +48,20 @@ fn exercise<B: Bench, L: Ledger, R: Abort>(
     bench.arm(1);
     let at = At { bank: 0, offset: 4 };
     let cut = bench.program(at, &[1, 2, 3, 4, 5, 6, 7, 8]);
-    assert_eq!(rt; cut, Err(PowerLost));
-    assert!(rt; !bench.is_on());
+    let is_on = bench.is_on();
     bench.restore();
-    assert!(rt; bench.view(at, 8, &mut steps) == [1, 2, 3, 4, 255, 255, 255, 255].as_slice());
+    let laid = bench.view(at, 8, &mut steps) == [1, 2, 3, 4, 255, 255, 255, 255].as_slice();
     bench.erase(0, 0)?;
-    assert_eq!(rt; (bench.spent(), bench.losses(), bench.loads()), (2, 1, 1));
+    let counts = (bench.spent(), bench.losses(), bench.loads());
+    assert_eq!(rt;
+        (cut, is_on, laid, counts),
+        (Err(PowerLost), false, true, (2, 1, 1))
+    );
     let bytes = bench.snapshot(alloc)?;
-    let first = bytes.first().ok_or("one bank was loaded")?;
-    assert!(rt; first[..16] == [255; 16]);
-    assert!(rt; first[16..] == [7; 16]);
+    let Some(first) = bytes.first() else {
+        return Err(Fail::new("one bank was loaded"));
+    };
+    assert!(rt; first.as_slice() == ERASED.as_slice());
     Ok(())
 }
 

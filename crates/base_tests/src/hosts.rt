@@ -1,5 +1,7 @@
 // The two hosts, each called once for each of its answers.
+use std::alloc::Global;
 use std::fs;
+use std::process::Abort;
 use std::test::Fail;
 use zs_host::{Host, HostFault, MemHost, RealHost};
 
@@ -19,9 +21,9 @@ fn memory(rt: HostRuntime) -> Result<(), Fail> {
     ] {
         assert_eq!(rt; host.read_whole(alloc, "a", limit).err(), fault);
     }
-    assert_eq!(rt; host.faults(), 1);
-    assert!(rt; host.file("b") == Some(b"67".as_slice()));
-    assert!(rt; host.printed() == b"89".as_slice());
+    let written = host.file("b") == Some(b"67".as_slice());
+    let printed = host.printed() == b"89".as_slice();
+    assert_eq!(rt; (host.faults(), written, printed), (1, true, true));
     Ok(())
 }
 
@@ -29,15 +31,8 @@ const NAME: &str = "zs_host_test.bin";
 
 const TAKEN: &str = "zs_host_test.bin.part";
 
-#[test]
-fn real_files(rt: HostRuntime) -> Result<(), Fail> {
-    let alloc = rt.alloc();
-    let _ = fs::remove_file(&rt, NAME);
-    let mut host = RealHost::new(&rt);
-    host.write_whole(alloc, NAME, vec![in alloc; 7u8; 10000]?.as_slice())?;
-    assert_eq!(rt; host.read_whole(alloc, NAME, 10000)?.len(), 10000);
-    host.write_whole(alloc, NAME, b"abc")?;
-    // A folder can be opened and not read.
+// There is no such file, one is too long, and a folder can be opened and not read.
+fn refuses_to_read<H: Host, R: Abort>(rt: &R, alloc: Global, host: &mut H) {
     for (name, limit, fault) in [
         ("zs_host_none.bin", 9, HostFault::Missing),
         (NAME, 2, HostFault::TooLong),
@@ -45,16 +40,32 @@ fn real_files(rt: HostRuntime) -> Result<(), Fail> {
     ] {
         assert_eq!(rt; host.read_whole(alloc, name, limit).err(), Some(fault));
     }
-    // A file in no folder can't be written, nor one whose other name is taken by a folder; what stood there stands.
-    fs::create_dir(&rt, TAKEN)?;
+}
+
+// A file in no folder can't be written, nor one whose other name is taken by a folder; what stood there stands.
+fn refuses_to_write<H: Host, R: Abort>(rt: &R, alloc: Global, host: &mut H) {
     for name in ["no_folder/a", NAME] {
         let written = host.write_whole(alloc, name, b"def");
         assert_eq!(rt; written.err(), Some(HostFault::Failed));
     }
+}
+
+#[test]
+fn real_files(rt: HostRuntime) -> Result<(), Fail> {
+    let alloc = rt.alloc();
+    let _ = fs::remove_file(&rt, NAME);
+    let mut host = RealHost::new(&rt);
+    host.write_whole(alloc, NAME, vec![in alloc; 7u8; 10000]?.as_slice())?;
+    let long = host.read_whole(alloc, NAME, 10000)?.len();
+    host.write_whole(alloc, NAME, b"abc")?;
+    refuses_to_read(&rt, alloc, &mut host);
+    fs::create_dir(&rt, TAKEN)?;
+    refuses_to_write(&rt, alloc, &mut host);
     fs::remove_dir(&rt, TAKEN)?;
-    assert!(rt; host.read_whole(alloc, NAME, 3)?.as_slice() == b"abc".as_slice());
+    let kept = host.read_whole(alloc, NAME, 3)?;
     host.print(alloc, b"printed\n")?;
-    assert_eq!(rt; host.faults(), 3);
+    let short = kept.as_slice() == b"abc".as_slice();
+    assert_eq!(rt; (long, short, host.faults()), (10000, true, 3));
     fs::remove_file(&rt, NAME)?;
     Ok(())
 }

@@ -1,4 +1,4 @@
-//! Tests of hosts, texts, CRCs, caches, flash, areas and image files.
+//! Tests of hosts, texts, CRCs, caches, flash, areas, image files, and rings of records with logs on them.
 #![tactic(auto)]
 
 #[cfg(test)]
@@ -13,5 +13,9 @@ mod flashes;
 mod hosts;
 #[cfg(test)]
 mod images;
+#[cfg(test)]
+mod logs;
+#[cfg(test)]
+mod rings;
 #[cfg(test)]
 mod texts;

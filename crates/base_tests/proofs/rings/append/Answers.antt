@@ -3,7 +3,7 @@ use Rattle.flash_sim.specs.Device.{Device}
 use Rattle.flash_map.specs.Area.{unit_of}
 use Rattle.flash_map.proofs.Rounding.{padding}
 use Rattle.fcb_ring.proofs.AreaLemmas.{has_size}
-use Rattle.fcb_tests.proofs.rings.append.Goals as goal
+use Rattle.base_tests.proofs.rings.append.Goals as goal
 
 pub append-requires-clause-short : goal.append-requires-clause-short
 append-requires-clause-short g c =

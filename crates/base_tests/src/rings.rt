@@ -171,6 +171,15 @@ fn tells_damage<B: Bench, L: Ledger, R: Abort>(
     Ok(())
 }
 
+// A sector of id FFFF with three records; and a torn header.
+const OLDER: [u8; 48] = [
+    0xEE, 0xEE, 0xFF, 0xC0, 0x01, 0xFF, 0xFF, 0xFF, 0x03, 0xFF, 0xFF, 0xFF, 0x61, 0x3D, 0x01, 0xFF,
+    0x52, 0xFF, 0xFF, 0xFF, 0x02, 0xFF, 0xFF, 0xFF, 0x61, 0x3D, 0xFF, 0xFF, 0xAE, 0xFF, 0xFF, 0xFF,
+    0x08, 0xFF, 0xFF, 0xFF, 0x61, 0x3D, 0x00, 0xA4, 0x01, 0x02, 0x03, 0x04, 0xC2, 0xFF, 0xFF, 0xFF,
+];
+
+const TORN: [u8; 4] = [0xEE, 0xEE, 0xFF, 0xC0];
+
 // A ring that was inspected and then finished: ids FFFF and 0000 in its first sectors, and a torn header in the third.
 fn finished<B: Bench, L: Ledger, R: Abort>(
     rt: &R,
@@ -180,22 +189,15 @@ fn finished<B: Bench, L: Ledger, R: Abort>(
 ) -> Result<Ring, Fail>
     ensures { IfOk result (λ ring. StandsOn (B.device bench.new) ring) }
 {
-    let older = [
-        0xEE, 0xEE, 0xFF, 0xC0, 0x01, 0xFF, 0xFF, 0xFF, 0x03, 0xFF, 0xFF, 0xFF, 0x61, 0x3D, 0x01,
-        0xFF, 0x52, 0xFF, 0xFF, 0xFF, 0x02, 0xFF, 0xFF, 0xFF, 0x61, 0x3D, 0xFF, 0xFF, 0xAE, 0xFF,
-        0xFF, 0xFF, 0x08, 0xFF, 0xFF, 0xFF, 0x61, 0x3D, 0x00, 0xA4, 0x01, 0x02, 0x03, 0x04, 0xC2,
-        0xFF, 0xFF, 0xFF,
-    ];
-    let newer = [0xEE, 0xEE, 0xFF, 0xC0, 0x01, 0xFF, 0x00, 0x00];
-    let torn = [0xEE, 0xEE, 0xFF, 0xC0];
-    load(alloc, bench, image(alloc, &older, &newer, &torn)?)?;
+    load(alloc, bench, image(alloc, &OLDER, &HEADER, &TORN)?)?;
     let mut ring = match Ring::inspect(bench, small(3), 0, steps) {
         Ok(ring) => ring,
-        Err(damaged) => return Err(MountFault::Damaged(damaged))?,
+        Err(damaged) => return Err(Fail::from(MountFault::Damaged(damaged))),
     };
-    assert!(rt; ring.is_up() && !ring.is_finished());
+    let inspected = (ring.is_up(), ring.is_finished());
     ring.finish(bench, steps)?;
-    assert!(rt; ring.is_finished() && !ring.is_collecting());
+    let finished = (ring.is_finished(), ring.is_collecting());
+    assert_eq!(rt; (inspected, finished), ((true, false), (true, false)));
     Ok(ring)
 }
 
@@ -207,11 +209,7 @@ fn reads_records<B: Bench, L: Ledger, R: Abort>(
 ) -> Result<(), Fail> {
     let start = bench.spent();
     let ring = finished(rt, alloc, bench, steps)?;
-    assert_eq!(rt;
-        (bench.spent().wrapping_sub(start), ring.oldest()),
-        (1, Some(0))
-    );
-    assert_eq!(rt; summary(&ring, bench, steps), (3, 41));
+    let spent = bench.spent().wrapping_sub(start);
     let third = RecordAt {
         sector: 0,
         offset: 32,
@@ -219,7 +217,10 @@ fn reads_records<B: Bench, L: Ledger, R: Abort>(
         len: 8,
     };
     let found = ring.next_with(bench, None, &[0x61, 0x3D, 0x00], steps);
-    assert_eq!(rt; found, Some(third));
+    assert_eq!(rt;
+        (spent, ring.oldest(), summary(&ring, bench, steps), found),
+        (1, Some(0), (3, 41), Some(third))
+    );
     Ok(())
 }
 
@@ -366,8 +367,8 @@ fn goes_through_steps<B: Bench, L: Ledger, R: Abort>(
     let mut ring = blank(alloc, bench, small(3), steps)?;
     assert!(rt; ring.oldest().is_none() && !ring.is_scratch_left());
     for (step, did, units) in STEPS.iter() {
-        assert_eq!(rt; take(&mut ring, bench, *step, steps)?, *did);
-        assert_eq!(rt; bench.spent().wrapping_sub(start), *units);
+        let took = take(&mut ring, bench, *step, steps)?;
+        assert_eq!(rt; (took, bench.spent().wrapping_sub(start)), (*did, *units));
     }
     assert_eq!(rt; summary(&ring, bench, steps), (5, 211));
     Ok(())
@@ -383,9 +384,12 @@ fn lays_long<B: Bench, L: Ledger, R: Abort>(
     let start = bench.spent();
     let mut ring = blank(alloc, bench, large(), steps)?;
     append(&mut ring, bench, &[0x11; 2050], false)?;
+    let spent = bench.spent().wrapping_sub(start);
     let sector = sector_view(bench, ring.area(), 0, steps);
-    assert_eq!(rt; (sector[8], sector[9], sector[10]), (0x82, 0x10, 0xFF));
-    assert_eq!(rt; bench.spent().wrapping_sub(start), 517);
+    assert_eq!(rt;
+        (sector[8], sector[9], sector[10], spent),
+        (0x82, 0x10, 0xFF, 517)
+    );
     Ok(())
 }
 

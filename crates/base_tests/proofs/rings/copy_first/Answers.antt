@@ -3,7 +3,7 @@ use Rattle.flash_sim.specs.Device.{Device}
 use Rattle.flash_map.specs.Area.{unit_of}
 use Rattle.flash_map.proofs.Rounding.{padding}
 use Rattle.fcb_ring.proofs.AreaLemmas.{has_size}
-use Rattle.fcb_tests.proofs.rings.copy_first.Goals as goal
+use Rattle.base_tests.proofs.rings.copy_first.Goals as goal
 
 pub copy-requires-clause-short : goal.copy-requires-clause-short
 copy-requires-clause-short g c =

@@ -156,7 +156,7 @@ fn takes<B: Bench, L: Ledger, R: Abort>(
             assert_eq!(rt; did, expected);
             Ok(())
         }
-        Err(_) => Err("refused")?,
+        Err(_) => Err(Fail::new("refused")),
     }
 }
 
@@ -172,8 +172,8 @@ fn refuses<B: Bench, L: Ledger>(
 {
     match log.append(bench, body, steps) {
         Err(LogFault::TooLong) => Ok(()),
-        Err(LogFault::PowerLost) => Err("lost")?,
-        Ok(_) => Err("taken")?,
+        Err(LogFault::PowerLost) => Err(Fail::new("lost")),
+        Ok(_) => Err(Fail::new("taken")),
     }
 }
 
@@ -201,9 +201,9 @@ fn drops_the_oldest<B: Bench, L: Ledger, R: Abort>(
     steps: &mut Steps<L>,
 ) -> Result<(), Fail> {
     let mut log = blank(alloc, bench, steps)?;
-    assert!(rt; log.is_up());
+    let is_up = log.is_up();
     puts(rt, &mut log, bench, &NINE, steps)?;
-    assert_eq!(rt; firsts(&log, bench, steps), FIVE);
+    assert_eq!(rt; (is_up, firsts(&log, bench, steps)), (true, FIVE));
     Ok(())
 }
 
@@ -218,11 +218,8 @@ fn cut_ninth<B: Bench, L: Ledger, R: Abort>(
     let mut log = blank(alloc, bench, steps)?;
     puts(rt, &mut log, bench, &NINE[..8], steps)?;
     bench.arm(units);
-    assert_eq!(rt;
-        put(&mut log, bench, &[0x99; 100], steps),
-        Err(LogFault::PowerLost)
-    );
-    assert!(rt; !log.is_up());
+    let lost = put(&mut log, bench, &[0x99; 100], steps);
+    assert_eq!(rt; (lost, log.is_up()), (Err(LogFault::PowerLost), false));
     bench.restore();
     let start = bench.spent();
     let log = mounted(bench, steps)?;
@@ -269,6 +266,8 @@ fn is_by_chance<B: Bench, L: Ledger>(bench: &B, steps: &mut Steps<L>) -> bool
     }
 }
 
+const TORN: [u8; 8] = [0x61, 0x3D, 0, 0xA4, 0xFF, 0xFF, 0xFF, 0xFF];
+
 // A record of which the first four units check by chance, with FF behind them.
 fn torn_by_chance<B: Bench, L: Ledger, R: Abort>(
     rt: &R,
@@ -279,15 +278,17 @@ fn torn_by_chance<B: Bench, L: Ledger, R: Abort>(
     let mut log = blank(alloc, bench, steps)?;
     bench.arm(4);
     let lost = put(&mut log, bench, &[0x61, 0x3D, 0, 0xA4, 1, 2, 3, 4], steps);
-    assert_eq!(rt; lost, Err(LogFault::PowerLost));
-    assert!(rt; is_by_chance(bench, steps));
+    let by_chance = is_by_chance(bench, steps);
     bench.restore();
     let log = mounted(bench, steps)?;
     let Some(record) = log.next(bench, None, steps) else {
-        return Err("no record")?;
+        return Err(Fail::new("no record"));
     };
-    let torn = [0x61, 0x3D, 0, 0xA4, 0xFF, 0xFF, 0xFF, 0xFF];
-    assert_eq!(rt; log.body(bench, &record, steps), torn.as_slice());
+    let torn = log.body(bench, &record, steps) == TORN.as_slice();
+    assert_eq!(rt;
+        (lost, by_chance, torn),
+        (Err(LogFault::PowerLost), true, true)
+    );
     Ok(())
 }
 

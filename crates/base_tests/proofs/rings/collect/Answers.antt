@@ -3,7 +3,7 @@ use Rattle.flash_sim.specs.Device.{Device}
 use Rattle.flash_map.specs.Area.{unit_of}
 use Rattle.fcb_ring.proofs.AreaLemmas.{has_size}
 use Rattle.fcb_ring.proofs.RecordLemmas.{header_fits}
-use Rattle.fcb_tests.proofs.rings.collect.Goals as goal
+use Rattle.base_tests.proofs.rings.collect.Goals as goal
 
 pub copy_first-requires-clause-early : goal.copy_first-requires-clause-early
 copy_first-requires-clause-early g c =

@@ -1,6 +1,6 @@
 use Rattle.std.specs.Prelude.{◌≡◌}
 use Rattle.event_ring.specs.Standing.{IsOpen}
-use Rattle.fcb_tests.proofs.logs.puts.Given as goal
+use Rattle.base_tests.proofs.logs.puts.Given as goal
 
 abbrev pub invariant-loop-byte : goal.invariant-loop-byte
 invariant-loop-byte g l = record {

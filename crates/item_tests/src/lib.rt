@@ -1,10 +1,20 @@
-//! Tests of entries, sectors and stores of items: NVS and ZMS.
+//! Tests of entries and sectors of items, and of stores of items: NVS, ZMS, and the store over the sectors of either.
 #![tactic(auto)]
 
+#[cfg(test)]
+mod calls;
+#[cfg(test)]
+mod counted;
+#[cfg(test)]
+mod history;
+#[cfg(test)]
+mod nvs;
 #[cfg(test)]
 mod nvs_entries;
 #[cfg(test)]
 mod nvs_stores;
+#[cfg(test)]
+mod zms;
 #[cfg(test)]
 mod zms_entries;
 #[cfg(test)]

@@ -40,15 +40,15 @@ fn entry_bytes(rt: HostRuntime) {
 #[test]
 fn room(rt: HostRuntime) {
     let room = (cost(4, 256), cost(16, 1), capacity(4, 512));
-    assert_eq!(rt; room, (264, 32, 480));
     let blank = scan_sector(&[0xFFu8; 512], 4, 0);
-    assert_eq!(rt; blank.low, 504);
     let fitting = (
         fits(&SMALL_AREA, &blank, 472),
         fits(&SMALL_AREA, &blank, 473),
     );
-    assert_eq!(rt; fitting, (true, false));
     let mut sector = [0xFFu8; 512];
     sector[496..504].copy_from_slice(&[1, 0, 0, 0, 0xEC, 1, 0xFF, 0x49]);
-    assert_eq!(rt; used_count(&sector, 4), 1);
+    assert_eq!(rt;
+        (room, blank.low, fitting, used_count(&sector, 4)),
+        ((264, 32, 480), 504, (true, false), 1)
+    );
 }

@@ -1,10 +1,13 @@
-// Calls on two sectors. What each spends, answers and leaves was written by another reading of the same rules.
+// The same calls on two sectors by the store of NVS. What each spends, answers and leaves was written by another reading of
+// the same rules.
 ghost use Rattle.std.specs.Prelude.{◌≡◌, ◌<◌, ◌∷◌, [], IfOk, OnOk};
 ghost use Rattle.nvs_gc.specs.Standing.{IsNvsArea, StandsOn};
 
+use crate::calls::Call;
+use crate::nvs::{BANK, ENDS, FULL, ROUNDS, load_blank};
 use arrayvec::ArrayString;
 use flash_map::{Area, Role, WriteFault, sector_view};
-use flash_sim::{Bank, Bench, FlatSim, Kind, PowerLost, Steps};
+use flash_sim::{Bench, FlatSim, PowerLost, Steps};
 use item_history::{Older, Space, nvs_older, nvs_space};
 use nvs_gc::*;
 use ring_store::LastSlots;
@@ -14,60 +17,12 @@ use std::process::Abort;
 use std::sync::ledger::{Blank, Ledger};
 use std::test::Fail;
 
-const BANK: Bank = Bank {
-    kind: Kind::Erasing,
-    unit: 4,
-    sector: 512,
-    count: 2,
-};
-
-// The id; the byte and the length of the value that is written, a delete where the length is 0; the units that are
-// spent; need and live where there is no space, both 0 where it is too long; the byte and the length of the value got
-// after the call.
-type Call = (u16, (u8, usize), u64, Option<(u64, u64)>, (u8, usize));
-
-// The fifth value collects, and the same bytes again spend nothing.
-const ROUNDS: [Call; 6] = [
-    (1, (0x11, 100), 27, None, (0x11, 100)),
-    (1, (0x22, 100), 27, None, (0x22, 100)),
-    (1, (0x33, 100), 27, None, (0x33, 100)),
-    (1, (0x44, 100), 27, None, (0x44, 100)),
-    (1, (0x55, 100), 59, None, (0x55, 100)),
-    (1, (0x55, 100), 0, None, (0x55, 100)),
-];
-
-// The end of the second sector then: the last value's entry, gc-done, and the copy of the value before it.
-const ENDS: [u8; 32] = [
-    1, 0, 100, 0, 100, 0, 255, 0x25, 255, 255, 100, 0, 0, 0, 255, 0x7F, 1, 0, 0, 0, 100, 0, 255, 6,
-    255, 255, 255, 255, 255, 255, 255, 255,
-];
-
-// A value for which the other one leaves no room, until that is deleted; and one that is too long.
-const FULL: [Call; 6] = [
-    (1, (0x22, 256), 66, None, (0x22, 256)),
-    (2, (0x22, 256), 71, Some((264, 264)), (0, 0)),
-    (1, (0, 0), 2, None, (0, 0)),
-    (2, (0x22, 256), 71, None, (0x22, 256)),
-    (1, (0, 0), 0, None, (0, 0)),
-    (3, (0, 600), 0, Some((0, 0)), (0, 0)),
-];
-
 // The area of both sectors.
 fn both<B: Bench>(_bench: &B) -> Area
     requires { (B.device _bench.now).banks ≡ BANK ∷ [] }
     ensures { IsNvsArea (B.device _bench.now).banks result }
 {
     Area::new(ArrayString::new(), Role::Nvs, 0, 0, 2, 1)
-}
-
-fn load_blank<B: Bench>(alloc: Global, bench: &mut B, size: usize) -> Result<(), Fail>
-    requires { size ≡ 1024 }
-    ensures { OnOk result ((B.device bench.new).banks ≡ BANK ∷ []) }
-{
-    let banks = vec![in alloc; BANK]?;
-    let bytes = vec![in alloc; vec![in alloc; 255u8; size]?]?;
-    bench.load(alloc, banks, bytes)?;
-    Ok(())
 }
 
 // The store on a blank bank that loses power after so many units.
@@ -121,6 +76,9 @@ fn agrees<B: Bench, L: Ledger, R: Abort>(
     ensures stands { OnOk result (StandsOn (B.device bench.new) nvs.new) }
 {
     let (id, (byte, len), units, no_space, (byte_left, len_left)) = *call;
+    let Ok(id) = u16::try_from(id) else {
+        return Err(Fail::new("no id of an item"));
+    };
     if id == 0xFFFF {
         return Err(Fail::new("no id of an item"));
     }
@@ -128,9 +86,9 @@ fn agrees<B: Bench, L: Ledger, R: Abort>(
     let start = bench.spent();
     let answer = carry_out(bench, nvs, id, value.as_slice(), steps)?;
     let spent = bench.spent().saturating_sub(start);
-    assert_eq!(rt; (answer, spent), (no_space, units));
     let left = vec![in alloc; byte_left; len_left]?;
-    assert!(rt; nvs.get(bench, id, steps).unwrap_or(b"") == left.as_slice());
+    let got = nvs.get(bench, id, steps).unwrap_or(b"") == left.as_slice();
+    assert_eq!(rt; (answer, spent, got), (no_space, units, true));
     Ok(())
 }
 
@@ -161,29 +119,36 @@ fn one_item<B: Bench, L: Ledger, R: Abort>(
 )
     requires stands { StandsOn (B.device bench.now) nvs.now }
 {
-    assert_eq!(rt; nvs.live_cost(bench, steps), cost);
     let first = nvs.next_id(bench, None, steps);
-    assert_eq!(rt; (first, nvs.next_id(bench, first, steps)), (Some(id), None));
+    let second = nvs.next_id(bench, first, steps);
     let mut last = LastSlots::new();
     nvs.tell_last_slots(bench, &mut last, steps);
-    assert_eq!(rt; nvs.next_by(bench, &last, None, steps), first);
+    let told = nvs.next_by(bench, &last, None, steps);
+    assert_eq!(rt;
+        (first, second, told, nvs.live_cost(bench, steps)),
+        (Some(id), None, Some(id), cost)
+    );
 }
 
 // Behind a collection the item is found by its bytes and has one older version, and the area this room.
 fn told<B: Bench, L: Ledger, R: Abort>(rt: &R, bench: &B, nvs: &Nvs, steps: &mut Steps<L>)
     requires stands { StandsOn (B.device bench.now) nvs.now }
 {
-    assert_eq!(rt; nvs.id_of(bench, 0, 9, &[0x55; 100], steps), Some(1));
-    assert_eq!(rt; nvs.id_of(bench, 0, 9, &[0x44; 100], steps), None);
-    assert!(rt; matches!(nvs.next_of(bench, 0, 9, None, steps), Some([0x55, ..])));
-    assert!(rt; matches!(nvs_older(nvs, bench, 1, 1, steps), Older::Value([0x44, ..])));
-    assert!(rt; matches!(nvs_older(nvs, bench, 1, 2, steps), Older::Gone));
+    let here = nvs.id_of(bench, 0, 9, &[0x55; 100], steps);
+    let gone = nvs.id_of(bench, 0, 9, &[0x44; 100], steps);
+    let least = matches!(nvs.next_of(bench, 0, 9, None, steps), Some([0x55, ..]));
+    let older = matches!(nvs_older(nvs, bench, 1, 1, steps), Older::Value([0x44, ..]));
+    let oldest = matches!(nvs_older(nvs, bench, 1, 2, steps), Older::Gone);
     let space = Space {
         live: 108,
         stale: 108,
         free: 372,
     };
-    assert_eq!(rt; nvs_space(nvs, bench, steps), space);
+    assert_eq!(rt;
+        (here, gone, nvs_space(nvs, bench, steps)),
+        (Some(1), None, space)
+    );
+    assert_eq!(rt; (least, older, oldest), (true, true, true));
 }
 
 // What is on the flash behind a collection.
@@ -196,8 +161,8 @@ fn rounds<B: Bench, L: Ledger, R: Abort>(
     let nvs = plays(rt, alloc, bench, &ROUNDS, steps)?;
     one_item(rt, bench, &nvs, 1, 108, steps);
     told(rt, bench, &nvs, steps);
-    assert!(rt; nvs.is_up() && nvs.area().sectors == 2);
-    assert!(rt; sector_view(bench, nvs.area(), 1, steps).ends_with(&ENDS));
+    let ends = sector_view(bench, nvs.area(), 1, steps).ends_with(&ENDS);
+    assert!(rt; ends && nvs.is_up() && nvs.area().sectors == 2);
     Ok(())
 }
 

@@ -56,19 +56,26 @@ fn one_sector_read(rt: HostRuntime) {
     };
     sector[48..64].copy_from_slice(&encode_zentry(&entry));
     sector[16..32].copy_from_slice(&encode_zentry(&entry));
-    assert_eq!(rt;
-        read_sector(&sector, Kind::Rewritable),
-        SectorState::Used {
-            cycle: 1,
-            closed: false,
-            slots: 1,
-            data_end: 32,
-            gc_done: false,
-        }
-    );
+    let state = SectorState::Used {
+        cycle: 1,
+        closed: false,
+        slots: 1,
+        data_end: 32,
+        gc_done: false,
+    };
     let found = (entry_in(&sector, 2), entry_in(&sector, 0));
-    assert_eq!(rt; found, (Some(SlotEntry { slot: 2, entry }), None));
-    assert_eq!(rt; offset_of(&entry), 16);
+    assert_eq!(rt;
+        (
+            read_sector(&sector, Kind::Rewritable),
+            found,
+            offset_of(&entry)
+        ),
+        (state, (Some(SlotEntry { slot: 2, entry }), None), 16)
+    );
+}
+
+#[test]
+fn room(rt: HostRuntime) {
     for (len, data) in [(0, 0), (8, 0), (9, 16), (16, 16), (17, 32)] {
         assert_eq!(rt; (data_len(len), cost(len)), (data, data + 16));
     }

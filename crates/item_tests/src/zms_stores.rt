@@ -1,11 +1,13 @@
-// Calls on three sectors. What each spends, answers and leaves was written by another reading of the same rules, with
-// bench/zms_rows.
-ghost use Rattle.std.specs.Prelude.{◌≡◌, ◌+◌, ◌<◌, ◌≤◌, ◌∷◌, [], length, IfOk, OnOk};
+// The same calls on three sectors by the store of ZMS. What each spends, answers and leaves was written by another reading of
+// the same rules.
+ghost use Rattle.std.specs.Prelude.{◌≡◌, ◌<◌, ◌∷◌, [], IfOk, OnOk};
 ghost use Rattle.zms_store.specs.Standing.{StandsOn};
 
+use crate::calls::Call;
+use crate::zms::{CUT, EMPTY, ENDS, ON_BLANK, ONE, Put, load};
 use arrayvec::ArrayString;
 use flash_map::{Area, Damaged, MountFault, Role, Why, WriteFault, sector_view};
-use flash_sim::{Bank, Bench, FlatSim, Kind, Steps};
+use flash_sim::{Bench, FlatSim, Kind, Steps};
 use item_history::{Older, Space, zms_older, zms_space};
 use ring_store::LastSlots;
 use std::alloc::Global;
@@ -15,29 +17,9 @@ use std::sync::ledger::{Blank, Ledger};
 use std::test::Fail;
 use zms_store::Zms;
 
-const BANK: Bank = Bank {
-    kind: Kind::Rewritable,
-    unit: 16,
-    sector: 512,
-    count: 3,
-};
-
-// A unit, and where it stands in the bank, in bytes.
-type Put = (usize, [u8; 16]);
-
-// The id; the byte and the length of the value that is written, a delete where the length is 0; the units that are
-// spent; need and live where there is no space, both 0 where it is too long; the byte and the length of the value got
-// after the call.
-type Call = (u16, (u8, usize), u64, Option<(u64, u64)>, (u8, usize));
-
-// The empty entry of cycle 1, and entries of that cycle.
-const EMPTY: [u8; 16] = [97, 1, 255, 255, 255, 255, 255, 255, 0, 0, 0, 0, 0, 0, 0, 0];
-
 const SEVEN: [u8; 16] = [112, 1, 1, 0, 7, 0, 0, 0, 17, 0, 0, 0, 0, 0, 0, 0];
 
 const EIGHT: [u8; 16] = [55, 1, 1, 0, 8, 0, 0, 0, 18, 0, 0, 0, 0, 0, 0, 0];
-
-const CLOSE: [u8; 16] = [172, 1, 0, 0, 255, 255, 255, 255, 176, 1, 0, 0, 1, 0, 0, 0];
 
 // An entry under a slot 2 that is not valid, which makes no sector open; and one under the guard slot of the open sector.
 const STALE: [Put; 5] = [
@@ -51,53 +33,6 @@ const STALE: [Put; 5] = [
 // Entries in slot 2 of two sectors.
 const TWO_OPEN: [Put; 4] = [(496, EMPTY), (464, SEVEN), (1008, EMPTY), (976, EIGHT)];
 
-// Ids 7, 9 and 8 in a closed sector, the second with the value 1 to 9; 7, 3 and a delete of 8 in the next; and a collection
-// into the third that was cut, with an entry that counts for nothing.
-const CUT: [Put; 13] = [
-    (496, EMPTY),
-    (480, CLOSE),
-    (464, [50, 1, 2, 0, 7, 0, 0, 0, 17, 18, 0, 0, 0, 0, 0, 0]),
-    (448, [70, 1, 9, 0, 9, 0, 0, 0, 0, 0, 0, 0, 0, 0, 0, 0]),
-    (432, [108, 1, 1, 0, 8, 0, 0, 0, 49, 0, 0, 0, 0, 0, 0, 0]),
-    (0, [1, 2, 3, 4, 5, 6, 7, 8, 9, 0, 0, 0, 0, 0, 0, 0]),
-    (1008, EMPTY),
-    (992, CLOSE),
-    (976, [41, 1, 1, 0, 7, 0, 0, 0, 33, 0, 0, 0, 0, 0, 0, 0]),
-    (960, [232, 1, 1, 0, 3, 0, 0, 0, 65, 0, 0, 0, 0, 0, 0, 0]),
-    (944, [195, 1, 0, 0, 8, 0, 0, 0, 0, 0, 0, 0, 0, 0, 0, 0]),
-    (1520, EMPTY),
-    (1488, [223, 1, 1, 0, 3, 0, 0, 0, 81, 0, 0, 0, 0, 0, 0, 0]),
-];
-
-const ON_BLANK: [Call; 17] = [
-    (1, (7, 1), 2, None, (7, 1)),
-    (1, (7, 1), 0, None, (7, 1)),
-    (1, (0, 0), 1, None, (0, 0)),
-    (1, (0, 0), 0, None, (0, 0)),
-    (5, (9, 9), 2, None, (9, 9)),
-    (2, (0, 417), 0, Some((0, 0)), (0, 0)),
-    (8, (69, 195), 14, None, (69, 195)),
-    (2, (59, 147), 25, None, (59, 147)),
-    (3, (27, 187), 13, None, (27, 187)),
-    (8, (0, 0), 1, None, (0, 0)),
-    (4, (174, 95), 18, None, (174, 95)),
-    (3, (250, 167), 12, None, (250, 167)),
-    (8, (6, 24), 3, None, (6, 24)),
-    (2, (253, 187), 32, None, (253, 187)),
-    (3, (0, 0), 1, None, (0, 0)),
-    (6, (1, 416), 44, Some((432, 400)), (0, 0)),
-    (7, (3, 8), 1, None, (3, 8)),
-];
-
-const ONE: [Call; 1] = [(7, (5, 9), 3, None, (5, 9))];
-
-// The end of that sector: a unit behind its entries, the entry, the close entry and the empty entry.
-const ENDS: [u8; 64] = [
-    0x6F, 0, 0, 0, 0, 0, 0, 0, 0, 0, 0, 0, 0, 0, 0, 0, 0x69, 1, 9, 0, 7, 0, 0, 0, 0, 0, 0, 0, 0, 0,
-    0, 0, 0x1E, 1, 0, 0, 0xFF, 0xFF, 0xFF, 0xFF, 0xD0, 1, 0, 0, 1, 0, 0, 0, 0x61, 1, 0xFF, 0xFF,
-    0xFF, 0xFF, 0xFF, 0xFF, 0, 0, 0, 0, 0, 0, 0, 0,
-];
-
 // The entry in slot 4 is guarded and stays hidden.
 const ON_STALE: [Call; 3] = [
     (7, (0, 0), 0, None, (0, 0)),
@@ -105,56 +40,14 @@ const ON_STALE: [Call; 3] = [
     (7, (0, 0), 0, None, (0, 0)),
 ];
 
-fn put_unit(image: &mut [u8], at: usize, unit: &[u8; 16])
-    requires { at + 16 ≤ length image.old }
-    ensures { length image.new ≡ length image.old }
-{
-    image[at..at + 16].copy_from_slice(unit);
-}
-
-fn put_units<R: Abort>(rt: &R, image: &mut [u8], puts: &[Put])
-    requires { length image.old ≡ 1536 }
-    ensures { length image.new ≡ length image.old }
-{
-    for put in puts {
-        let (at, unit) = *put;
-        assert!(rt; at <= 1520);
-        put_unit(image, at, &unit);
-    }
-}
-
-// Three sectors that are erased but for these units.
-fn image_of<R: Abort>(rt: &R, alloc: Global, puts: &[Put]) -> Result<Vec<u8>, Fail>
-    ensures { IfOk result (λ image. length image.items ≡ 1536) }
-{
-    let mut image = vec![in alloc; 255u8; 1536]?;
-    put_units(rt, &mut image, puts);
-    Ok(image)
-}
-
-fn load_image<B: Bench>(alloc: Global, bench: &mut B, image: Vec<u8>) -> Result<(), Fail>
-    requires { length image.items ≡ 1536 }
-    ensures { OnOk result ((B.device bench.new).banks ≡ BANK ∷ []) }
-{
-    let banks = vec![in alloc; BANK]?;
-    let bytes = vec![in alloc; image]?;
-    bench.load(alloc, banks, bytes)?;
-    Ok(())
-}
-
-fn load<B: Bench, R: Abort>(rt: &R, alloc: Global, bench: &mut B, puts: &[Put]) -> Result<(), Fail>
-    ensures { OnOk result ((B.device bench.new).banks ≡ BANK ∷ []) }
-{
-    load_image(alloc, bench, image_of(rt, alloc, puts)?)
-}
-
 // A store over the whole bank.
 fn mounted<B: Bench, L: Ledger>(
     alloc: Global,
     bench: &mut B,
     steps: &mut Steps<L>,
 ) -> Result<Zms, Fail>
-    requires { (B.device bench.old).banks ≡ BANK ∷ [] }
+    requires { (B.device bench.old).banks ≡
+        (record { kind = Kind.Rewritable; unit = 16; sector = 512; count = 3 }) ∷ [] }
     ensures stands { IfOk result (λ zms. StandsOn (B.device bench.new) zms) }
     ensures area { IfOk result (λ zms. zms.store.area.sectors ≡ 3) }
 {
@@ -167,18 +60,19 @@ fn mounted<B: Bench, L: Ledger>(
 fn carry_out<B: Bench, L: Ledger>(
     bench: &mut B,
     zms: &mut Zms,
-    id: u16,
+    id: u32,
     value: &[u8],
     steps: &mut Steps<L>,
 ) -> Result<Option<(u64, u64)>, Fail>
     requires stands { StandsOn (B.device bench.old) zms.old }
+    requires ordinary { id < 0xFFFFFFFF }
     ensures stands { OnOk result (StandsOn (B.device bench.new) zms.new) }
 {
     if value.is_empty() {
-        zms.delete(bench, u32::from(id), steps)?;
+        zms.delete(bench, id, steps)?;
         return Ok(None);
     }
-    match zms.write(bench, u32::from(id), value, steps) {
+    match zms.write(bench, id, value, steps) {
         Ok(()) => Ok(None),
         Err(WriteFault::NoSpace { need, live }) => Ok(Some((need, live))),
         Err(WriteFault::TooLong) => Ok(Some((0, 0))),
@@ -198,13 +92,16 @@ fn agrees<B: Bench, L: Ledger, R: Abort>(
     ensures stands { OnOk result (StandsOn (B.device bench.new) zms.new) }
 {
     let (id, (byte, len), units, no_space, (byte_left, len_left)) = *call;
+    if id == 0xFFFF_FFFF {
+        return Err(Fail::new("no id of an item"));
+    }
     let value = vec![in alloc; byte; len]?;
     let start = bench.spent();
     let answer = carry_out(bench, zms, id, value.as_slice(), steps)?;
     let spent = bench.spent().saturating_sub(start);
-    assert_eq!(rt; (answer, spent), (no_space, units));
     let left = vec![in alloc; byte_left; len_left]?;
-    assert!(rt; zms.get(bench, u32::from(id), steps).unwrap_or(b"") == left.as_slice());
+    let got = zms.get(bench, id, steps).unwrap_or(b"") == left.as_slice();
+    assert_eq!(rt; (answer, spent, got), (no_space, units, true));
     Ok(())
 }
 
@@ -218,7 +115,7 @@ fn plays<B: Bench, L: Ledger, R: Abort>(
 ) -> Result<Zms, Fail>
     ensures { IfOk result (λ zms. StandsOn (B.device bench.new) zms) }
 {
-    load(rt, alloc, bench, puts)?;
+    load(rt, alloc, bench, Kind::Rewritable, puts)?;
     let mut zms = mounted(alloc, bench, steps)?;
     for call in calls {
         agrees(rt, alloc, bench, &mut zms, call, steps)?;
@@ -236,8 +133,8 @@ fn lays<B: Bench, L: Ledger, R: Abort>(
     let mut zms = plays(rt, alloc, bench, &[], &ONE, steps)?;
     zms.close_and_collect(bench, steps)?;
     let sector = sector_view(bench, zms.area(), 0, steps);
-    assert!(rt; sector.starts_with(&[5, 5, 5, 5, 5, 5, 5, 5, 5, 0xFF]));
-    assert!(rt; sector.ends_with(&ENDS));
+    let starts = sector.starts_with(&[5, 5, 5, 5, 5, 5, 5, 5, 5, 0xFF]);
+    assert!(rt; starts && sector.ends_with(&ENDS));
     Ok(())
 }
 
@@ -267,22 +164,23 @@ fn ids<B: Bench, L: Ledger, R: Abort>(rt: &R, bench: &B, zms: &Zms, steps: &mut 
     zms.tell_last_slots(bench, &mut last, steps);
     let mut after = None;
     for id in [3, 7, 9] {
-        assert_eq!(rt; zms.next_by(bench, &last, after, steps), Some(id));
+        let told = zms.next_by(bench, &last, after, steps);
         after = zms.next_id(bench, after, steps);
-        assert_eq!(rt; after, Some(id));
+        assert_eq!(rt; (told, after), (Some(id), Some(id)));
     }
-    assert_eq!(rt; zms.next_id(bench, after, steps), None);
-    assert_eq!(rt; zms.live_cost(bench, steps), 64);
+    let end = zms.next_id(bench, after, steps);
+    assert_eq!(rt; (end, zms.live_cost(bench, steps)), (None, 64));
 }
 
 // An item by its bytes, none by bytes that were overwritten; and the least bytes behind others, of ids up to 8.
 fn asks<B: Bench, L: Ledger, R: Abort>(rt: &R, bench: &B, zms: &Zms, steps: &mut Steps<L>)
     requires stands { StandsOn (B.device bench.now) zms.now }
 {
-    assert_eq!(rt; zms.id_of(bench, 0, 9, &[65], steps), Some(3));
-    assert_eq!(rt; zms.id_of(bench, 0, 9, &[17, 18], steps), None);
-    assert!(rt; matches!(zms.next_of(bench, 0, 8, None, steps), Some([33])));
-    assert!(rt; matches!(zms.next_of(bench, 0, 8, Some(&[33]), steps), Some([65])));
+    let here = zms.id_of(bench, 0, 9, &[65], steps);
+    let gone = zms.id_of(bench, 0, 9, &[17, 18], steps);
+    let least = matches!(zms.next_of(bench, 0, 8, None, steps), Some([33]));
+    let next = matches!(zms.next_of(bench, 0, 8, Some(&[33]), steps), Some([65]));
+    assert_eq!(rt; (here, gone, least, next), (Some(3), None, true, true));
 }
 
 // Mounting copies a value with its entry, marks the copy and empties two sectors.
@@ -292,11 +190,11 @@ fn reads<B: Bench, L: Ledger, R: Abort>(
     bench: &mut B,
     steps: &mut Steps<L>,
 ) -> Result<(), Fail> {
-    load(rt, alloc, bench, CUT.as_slice())?;
+    load(rt, alloc, bench, Kind::Rewritable, CUT.as_slice())?;
     let start = bench.spent();
     let zms = mounted(alloc, bench, steps)?;
-    assert_eq!(rt; bench.spent().saturating_sub(start), 5);
-    assert_eq!(rt; zms.area().sectors, 3);
+    let spent = bench.spent().saturating_sub(start);
+    assert_eq!(rt; (spent, zms.area().sectors), (5, 3));
     walks(rt, bench, &zms, steps);
     ids(rt, bench, &zms, steps);
     asks(rt, bench, &zms, steps);
@@ -310,17 +208,20 @@ fn tells<B: Bench, L: Ledger, R: Abort>(
     bench: &mut B,
     steps: &mut Steps<L>,
 ) -> Result<(), Fail> {
-    load(rt, alloc, bench, &[])?;
+    load(rt, alloc, bench, Kind::Rewritable, &[])?;
     let mut zms = mounted(alloc, bench, steps)?;
     carry_out(bench, &mut zms, 1, &[1], steps)?;
-    assert!(rt; matches!(zms_older(&zms, bench, 1, 0, steps), Older::Value([1])));
-    assert!(rt; matches!(zms_older(&zms, bench, 1, 1, steps), Older::Gone));
+    let newest = matches!(zms_older(&zms, bench, 1, 0, steps), Older::Value([1]));
+    let older = matches!(zms_older(&zms, bench, 1, 1, steps), Older::Gone);
     let space = Space {
         live: 16,
         stale: 0,
         free: 848,
     };
-    assert_eq!(rt; zms_space(&zms, bench, steps), space);
+    assert_eq!(rt;
+        (newest, older, zms_space(&zms, bench, steps)),
+        (true, true, space)
+    );
     Ok(())
 }
 
@@ -350,12 +251,12 @@ fn closes<B: Bench, L: Ledger, R: Abort>(
         (&STALE, 3, 3, false),
     ];
     for (puts, plan, units, up) in rows {
-        load(rt, alloc, bench, puts)?;
+        load(rt, alloc, bench, Kind::Rewritable, puts)?;
         let mut zms = mounted(alloc, bench, steps)?;
         let start = bench.spent();
-        assert_eq!(rt; close_with(bench, &mut zms, plan, steps), up);
+        let ended = close_with(bench, &mut zms, plan, steps);
         let spent = bench.spent().saturating_sub(start);
-        assert_eq!(rt; (spent, zms.is_up()), (units, up));
+        assert_eq!(rt; (spent, ended, zms.is_up()), (units, up, up));
     }
     Ok(())
 }
@@ -366,7 +267,7 @@ fn is_damaged<B: Bench, L: Ledger, R: Abort>(
     bench: &mut B,
     steps: &mut Steps<L>,
 ) -> Result<(), Fail> {
-    load(rt, alloc, bench, TWO_OPEN.as_slice())?;
+    load(rt, alloc, bench, Kind::Rewritable, TWO_OPEN.as_slice())?;
     let area = Area::new(ArrayString::new(), Role::Zms, 0, 0, 3, 1);
     match Zms::mount(alloc, bench, area, steps) {
         Err(MountFault::Damaged(Damaged { sector, why })) => {

@@ -1,6 +1,6 @@
 use Rattle.std.specs.Prelude.{◌≡◌}
 use Rattle.ring_store.specs.Stands.{StandsOn}
-use Rattle.ring_tests.proofs.calls.plays.Given as goal
+use Rattle.item_tests.proofs.calls.plays.Given as goal
 
 abbrev pub invariant-loop-call : goal.invariant-loop-call
 invariant-loop-call g l = record {

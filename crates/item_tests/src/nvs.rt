@@ -19,7 +19,7 @@ use std::process::Abort;
 use std::sync::ledger::{Blank, Ledger};
 use std::test::Fail;
 
-const BANK: Bank = Bank {
+pub(crate) const BANK: Bank = Bank {
     kind: Kind::Erasing,
     unit: 4,
     sector: 512,
@@ -27,7 +27,7 @@ const BANK: Bank = Bank {
 };
 
 // The fifth value collects, and the same bytes again spend nothing.
-const ROUNDS: [Call; 6] = [
+pub(crate) const ROUNDS: [Call; 6] = [
     (1, (0x11, 100), 27, None, (0x11, 100)),
     (1, (0x22, 100), 27, None, (0x22, 100)),
     (1, (0x33, 100), 27, None, (0x33, 100)),
@@ -37,7 +37,7 @@ const ROUNDS: [Call; 6] = [
 ];
 
 // The end of the second sector then: the last value's entry, gc-done, and the copy of the value before it.
-const ENDS: [u8; 32] = [
+pub(crate) const ENDS: [u8; 32] = [
     1, 0, 100, 0, 100, 0, 255, 0x25, 255, 255, 100, 0, 0, 0, 255, 0x7F, 1, 0, 0, 0, 100, 0, 255, 6,
     255, 255, 255, 255, 255, 255, 255, 255,
 ];
@@ -77,7 +77,7 @@ const PAST_SPACE: Space = Space {
 };
 
 // A value for which the other one leaves no room, until that is deleted; and one that is too long.
-const FULL: [Call; 6] = [
+pub(crate) const FULL: [Call; 6] = [
     (1, (0x22, 256), 66, None, (0x22, 256)),
     (2, (0x22, 256), 71, Some((264, 264)), (0, 0)),
     (1, (0, 0), 2, None, (0, 0)),
@@ -102,7 +102,7 @@ fn both<B: Bench>(_bench: &B) -> Area
     Area::new(ArrayString::new(), Role::Nvs, 0, 0, 2, 1)
 }
 
-fn load_blank<B: Bench>(alloc: Global, bench: &mut B, size: usize) -> Result<(), Fail>
+pub(crate) fn load_blank<B: Bench>(alloc: Global, bench: &mut B, size: usize) -> Result<(), Fail>
     requires { size ≡ 1024 }
     ensures { OnOk result ((B.device bench.new).banks ≡ BANK ∷ []) }
 {
@@ -205,6 +205,16 @@ fn look_ups<B: Views, L: Ledger, R: Abort>(
     plays(rt, alloc, bench, &mut store, &SHARED[1..2], steps)?;
     looks_up(rt, bench, &store, 65, &[0x22; 100], 2, steps);
     looks_up(rt, bench, &store, 1, &[0x11; 100], u64::MAX, steps);
+    Ok(())
+}
+
+// The same of an id that was deleted, behind a collection.
+fn look_up_of_deleted<B: Views, L: Ledger, R: Abort>(
+    rt: &R,
+    alloc: Global,
+    bench: &mut B,
+    steps: &mut Steps<L>,
+) -> Result<(), Fail> {
     load_blank(alloc, bench, 1024)?;
     let area = both(bench);
     let mut store = mounted::<NvsOpen, B, L, R>(rt, alloc, bench, area, 0, steps)?;
@@ -268,6 +278,7 @@ fn count<B: Views, L: Ledger, R: Abort>(
 {
     let mut steps = Steps::<L>::new(blank);
     look_ups(rt, alloc, bench, &mut steps)?;
+    look_up_of_deleted(rt, alloc, bench, &mut steps)?;
     look_up_behind_a_round(rt, alloc, bench, &mut steps)
 }
 

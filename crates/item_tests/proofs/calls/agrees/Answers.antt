@@ -1,6 +1,6 @@
 use Rattle.std.proofs.Common.{◌<◌, ◌≤◌, arith}
 use Rattle.flash_map.specs.Area.{geometry_of}
-use Rattle.ring_tests.proofs.calls.agrees.Goals as goal
+use Rattle.item_tests.proofs.calls.agrees.Goals as goal
 
 pub carry_out-requires-clause-ordinary : goal.carry_out-requires-clause-ordinary
 carry_out-requires-clause-ordinary g c =

@@ -87,9 +87,9 @@ fn agrees<T: SlotSectors, B: Bench, L: Ledger, R: Abort>(
     let start = bench.spent();
     let answer = carry_out(bench, store, id, value.as_slice(), steps)?;
     let spent = bench.spent().saturating_sub(start);
-    assert_eq!(rt; (answer, spent), (no_space, units));
     let left = vec![in alloc; byte_left; len_left]?;
-    assert!(rt; store.get(bench, id, steps).unwrap_or(b"") == left.as_slice());
+    let got = store.get(bench, id, steps).unwrap_or(b"") == left.as_slice();
+    assert_eq!(rt; (answer, spent, got), (no_space, units, true));
     Ok(())
 }
 
@@ -129,12 +129,12 @@ pub fn shows<T: SlotSectors, B: Bench, L: Ledger, R: Abort>(
     store.tell_last_slots(bench, &mut last, steps);
     let mut after = None;
     for id in ids {
-        assert_eq!(rt; store.next_by(bench, &last, after, steps), Some(*id));
+        let told = store.next_by(bench, &last, after, steps);
         after = store.next_id(bench, after, steps);
-        assert_eq!(rt; after, Some(*id));
+        assert_eq!(rt; (told, after), (Some(*id), Some(*id)));
     }
-    assert_eq!(rt; store.next_id(bench, after, steps), None);
-    assert_eq!(rt; store.live_cost(bench, steps), cost);
+    let end = store.next_id(bench, after, steps);
+    assert_eq!(rt; (end, store.live_cost(bench, steps)), (None, cost));
 }
 
 /// The item of an id up to 9 has these bytes. No item has the other ones, which are less, and none is between the two.
@@ -149,9 +149,10 @@ pub fn asks<T: SlotSectors, B: Bench, L: Ledger, R: Abort>(
 )
     requires { StandsOn T.role T.kind T.kept (B.device bench.now) store.now }
 {
-    assert_eq!(rt; store.id_of(bench, 0, 9, bytes, steps), Some(id));
-    assert_eq!(rt; store.id_of(bench, 0, 9, gone, steps), None);
-    assert!(rt; store.next_of(bench, 0, 9, Some(gone), steps).unwrap_or(b"") == bytes);
+    let here = store.id_of(bench, 0, 9, bytes, steps);
+    let none = store.id_of(bench, 0, 9, gone, steps);
+    let next = store.next_of(bench, 0, 9, Some(gone), steps).unwrap_or(b"") == bytes;
+    assert_eq!(rt; (here, none, next), (Some(id), None, true));
 }
 
 /// The entries from the newest to the oldest: the sector, the slot, the id, and the length of the value.
@@ -213,8 +214,8 @@ pub fn close_is_cut<T: SlotSectors, B: Bench, L: Ledger, R: Abort>(
     ensures banks { (B.device bench.new).banks ≡ (B.device bench.old).banks }
 {
     bench.arm(plan);
-    assert_eq!(rt; store.close_and_collect(bench, steps), Err(PowerLost));
-    assert!(rt; !store.is_up());
+    let lost = store.close_and_collect(bench, steps);
+    assert_eq!(rt; (lost, store.is_up()), (Err(PowerLost), false));
     bench.restore();
 }
 
@@ -235,11 +236,8 @@ pub fn write_is_cut<T: SlotSectors, B: Bench, L: Ledger, R: Abort>(
     ensures banks { (B.device bench.new).banks ≡ (B.device bench.old).banks }
 {
     bench.arm(plan);
-    assert_eq!(rt;
-        store.write(bench, id, value, steps),
-        Err(WriteFault::PowerLost)
-    );
-    assert!(rt; !store.is_up());
+    let lost = store.write(bench, id, value, steps);
+    assert_eq!(rt; (lost, store.is_up()), (Err(WriteFault::PowerLost), false));
     bench.restore();
 }
 
@@ -256,6 +254,6 @@ pub fn looks_up<T: SlotSectors, B: Views, L: Ledger, R: Abort>(
     requires { StandsOn T.role T.kind T.kept (B.device bench.now) store.now }
 {
     let start = bench.views();
-    assert!(rt; store.get(bench, id, steps).unwrap_or(b"") == value);
-    assert!(rt; bench.views().saturating_sub(start) <= most);
+    let got = store.get(bench, id, steps).unwrap_or(b"") == value;
+    assert!(rt; got && bench.views().saturating_sub(start) <= most);
 }

@@ -1,9 +1,15 @@
-//! Tests of names, handlers, loads, saves and commits.
+//! Tests of names, handlers, loads, saves and commits, and of settings over each store.
 #![tactic(auto)]
 
+#[cfg(test)]
+mod counted;
 #[cfg(test)]
 mod handling;
 #[cfg(test)]
 mod names;
 #[cfg(test)]
+mod rows;
+#[cfg(test)]
 mod settings;
+#[cfg(test)]
+mod stores;

@@ -2,42 +2,49 @@ use backend_api::is_behind;
 use setting_name::{Name, NameFault};
 use std::test::Fail;
 
+// A text, and how it is read as a name.
+const TEXTS: [(&[u8], Result<(), NameFault>); 8] = [
+    (
+        b"a/b/c/d/e/f/g/90123456789012345678901234567890123456789012345678",
+        Ok(()),
+    ),
+    (b"!~", Ok(())),
+    (b"", Err(NameFault::Empty)),
+    (
+        b"a/b/c/d/e/f/g/901234567890123456789012345678901234567890123456789=",
+        Err(NameFault::TooLong),
+    ),
+    (b"a=b", Err(NameFault::BadByte(1))),
+    (b"a//b", Err(NameFault::EmptyPart(2))),
+    (b"a/", Err(NameFault::EmptyPart(2))),
+    (b"1/2/3/4/5/6/7/8/9", Err(NameFault::TooDeep)),
+];
+
 #[test]
 fn texts_that_are_names(rt: HostRuntime) {
-    let rows: [(&[u8], Result<(), NameFault>); 8] = [
-        (
-            b"a/b/c/d/e/f/g/90123456789012345678901234567890123456789012345678",
-            Ok(()),
-        ),
-        (b"!~", Ok(())),
-        (b"", Err(NameFault::Empty)),
-        (
-            b"a/b/c/d/e/f/g/901234567890123456789012345678901234567890123456789=",
-            Err(NameFault::TooLong),
-        ),
-        (b"a=b", Err(NameFault::BadByte(1))),
-        (b"a//b", Err(NameFault::EmptyPart(2))),
-        (b"a/", Err(NameFault::EmptyPart(2))),
-        (b"1/2/3/4/5/6/7/8/9", Err(NameFault::TooDeep)),
-    ];
-    for (text, answer) in rows {
+    for (text, answer) in TEXTS {
         let read = Name::read(text);
-        assert!(rt; read.as_ref().is_ok_and(|name| name.bytes() == text) == answer.is_ok());
-        assert_eq!(rt; read.map(|_| ()), answer, "of {text:?}");
+        let same = match &read {
+            Ok(name) => name.bytes() == text,
+            Err(_) => true,
+        };
+        assert_eq!(rt; (same, read.err()), (true, answer.err()), "of {text:?}");
     }
 }
+
+// A name, and what is left of it behind `bt`.
+const MATCHES: [(&[u8], Option<&[u8]>); 5] = [
+    (b"bt", Some(b"")),
+    (b"bt/x", Some(b"x")),
+    (b"bt/mesh/iv", Some(b"mesh/iv")),
+    (b"btx/y", None),
+    (b"b/t", None),
+];
 
 #[test]
 fn names_that_match(rt: HostRuntime) -> Result<(), Fail> {
     let key = Name::read(b"bt")?;
-    let rows: [(&[u8], Option<&[u8]>); 5] = [
-        (b"bt", Some(b"")),
-        (b"bt/x", Some(b"x")),
-        (b"bt/mesh/iv", Some(b"mesh/iv")),
-        (b"btx/y", None),
-        (b"b/t", None),
-    ];
-    for (text, rest) in rows {
+    for (text, rest) in MATCHES {
         let name = Name::read(text)?;
         assert!(rt; Name::matches(&name, &key) == rest, "of {text:?}");
         if let Some(rest) = rest {

@@ -227,18 +227,18 @@ fn fills_handlers<K: Backend, B: Bench, L: Ledger, R: Abort>(
     requires settings { AreLawful (value_limit (K.mounted_on settings.now.backend)) (registered state registry.old) }
     ensures { OnOk result (AreLawful (value_limit (K.mounted_on settings.now.backend)) (registered state registry.new)) }
 {
-    let ended = loads(alloc, settings, bench, registry, 2, steps);
-    assert_eq!(rt;
-        (ended, commits_of(registry, 0)),
-        (Err(LoadFault::NoMemory), 0)
-    );
+    let short = loads(alloc, settings, bench, registry, 2, steps);
+    let none = commits_of(registry, 0);
     let ended = loads(alloc, settings, bench, registry, 5, steps);
     let loaded = Loaded {
         taken: 4,
         rejected: 1,
         passed: 1,
     };
-    assert_eq!(rt; (ended, commits_of(registry, 0)), (Ok(loaded), 1));
+    assert_eq!(rt;
+        (short, none, ended, commits_of(registry, 0)),
+        (Err(LoadFault::NoMemory), 0, Ok(loaded), 1)
+    );
     Ok(())
 }
 
@@ -256,10 +256,13 @@ fn runs<K: Backend, R: Abort>(
     let x = Name::read(b"bt/x")?;
     let b = Name::read(b"lv/b")?;
     let none = Name::read(b"zz")?;
-    assert!(rt; runtime_get(registry, &iv) == Ok(Some(&[1u8, 2][..])));
-    assert!(rt; runtime_get(registry, &none) == Err(NoHandler));
+    let held = runtime_get(registry, &iv) == Ok(Some(&[1u8, 2][..]));
+    let unheld = runtime_get(registry, &none) == Err(NoHandler);
     let refused = puts(alloc, settings, registry, &b, &[101]);
-    assert_eq!(rt; refused, Err(RuntimeFault::Rejected));
+    assert_eq!(rt;
+        (held, unheld, refused),
+        (true, true, Err(RuntimeFault::Rejected))
+    );
     puts(alloc, settings, registry, &x, &[9])?;
     Ok(())
 }
@@ -285,15 +288,16 @@ fn stores_what_is_new<K: Backend, B: Bench, L: Ledger, R: Abort>(
         pairs: 1,
         end: Ok(()),
     };
-    assert_eq!(rt; saves(settings, bench, registry, None, steps), one);
-    assert_eq!(rt;
-        saves(settings, bench, registry, Some(&mesh), steps).pairs,
-        0
-    );
-    assert_eq!(rt; bench.spent().wrapping_sub(start), 4);
-    assert_eq!(rt; settings.get(bench, &x, steps), Ok(Some(&[9u8][..])));
+    let first = saves(settings, bench, registry, None, steps);
+    let second = saves(settings, bench, registry, Some(&mesh), steps);
+    let spent = bench.spent().wrapping_sub(start);
+    let stored = matches!(settings.get(bench, &x, steps), Ok(Some([9])));
     deletes(settings, bench, &x, steps)?;
-    assert_eq!(rt; settings.get(bench, &x, steps), Ok(None));
+    let gone = matches!(settings.get(bench, &x, steps), Ok(None));
+    assert_eq!(rt;
+        ((first, second.pairs, spent), stored, gone),
+        ((one, 0, 4), true, true)
+    );
     Ok(())
 }
 
@@ -322,7 +326,34 @@ fn rows<K: Backend, B: Bench, L: Ledger, R: Abort>(
     stores_what_is_new(rt, settings, bench, registry, steps)
 }
 
-// Two tables, one under the other, and a level, over a store with nothing in it.
+// The rows over a store with nothing in it, and then commits of all handlers, and of those under a subtree.
+fn over_a_store<K: Backend, B: Bench, L: Ledger, R: Abort>(
+    rt: &R,
+    alloc: Global,
+    bench: &mut B,
+    area: Area,
+    registry: &mut Registry,
+    steps: &mut Steps<L>,
+) -> Result<(), Fail>
+    requires lawful { IsLawfulFor (B.device bench.old).banks area }
+    requires serves { K.serves area (geometry_of (B.device bench.old) area) }
+    requires settings { (limit : ℕ) → AreLawful limit (registered state registry.old) }
+{
+    let mounted = Settings::<K>::mount(alloc, bench, area.copy(), steps)?;
+    let is_off = mounted.is_off();
+    let mut settings = Settings::<K>::of(K::mount(alloc, bench, area, steps)?);
+    rows(rt, alloc, &mut settings, bench, registry, steps)?;
+    let mesh = Name::read(b"bt/mesh")?;
+    commit(registry, None);
+    commit(registry, Some(&mesh));
+    assert_eq!(rt;
+        (is_off, commits_of(registry, 0), commits_of(registry, 1)),
+        (false, 2, 3)
+    );
+    Ok(())
+}
+
+// Two tables, one under the other, and a level, over that store.
 fn exercise<K: Backend, B: Bench, L: Ledger, R: Abort>(
     rt: &R,
     alloc: Global,
@@ -353,18 +384,7 @@ fn exercise<K: Backend, B: Bench, L: Ledger, R: Abort>(
         return Err(Fail::new("lv"));
     };
     let mut steps = Steps::<L>::new(blank);
-    let mounted = Settings::<K>::mount(alloc, bench, area.copy(), &mut steps)?;
-    assert!(rt; !mounted.is_off());
-    let mut settings = Settings::<K>::of(K::mount(alloc, bench, area, &mut steps)?);
-    rows(rt, alloc, &mut settings, bench, &mut registry, &mut steps)?;
-    let mesh = Name::read(b"bt/mesh")?;
-    commit(&mut registry, None);
-    commit(&mut registry, Some(&mesh));
-    assert_eq!(rt;
-        (commits_of(&registry, 0), commits_of(&registry, 1)),
-        (2, 3)
-    );
-    Ok(())
+    over_a_store::<K, B, L, R>(rt, alloc, bench, area, &mut registry, &mut steps)
 }
 
 // Four sectors of 512 bytes at unit 4, with nothing in them.

@@ -1,19 +1,11 @@
 use Rattle.std.proofs.Common.{Ok}
 use Rattle.handlers.specs.declared.handler.HandlerKind.TheVariants.{Table, Level}
 use Rattle.settings_tests.proofs.TestLemmas.{registers_lawful, none_lawful}
-use Rattle.flash_map.specs.Area.{geometry_of, sectors_of}
 use Rattle.settings_tests.proofs.settings.exercise.Goals as goal
 
-pub rows-requires-clause-settings : goal.rows-requires-clause-settings
-rows-requires-clause-settings g c =
+pub over_a_store-requires-clause-settings : goal.over_a_store-requires-clause-settings
+over_a_store-requires-clause-settings g c =
     registers_lawful _ c.register-2.new.self c.register-3.new.self c.in_ok-read-3.field-0 c.into_dyn_box-in_ok-new-3.result Level (Ok tt) c.in-Ok-register-2.ensures.ends c.is_new-3.ensures
     (registers_lawful _ c.register.new.self c.register-2.new.self c.in_ok-read-2.field-0 c.into_dyn_box-in_ok-new-2.result Table (Ok tt) c.in-Ok-register.ensures.ends c.is_new-2.ensures
     (registers_lawful _ c.new-registry.result c.register.new.self c.in_ok-read.field-0 c.into_dyn_box.result Table (Ok tt) c.in-Ok.ensures.ends c.is_new.ensures
     (none_lawful _ c.new-registry.result c.new-registry.ensures)))
-
-pub of-settings-requires : goal.of-settings-requires
-of-settings-requires g c =
-    let state = c.in_ok-mount.field-0 in
-    let d = g.B.Flash.device c.mount-2.new.flash in
-    let area = g.K.Backend.mounted_on state in
-    record { up = g.met.K.Backend.stands_up state (geometry_of d area) (sectors_of d area) c.in_ok-mount.ensures.stands }

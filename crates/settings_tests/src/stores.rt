@@ -208,10 +208,10 @@ fn shows<B: Bench, L: Ledger, R: Abort>(
         let Some(found) = backend.next_name(bench, after.as_ref(), steps) else {
             return Err(Fail::new("a name is wanting"));
         };
-        assert!(rt; found.bytes() == *name);
+        let named = found.bytes() == *name;
         let value = [*byte; 256];
-        let got = backend.get(bench, &wanted, steps);
-        assert!(rt; got == Some(&value[..(*len).min(256)]));
+        let got = backend.get(bench, &wanted, steps) == Some(&value[..(*len).min(256)]);
+        assert!(rt; named && got);
         after = Some(wanted);
     }
     assert!(rt; backend.next_name(bench, after.as_ref(), steps).is_none());
@@ -289,8 +289,11 @@ fn loses<B: Bench, L: Ledger, R: Abort>(
     let start = bench.spent();
     bench.arm(units);
     let lost = put(backend, bench, &name, cut.value, steps);
-    assert!(rt; lost == Err(SetFault::PowerLost) && !backend.is_up());
-    assert_eq!(rt; bench.spent().saturating_sub(start), units);
+    let spent = bench.spent().saturating_sub(start);
+    assert_eq!(rt;
+        (lost, backend.is_up(), spent),
+        (Err(SetFault::PowerLost), false, units)
+    );
     Ok(())
 }
 
@@ -307,13 +310,14 @@ fn finds<B: Bench, L: Ledger, R: Abort>(
     requires lawful { IsLawfulFor (B.device bench.old).banks area.now }
     requires serves { any_serves area.now (geometry_of (B.device bench.old) area.now) }
 {
-    assert_eq!(rt; by_chance(bench, area, steps), cut.chance);
+    let chance = by_chance(bench, area, steps);
     bench.restore();
     let start = bench.spent();
     let backend = mounted(alloc, bench, area, steps)?;
-    assert_eq!(rt; bench.spent().saturating_sub(start), units);
-    let got = backend.get(bench, &Name::read(cut.name)?, steps);
-    assert!(rt; got.unwrap_or(b"") == cut.left);
+    let spent = bench.spent().saturating_sub(start);
+    let name = Name::read(cut.name)?;
+    let got = backend.get(bench, &name, steps).unwrap_or(b"") == cut.left;
+    assert_eq!(rt; (chance, spent, got), (cut.chance, units, true));
     Ok(())
 }
 
@@ -407,8 +411,8 @@ fn is_absent<B: Views, L: Ledger, R: Abort>(
     carry_out(&mut backend, bench, b"a", 0x11, held, steps)?;
     let name = Name::read(name)?;
     let start = bench.views();
-    assert!(rt; backend.get(bench, &name, steps).is_none());
-    assert_eq!(rt; bench.views(), start);
+    let absent = backend.get(bench, &name, steps).is_none();
+    assert_eq!(rt; (absent, bench.views()), (true, start));
     Ok(())
 }
 
@@ -472,6 +476,38 @@ fn among_strays<B: Bench, L: Ledger, R: Abort>(
     tells::<NvsNumbers, Nvs, B, L, R>(rt, alloc, bench, &area, &NVS_TOLD, steps)
 }
 
+// The rows of each store.
+fn of_each_role<B: Bench, L: Ledger, R: Abort>(
+    rt: &R,
+    alloc: Global,
+    bench: &mut B,
+    steps: &mut Steps<L>,
+) -> Result<(), Fail> {
+    let (nvs, zms, fcb) = (Role::Nvs, Role::Zms, Role::Fcb);
+    let (erasing, rewritable) = (Kind::Erasing, Kind::Rewritable);
+    of_role(rt, alloc, bench, nvs, erasing, 4, &NVS, steps)?;
+    of_role(rt, alloc, bench, zms, rewritable, 16, &ZMS, steps)?;
+    of_role(rt, alloc, bench, zms, erasing, 16, &ZMS_ERASING, steps)?;
+    of_role(rt, alloc, bench, fcb, erasing, 4, &FCB, steps)?;
+    of_role(rt, alloc, bench, fcb, erasing, 8, &FCB_LONG, steps)?;
+    of_role(rt, alloc, bench, fcb, erasing, 16, &FCB_LONGER, steps)
+}
+
+// The losses of each store.
+fn cuts_of_each_role<B: Bench, L: Ledger, R: Abort>(
+    rt: &R,
+    alloc: Global,
+    bench: &mut B,
+    steps: &mut Steps<L>,
+) -> Result<(), Fail> {
+    let (nvs, zms, fcb) = (Role::Nvs, Role::Zms, Role::Fcb);
+    let (erasing, rewritable) = (Kind::Erasing, Kind::Rewritable);
+    cuts_of_role(rt, alloc, bench, nvs, erasing, 4, &NVS_CUTS, steps)?;
+    cuts_of_role(rt, alloc, bench, zms, rewritable, 16, &ZMS_CUTS, steps)?;
+    cuts_of_role(rt, alloc, bench, zms, erasing, 16, &ZMS_ERASING_CUTS, steps)?;
+    cuts_of_role(rt, alloc, bench, fcb, erasing, 4, &FCB_CUTS, steps)
+}
+
 fn exercise<B: Views, L: Ledger, R: Abort>(
     rt: &R,
     alloc: Global,
@@ -483,28 +519,11 @@ fn exercise<B: Views, L: Ledger, R: Abort>(
     requires some { 0 < L.parts }
 {
     let mut steps = Steps::<L>::new(blank);
-    let (nvs, zms, fcb) = (Role::Nvs, Role::Zms, Role::Fcb);
-    let (erasing, rewritable) = (Kind::Erasing, Kind::Rewritable);
-    of_role(rt, alloc, bench, nvs, erasing, 4, &NVS, &mut steps)?;
-    of_role(rt, alloc, bench, zms, rewritable, 16, &ZMS, &mut steps)?;
-    of_role(rt, alloc, bench, zms, erasing, 16, &ZMS_ERASING, &mut steps)?;
-    of_role(rt, alloc, bench, fcb, erasing, 4, &FCB, &mut steps)?;
-    of_role(rt, alloc, bench, fcb, erasing, 8, &FCB_LONG, &mut steps)?;
-    of_role(rt, alloc, bench, fcb, erasing, 16, &FCB_LONGER, &mut steps)?;
-    cuts_of_role(rt, alloc, bench, nvs, erasing, 4, &NVS_CUTS, &mut steps)?;
-    cuts_of_role(rt, alloc, bench, zms, rewritable, 16, &ZMS_CUTS, &mut steps)?;
-    cuts_of_role(
-        rt,
-        alloc,
-        bench,
-        zms,
-        erasing,
-        16,
-        &ZMS_ERASING_CUTS,
-        &mut steps,
-    )?;
-    cuts_of_role(rt, alloc, bench, fcb, erasing, 4, &FCB_CUTS, &mut steps)?;
+    of_each_role(rt, alloc, bench, &mut steps)?;
+    cuts_of_each_role(rt, alloc, bench, &mut steps)?;
     among_strays(rt, alloc, bench, &mut steps)?;
+    let (nvs, zms) = (Role::Nvs, Role::Zms);
+    let (erasing, rewritable) = (Kind::Erasing, Kind::Rewritable);
     is_absent(rt, alloc, bench, nvs, erasing, 4, 0, b"a", &mut steps)?;
     is_absent(rt, alloc, bench, zms, rewritable, 16, 1, b"c", &mut steps)
 }

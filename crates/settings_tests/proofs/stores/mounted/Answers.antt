@@ -1,6 +1,6 @@
 use Rattle.std.proofs.Common.{◌∙◌}
 use Rattle.any_backend.proofs.TestBeds.{ready-after}
-use Rattle.backend_tests.proofs.stores.mounted.Goals as goal
+use Rattle.settings_tests.proofs.stores.mounted.Goals as goal
 
 pub returns-clause-ready : goal.returns-clause-ready
 returns-clause-ready g c =

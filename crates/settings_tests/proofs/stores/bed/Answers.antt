@@ -1,7 +1,7 @@
 use Rattle.std.proofs.Common.{ap}
 use Rattle.flash_map.specs.declared.area.Area.{Area}
 use Rattle.any_backend.proofs.TestBeds.{role-unit, bed-lawful, bed-serves}
-use Rattle.backend_tests.proofs.stores.bed.Goals as goal
+use Rattle.settings_tests.proofs.stores.bed.Goals as goal
 
 pub load-requires-clause-unit : goal.load-requires-clause-unit
 load-requires-clause-unit g c = role-unit c.args.role c.args.unit c.requires.unit

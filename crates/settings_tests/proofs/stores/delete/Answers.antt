@@ -1,7 +1,7 @@
 use Rattle.std.proofs.Common.{refl}
 use Rattle.any_backend.specs.Standing.{area_of}
 use Rattle.any_backend.proofs.TestBeds.{ready-after}
-use Rattle.backend_tests.proofs.stores.delete.Goals as goal
+use Rattle.settings_tests.proofs.stores.delete.Goals as goal
 
 pub returns-clause-ready : goal.returns-clause-ready
 returns-clause-ready g c =

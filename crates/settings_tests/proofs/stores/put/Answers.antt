@@ -1,7 +1,7 @@
 use Rattle.std.proofs.Common.{length}
 use Rattle.any_backend.specs.Standing.{area_of}
 use Rattle.any_backend.proofs.TestBeds.{ready-after, short-value}
-use Rattle.backend_tests.proofs.stores.put.Goals as goal
+use Rattle.settings_tests.proofs.stores.put.Goals as goal
 
 pub set-requires-clause-short : goal.set-requires-clause-short
 set-requires-clause-short g c = short-value (area_of c.args.backend.now) (length c.args.value.now) c.requires.short

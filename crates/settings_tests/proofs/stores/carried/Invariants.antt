@@ -1,6 +1,6 @@
 use Rattle.std.proofs.Common.{◌≡◌}
 use Rattle.any_backend.specs.Standing.{IsReady}
-use Rattle.backend_tests.proofs.stores.carried.Given as goal
+use Rattle.settings_tests.proofs.stores.carried.Given as goal
 
 abbrev pub invariant-loop-call : goal.invariant-loop-call
 invariant-loop-call g l = record {

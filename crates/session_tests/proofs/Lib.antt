@@ -1,3 +1,4 @@
 mod LogBed
+mod PairLemmas
 mod TestBeds
 mod TestLemmas

@@ -182,8 +182,8 @@ fn moves<B: Bench, L: Ledger, R: Abort>(
     now.backend = backend;
     now.active = active;
     let spent = bench.spent().saturating_sub(start);
-    assert_eq!(rt; (spent, active), (units, index));
-    assert!(rt; has(&now.backend, bench, steps)?);
+    let found = has(&now.backend, bench, steps)?;
+    assert_eq!(rt; (spent, active, found), (units, index, true));
     Ok(())
 }
 
@@ -199,10 +199,10 @@ fn chooses<B: Bench, L: Ledger, R: Abort>(
     requires served { let d = B.device bench.old in
         Serves map.now d now.old.selector now.old.backend now.old.active }
 {
-    assert_eq!(rt; target(map, now.active), Some(1));
+    let next = target(map, now.active);
     now.selector.choose(bench, map, 2, steps)?;
-    assert_eq!(rt; now.selector.active(bench, map, steps), 2);
-    assert!(rt; now.selector.is_up());
+    let active = now.selector.active(bench, map, steps);
+    assert_eq!(rt; (next, active, now.selector.is_up()), (Some(1), 2, true));
     Ok(())
 }
 

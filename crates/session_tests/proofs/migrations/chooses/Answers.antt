@@ -3,8 +3,8 @@ use Rattle.any_backend.specs.Standing.{area_of}
 use Rattle.session_tests.proofs.TestBeds.{third-store}
 use Rattle.session_tests.proofs.migrations.chooses.Goals as goal
 
-pub target-requires : goal.target-requires
-target-requires g c = slice_get_within c.args.map.now c.args.now.now.active (area_of c.args.now.now.backend) c.requires.served.there
+pub target-next-requires : goal.target-next-requires
+target-next-requires g c = slice_get_within c.args.map.now c.args.now.now.active (area_of c.args.now.now.backend) c.requires.served.there
 
 pub choose-requires-clause-mounted : goal.choose-requires-clause-mounted
 choose-requires-clause-mounted g c = c.requires.served.open_ring
@@ -12,5 +12,5 @@ choose-requires-clause-mounted g c = c.requires.served.open_ring
 pub choose-requires-clause-store : goal.choose-requires-clause-store
 choose-requires-clause-store g c = third-store c.args.map.now c.requires.bed
 
-pub active-requires : goal.active-requires
-active-requires g c = c.in_ok-choose.ensures.ends.0
+pub active-active-requires : goal.active-active-requires
+active-active-requires g c = c.in_ok-choose.ensures.ends.0

@@ -79,8 +79,9 @@ const REFUSED: [(&[u8], Ids, u64, LineWhy); 33] = [
 
 #[test]
 fn refused_lines(rt: HostRuntime) {
-    for (text, ids, line, why) in REFUSED {
-        let fault = read_script(rt.alloc(), text, ids, 2).err();
+    for (text, ids, line, why) in REFUSED.iter() {
+        let fault = read_script(rt.alloc(), text, *ids, 2).err();
+        let (line, why) = (*line, *why);
         assert_eq!(rt; fault, Some(ScriptFault::BadLine { line, why }), "{text:?}");
     }
 }
@@ -120,8 +121,11 @@ fn texts(rt: HostRuntime) -> Result<(), Fail> {
     ];
     for (answer, expected, units, lost) in &rows {
         let text = answer_text(alloc, answer).map_err(|_| "no memory")?;
-        assert!(rt; text.as_slice() == expected.as_bytes());
-        assert_eq!(rt; (units_of(answer), is_lost(answer)), (*units, *lost));
+        let same = text.as_slice() == expected.as_bytes();
+        assert_eq!(rt;
+            (same, units_of(answer), is_lost(answer)),
+            (true, *units, *lost)
+        );
     }
     Ok(())
 }

@@ -80,8 +80,8 @@ const LINES: [Parts<'static>; 22] = [
 fn each_form(rt: HostRuntime) -> Result<(), Fail> {
     let lines = read_script(rt.alloc(), FORMS, 3)?;
     assert_eq!(rt; lines.len(), LINES.len());
-    for (line, row) in lines.iter().zip(LINES) {
-        assert!(rt; parts(line) == row);
+    for (line, row) in lines.iter().zip(LINES.iter()) {
+        assert!(rt; parts(line) == *row);
     }
     Ok(())
 }
@@ -144,8 +144,9 @@ const REFUSED: [(&[u8], LineWhy, u64); 52] = [
 
 #[test]
 fn refused_lines(rt: HostRuntime) {
-    for (text, why, line) in REFUSED {
+    for (text, why, line) in REFUSED.iter() {
         let fault = read_script(rt.alloc(), text, 3).err();
+        let (line, why) = (*line, *why);
         assert_eq!(rt; fault, Some(ScriptFault::BadLine { line, why }), "{text:?}");
     }
 }
@@ -207,9 +208,12 @@ fn units_and_losses(rt: HostRuntime) {
         units: 66,
         chance: true,
     };
-    assert_eq!(rt; (units_of(&lost), is_lost(&lost)), (66, true));
     let absent = Answer::Absent;
-    assert_eq!(rt; (units_of(&absent), is_lost(&absent)), (0, false));
+    let units = (units_of(&lost), units_of(&absent));
+    assert_eq!(rt;
+        (units, is_lost(&lost), is_lost(&absent)),
+        ((66, 0), true, false)
+    );
 }
 
 // The word, the name, and the first byte and the length of the value of each generated line.
@@ -232,9 +236,9 @@ const GENERATED: [(&str, &[u8], Option<u8>, usize); 12] = [
 fn generated_script(rt: HostRuntime) -> Result<(), Fail> {
     let lines = gen_script(rt.alloc(), 12).map_err(|_| "no memory")?;
     assert_eq!(rt; lines.len(), GENERATED.len());
-    for (line, row) in lines.iter().zip(GENERATED) {
+    for (line, row) in lines.iter().zip(GENERATED.iter()) {
         let (word, name, value, _) = parts(line);
-        assert!(rt; (word, name, value.first().copied(), value.len()) == row);
+        assert!(rt; (word, name, value.first().copied(), value.len()) == *row);
     }
     Ok(())
 }
@@ -253,7 +257,10 @@ fn labels(rt: HostRuntime) {
     for (word, lawful) in rows {
         let read = read_label(rt.alloc(), word);
         let refused = (!lawful).then_some(LineFault::Refused(LineWhy::Name));
-        assert!(rt; read.as_ref().is_ok_and(|label| label.as_slice() == word) == lawful);
-        assert_eq!(rt; read.err(), refused, "{word:?}");
+        let same = match &read {
+            Ok(label) => label.as_slice() == word,
+            Err(_) => false,
+        };
+        assert_eq!(rt; (same, read.err()), (lawful, refused), "{word:?}");
     }
 }

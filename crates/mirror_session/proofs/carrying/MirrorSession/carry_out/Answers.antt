@@ -1,9 +1,39 @@
-use Rattle.std.specs.Prelude.{is_some}
-use Rattle.std.proofs.Common.{sym, subst}
+use Rattle.std.specs.Prelude.{is_some, IfErr, IfOk}
+use Rattle.std.proofs.Common.{◌≡◌, Bool, List, ℕ, true, refl, sym, subst}
+use Rattle.std.proofs.lemmas.Bool.{false≢true}
+use Rattle.flash_sim.specs.Device.{Device}
+use Rattle.flash_map.specs.declared.area.Area.{Area}
 use Rattle.mirror_lines.specs.declared.line.Line.{Line}
-use Rattle.mirror_session.specs.Bench.{meanings, moment}
+use Rattle.mirror_lines.specs.declared.line.Line.TheVariants.{Set, Get, Del, Names, Mount, Cut, Uncut, Blank}
+use Rattle.mirror_session.specs.Bench.{Meanings, meanings, moment}
 use Rattle.mirror_session.specs.LineDone.{LineDone}
+use Rattle.mirror_session.specs.Running.{BeginsLine, LineStops, takes_memory}
+use Rattle.mirror_session.specs.Step.{needs_power}
+use Rattle.script_lines.specs.declared.lists.Label.{Label}
 use Rattle.mirror_session.proofs.carrying.MirrorSession.carry_out.Goals as goal
+
+-- what is none of the four lines needs power
+others_need : (line : Line) → (line ≡ Mount → ⊥) → ((units : ℕ) → line ≡ Cut units → ⊥) → (line ≡ Uncut → ⊥) → ((label : Label) → line ≡ Blank label → ⊥) → needs_power line ≡ true
+others_need (Set name value) mount cut uncut blank = refl
+others_need (Get name) mount cut uncut blank = refl
+others_need (Del name) mount cut uncut blank = refl
+others_need Names mount cut uncut blank = refl
+others_need Mount mount cut uncut blank = absurd (mount refl)
+others_need (Cut units) mount cut uncut blank = absurd (cut units refl)
+others_need Uncut mount cut uncut blank = absurd (uncut refl)
+others_need (Blank label) mount cut uncut blank = absurd (blank label refl)
+
+-- memory was wanting in a line that needs power, and nothing changed
+begins : (m : Meanings) (areas : List Area) (line : Line) (old new : Device) → needs_power line ≡ true → takes_memory line ≡ true → new ≡ old
+  → (takes_memory line ≡ true) × BeginsLine m areas line old new
+begins m areas (Set name value) old new needs takes same = (takes, same)
+begins m areas (Get name) old new needs takes same = (takes, same)
+begins m areas (Del name) old new needs takes same = (takes, same)
+begins m areas Names old new needs takes same = (takes, same)
+begins m areas Mount old new needs takes same = absurd (false≢true needs)
+begins m areas (Cut units) old new needs takes same = absurd (false≢true needs)
+begins m areas Uncut old new needs takes same = absurd (false≢true needs)
+begins m areas (Blank label) old new needs takes same = absurd (false≢true needs)
 
 pub returns-in-Cut-clause-done : goal.returns-in-Cut-clause-done
 returns-in-Cut-clause-done g c =
@@ -18,3 +48,47 @@ returns-in-Uncut-clause-done g c =
     let m = meanings K.damage K.contents K.room g.K.Priced.prices in
     let whole = is_some c.args.self.now.mirror in
     subst (λ (line : Line). LineDone m c.args.map.now line c.drop_plan.result (moment (g.B.Flash.device c.args.bench.now) whole) (moment (g.B.Flash.device c.drop_plan.new.bench) whole)) (sym c.in-Uncut.is) (c.drop_plan.ensures.done whole)
+
+pub on_mirror-requires-clause-needs : goal.on_mirror-requires-clause-needs
+on_mirror-requires-clause-needs g c = others_need c.args.line.now c.in_default.not-Mount c.in_default.not-Cut c.in_default.not-Uncut c.in_default.not-Blank
+
+pub returns-in-Err-on_mirror-clause-stops : goal.returns-in-Err-on_mirror-clause-stops
+returns-in-Err-on_mirror-clause-stops g c =
+    let K = g.K.Backend in
+    begins (meanings K.damage K.contents K.room g.K.Priced.prices) c.args.map.now c.args.line.now (g.B.Flash.device c.args.bench.now) (g.B.Flash.device c.on_mirror.new.bench) (others_need c.args.line.now c.in_default.not-Mount c.in_default.not-Cut c.in_default.not-Uncut c.in_default.not-Blank) c.in-Err-on_mirror.ensures.takes c.in-Err-on_mirror.ensures.same
+
+pub returns-in-Ok-on_mirror-clause-done : goal.returns-in-Ok-on_mirror-clause-done
+returns-in-Ok-on_mirror-clause-done g c = c.in-Ok-on_mirror.ensures.done
+
+pub returns-in-Ok-on_mirror-clause-ready : goal.returns-in-Ok-on_mirror-clause-ready
+returns-in-Ok-on_mirror-clause-ready g c = c.in-Ok-on_mirror.ensures.ready
+
+pub returns-in-Err-clause-stops : goal.returns-in-Err-clause-stops
+returns-in-Err-clause-stops g c =
+    let K = g.K.Backend in
+    let m = meanings K.damage K.contents K.room g.K.Priced.prices in
+    subst (λ (line : Line). (takes_memory line ≡ true) × BeginsLine m c.args.map.now line (g.B.Flash.device c.args.bench.now) (g.B.Flash.device c.replace.new.bench)) (sym c.in-Blank.is) (refl, c.in-Err.ensures.same)
+
+pub returns-in-Ok-clause-done : goal.returns-in-Ok-clause-done
+returns-in-Ok-clause-done g c =
+    let K = g.K.Backend in
+    let m = meanings K.damage K.contents K.room g.K.Priced.prices in
+    subst (λ (line : Line). LineDone m c.args.map.now line c.in-Ok.answer (moment (g.B.Flash.device c.args.bench.now) (is_some c.args.self.now.mirror)) (moment (g.B.Flash.device c.replace.new.bench) (is_some c.replace.new.self.mirror))) (sym c.in-Blank.is) c.in-Ok.ensures.done
+
+pub returns-in-Ok-clause-ready : goal.returns-in-Ok-clause-ready
+returns-in-Ok-clause-ready g c = c.in-Ok.ensures.ready
+
+pub returns-in-Mount-clause-done : goal.returns-in-Mount-clause-done
+returns-in-Mount-clause-done g c =
+    let K = g.K.Backend in
+    let m = meanings K.damage K.contents K.room g.K.Priced.prices in
+    subst (λ (line : Line). IfOk c.mount.result (λ answer. LineDone m c.args.map.now line answer (moment (g.B.Flash.device c.args.bench.now) (is_some c.args.self.now.mirror)) (moment (g.B.Flash.device c.mount.new.bench) (is_some c.mount.new.self.mirror)))) (sym c.in-Mount.is) c.mount.ensures.done
+
+pub returns-in-Mount-clause-ready : goal.returns-in-Mount-clause-ready
+returns-in-Mount-clause-ready g c = c.mount.ensures.ready
+
+pub returns-in-Mount-clause-stops : goal.returns-in-Mount-clause-stops
+returns-in-Mount-clause-stops g c =
+    let K = g.K.Backend in
+    let m = meanings K.damage K.contents K.room g.K.Priced.prices in
+    subst (λ (line : Line). IfErr c.mount.result (λ fault. LineStops m c.args.map.now line (g.B.Flash.device c.args.bench.now) (g.B.Flash.device c.mount.new.bench) fault)) (sym c.in-Mount.is) c.mount.ensures.stops

@@ -1,14 +1,24 @@
 use Rattle.std.specs.Prelude.{is_some}
-use Rattle.std.proofs.Common.{◌≡◌, ◌∙◌, ◌&&◌, Bool, true, false, Some, None, sym, ap, rules}
+use Rattle.std.proofs.Common.{◌≡◌, ◌∙◌, ◌&&◌, ℕ, Bool, List, Option, true, false, Some, None, sym, ap, subst}
+use Rattle.flash_map.specs.declared.area.Area.{Area}
+use Rattle.mirror_lines.specs.declared.answer.Answer.{Answer}
+use Rattle.mirror_lines.specs.declared.line.Line.TheVariants.{Blank}
 use Rattle.migrator.proofs.AreaLemmas.{store-within}
-use Rattle.mirror_session.specs.Bench.{labelled, meanings}
-use Rattle.mirror_session.specs.LineDone.{blanked}
+use Rattle.mirror_session.specs.Bench.{labelled, meanings, moment}
+use Rattle.mirror_session.specs.LineDone.{LineDone, blanked}
 use Rattle.session.proofs.ActiveAreas.{area_there}
 use Rattle.session_table.specs.Bench.{area_at}
 use Rattle.mirror_session.proofs.QuietLemmas.{blank_none, no_power}
 use Rattle.mirror_session.proofs.ReplaceLemmas.{labelled_stores, replaced_line}
 use Rattle.mirror_session.proofs.carrying.MirrorSession.replace.Goals.{else-is_whole-via-then-is_whole+else-is_on, else-is_whole-via-else-is_whole}
 use Rattle.mirror_session.proofs.carrying.MirrorSession.replace.Goals as goal
+
+-- where the store area with a label is found
+found : (map : List Area) (label text : List ℕ) (result place : Option ℕ) → result ≡ labelled map text → text ≡ label → result ≡ place → labelled map label ≡ place
+found map label text result place told same is = ap (labelled map) (sym same) ∙ (sym told ∙ is)
+
+dark_by : (is_on whole result : Bool) → result ≡ is_on → result ≡ false → (is_on && whole) ≡ false
+dark_by is_on whole result told is = ap (λ (b : Bool). b && whole) (sym told ∙ is)
 
 pub returns-in_default-clause-done : goal.returns-in_default-clause-done
 returns-in_default-clause-done g c =
@@ -17,15 +27,15 @@ returns-in_default-clause-done g c =
     let d = g.B.Flash.device c.args.bench.now in
     let whole = is_some c.args.self.now.mirror in
     let dark : (d.is_on && whole) ≡ false = elim c.else-is_whole.branch [
-      | else-is_whole-via-then-is_whole+else-is_on w ↦ ap (λ (b : Bool). b && whole) (sym w.is_on.ensures ∙ w.if-is_on.false)
+      | else-is_whole-via-then-is_whole+else-is_on w ↦ dark_by d.is_on whole w.is_on.result w.is_on.ensures w.if-is_on.false
       | else-is_whole-via-else-is_whole w ↦ no_power m c.args.map.now d whole (sym c.is_some-is_whole.ensures ∙ w.if-is_whole.false)
     ] in
-    let none : labelled c.args.map.now c.args.label.now ≡ None = search rules in
+    let none : labelled c.args.map.now c.args.label.now ≡ None = found c.args.map.now c.args.label.now c.as_slice.result.now c.labelled.result None c.labelled.ensures c.as_slice.ensures c.in_default.is in
     blank_none m c.args.map.now d c.args.label.now whole dark none
 
 pub area_at-area-requires : goal.area_at-area-requires
 area_at-area-requires g c =
-    let is : labelled c.args.map.now c.args.label.now ≡ Some c.in-Some.place = search rules in
+    let is : labelled c.args.map.now c.args.label.now ≡ Some c.in-Some.place = found c.args.map.now c.args.label.now c.as_slice.result.now c.labelled.result (Some c.in-Some.place) c.labelled.ensures c.as_slice.ensures c.in-Some.is in
     store-within c.args.map.now c.in-Some.place (labelled_stores c.args.map.now c.args.label.now c.in-Some.place is)
 
 pub blank_area-requires : goal.blank_area-requires
@@ -38,13 +48,13 @@ returns-clause-done g c =
     let d = g.B.Flash.device c.args.bench.now in
     let new = g.B.Flash.device c.blank_area.new.bench in
     let whole = is_some c.args.self.now.mirror in
-    let is : labelled c.args.map.now c.args.label.now ≡ Some c.in-Some.place = search rules in
+    let is : labelled c.args.map.now c.args.label.now ≡ Some c.in-Some.place = found c.args.map.now c.args.label.now c.as_slice.result.now c.labelled.result (Some c.in-Some.place) c.labelled.ensures c.as_slice.ensures c.in-Some.is in
     let dark : (d.is_on && whole) ≡ false = elim c.else-is_whole.branch [
-      | else-is_whole-via-then-is_whole+else-is_on w ↦ ap (λ (b : Bool). b && whole) (sym w.is_on.ensures ∙ w.if-is_on.false)
+      | else-is_whole-via-then-is_whole+else-is_on w ↦ dark_by d.is_on whole w.is_on.result w.is_on.ensures w.if-is_on.false
       | else-is_whole-via-else-is_whole w ↦ no_power m c.args.map.now d whole (sym c.is_some-is_whole.ensures ∙ w.if-is_whole.false)
     ] in
-    let up : whole ≡ true = search rules in
+    let up : whole ≡ true = sym c.is_some-is_whole.ensures ∙ c.if-not-is_whole.false in
     let made : new ≡ blanked d (area_at c.args.map.now c.in-Some.place) = c.in_ok-blank_area.ensures.ok ∙ ap (blanked d) (sym (area_there c.args.map.now c.in-Some.place c.area_at-area.result c.area_at-area.ensures)) in
-    rw (c.done.ensures)
+    subst (λ (answer : Answer). LineDone m c.args.map.now (Blank c.args.label.now) answer (moment d whole) (moment new false)) (sym c.done.ensures)
     (replaced_line K.mounted_on K.stands m K.serves c.args.map.now d new c.requires.map (g.met.B.Flash.is_lawful c.args.bench.now) (λ x a fine is served blank. g.met.K.Priced.blank_empty x a fine is served blank) (λ x a fine is served blank. g.met.K.Priced.blank_reads x a fine is served blank)
     c.in-Some.place c.args.label.now is c.args.self.now.mirror c.requires.ready up dark made)

@@ -26,7 +26,7 @@ use Rattle.ring_store.proofs.CallFacts.{to_geometry, from_geometry}
 use Rattle.ring_store.proofs.CollectSteps.{rest_closed}
 use Rattle.ring_store.proofs.EntrySteps.{adds-entry}
 use Rattle.ring_store.proofs.PutSteps.{HasPut, HasNotPut, has_not_put, begun-form, begun-free, begun-room, then-put, then-kept}
-use Rattle.ring_store.proofs.Ranges.{then-lost}
+use Rattle.ring_store.proofs.Ranges.{first-lost, then-lost}
 use Rattle.ring_store.proofs.RoomFacts.{inside, rest_on}
 use Rattle.ring_store.proofs.Standings.{stands}
 
@@ -73,7 +73,7 @@ module _ {T : Type 0} (role : Role) (kind : Geometry → Kind) (kept : Geometry 
         undamaged = not_put.undamaged;
         rests = rests_in e not_put.form;
         room = omega arith;
-        entry = subst (λ (p : ℕ). StopsEntry k a e (sector_at old p) (length bytes)) on.current (inl spends);
+        entry = subst (λ (p : ℕ). StopsEntry k a e (sector_at old p) (length bytes)) on.current (first-lost a e (k.units.begin (sector_at old place)) (k.units.put (sector_at old place) (length bytes)) spends);
         at_most = between_within spends 0 (k.units.entry (length bytes)) (omega arith) (omega arith);
       }
 
@@ -160,7 +160,7 @@ module _ {T : Type 0} (role : Role) (kind : Geometry → Kind) (kept : Geometry 
           let cut : SpendsUpTo a e (both (k.units.begin (sector_at old place)) (k.units.put (sector_at old place) (length bytes))) =
           subst (λ (r : Range). SpendsUpTo a e (both (k.units.begin (sector_at old place)) r)) (begins.put (length bytes))
           (then-lost a b e (k.units.begin (sector_at old place)) (k.units.put (sector_at (sectors_of b area) place) (length bytes)) spends there) in
-          let own : StopsEntry k a e (open_bytes k old) (length bytes) = subst (λ (p : ℕ). StopsEntry k a e (sector_at old p) (length bytes)) on.current (inr cut) in
+          let own : StopsEntry k a e (open_bytes k old) (length bytes) = subst (λ (p : ℕ). StopsEntry k a e (sector_at old p) (length bytes)) on.current cut in
           let all = between_within (between_then spends there) 0 (k.units.entry (length bytes)) (omega arith) (omega arith) in
           elim either [
             | inl keeps ↦ let has = has_list keeps in record { list = inl has.list; undamaged = has.undamaged; rests = rests_in e has.form; room = leaves has.form; entry = own; at_most = all }

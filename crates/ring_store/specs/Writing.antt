@@ -23,9 +23,7 @@ SpendsEntry k old new sector len = SpendsIn old new (both (k.units.begin sector)
 
 -- Power was lost while its sector was made ready, or behind that.
 abbrev pub StopsEntry : Kind → Device → Device → List ℕ → ℕ → Type 0
-StopsEntry k old new sector len =
-    SpendsUpTo old new (k.units.begin sector)
-    ⊎ SpendsUpTo old new (both (k.units.begin sector) (k.units.put sector len))
+StopsEntry k old new sector len = SpendsUpTo old new (both (k.units.begin sector) (k.units.put sector len))
 
 -- the bytes of the open sector
 abbrev pub open_at : Kind → Device → Area → List ℕ

@@ -1,5 +1,5 @@
 -- each arm is what the store for the area's role says of its call
-use Rattle.std.specs.Prelude.{is_err, ◌≡◌, ℕ, List, None}
+use Rattle.std.specs.Prelude.{is_err, ◌≡◌, None}
 use Rattle.std.proofs.Common.{true, [], ◌∷◌, ◌∙◌, sym, ap, subst}
 use Rattle.flash_sim.specs.Device.{Device}
 use Rattle.flash_map.specs.declared.area.Area.{Area}

@@ -1,16 +1,41 @@
-use Rattle.std.proofs.Common.{sym, subst}
+-- each arm is what the store for the area's role says of its call
+use Rattle.std.specs.Prelude.{◌≡◌, None}
+use Rattle.std.proofs.Common.{true, [], ◌∷◌, ◌∙◌, sym, ap, subst}
 use Rattle.flash_sim.specs.Device.{Device}
 use Rattle.flash_map.specs.declared.area.Area.{Area}
 use Rattle.flash_map.specs.declared.area.Role.{Role}
 use Rattle.flash_map.specs.Area.{geometry_of, sectors_of}
+use Rattle.flash_map.specs.Lawful.{IsLawfulFor}
 use Rattle.flash_map.specs.Spending.{SpendsAtMost}
-use Rattle.backend_api.specs.Ends.{SetEnds}
+use Rattle.flash_map.specs.Touches.{Touches}
+use Rattle.backend_api.specs.Commands.{StopsAt}
+use Rattle.backend_api.specs.Commands.Command.{Put}
+use Rattle.backend_api.specs.Ends.{SetEnds, set_lost}
 use Rattle.backend_api.specs.Room.{most_units}
 use Rattle.any_backend.specs.declared.backend.AnyBackend.{AnyBackend}
-use Rattle.any_backend.specs.declared.backend.AnyBackend.TheVariants.{Nvs}
-use Rattle.any_backend.specs.ByRole.{contents_as, room_as}
+use Rattle.any_backend.specs.declared.backend.AnyBackend.TheVariants.{Nvs, Zms, Fcb}
+use Rattle.any_backend.specs.ByRole.{chance_as, contents_as, damage_as, room_as, tears_as}
 use Rattle.any_backend.specs.Standing.{area_of, Stands}
 use Rattle.any_backend.proofs.backend.AnyBackendBackend.set.Goals as goal
+
+pub set-requires-clause-lawful : goal.set-requires-clause-lawful
+set-requires-clause-lawful g c =
+    let d : Device = g.F.Flash.device c.args.flash.now in
+    subst (λ (s : AnyBackend). IsLawfulFor d.banks (area_of s)) c.in-Nvs.is c.requires.lawful
+
+pub set-requires-clause-stands : goal.set-requires-clause-stands
+set-requires-clause-stands g c =
+    let d : Device = g.F.Flash.device c.args.flash.now in
+    subst (λ (s : AnyBackend). Stands s (geometry_of d (area_of s)) (sectors_of d (area_of s))) c.in-Nvs.is c.requires.stands
+
+pub returns-in-Nvs-clause-touches : goal.returns-in-Nvs-clause-touches
+returns-in-Nvs-clause-touches g c =
+    let d : Device = g.F.Flash.device c.args.flash.now in
+    let e : Device = g.F.Flash.device c.set.new.flash in
+    subst (λ (s : AnyBackend). Touches (area_of s ∷ []) d e (set_lost c.set.result)) (sym c.in-Nvs.is) c.set.ensures.touches
+
+pub returns-in-Nvs-clause-area : goal.returns-in-Nvs-clause-area
+returns-in-Nvs-clause-area g c = c.set.ensures.area ∙ sym (ap area_of c.in-Nvs.is)
 
 pub returns-in-Nvs-clause-ends : goal.returns-in-Nvs-clause-ends
 returns-in-Nvs-clause-ends g c =
@@ -19,17 +44,159 @@ returns-in-Nvs-clause-ends g c =
     let here : Area = c.in-Nvs.backend.store.store.area in
     let stands : Stands (Nvs c.in-Nvs.backend) (geometry_of d here) (sectors_of d here) =
     subst (λ (s : AnyBackend). Stands s (geometry_of d (area_of s)) (sectors_of d (area_of s))) c.in-Nvs.is c.requires.stands in
-    subst (λ (s : AnyBackend). SetEnds (room_as (area_of s).role (geometry_of d (area_of s))) (area_of s).sectors d e
-    (contents_as (area_of s).role (area_of s) (geometry_of d (area_of s)) (sectors_of d (area_of s)))
-    (contents_as (area_of s).role (area_of s) (geometry_of e (area_of s)) (sectors_of e (area_of s)))
-    c.args.name.now c.args.value.now c.set.result) (sym c.in-Nvs.is)
-    (subst (λ (r : Role). SetEnds (room_as r (geometry_of d here)) here.sectors d e
-    (contents_as r here (geometry_of d here) (sectors_of d here))
-    (contents_as r here (geometry_of e here) (sectors_of e here))
-    c.args.name.now c.args.value.now c.set.result) (sym stands.store.role) c.set.ensures.ends)
+    subst (λ (s : AnyBackend). SetEnds (room_as (area_of s).role (geometry_of d (area_of s))) (area_of s).sectors d e (contents_as (area_of s).role (area_of s) (geometry_of d (area_of s)) (sectors_of d (area_of s))) (contents_as (area_of s).role (area_of s) (geometry_of e (area_of s)) (sectors_of e (area_of s))) c.args.name.now c.args.value.now c.set.result) (sym c.in-Nvs.is)
+    (subst (λ (r : Role). SetEnds (room_as r (geometry_of d here)) here.sectors d e (contents_as r here (geometry_of d here) (sectors_of d here)) (contents_as r here (geometry_of e here) (sectors_of e here)) c.args.name.now c.args.value.now c.set.result) (sym stands.store.role) c.set.ensures.ends)
+
+pub returns-in-Nvs-clause-at_most : goal.returns-in-Nvs-clause-at_most
+returns-in-Nvs-clause-at_most g c =
+    let d : Device = g.F.Flash.device c.args.flash.now in
+    let e : Device = g.F.Flash.device c.set.new.flash in
+    subst (λ (s : AnyBackend). SpendsAtMost d e (most_units (geometry_of d (area_of s)))) (sym c.in-Nvs.is) c.set.ensures.at_most
+
+pub returns-in-Nvs-clause-sound : goal.returns-in-Nvs-clause-sound
+returns-in-Nvs-clause-sound g c =
+    let d : Device = g.F.Flash.device c.args.flash.now in
+    let e : Device = g.F.Flash.device c.set.new.flash in
+    let here : Area = c.in-Nvs.backend.store.store.area in
+    let stands : Stands (Nvs c.in-Nvs.backend) (geometry_of d here) (sectors_of d here) =
+    subst (λ (s : AnyBackend). Stands s (geometry_of d (area_of s)) (sectors_of d (area_of s))) c.in-Nvs.is c.requires.stands in
+    subst (λ (s : AnyBackend). damage_as (area_of s).role (area_of s) (geometry_of e (area_of s)) (sectors_of e (area_of s)) ≡ None) (sym c.in-Nvs.is)
+    (subst (λ (r : Role). damage_as r here (geometry_of e here) (sectors_of e here) ≡ None) (sym stands.store.role) c.set.ensures.sound)
+
+pub returns-in-Nvs-clause-cut : goal.returns-in-Nvs-clause-cut
+returns-in-Nvs-clause-cut g c =
+    let d : Device = g.F.Flash.device c.args.flash.now in
+    let e : Device = g.F.Flash.device c.set.new.flash in
+    let here : Area = c.in-Nvs.backend.store.store.area in
+    let stands : Stands (Nvs c.in-Nvs.backend) (geometry_of d here) (sectors_of d here) =
+    subst (λ (s : AnyBackend). Stands s (geometry_of d (area_of s)) (sectors_of d (area_of s))) c.in-Nvs.is c.requires.stands in
+    subst (λ (s : AnyBackend). d.is_on ≡ true → set_lost c.set.result ≡ true → StopsAt (chance_as (area_of s).role (area_of s) (geometry_of e (area_of s)) (sectors_of e (area_of s))) (tears_as (area_of s).role (area_of s) (geometry_of d (area_of s)) (Put c.args.name.now c.args.value.now)) (Put c.args.name.now c.args.value.now) e (contents_as (area_of s).role (area_of s) (geometry_of d (area_of s)) (sectors_of d (area_of s))) (contents_as (area_of s).role (area_of s) (geometry_of e (area_of s)) (sectors_of e (area_of s)))) (sym c.in-Nvs.is)
+    (subst (λ (r : Role). d.is_on ≡ true → set_lost c.set.result ≡ true → StopsAt (chance_as r here (geometry_of e here) (sectors_of e here)) (tears_as r here (geometry_of d here) (Put c.args.name.now c.args.value.now)) (Put c.args.name.now c.args.value.now) e (contents_as r here (geometry_of d here) (sectors_of d here)) (contents_as r here (geometry_of e here) (sectors_of e here))) (sym stands.store.role) c.set.ensures.cut)
+
+pub returns-in-Nvs-clause-stands : goal.returns-in-Nvs-clause-stands
+returns-in-Nvs-clause-stands g c = c.set.ensures.stands
+
+pub returns-in-Nvs-clause-down : goal.returns-in-Nvs-clause-down
+returns-in-Nvs-clause-down g c = c.set.ensures.down
+
+pub set-requires-in-Zms-clause-lawful : goal.set-requires-in-Zms-clause-lawful
+set-requires-in-Zms-clause-lawful g c =
+    let d : Device = g.F.Flash.device c.args.flash.now in
+    subst (λ (s : AnyBackend). IsLawfulFor d.banks (area_of s)) c.in-Zms.is c.requires.lawful
+
+pub set-requires-in-Zms-clause-stands : goal.set-requires-in-Zms-clause-stands
+set-requires-in-Zms-clause-stands g c =
+    let d : Device = g.F.Flash.device c.args.flash.now in
+    subst (λ (s : AnyBackend). Stands s (geometry_of d (area_of s)) (sectors_of d (area_of s))) c.in-Zms.is c.requires.stands
+
+pub returns-in-Zms-clause-touches : goal.returns-in-Zms-clause-touches
+returns-in-Zms-clause-touches g c =
+    let d : Device = g.F.Flash.device c.args.flash.now in
+    let e : Device = g.F.Flash.device c.set-in-Zms.new.flash in
+    subst (λ (s : AnyBackend). Touches (area_of s ∷ []) d e (set_lost c.set-in-Zms.result)) (sym c.in-Zms.is) c.set-in-Zms.ensures.touches
+
+pub returns-in-Zms-clause-area : goal.returns-in-Zms-clause-area
+returns-in-Zms-clause-area g c = c.set-in-Zms.ensures.area ∙ sym (ap area_of c.in-Zms.is)
+
+pub returns-in-Zms-clause-ends : goal.returns-in-Zms-clause-ends
+returns-in-Zms-clause-ends g c =
+    let d : Device = g.F.Flash.device c.args.flash.now in
+    let e : Device = g.F.Flash.device c.set-in-Zms.new.flash in
+    let here : Area = c.in-Zms.backend.store.store.area in
+    let stands : Stands (Zms c.in-Zms.backend) (geometry_of d here) (sectors_of d here) =
+    subst (λ (s : AnyBackend). Stands s (geometry_of d (area_of s)) (sectors_of d (area_of s))) c.in-Zms.is c.requires.stands in
+    subst (λ (s : AnyBackend). SetEnds (room_as (area_of s).role (geometry_of d (area_of s))) (area_of s).sectors d e (contents_as (area_of s).role (area_of s) (geometry_of d (area_of s)) (sectors_of d (area_of s))) (contents_as (area_of s).role (area_of s) (geometry_of e (area_of s)) (sectors_of e (area_of s))) c.args.name.now c.args.value.now c.set-in-Zms.result) (sym c.in-Zms.is)
+    (subst (λ (r : Role). SetEnds (room_as r (geometry_of d here)) here.sectors d e (contents_as r here (geometry_of d here) (sectors_of d here)) (contents_as r here (geometry_of e here) (sectors_of e here)) c.args.name.now c.args.value.now c.set-in-Zms.result) (sym stands.store.role) c.set-in-Zms.ensures.ends)
+
+pub returns-in-Zms-clause-at_most : goal.returns-in-Zms-clause-at_most
+returns-in-Zms-clause-at_most g c =
+    let d : Device = g.F.Flash.device c.args.flash.now in
+    let e : Device = g.F.Flash.device c.set-in-Zms.new.flash in
+    subst (λ (s : AnyBackend). SpendsAtMost d e (most_units (geometry_of d (area_of s)))) (sym c.in-Zms.is) c.set-in-Zms.ensures.at_most
+
+pub returns-in-Zms-clause-sound : goal.returns-in-Zms-clause-sound
+returns-in-Zms-clause-sound g c =
+    let d : Device = g.F.Flash.device c.args.flash.now in
+    let e : Device = g.F.Flash.device c.set-in-Zms.new.flash in
+    let here : Area = c.in-Zms.backend.store.store.area in
+    let stands : Stands (Zms c.in-Zms.backend) (geometry_of d here) (sectors_of d here) =
+    subst (λ (s : AnyBackend). Stands s (geometry_of d (area_of s)) (sectors_of d (area_of s))) c.in-Zms.is c.requires.stands in
+    subst (λ (s : AnyBackend). damage_as (area_of s).role (area_of s) (geometry_of e (area_of s)) (sectors_of e (area_of s)) ≡ None) (sym c.in-Zms.is)
+    (subst (λ (r : Role). damage_as r here (geometry_of e here) (sectors_of e here) ≡ None) (sym stands.store.role) c.set-in-Zms.ensures.sound)
+
+pub returns-in-Zms-clause-cut : goal.returns-in-Zms-clause-cut
+returns-in-Zms-clause-cut g c =
+    let d : Device = g.F.Flash.device c.args.flash.now in
+    let e : Device = g.F.Flash.device c.set-in-Zms.new.flash in
+    let here : Area = c.in-Zms.backend.store.store.area in
+    let stands : Stands (Zms c.in-Zms.backend) (geometry_of d here) (sectors_of d here) =
+    subst (λ (s : AnyBackend). Stands s (geometry_of d (area_of s)) (sectors_of d (area_of s))) c.in-Zms.is c.requires.stands in
+    subst (λ (s : AnyBackend). d.is_on ≡ true → set_lost c.set-in-Zms.result ≡ true → StopsAt (chance_as (area_of s).role (area_of s) (geometry_of e (area_of s)) (sectors_of e (area_of s))) (tears_as (area_of s).role (area_of s) (geometry_of d (area_of s)) (Put c.args.name.now c.args.value.now)) (Put c.args.name.now c.args.value.now) e (contents_as (area_of s).role (area_of s) (geometry_of d (area_of s)) (sectors_of d (area_of s))) (contents_as (area_of s).role (area_of s) (geometry_of e (area_of s)) (sectors_of e (area_of s)))) (sym c.in-Zms.is)
+    (subst (λ (r : Role). d.is_on ≡ true → set_lost c.set-in-Zms.result ≡ true → StopsAt (chance_as r here (geometry_of e here) (sectors_of e here)) (tears_as r here (geometry_of d here) (Put c.args.name.now c.args.value.now)) (Put c.args.name.now c.args.value.now) e (contents_as r here (geometry_of d here) (sectors_of d here)) (contents_as r here (geometry_of e here) (sectors_of e here))) (sym stands.store.role) c.set-in-Zms.ensures.cut)
+
+pub returns-in-Zms-clause-stands : goal.returns-in-Zms-clause-stands
+returns-in-Zms-clause-stands g c = c.set-in-Zms.ensures.stands
+
+pub returns-in-Zms-clause-down : goal.returns-in-Zms-clause-down
+returns-in-Zms-clause-down g c = c.set-in-Zms.ensures.down
+
+pub set-requires-in-Fcb-clause-lawful : goal.set-requires-in-Fcb-clause-lawful
+set-requires-in-Fcb-clause-lawful g c =
+    let d : Device = g.F.Flash.device c.args.flash.now in
+    subst (λ (s : AnyBackend). IsLawfulFor d.banks (area_of s)) c.in-Fcb.is c.requires.lawful
+
+pub set-requires-in-Fcb-clause-stands : goal.set-requires-in-Fcb-clause-stands
+set-requires-in-Fcb-clause-stands g c =
+    let d : Device = g.F.Flash.device c.args.flash.now in
+    subst (λ (s : AnyBackend). Stands s (geometry_of d (area_of s)) (sectors_of d (area_of s))) c.in-Fcb.is c.requires.stands
+
+pub returns-in-Fcb-clause-touches : goal.returns-in-Fcb-clause-touches
+returns-in-Fcb-clause-touches g c =
+    let d : Device = g.F.Flash.device c.args.flash.now in
+    let e : Device = g.F.Flash.device c.set-in-Fcb.new.flash in
+    subst (λ (s : AnyBackend). Touches (area_of s ∷ []) d e (set_lost c.set-in-Fcb.result)) (sym c.in-Fcb.is) c.set-in-Fcb.ensures.touches
+
+pub returns-in-Fcb-clause-area : goal.returns-in-Fcb-clause-area
+returns-in-Fcb-clause-area g c = c.set-in-Fcb.ensures.area ∙ sym (ap area_of c.in-Fcb.is)
+
+pub returns-in-Fcb-clause-ends : goal.returns-in-Fcb-clause-ends
+returns-in-Fcb-clause-ends g c =
+    let d : Device = g.F.Flash.device c.args.flash.now in
+    let e : Device = g.F.Flash.device c.set-in-Fcb.new.flash in
+    let here : Area = c.in-Fcb.backend.ring.area in
+    let stands : Stands (Fcb c.in-Fcb.backend) (geometry_of d here) (sectors_of d here) =
+    subst (λ (s : AnyBackend). Stands s (geometry_of d (area_of s)) (sectors_of d (area_of s))) c.in-Fcb.is c.requires.stands in
+    subst (λ (s : AnyBackend). SetEnds (room_as (area_of s).role (geometry_of d (area_of s))) (area_of s).sectors d e (contents_as (area_of s).role (area_of s) (geometry_of d (area_of s)) (sectors_of d (area_of s))) (contents_as (area_of s).role (area_of s) (geometry_of e (area_of s)) (sectors_of e (area_of s))) c.args.name.now c.args.value.now c.set-in-Fcb.result) (sym c.in-Fcb.is)
+    (subst (λ (r : Role). SetEnds (room_as r (geometry_of d here)) here.sectors d e (contents_as r here (geometry_of d here) (sectors_of d here)) (contents_as r here (geometry_of e here) (sectors_of e here)) c.args.name.now c.args.value.now c.set-in-Fcb.result) (sym stands.role) c.set-in-Fcb.ensures.ends)
 
 pub returns-in-Fcb-clause-at_most : goal.returns-in-Fcb-clause-at_most
 returns-in-Fcb-clause-at_most g c =
     let d : Device = g.F.Flash.device c.args.flash.now in
     let e : Device = g.F.Flash.device c.set-in-Fcb.new.flash in
     subst (λ (s : AnyBackend). SpendsAtMost d e (most_units (geometry_of d (area_of s)))) (sym c.in-Fcb.is) c.set-in-Fcb.ensures.at_most
+
+pub returns-in-Fcb-clause-sound : goal.returns-in-Fcb-clause-sound
+returns-in-Fcb-clause-sound g c =
+    let d : Device = g.F.Flash.device c.args.flash.now in
+    let e : Device = g.F.Flash.device c.set-in-Fcb.new.flash in
+    let here : Area = c.in-Fcb.backend.ring.area in
+    let stands : Stands (Fcb c.in-Fcb.backend) (geometry_of d here) (sectors_of d here) =
+    subst (λ (s : AnyBackend). Stands s (geometry_of d (area_of s)) (sectors_of d (area_of s))) c.in-Fcb.is c.requires.stands in
+    subst (λ (s : AnyBackend). damage_as (area_of s).role (area_of s) (geometry_of e (area_of s)) (sectors_of e (area_of s)) ≡ None) (sym c.in-Fcb.is)
+    (subst (λ (r : Role). damage_as r here (geometry_of e here) (sectors_of e here) ≡ None) (sym stands.role) c.set-in-Fcb.ensures.sound)
+
+pub returns-in-Fcb-clause-cut : goal.returns-in-Fcb-clause-cut
+returns-in-Fcb-clause-cut g c =
+    let d : Device = g.F.Flash.device c.args.flash.now in
+    let e : Device = g.F.Flash.device c.set-in-Fcb.new.flash in
+    let here : Area = c.in-Fcb.backend.ring.area in
+    let stands : Stands (Fcb c.in-Fcb.backend) (geometry_of d here) (sectors_of d here) =
+    subst (λ (s : AnyBackend). Stands s (geometry_of d (area_of s)) (sectors_of d (area_of s))) c.in-Fcb.is c.requires.stands in
+    subst (λ (s : AnyBackend). d.is_on ≡ true → set_lost c.set-in-Fcb.result ≡ true → StopsAt (chance_as (area_of s).role (area_of s) (geometry_of e (area_of s)) (sectors_of e (area_of s))) (tears_as (area_of s).role (area_of s) (geometry_of d (area_of s)) (Put c.args.name.now c.args.value.now)) (Put c.args.name.now c.args.value.now) e (contents_as (area_of s).role (area_of s) (geometry_of d (area_of s)) (sectors_of d (area_of s))) (contents_as (area_of s).role (area_of s) (geometry_of e (area_of s)) (sectors_of e (area_of s)))) (sym c.in-Fcb.is)
+    (subst (λ (r : Role). d.is_on ≡ true → set_lost c.set-in-Fcb.result ≡ true → StopsAt (chance_as r here (geometry_of e here) (sectors_of e here)) (tears_as r here (geometry_of d here) (Put c.args.name.now c.args.value.now)) (Put c.args.name.now c.args.value.now) e (contents_as r here (geometry_of d here) (sectors_of d here)) (contents_as r here (geometry_of e here) (sectors_of e here))) (sym stands.role) c.set-in-Fcb.ensures.cut)
+
+pub returns-in-Fcb-clause-stands : goal.returns-in-Fcb-clause-stands
+returns-in-Fcb-clause-stands g c = c.set-in-Fcb.ensures.stands
+
+pub returns-in-Fcb-clause-down : goal.returns-in-Fcb-clause-down
+returns-in-Fcb-clause-down g c = c.set-in-Fcb.ensures.down

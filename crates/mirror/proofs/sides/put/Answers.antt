@@ -60,11 +60,11 @@ returns-in-Ok-clause-sound g c =
 
 pub returns-in-Ok-clause-stands : goal.returns-in-Ok-clause-stands
 returns-in-Ok-clause-stands g c = λ _. record {
-    lawful = subst (λ (banks : List Bank). IsLawfulFor banks c.args.side.now.area) (sym c.in-Ok.ensures.touches.banks) c.requires.stands.lawful;
-    role = c.requires.stands.role;
-    here = c.in-Ok.ensures.area ∙ c.requires.stands.here;
-    up = c.in-Ok.ensures.stands refl;
-  }
+  lawful = subst (λ (banks : List Bank). IsLawfulFor banks c.args.side.now.area) (sym c.in-Ok.ensures.touches.banks) c.requires.stands.lawful;
+  role = c.requires.stands.role;
+  here = c.in-Ok.ensures.area ∙ c.requires.stands.here;
+  up = c.in-Ok.ensures.stands refl;
+}
 
 pub returns-in-Err-PowerLost-clause-same : goal.returns-in-Err-PowerLost-clause-same
 returns-in-Err-PowerLost-clause-same g c = record { area = refl; place = refl }

@@ -25,7 +25,7 @@ others_need (Blank label) mount cut uncut blank = absurd (blank label refl)
 
 -- memory was wanting in a line that needs power, and nothing changed
 begins : (m : Meanings) (areas : List Area) (line : Line) (old new : Device) → needs_power line ≡ true → takes_memory line ≡ true → new ≡ old
-  → (takes_memory line ≡ true) × BeginsLine m areas line old new
+    → (takes_memory line ≡ true) × BeginsLine m areas line old new
 begins m areas (Set name value) old new needs takes same = (takes, same)
 begins m areas (Get name) old new needs takes same = (takes, same)
 begins m areas (Del name) old new needs takes same = (takes, same)

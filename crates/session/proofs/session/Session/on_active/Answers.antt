@@ -19,7 +19,7 @@ same_there o a b one two = cc
 
 -- with power on there are settings
 never_none : {K : Type 0} (mounted_on : K → Area) (stands : K → Geometry → List (List ℕ) → Type 0) (runs : K → Bool) (areas : List Area) (d : Device) (selector : Option Selector) (active : ℕ) (o : Option (Settings K))
-  → o ≡ None → d.is_on ≡ true → IsReady mounted_on stands runs areas d selector active o → ⊥
+    → o ≡ None → d.is_on ≡ true → IsReady mounted_on stands runs areas d selector active o → ⊥
 never_none {K} mounted_on stands runs areas d selector active o is powered ready =
     false≢true (sym (subst (λ (x : Option (Settings K)). IsReady mounted_on stands runs areas d selector active x) is ready) ∙ powered)
 

@@ -1,5 +1,5 @@
 use Rattle.std.specs.Prelude.{is_some}
-use Rattle.std.proofs.Common.{◌≡◌, ◌∙◌, ◌&&◌, ℕ, Bool, List, Option, true, false, Some, None, sym, ap, subst}
+use Rattle.std.proofs.Common.{◌≡◌, ◌∙◌, ◌&&◌, ℕ, Bool, List, Option, true, false, Some, None, sym, ap, subst, rules}
 use Rattle.flash_map.specs.declared.area.Area.{Area}
 use Rattle.mirror_lines.specs.declared.answer.Answer.{Answer}
 use Rattle.mirror_lines.specs.declared.line.Line.TheVariants.{Blank}
@@ -53,7 +53,7 @@ returns-clause-done g c =
       | else-is_whole-via-then-is_whole+else-is_on w ↦ dark_by d.is_on whole w.is_on.result w.is_on.ensures w.if-is_on.false
       | else-is_whole-via-else-is_whole w ↦ no_power m c.args.map.now d whole (sym c.is_some-is_whole.ensures ∙ w.if-is_whole.false)
     ] in
-    let up : whole ≡ true = sym c.is_some-is_whole.ensures ∙ c.if-not-is_whole.false in
+    let up : whole ≡ true = search rules in
     let made : new ≡ blanked d (area_at c.args.map.now c.in-Some.place) = c.in_ok-blank_area.ensures.ok ∙ ap (blanked d) (sym (area_there c.args.map.now c.in-Some.place c.area_at-area.result c.area_at-area.ensures)) in
     subst (λ (answer : Answer). LineDone m c.args.map.now (Blank c.args.label.now) answer (moment d whole) (moment new false)) (sym c.done.ensures)
     (replaced_line K.mounted_on K.stands m K.serves c.args.map.now d new c.requires.map (g.met.B.Flash.is_lawful c.args.bench.now) (λ x a fine is served blank. g.met.K.Priced.blank_empty x a fine is served blank) (λ x a fine is served blank. g.met.K.Priced.blank_reads x a fine is served blank)

@@ -1,7 +1,45 @@
-use Rattle.std.proofs.Common.{sym, subst}
+use Rattle.std.specs.Prelude.{◌≡◌, ◌∷◌, [], List, None, is_err}
+use Rattle.std.proofs.Common.{◌∙◌, refl, sym, subst}
+use Rattle.flash_sim.specs.declared.flash.Bank.{Bank}
+use Rattle.flash_map.specs.Area.{geometry_of}
+use Rattle.flash_map.specs.On.{on}
+use Rattle.flash_map.specs.Spending.{SpendsAtMost}
+use Rattle.flash_map.specs.Touches.{Touches}
 use Rattle.flash_map.specs.declared.area.Area.{Area}
 use Rattle.flash_map.specs.Lawful.{IsLawfulFor}
+use Rattle.backend_api.specs.Room.{most_units}
 use Rattle.mirror.proofs.sides.take.Goals as goal
 
 pub delete-requires-clause-lawful : goal.delete-requires-clause-lawful
 delete-requires-clause-lawful g c = subst (λ (x : Area). IsLawfulFor (g.F.Flash.device c.args.flash.now).banks x) (sym c.requires.stands.here) c.requires.stands.lawful
+
+pub returns-clause-touches : goal.returns-clause-touches
+returns-clause-touches g c =
+    let d = g.F.Flash.device c.args.flash.now in
+    let e = g.F.Flash.device c.delete.new.flash in
+    subst (λ (x : Area). Touches (x ∷ []) d e (is_err c.delete.result)) c.requires.stands.here c.delete.ensures.touches
+
+pub returns-clause-same : goal.returns-clause-same
+returns-clause-same g c = record { area = refl; place = refl }
+
+pub returns-clause-at_most : goal.returns-clause-at_most
+returns-clause-at_most g c =
+    let d = g.F.Flash.device c.args.flash.now in
+    let e = g.F.Flash.device c.delete.new.flash in
+    subst (λ (x : Area). SpendsAtMost d e (most_units (geometry_of d x))) c.requires.stands.here c.delete.ensures.at_most
+
+pub returns-clause-sound : goal.returns-clause-sound
+returns-clause-sound g c =
+    let e = g.F.Flash.device c.delete.new.flash in
+    subst (λ (x : Area). on g.K.Backend.damage e x ≡ None) c.requires.stands.here c.delete.ensures.sound
+
+pub returns-clause-stands : goal.returns-clause-stands
+returns-clause-stands g c = λ whole. record {
+  lawful = subst (λ (banks : List Bank). IsLawfulFor banks c.args.side.now.area) (sym c.delete.ensures.touches.banks) c.requires.stands.lawful;
+  role = c.requires.stands.role;
+  here = c.delete.ensures.area ∙ c.requires.stands.here;
+  up = c.delete.ensures.stands whole;
+}
+
+pub returns-clause-down : goal.returns-clause-down
+returns-clause-down g c = c.delete.ensures.down

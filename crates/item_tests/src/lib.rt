@@ -18,4 +18,6 @@ mod zms;
 #[cfg(test)]
 mod zms_entries;
 #[cfg(test)]
+mod zms_steps;
+#[cfg(test)]
 mod zms_stores;

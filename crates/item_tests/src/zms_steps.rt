@@ -41,11 +41,7 @@ fn two<B: Bench>(_bench: &B) -> Area
 }
 
 // Two values in the first sector, which is closed then.
-fn fills<F: Flash, L: Ledger>(
-    flash: &mut F,
-    area: &Area,
-    steps: &mut Steps<L>,
-) -> Result<(), Fail>
+fn fills<F: Flash, L: Ledger>(flash: &mut F, area: &Area, steps: &mut Steps<L>) -> Result<(), Fail>
     requires { IsZmsSector (F.device flash.old) area.now 1 }
     ensures second { OnOk result (IsZmsSector (F.device flash.new) area.now 1) }
     ensures first { OnOk result (BeginsWith (F.device flash.new) area.now 0 7 NINE) }
@@ -58,11 +54,7 @@ fn fills<F: Flash, L: Ledger>(
 }
 
 // The first of them in the second sector, with gc-done behind it.
-fn copies<F: Flash, L: Ledger>(
-    flash: &mut F,
-    area: &Area,
-    steps: &mut Steps<L>,
-) -> Result<(), Fail>
+fn copies<F: Flash, L: Ledger>(flash: &mut F, area: &Area, steps: &mut Steps<L>) -> Result<(), Fail>
     requires second { IsZmsSector (F.device flash.old) area.now 1 }
     requires first { BeginsWith (F.device flash.old) area.now 0 7 NINE }
     ensures { OnOk result (IsZmsSector (F.device flash.new) area.now 1) }

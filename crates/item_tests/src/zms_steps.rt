@@ -1,5 +1,5 @@
-// Steps in two sectors of ZMS by the calls that read their lists. What they leave and spend was written by another reading of the
-// same rules.
+// Steps in two sectors of ZMS, by the calls that read the sector's list. What they spend and leave was written by another reading
+// of the same rules.
 ghost use Rattle.std.specs.Prelude.{◌≡◌, ◌<◌, ◌∷◌, [], OnOk};
 ghost use Rattle.flash_sim.specs.declared.flash.Kind.{Kind};
 ghost use Rattle.zms_cycle.specs.Areas.{IsZmsSector};

@@ -7,6 +7,7 @@ pub mod Lasts
 pub mod Latest
 pub mod Listed
 pub mod Older
+pub mod OnSector
 pub mod Room
 pub mod Seen
 pub mod Spending

@@ -1,5 +1,5 @@
 -- What is said of one sector of an area, on a device. `held` is what a store keeps of the sector.
-use Rattle.std.specs.Prelude.{◌≡◌, ℕ, ◌+◌, ◌*◌, ◌≤◌, true, false, List, Some, IsTrue}
+use Rattle.std.specs.Prelude.{◌≡◌, ◌⊎◌, ℕ, ◌+◌, ◌*◌, ◌<◌, ◌≤◌, true, false, List, length, Some, IsTrue, Result, OnOk, OnErr}
 use Rattle.std.specs.Option.{option_map}
 use Rattle.flash_sim.specs.Device.{Device}
 use Rattle.flash_map.specs.declared.area.Area.{Area}
@@ -10,7 +10,9 @@ use Rattle.ring_laws.specs.Reading.{is_sound}
 use Rattle.ring_laws.specs.Live as live
 use Rattle.ring_store.specs.declared.entry.Placed.{Placed}
 use Rattle.ring_store.specs.Kind.{Kind, fits, placed_at, slots}
-use Rattle.ring_store.specs.Listed.{kind_on}
+use Rattle.ring_store.specs.Listed.{kind_on, HasSlotOn}
+use Rattle.flash_map.specs.declared.area.Role.{Role}
+use Rattle.ring_store.specs.Standing.{IsStoreArea, SpendsIn, SpendsUpTo}
 use Rattle.ring_store.specs.Steps.{Keeps, KeepsMarks, LeavesRoom, Adds, Marks}
 
 -- the bytes of the sector at a place
@@ -102,3 +104,38 @@ abbrev pub KeepsSoundOn : (Geometry → Kind) → Device → Device → Area →
 KeepsSoundOn kind old new area place =
     let k = kind_on kind old area in
     is_sound k.reading (sector_on old area place) ≡ true → is_sound k.reading (sector_on new area place) ≡ true
+
+-- ---- what a call in the open sector asks for, and how it ends
+
+-- The open sector of a store's area, which takes entries, with what is kept of it.
+pub record IsOpenSector {T : Type 0} (role : Role) (kind : Geometry → Kind) (keep : Geometry → List ℕ → T) (d : Device) (on : Area) (place : ℕ) (held : T) : Type 0 where
+  pub area : IsStoreArea role d.banks on
+  pub inside : place < on.sectors
+  pub kept : IsKeptOn keep d on place held
+  pub ready : IsReadyOn kind d on place
+  pub opened : IsOpenOn kind d on place
+
+-- The sector behind it is the victim of a collection, which is not done.
+pub record IsCollecting (kind : Geometry → Kind) (d : Device) (on : Area) (place : ℕ) : Type 0 where
+  pub collecting : NextIsClosedOn kind d on place
+  pub not_done : HasNoGcDoneOn kind d on place
+
+-- The entry has bytes, and stands in another sector, which is sound.
+pub record IsSource (kind : Geometry → Kind) (d : Device) (on : Area) (place : ℕ) (from : Placed) : Type 0 where
+  pub has_source : from.sector < on.sectors
+  pub other : from.sector ≡ place → ⊥
+  pub source : IsSoundOn kind d on from.sector
+  pub listed : HasSlotOn kind d on from.sector from.slot
+  pub there : StandsThereOn kind d on from
+  pub some : 0 < from.len
+
+-- How a put ends. On `Ok` the sector has one pair more; where power was lost, its list is as before or has the pair.
+pub record PutEnds {T X E : Type 0} (kind : Geometry → Kind) (keep : Geometry → List ℕ → T) (old new : Device) (on : Area) (place id : ℕ) (bytes : List ℕ) (held : T) (result : Result X E) : Type 0 where
+  pub only : ChangesOnlyOn old new on place
+  pub adds : OnOk result (AddsOn kind old new on place id bytes)
+  pub kept : OnOk result (IsKeptAfter keep old new on place held)
+  pub lost : OnErr result (KeepsOn kind old new on place ⊎ AddsOn kind old new on place id bytes)
+  pub room_lost : OnErr result (LeavesRoomOn kind old new on place (length bytes))
+  pub sound : KeepsSoundOn kind old new on place
+  pub spends : OnOk result (SpendsIn old new ((kind_on kind old on).units.put (sector_on old on place) (length bytes)))
+  pub spends_lost : OnErr result (SpendsUpTo old new ((kind_on kind old on).units.put (sector_on old on place) (length bytes)))

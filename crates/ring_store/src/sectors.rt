@@ -12,7 +12,7 @@ ghost use Rattle.ring_laws.specs.Live.{last_in, bytes_of};
 ghost use Rattle.ring_store.specs.Kind.{Kind, IsKind, placed_at, slots, fits};
 ghost use Rattle.ring_store.specs.Lasts.{AreOthers};
 ghost use Rattle.ring_store.specs.Listed.{IsListedOn, IsWithinOn, HasSlotOn, kind_on};
-ghost use Rattle.ring_store.specs.OnSector.{sector_on, free_on, bytes_on, IsKeptOn, IsKeptAfter, IsReadyOn, IsSoundOn, IsOpenOn, NextIsClosedOn, NextIsNotClosedOn, HasNoGcDoneOn, FitsOn, StandsThereOn, HasCopyRoomOn, ChangesOnlyOn, KeepsOn, KeepsMarksOn, MarksOn, AddsOn, LeavesRoomOn, KeepsSoundOn};
+ghost use Rattle.ring_store.specs.OnSector.{IsOpenSector, IsCollecting, IsSource, PutEnds, sector_on, free_on, bytes_on, IsKeptOn, IsKeptAfter, IsReadyOn, IsSoundOn, IsOpenOn, NextIsClosedOn, NextIsNotClosedOn, HasNoGcDoneOn, FitsOn, StandsThereOn, HasCopyRoomOn, ChangesOnlyOn, KeepsOn, KeepsMarksOn, MarksOn, AddsOn, LeavesRoomOn, KeepsSoundOn};
 ghost use Rattle.ring_store.specs.Standing.{IsStoreArea, SpendsIn, SpendsUpTo};
 ghost use Rattle.ring_store.specs.Steps.{Keeps, KeepsMarks, LeavesRoom, Begins, Adds, Marks, Closes, Clears, StopsClearing};
 
@@ -329,36 +329,14 @@ pub trait SlotSectors: Copy {
         bytes: &[u8],
         steps: &mut Steps<L>,
     ) -> Result<(), PowerLost>
-        requires area { IsStoreArea role (F.device flash.old).banks area.now }
-        requires inside { place < area.now.sectors }
-        requires kept { IsKeptOn kept (F.device flash.old) area.now place self.old }
-        requires ready { IsReadyOn kind (F.device flash.old) area.now place }
-        requires opened { IsOpenOn kind (F.device flash.old) area.now place }
+        requires here { IsOpenSector role kind kept (F.device flash.old) area.now place self.old }
         requires rested { NextIsNotClosedOn kind (F.device flash.old) area.now place }
         requires ordinary { id < (kind_on kind (F.device flash.old) area.now).ids }
         requires fits { FitsOn kind (F.device flash.old) area.now place (length bytes.now) }
         ensures touches { Touches (area.now ∷ []) (F.device flash.old) (F.device flash.new)
             (is_err result) }
-        ensures only { ChangesOnlyOn (F.device flash.old) (F.device flash.new) area.now place }
-        ensures adds { let d = F.device flash.old in let e = F.device flash.new in
-            OnOk result (AddsOn kind d e area.now place id bytes.now) }
-        ensures kept { OnOk result
-            (IsKeptAfter kept (F.device flash.old) (F.device flash.new) area.now place self.new) }
-        ensures lost { let d = F.device flash.old in let e = F.device flash.new in
-            OnErr result
-            (KeepsOn kind d e area.now place ⊎ AddsOn kind d e area.now place id bytes.now) }
-        ensures room_lost { let d = F.device flash.old in let e = F.device flash.new in
-            OnErr result (LeavesRoomOn kind d e area.now place (length bytes.now)) }
-        ensures sound { KeepsSoundOn kind (F.device flash.old) (F.device flash.new) area.now place }
-        ensures spends { let d = F.device flash.old in let e = F.device flash.new in
-            OnOk result
-            (SpendsIn d e
-            ((kind_on kind d area.now).units.put (sector_on d area.now place) (length bytes.now))) }
-        ensures spends_lost { let d = F.device flash.old in let e = F.device flash.new in
-            OnErr result
-            (SpendsUpTo d e
-            ((kind_on kind d area.now).units.put (sector_on d area.now place)
-            (length bytes.now))) };
+        ensures ends { let d = F.device flash.old in let e = F.device flash.new in
+            PutEnds kind kept d e area.now place id bytes.now self.new result };
 
     /// Copies an entry with bytes from another sector.
     ///
@@ -372,20 +350,9 @@ pub trait SlotSectors: Copy {
         from: &Placed,
         steps: &mut Steps<L>,
     ) -> Result<(), PowerLost>
-        requires area { IsStoreArea role (F.device flash.old).banks area.now }
-        requires inside { place < area.now.sectors }
-        requires kept { IsKeptOn kept (F.device flash.old) area.now place self.old }
-        requires ready { IsReadyOn kind (F.device flash.old) area.now place }
-        requires opened { IsOpenOn kind (F.device flash.old) area.now place }
-        requires collecting { NextIsClosedOn kind (F.device flash.old) area.now place }
-        requires not_done { HasNoGcDoneOn kind (F.device flash.old) area.now place }
-        requires has_source { from.now.sector < area.now.sectors }
-        requires other { from.now.sector ≡ place → ⊥ }
-        requires source { IsSoundOn kind (F.device flash.old) area.now from.now.sector }
-        requires listed { HasSlotOn kind (F.device flash.old) area.now from.now.sector
-            from.now.slot }
-        requires there { StandsThereOn kind (F.device flash.old) area.now from.now }
-        requires some { 0 < from.now.len }
+        requires here { IsOpenSector role kind kept (F.device flash.old) area.now place self.old }
+        requires collects { IsCollecting kind (F.device flash.old) area.now place }
+        requires source { IsSource kind (F.device flash.old) area.now place from.now }
         requires room { HasCopyRoomOn kind (F.device flash.old) area.now place from.now.len }
         ensures touches { Touches (area.now ∷ []) (F.device flash.old) (F.device flash.new)
             (is_err result) }
@@ -417,13 +384,8 @@ pub trait SlotSectors: Copy {
         place: u32,
         steps: &mut Steps<L>,
     ) -> Result<(), PowerLost>
-        requires area { IsStoreArea role (F.device flash.old).banks area.now }
-        requires inside { place < area.now.sectors }
-        requires kept { IsKeptOn kept (F.device flash.old) area.now place self.old }
-        requires ready { IsReadyOn kind (F.device flash.old) area.now place }
-        requires opened { IsOpenOn kind (F.device flash.old) area.now place }
-        requires collecting { NextIsClosedOn kind (F.device flash.old) area.now place }
-        requires not_done { HasNoGcDoneOn kind (F.device flash.old) area.now place }
+        requires here { IsOpenSector role kind kept (F.device flash.old) area.now place self.old }
+        requires collects { IsCollecting kind (F.device flash.old) area.now place }
         requires room { let d = F.device flash.old in
             2 * (kind_on kind d area.now).slot ≤ free_on kind d area.now place }
         ensures touches { Touches (area.now ∷ []) (F.device flash.old) (F.device flash.new)

@@ -47,15 +47,33 @@ returns-in_err-copy_live-clause-items g c =
     let law : IsKind (g.T.SlotSectors.kind (geometry_of a area)) = g.met.T.SlotSectors.lawful (geometry_of a area) (unit_is a area (g.met.F.Flash.is_lawful c.args.flash.now) c.requires.area.lawful) in
     stopped-keeps (g.T.SlotSectors.kind (geometry_of a area)) law (sectors_of a area) (sectors_of (g.F.Flash.device c.copy_live.new.flash) area) place c.requires.collecting c.in_err-copy_live.ensures.lost
 
-pub mark_done-requires-clause-opened : goal.mark_done-requires-clause-opened
-mark_done-requires-clause-opened g c =
-    let a : Device = g.F.Flash.device c.args.flash.now in
-    let area : Area = c.args.area.now in
-    let place : ℕ = c.args.current in
-    let law : IsKind (g.T.SlotSectors.kind (geometry_of a area)) = g.met.T.SlotSectors.lawful (geometry_of a area) (unit_is a area (g.met.F.Flash.is_lawful c.args.flash.now) c.requires.area.lawful) in
-    let d : Device = g.F.Flash.device c.copy_live.new.flash in
-    let did = c.in_ok-copy_live.ensures in
-    mark_opened g.T.SlotSectors.kind g.T.SlotSectors.role a area place law (g.met.F.Flash.is_lawful c.args.flash.now) c.requires.area c.requires.collecting d did.touches.banks did.copies
+pub mark_done-requires-clause-here : goal.mark_done-requires-clause-here
+mark_done-requires-clause-here g c = record {
+  area = subst (λ (banks : List Bank). IsStoreArea g.T.SlotSectors.role banks c.args.area.now) (sym c.in_ok-copy_live.ensures.touches.banks) c.requires.area;
+  inside = current_within (g.F.Flash.device c.args.flash.now) c.args.area.now c.args.current c.requires.collecting.ring.within;
+  kept =
+      let a : Device = g.F.Flash.device c.args.flash.now in
+      let area : Area = c.args.area.now in
+      let place : ℕ = c.args.current in
+      let d : Device = g.F.Flash.device c.copy_live.new.flash in
+      let did = c.in_ok-copy_live.ensures in
+      from_geometry (λ u. c.copy_live.new.opened ≡ g.T.SlotSectors.kept u (sector_at (sectors_of d area) place)) a d area did.touches.banks did.kept;
+  ready =
+      let a : Device = g.F.Flash.device c.args.flash.now in
+      let area : Area = c.args.area.now in
+      let place : ℕ = c.args.current in
+      let d : Device = g.F.Flash.device c.copy_live.new.flash in
+      let did = c.in_ok-copy_live.ensures in
+      from_geometry (λ u. (g.T.SlotSectors.kind u).is_ready (sector_at (sectors_of d area) place) ≡ true) a d area did.touches.banks did.copies.ready;
+  opened =
+      let a : Device = g.F.Flash.device c.args.flash.now in
+      let area : Area = c.args.area.now in
+      let place : ℕ = c.args.current in
+      let law : IsKind (g.T.SlotSectors.kind (geometry_of a area)) = g.met.T.SlotSectors.lawful (geometry_of a area) (unit_is a area (g.met.F.Flash.is_lawful c.args.flash.now) c.requires.area.lawful) in
+      let d : Device = g.F.Flash.device c.copy_live.new.flash in
+      let did = c.in_ok-copy_live.ensures in
+      mark_opened g.T.SlotSectors.kind g.T.SlotSectors.role a area place law (g.met.F.Flash.is_lawful c.args.flash.now) c.requires.area c.requires.collecting d did.touches.banks did.copies;
+}
 
 pub mark_done-requires-clause-room : goal.mark_done-requires-clause-room
 mark_done-requires-clause-room g c =
@@ -229,50 +247,24 @@ returns-clause-list_lost g c =
     let at : c.next-victim.result ≡ next (sectors_of a area) place = c.next-victim.ensures.value ∙ next_there a area place in
     on_err_weaker c.clear.result (λ keeps. clear_lost_list g.T.SlotSectors.kind g.T.SlotSectors.role a area place law (g.met.F.Flash.is_lawful c.args.flash.now) c.requires.area c.requires.collecting d did.touches.banks did.copies e both.banks marked.only marked.marks c.next-victim.result at z c.clear.ensures.only keeps) c.clear.ensures.lost
 
-pub mark_done-requires-clause-area : goal.mark_done-requires-clause-area
-mark_done-requires-clause-area g c =
-    subst (λ (banks : List Bank). IsStoreArea g.T.SlotSectors.role banks c.args.area.now) (sym c.in_ok-copy_live.ensures.touches.banks) c.requires.area
-
-pub mark_done-requires-clause-inside : goal.mark_done-requires-clause-inside
-mark_done-requires-clause-inside g c =
-    current_within (g.F.Flash.device c.args.flash.now) c.args.area.now c.args.current c.requires.collecting.ring.within
-
-pub mark_done-requires-clause-kept : goal.mark_done-requires-clause-kept
-mark_done-requires-clause-kept g c =
-    let a : Device = g.F.Flash.device c.args.flash.now in
-    let area : Area = c.args.area.now in
-    let place : ℕ = c.args.current in
-    let d : Device = g.F.Flash.device c.copy_live.new.flash in
-    let did = c.in_ok-copy_live.ensures in
-    from_geometry (λ u. c.copy_live.new.opened ≡ g.T.SlotSectors.kept u (sector_at (sectors_of d area) place)) a d area did.touches.banks did.kept
-
-pub mark_done-requires-clause-ready : goal.mark_done-requires-clause-ready
-mark_done-requires-clause-ready g c =
-    let a : Device = g.F.Flash.device c.args.flash.now in
-    let area : Area = c.args.area.now in
-    let place : ℕ = c.args.current in
-    let d : Device = g.F.Flash.device c.copy_live.new.flash in
-    let did = c.in_ok-copy_live.ensures in
-    from_geometry (λ u. (g.T.SlotSectors.kind u).is_ready (sector_at (sectors_of d area) place) ≡ true) a d area did.touches.banks did.copies.ready
-
-pub mark_done-requires-clause-collecting : goal.mark_done-requires-clause-collecting
-mark_done-requires-clause-collecting g c =
-    let a : Device = g.F.Flash.device c.args.flash.now in
-    let area : Area = c.args.area.now in
-    let place : ℕ = c.args.current in
-    let law : IsKind (g.T.SlotSectors.kind (geometry_of a area)) = g.met.T.SlotSectors.lawful (geometry_of a area) (unit_is a area (g.met.F.Flash.is_lawful c.args.flash.now) c.requires.area.lawful) in
-    let d : Device = g.F.Flash.device c.copy_live.new.flash in
-    let did = c.in_ok-copy_live.ensures in
-    mark_collecting g.T.SlotSectors.kind g.T.SlotSectors.role a area place law (g.met.F.Flash.is_lawful c.args.flash.now) c.requires.area c.requires.collecting d did.touches.banks did.copies
-
-pub mark_done-requires-clause-not_done : goal.mark_done-requires-clause-not_done
-mark_done-requires-clause-not_done g c =
-    let a : Device = g.F.Flash.device c.args.flash.now in
-    let area : Area = c.args.area.now in
-    let place : ℕ = c.args.current in
-    let d : Device = g.F.Flash.device c.copy_live.new.flash in
-    let did = c.in_ok-copy_live.ensures in
-    from_geometry (λ u. (g.T.SlotSectors.kind u).reading.has_gc_done (sector_at (sectors_of d area) place) ≡ false) a d area did.touches.banks did.copies.gc_done
+pub mark_done-requires-clause-collects : goal.mark_done-requires-clause-collects
+mark_done-requires-clause-collects g c = record {
+  collecting =
+      let a : Device = g.F.Flash.device c.args.flash.now in
+      let area : Area = c.args.area.now in
+      let place : ℕ = c.args.current in
+      let law : IsKind (g.T.SlotSectors.kind (geometry_of a area)) = g.met.T.SlotSectors.lawful (geometry_of a area) (unit_is a area (g.met.F.Flash.is_lawful c.args.flash.now) c.requires.area.lawful) in
+      let d : Device = g.F.Flash.device c.copy_live.new.flash in
+      let did = c.in_ok-copy_live.ensures in
+      mark_collecting g.T.SlotSectors.kind g.T.SlotSectors.role a area place law (g.met.F.Flash.is_lawful c.args.flash.now) c.requires.area c.requires.collecting d did.touches.banks did.copies;
+  not_done =
+      let a : Device = g.F.Flash.device c.args.flash.now in
+      let area : Area = c.args.area.now in
+      let place : ℕ = c.args.current in
+      let d : Device = g.F.Flash.device c.copy_live.new.flash in
+      let did = c.in_ok-copy_live.ensures in
+      from_geometry (λ u. (g.T.SlotSectors.kind u).reading.has_gc_done (sector_at (sectors_of d area) place) ≡ false) a d area did.touches.banks did.copies.gc_done;
+}
 
 pub clear-requires-clause-area : goal.clear-requires-clause-area
 clear-requires-clause-area g c =

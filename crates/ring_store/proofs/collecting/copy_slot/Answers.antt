@@ -1,4 +1,4 @@
-use Rattle.std.proofs.Common.{◌≡◌, ◌+◌, ◌<◌, ◌≤◌, ℕ, List, Some, sym, subst, ◌∙◌}
+use Rattle.std.proofs.Common.{rules, ◌≡◌, ◌+◌, ◌<◌, ◌≤◌, ℕ, List, Some, sym, subst, ◌∙◌}
 use Rattle.std.specs.Option.{option_map}
 use Rattle.std.specs.Prelude.{Option, OnOk, OnErr}
 use Rattle.std.proofs.lemmas.Result.{on_ok_weaker, on_err_weaker}
@@ -13,25 +13,29 @@ use Rattle.ring_store.proofs.Ranges.{within-in, within-lost}
 use Rattle.ring_store.proofs.CopyLoop.{live-bytes}
 use Rattle.ring_store.proofs.collecting.copy_slot.Goals as goal
 
-pub copy-requires-clause-listed : goal.copy-requires-clause-listed
-copy-requires-clause-listed g c =
-    let d : Device = g.F.Flash.device c.args.flash.now in
-    let k : Kind = g.T.SlotSectors.kind (geometry_of d c.args.area.now) in
-    let law : IsKind (g.T.SlotSectors.kind (geometry_of d c.args.area.now)) = g.met.T.SlotSectors.lawful (geometry_of d c.args.area.now) (unit_is d c.args.area.now (g.met.F.Flash.is_lawful c.args.flash.now) c.requires.area.lawful) in
-    let listed = c.requires.listed in
-    let l = live-bytes k law (sectors_of d c.args.area.now) c.args.victim c.args.slot c.in-Some.placed c.requires.within listed.0 listed.1 (sym c.live_in.ensures.entry ∙ c.in-Some.is) in
-    subst (λ (v : ℕ). (k.first ≤ c.in-Some.placed.slot) × (c.in-Some.placed.slot < k.first + k.count (sector_at (sectors_of d c.args.area.now) v))) (sym l.sector)
-    (subst (λ (s : ℕ). (k.first ≤ s) × (s < k.first + k.count (sector_at (sectors_of d c.args.area.now) c.args.victim))) (sym l.slot_is) listed)
-
-pub copy-requires-clause-there : goal.copy-requires-clause-there
-copy-requires-clause-there g c =
-    let d : Device = g.F.Flash.device c.args.flash.now in
-    let k : Kind = g.T.SlotSectors.kind (geometry_of d c.args.area.now) in
-    let law : IsKind (g.T.SlotSectors.kind (geometry_of d c.args.area.now)) = g.met.T.SlotSectors.lawful (geometry_of d c.args.area.now) (unit_is d c.args.area.now (g.met.F.Flash.is_lawful c.args.flash.now) c.requires.area.lawful) in
-    let listed = c.requires.listed in
-    let l = live-bytes k law (sectors_of d c.args.area.now) c.args.victim c.args.slot c.in-Some.placed c.requires.within listed.0 listed.1 (sym c.live_in.ensures.entry ∙ c.in-Some.is) in
-    subst (λ (v : ℕ). option_map (placed_at v) (k.in_slot (sector_at (sectors_of d c.args.area.now) v) c.in-Some.placed.slot) ≡ Some c.in-Some.placed) (sym l.sector)
-    (subst (λ (s : ℕ). option_map (placed_at c.args.victim) (k.in_slot (sector_at (sectors_of d c.args.area.now) c.args.victim) s) ≡ Some c.in-Some.placed) (sym l.slot_is) l.read)
+pub copy-requires-clause-source : goal.copy-requires-clause-source
+copy-requires-clause-source g c = record {
+  has_source = search rules;
+  other = search rules;
+  source = search rules;
+  listed =
+      let d : Device = g.F.Flash.device c.args.flash.now in
+      let k : Kind = g.T.SlotSectors.kind (geometry_of d c.args.area.now) in
+      let law : IsKind (g.T.SlotSectors.kind (geometry_of d c.args.area.now)) = g.met.T.SlotSectors.lawful (geometry_of d c.args.area.now) (unit_is d c.args.area.now (g.met.F.Flash.is_lawful c.args.flash.now) c.requires.area.lawful) in
+      let listed = c.requires.listed in
+      let l = live-bytes k law (sectors_of d c.args.area.now) c.args.victim c.args.slot c.in-Some.placed c.requires.within listed.0 listed.1 (sym c.live_in.ensures.entry ∙ c.in-Some.is) in
+      subst (λ (v : ℕ). (k.first ≤ c.in-Some.placed.slot) × (c.in-Some.placed.slot < k.first + k.count (sector_at (sectors_of d c.args.area.now) v))) (sym l.sector)
+      (subst (λ (s : ℕ). (k.first ≤ s) × (s < k.first + k.count (sector_at (sectors_of d c.args.area.now) c.args.victim))) (sym l.slot_is) listed);
+  there =
+      let d : Device = g.F.Flash.device c.args.flash.now in
+      let k : Kind = g.T.SlotSectors.kind (geometry_of d c.args.area.now) in
+      let law : IsKind (g.T.SlotSectors.kind (geometry_of d c.args.area.now)) = g.met.T.SlotSectors.lawful (geometry_of d c.args.area.now) (unit_is d c.args.area.now (g.met.F.Flash.is_lawful c.args.flash.now) c.requires.area.lawful) in
+      let listed = c.requires.listed in
+      let l = live-bytes k law (sectors_of d c.args.area.now) c.args.victim c.args.slot c.in-Some.placed c.requires.within listed.0 listed.1 (sym c.live_in.ensures.entry ∙ c.in-Some.is) in
+      subst (λ (v : ℕ). option_map (placed_at v) (k.in_slot (sector_at (sectors_of d c.args.area.now) v) c.in-Some.placed.slot) ≡ Some c.in-Some.placed) (sym l.sector)
+      (subst (λ (s : ℕ). option_map (placed_at c.args.victim) (k.in_slot (sector_at (sectors_of d c.args.area.now) c.args.victim) s) ≡ Some c.in-Some.placed) (sym l.slot_is) l.read);
+  some = search rules;
+}
 
 pub returns-in-Some-clause-spends : goal.returns-in-Some-clause-spends
 returns-in-Some-clause-spends g c =

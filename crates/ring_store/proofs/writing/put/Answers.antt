@@ -40,47 +40,41 @@ returns-in_err-begin-clause-stops g c =
     let did = c.in_err-begin.ensures in
     on_err c.from_residual.result (begin_stops g.T.SlotSectors.role g.T.SlotSectors.kind g.T.SlotSectors.kept a area c.args.current c.args.opened.now law (g.met.F.Flash.is_lawful c.args.flash.now) c.requires.stands (g.F.Flash.device c.begin.new.flash) c.args.id c.args.bytes.now did.only did.lost did.room_lost did.spends_lost)
 
-pub put-requires-clause-area : goal.put-requires-clause-area
-put-requires-clause-area g c =
-    let a : Device = g.F.Flash.device c.args.flash.now in
-    let area : Area = c.args.area.now in
-    let law : IsKind (g.T.SlotSectors.kind (geometry_of a area)) = g.met.T.SlotSectors.lawful (geometry_of a area) (unit_is a area (g.met.F.Flash.is_lawful c.args.flash.now) c.requires.stands.area.lawful) in
-    let b : Device = g.F.Flash.device c.begin.new.flash in
-    let did = c.in_ok-begin.ensures in
-    put_area g.T.SlotSectors.role g.T.SlotSectors.kind g.T.SlotSectors.kept a area c.args.current c.args.opened.now law (g.met.F.Flash.is_lawful c.args.flash.now) c.requires.stands b did.touches.banks did.only did.begins
-
-pub put-requires-clause-inside : goal.put-requires-clause-inside
-put-requires-clause-inside g c =
-    let a : Device = g.F.Flash.device c.args.flash.now in
-    let area : Area = c.args.area.now in
-    inside g.T.SlotSectors.role g.T.SlotSectors.kind g.T.SlotSectors.kept a area c.args.current c.args.opened.now c.requires.stands
-
-pub put-requires-clause-kept : goal.put-requires-clause-kept
-put-requires-clause-kept g c =
-    let a : Device = g.F.Flash.device c.args.flash.now in
-    let area : Area = c.args.area.now in
-    let law : IsKind (g.T.SlotSectors.kind (geometry_of a area)) = g.met.T.SlotSectors.lawful (geometry_of a area) (unit_is a area (g.met.F.Flash.is_lawful c.args.flash.now) c.requires.stands.area.lawful) in
-    let b : Device = g.F.Flash.device c.begin.new.flash in
-    let did = c.in_ok-begin.ensures in
-    put_kept g.T.SlotSectors.role g.T.SlotSectors.kind g.T.SlotSectors.kept a area c.args.current c.args.opened.now law (g.met.F.Flash.is_lawful c.args.flash.now) c.requires.stands b did.touches.banks did.only did.begins c.begin.new.self did.kept
-
-pub put-requires-clause-ready : goal.put-requires-clause-ready
-put-requires-clause-ready g c =
-    let a : Device = g.F.Flash.device c.args.flash.now in
-    let area : Area = c.args.area.now in
-    let law : IsKind (g.T.SlotSectors.kind (geometry_of a area)) = g.met.T.SlotSectors.lawful (geometry_of a area) (unit_is a area (g.met.F.Flash.is_lawful c.args.flash.now) c.requires.stands.area.lawful) in
-    let b : Device = g.F.Flash.device c.begin.new.flash in
-    let did = c.in_ok-begin.ensures in
-    put_ready g.T.SlotSectors.role g.T.SlotSectors.kind g.T.SlotSectors.kept a area c.args.current c.args.opened.now law (g.met.F.Flash.is_lawful c.args.flash.now) c.requires.stands b did.touches.banks did.only did.begins
-
-pub put-requires-clause-opened : goal.put-requires-clause-opened
-put-requires-clause-opened g c =
-    let a : Device = g.F.Flash.device c.args.flash.now in
-    let area : Area = c.args.area.now in
-    let law : IsKind (g.T.SlotSectors.kind (geometry_of a area)) = g.met.T.SlotSectors.lawful (geometry_of a area) (unit_is a area (g.met.F.Flash.is_lawful c.args.flash.now) c.requires.stands.area.lawful) in
-    let b : Device = g.F.Flash.device c.begin.new.flash in
-    let did = c.in_ok-begin.ensures in
-    put_opened g.T.SlotSectors.role g.T.SlotSectors.kind g.T.SlotSectors.kept a area c.args.current c.args.opened.now law (g.met.F.Flash.is_lawful c.args.flash.now) c.requires.stands b did.touches.banks did.only did.begins
+pub put-requires-clause-here : goal.put-requires-clause-here
+put-requires-clause-here g c = record {
+  area =
+      let a : Device = g.F.Flash.device c.args.flash.now in
+      let area : Area = c.args.area.now in
+      let law : IsKind (g.T.SlotSectors.kind (geometry_of a area)) = g.met.T.SlotSectors.lawful (geometry_of a area) (unit_is a area (g.met.F.Flash.is_lawful c.args.flash.now) c.requires.stands.area.lawful) in
+      let b : Device = g.F.Flash.device c.begin.new.flash in
+      let did = c.in_ok-begin.ensures in
+      put_area g.T.SlotSectors.role g.T.SlotSectors.kind g.T.SlotSectors.kept a area c.args.current c.args.opened.now law (g.met.F.Flash.is_lawful c.args.flash.now) c.requires.stands b did.touches.banks did.only did.begins;
+  inside =
+      let a : Device = g.F.Flash.device c.args.flash.now in
+      let area : Area = c.args.area.now in
+      inside g.T.SlotSectors.role g.T.SlotSectors.kind g.T.SlotSectors.kept a area c.args.current c.args.opened.now c.requires.stands;
+  kept =
+      let a : Device = g.F.Flash.device c.args.flash.now in
+      let area : Area = c.args.area.now in
+      let law : IsKind (g.T.SlotSectors.kind (geometry_of a area)) = g.met.T.SlotSectors.lawful (geometry_of a area) (unit_is a area (g.met.F.Flash.is_lawful c.args.flash.now) c.requires.stands.area.lawful) in
+      let b : Device = g.F.Flash.device c.begin.new.flash in
+      let did = c.in_ok-begin.ensures in
+      put_kept g.T.SlotSectors.role g.T.SlotSectors.kind g.T.SlotSectors.kept a area c.args.current c.args.opened.now law (g.met.F.Flash.is_lawful c.args.flash.now) c.requires.stands b did.touches.banks did.only did.begins c.begin.new.self did.kept;
+  ready =
+      let a : Device = g.F.Flash.device c.args.flash.now in
+      let area : Area = c.args.area.now in
+      let law : IsKind (g.T.SlotSectors.kind (geometry_of a area)) = g.met.T.SlotSectors.lawful (geometry_of a area) (unit_is a area (g.met.F.Flash.is_lawful c.args.flash.now) c.requires.stands.area.lawful) in
+      let b : Device = g.F.Flash.device c.begin.new.flash in
+      let did = c.in_ok-begin.ensures in
+      put_ready g.T.SlotSectors.role g.T.SlotSectors.kind g.T.SlotSectors.kept a area c.args.current c.args.opened.now law (g.met.F.Flash.is_lawful c.args.flash.now) c.requires.stands b did.touches.banks did.only did.begins;
+  opened =
+      let a : Device = g.F.Flash.device c.args.flash.now in
+      let area : Area = c.args.area.now in
+      let law : IsKind (g.T.SlotSectors.kind (geometry_of a area)) = g.met.T.SlotSectors.lawful (geometry_of a area) (unit_is a area (g.met.F.Flash.is_lawful c.args.flash.now) c.requires.stands.area.lawful) in
+      let b : Device = g.F.Flash.device c.begin.new.flash in
+      let did = c.in_ok-begin.ensures in
+      put_opened g.T.SlotSectors.role g.T.SlotSectors.kind g.T.SlotSectors.kept a area c.args.current c.args.opened.now law (g.met.F.Flash.is_lawful c.args.flash.now) c.requires.stands b did.touches.banks did.only did.begins;
+}
 
 pub put-requires-clause-rested : goal.put-requires-clause-rested
 put-requires-clause-rested g c =
@@ -123,8 +117,8 @@ returns-clause-stands g c =
     let b : Device = g.F.Flash.device c.begin.new.flash in
     let did = c.in_ok-begin.ensures in
     let e : Device = g.F.Flash.device c.put.new.flash in
-    let then_did = c.put.ensures in
-    put_ends_stands g.T.SlotSectors.role g.T.SlotSectors.kind g.T.SlotSectors.kept a area c.args.current c.args.opened.now law (g.met.F.Flash.is_lawful c.args.flash.now) c.requires.stands b did.touches.banks did.only did.begins e then_did.only c.args.id c.args.bytes.now then_did.sound did.spends c.put.result c.put.new.self then_did.touches.banks then_did.adds then_did.kept
+    let then_did = c.put.ensures.ends in
+    put_ends_stands g.T.SlotSectors.role g.T.SlotSectors.kind g.T.SlotSectors.kept a area c.args.current c.args.opened.now law (g.met.F.Flash.is_lawful c.args.flash.now) c.requires.stands b did.touches.banks did.only did.begins e then_did.only c.args.id c.args.bytes.now then_did.sound did.spends c.put.result c.put.new.self c.put.ensures.touches.banks then_did.adds then_did.kept
 
 pub returns-clause-puts : goal.returns-clause-puts
 returns-clause-puts g c =
@@ -134,7 +128,7 @@ returns-clause-puts g c =
     let b : Device = g.F.Flash.device c.begin.new.flash in
     let did = c.in_ok-begin.ensures in
     let e : Device = g.F.Flash.device c.put.new.flash in
-    let then_did = c.put.ensures in
+    let then_did = c.put.ensures.ends in
     put_ends_puts g.T.SlotSectors.role g.T.SlotSectors.kind g.T.SlotSectors.kept a area c.args.current c.args.opened.now law (g.met.F.Flash.is_lawful c.args.flash.now) c.requires.stands b did.touches.banks did.only did.begins e then_did.only c.args.id c.args.bytes.now then_did.sound did.spends c.put.result then_did.adds then_did.spends
 
 pub returns-clause-stops : goal.returns-clause-stops
@@ -145,7 +139,7 @@ returns-clause-stops g c =
     let b : Device = g.F.Flash.device c.begin.new.flash in
     let did = c.in_ok-begin.ensures in
     let e : Device = g.F.Flash.device c.put.new.flash in
-    let then_did = c.put.ensures in
+    let then_did = c.put.ensures.ends in
     put_ends_stops g.T.SlotSectors.role g.T.SlotSectors.kind g.T.SlotSectors.kept a area c.args.current c.args.opened.now law (g.met.F.Flash.is_lawful c.args.flash.now) c.requires.stands b did.touches.banks did.only did.begins e then_did.only c.args.id c.args.bytes.now then_did.sound did.spends c.put.result then_did.lost then_did.room_lost then_did.spends_lost
 
 pub returns-in_err-begin-clause-written : goal.returns-in_err-begin-clause-written
@@ -164,7 +158,7 @@ returns-clause-written g c =
     let b : Device = g.F.Flash.device c.begin.new.flash in
     let did = c.in_ok-begin.ensures in
     let e : Device = g.F.Flash.device c.put.new.flash in
-    let then_did = c.put.ensures in
+    let then_did = c.put.ensures.ends in
     λ written. put-written g.T.SlotSectors.kind a area c.args.current law b did.touches.banks did.only did.begins written e then_did.only c.args.id c.args.bytes.now c.put.result then_did.adds then_did.lost
 
 pub returns-clause-entry : goal.returns-clause-entry
@@ -175,5 +169,5 @@ returns-clause-entry g c =
     let b : Device = g.F.Flash.device c.begin.new.flash in
     let did = c.in_ok-begin.ensures in
     let e : Device = g.F.Flash.device c.put.new.flash in
-    let then_did = c.put.ensures in
+    let then_did = c.put.ensures.ends in
     put_ends_entry g.T.SlotSectors.role g.T.SlotSectors.kind g.T.SlotSectors.kept a area c.args.current c.args.opened.now law (g.met.F.Flash.is_lawful c.args.flash.now) c.requires.stands b did.touches.banks did.only did.begins e then_did.only c.args.id c.args.bytes.now then_did.sound did.spends c.put.result then_did.adds

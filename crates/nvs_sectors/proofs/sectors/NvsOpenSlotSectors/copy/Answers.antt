@@ -22,7 +22,7 @@ pub copy_entry-requires-clause-has_source : goal.copy_entry-requires-clause-has_
 copy_entry-requires-clause-has_source g c = c.read_again-own.ensures.in_area.sector
 
 pub copy_entry-requires-clause-other : goal.copy_entry-requires-clause-other
-copy_entry-requires-clause-other g c = λ (e : c.read_again-own.result.sector ≡ c.args.place). c.requires.other (sym c.read_again-own.ensures.own.sector ∙ e)
+copy_entry-requires-clause-other g c = λ (e : c.read_again-own.result.sector ≡ c.args.place). c.requires.source.other (sym c.read_again-own.ensures.own.sector ∙ e)
 
 pub copy_entry-requires-clause-ordinary : goal.copy_entry-requires-clause-ordinary
 copy_entry-requires-clause-ordinary g c = let other = c.read_again-own.ensures.in_area.ordinary in let small = c.read_again-own.ensures.small in omega (arith, other, small)
@@ -38,7 +38,7 @@ copy_entry-requires-clause-free g c =
     let b : List ℕ = sector_at (sectors_of a area) c.args.place in
     let room : cost u c.read_again-own.result.entry.len + 3 * slot_size u ≤ low u b - data_end u b =
     subst (λ (n : ℕ). cost u n + 3 * slot_size u ≤ low u b - data_end u b) (sym c.read_again-own.ensures.own.len) c.requires.room in
-    subst (λ (o : NvsOpen). cost u c.read_again-own.result.entry.len + 3 * slot_size u ≤ o.low - o.data_end) (sym c.requires.kept) room
+    subst (λ (o : NvsOpen). cost u c.read_again-own.result.entry.len + 3 * slot_size u ≤ o.low - o.data_end) (sym c.requires.here.kept) room
 
 -- ---- the pair was copied
 
@@ -56,15 +56,15 @@ returns-clause-kept g c =
     let e : Device = g.F.Flash.device c.copy_entry.new.flash in
     let area : Area = c.args.area.now in
     let u : ℕ = unit_of a area in
-    let is-unit = unit_is a area (g.met.F.Flash.is_lawful c.args.flash.now) c.requires.area.lawful.in_bank in
+    let is-unit = unit_is a area (g.met.F.Flash.is_lawful c.args.flash.now) c.requires.here.area.lawful.in_bank in
     let room : cost u c.args.from.now.len + 3 * slot_size u ≤ low u (sector_at (sectors_of a area) c.args.place) - data_end u (sector_at (sectors_of a area) c.args.place) = c.requires.room in
     let count = length-sectors a area in
-    let within : c.args.place < length (sectors_of a area) = omega (arith, c.requires.inside) in
+    let within : c.args.place < length (sectors_of a area) = omega (arith, c.requires.here.inside) in
     let put = c.in_ok-copy_entry.ensures.ok in
     let scanned : c.copy_entry.new.scan ≡ scan_of u (sectors_of e area) = c.in_ok-copy_entry.ensures.scan ∙ ap (λ (s : Geometry). scan_of s.unit (sectors_of e area)) (same_geometry a e area c.in_ok-copy_entry.ensures.touches.banks) in
-    let at = scan_added u (sectors_of a area) (sectors_of e area) c.args.place within c.requires.opened c.copy_entry.new.scan scanned c.read_again-own.result.entry.id (bytes_on a area c.read_again-own.result) is-unit (omega arith) put in
+    let at = scan_added u (sectors_of a area) (sectors_of e area) c.args.place within c.requires.here.opened c.copy_entry.new.scan scanned c.read_again-own.result.entry.id (bytes_on a area c.read_again-own.result) is-unit (omega arith) put in
     kept_is u (sector_at (sectors_of e area) c.args.place) c.copy_entry.new.scan.low c.copy_entry.new.scan.data_end c.args.self.now.gc_done at.0 at.1
-    (ap (λ (o : NvsOpen). o.gc_done) c.requires.kept ∙ sym put.adds.gc_done)
+    (ap (λ (o : NvsOpen). o.gc_done) c.requires.here.kept ∙ sym put.adds.gc_done)
 
 pub returns-clause-spends : goal.returns-clause-spends
 returns-clause-spends g c =

@@ -21,7 +21,7 @@ returns-clause-marks g c =
     let area : Area = c.args.area.now in
     let u : ℕ = unit_of a area in
     let b : List ℕ = sector_at (sectors_of a area) c.args.place in
-    let long = size_there nvs_role a area (g.met.F.Flash.is_lawful c.args.flash.now) c.requires.area c.args.place c.requires.inside in
+    let long = size_there nvs_role a area (g.met.F.Flash.is_lawful c.args.flash.now) c.requires.here.area c.args.place c.requires.here.inside in
     let sound : pairs_cost u (pairs u b) ≤ capacity u (length b) → is_sound u (sector_at (sectors_of e area) c.args.place) ≡ true =
     subst (λ (n : ℕ). pairs_cost u (pairs u b) ≤ capacity u n → is_sound u (sector_at (sectors_of e area) c.args.place) ≡ true) (sym long) c.in_ok-put_done.ensures.sound in
     marks u b (sector_at (sectors_of e area) c.args.place) (omega (arith, c.requires.room)) sound c.in_ok-put_done.ensures.ok.marks
@@ -33,9 +33,9 @@ returns-clause-kept g c =
     let area : Area = c.args.area.now in
     let u : ℕ = unit_of a area in
     let count = length-sectors a area in
-    let within : c.args.place < length (sectors_of a area) = omega (arith, c.requires.inside) in
+    let within : c.args.place < length (sectors_of a area) = omega (arith, c.requires.here.inside) in
     let put = c.in_ok-put_done.ensures.ok in
     let scanned : c.put_done.new.scan ≡ scan_of u (sectors_of e area) = c.in_ok-put_done.ensures.scan ∙ ap (λ (s : Geometry). scan_of s.unit (sectors_of e area)) (same_geometry a e area c.in_ok-put_done.ensures.touches.banks) in
     kept_is u (sector_at (sectors_of e area) c.args.place) c.put_done.new.scan.low c.args.self.now.data_end true
-    (scan_marked u (sectors_of a area) (sectors_of e area) c.args.place within c.requires.opened c.put_done.new.scan scanned put)
-    (ap (λ (o : NvsOpen). o.data_end) c.requires.kept ∙ sym put.marks.same_end) (sym put.marks.gc_done)
+    (scan_marked u (sectors_of a area) (sectors_of e area) c.args.place within c.requires.here.opened c.put_done.new.scan scanned put)
+    (ap (λ (o : NvsOpen). o.data_end) c.requires.here.kept ∙ sym put.marks.same_end) (sym put.marks.gc_done)

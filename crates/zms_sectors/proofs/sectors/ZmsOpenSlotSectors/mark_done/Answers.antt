@@ -15,27 +15,27 @@ returns-clause-marks g c =
     let area : Area = c.args.area.now in
     let u : Geometry = geometry_of a area in
     let b : List ℕ = sector_at (sectors_of a area) c.args.place in
-    let wide = large_there zms_role a area (g.met.F.Flash.is_lawful c.args.flash.now) c.requires.area c.args.place c.requires.inside in
+    let wide = large_there zms_role a area (g.met.F.Flash.is_lawful c.args.flash.now) c.requires.here.area c.args.place c.requires.here.inside in
     let e : Device = g.F.Flash.device c.put_done_at.new.flash in
-    marks u (sector_at (sectors_of a area) c.args.place) (sector_at (sectors_of e area) c.args.place) wide (ready_may u.kind (sector_at (sectors_of a area) c.args.place) c.requires.ready) c.requires.room c.in_ok-put_done_at.ensures.ok
+    marks u (sector_at (sectors_of a area) c.args.place) (sector_at (sectors_of e area) c.args.place) wide (ready_may u.kind (sector_at (sectors_of a area) c.args.place) c.requires.here.ready) c.requires.room c.in_ok-put_done_at.ensures.ok
 
 pub overflow_add-self : goal.overflow_add-self
 overflow_add-self g c =
     let a : Device = g.F.Flash.device c.args.flash.now in
     let area : Area = c.args.area.now in
     let u : Geometry = geometry_of a area in
-    let size : length (sector_at (sectors_of a area) c.args.place) ≡ sector_size a area = size_there zms_role a area (g.met.F.Flash.is_lawful c.args.flash.now) c.requires.area c.args.place c.requires.inside in
-    let few : c.args.self.now.slots ≤ length (sector_at (sectors_of a area) c.args.place) = kept_few u (sector_at (sectors_of a area) c.args.place) c.args.self.now c.requires.kept in
-    omega (arith, c.requires.area.lawful.at_most)
+    let size : length (sector_at (sectors_of a area) c.args.place) ≡ sector_size a area = size_there zms_role a area (g.met.F.Flash.is_lawful c.args.flash.now) c.requires.here.area c.args.place c.requires.here.inside in
+    let few : c.args.self.now.slots ≤ length (sector_at (sectors_of a area) c.args.place) = kept_few u (sector_at (sectors_of a area) c.args.place) c.args.self.now c.requires.here.kept in
+    omega (arith, c.requires.here.area.lawful.at_most)
 
 pub returns-clause-kept : goal.returns-clause-kept
 returns-clause-kept g c =
     let a : Device = g.F.Flash.device c.args.flash.now in
     let area : Area = c.args.area.now in
     let u : Geometry = geometry_of a area in
-    let wide = large_there zms_role a area (g.met.F.Flash.is_lawful c.args.flash.now) c.requires.area c.args.place c.requires.inside in
+    let wide = large_there zms_role a area (g.met.F.Flash.is_lawful c.args.flash.now) c.requires.here.area c.args.place c.requires.here.inside in
     let e : Device = g.F.Flash.device c.put_done_at.new.flash in
-    kept_marked u (sector_at (sectors_of a area) c.args.place) c.args.self.now c.requires.kept (sector_at (sectors_of e area) c.args.place) wide c.in_ok-put_done_at.ensures.ok
+    kept_marked u (sector_at (sectors_of a area) c.args.place) c.args.self.now c.requires.here.kept (sector_at (sectors_of e area) c.args.place) wide c.in_ok-put_done_at.ensures.ok
 
 pub returns-clause-spends : goal.returns-clause-spends
 returns-clause-spends g c =
@@ -43,18 +43,18 @@ returns-clause-spends g c =
     let area : Area = c.args.area.now in
     let u : Geometry = geometry_of a area in
     let e : Device = g.F.Flash.device c.put_done_at.new.flash in
-    ready_spends u.kind (sector_at (sectors_of a area) c.args.place) c.requires.ready a e 1 c.in_ok-put_done_at.ensures.guards
+    ready_spends u.kind (sector_at (sectors_of a area) c.args.place) c.requires.here.ready a e 1 c.in_ok-put_done_at.ensures.guards
 
 pub opened-opened-requires : goal.opened-opened-requires
 opened-opened-requires g c =
     let a : Device = g.F.Flash.device c.args.flash.now in
     let area : Area = c.args.area.now in
     let u : Geometry = geometry_of a area in
-    kept_some u (sector_at (sectors_of a area) c.args.place) c.args.self.now c.requires.kept (ready_cycle u.kind (sector_at (sectors_of a area) c.args.place) c.requires.ready)
+    kept_some u (sector_at (sectors_of a area) c.args.place) c.args.self.now c.requires.here.kept (ready_cycle u.kind (sector_at (sectors_of a area) c.args.place) c.requires.here.ready)
 
 pub put_done_at-requires-clause-opened : goal.put_done_at-requires-clause-opened
 put_done_at-requires-clause-opened g c =
     let a : Device = g.F.Flash.device c.args.flash.now in
     let area : Area = c.args.area.now in
     let u : Geometry = geometry_of a area in
-    kept_opened u (sector_at (sectors_of a area) c.args.place) c.args.self.now c.requires.kept c.opened-opened.result c.opened-opened.ensures.cycle c.opened-opened.ensures.slots c.opened-opened.ensures.data_end
+    kept_opened u (sector_at (sectors_of a area) c.args.place) c.args.self.now c.requires.here.kept c.opened-opened.result c.opened-opened.ensures.cycle c.opened-opened.ensures.slots c.opened-opened.ensures.data_end

@@ -1,4 +1,4 @@
-use Rattle.std.proofs.Common.{◌≡◌, ◌+◌, ◌/◌, ◌^◌, ◌≤◌, length, inl, arith}
+use Rattle.std.proofs.Common.{rules, ◌≡◌, ◌+◌, ◌/◌, ◌^◌, ◌≤◌, length, inl, arith}
 use Rattle.flash_sim.specs.Device.{Device}
 use Rattle.flash_map.specs.declared.area.Area.{Area}
 use Rattle.flash_map.specs.declared.area.Geometry.{Geometry}
@@ -13,70 +13,94 @@ use Rattle.zms_sectors.proofs.OpenLemmas.{kept_some, kept_opened, cost_above, ke
 use Rattle.zms_sectors.proofs.RoomLemmas.{put_room}
 use Rattle.zms_sectors.proofs.sectors.ZmsOpenSlotSectors.put.Goals as goal
 
-pub returns-clause-adds : goal.returns-clause-adds
-returns-clause-adds g c =
-    let a : Device = g.F.Flash.device c.args.flash.now in
-    let area : Area = c.args.area.now in
-    let u : Geometry = geometry_of a area in
-    let wide = large_there zms_role a area (g.met.F.Flash.is_lawful c.args.flash.now) c.requires.area c.args.place c.requires.inside in
-    let e : Device = g.F.Flash.device c.put_entry_at.new.flash in
-    adds u (sector_at (sectors_of a area) c.args.place) (sector_at (sectors_of e area) c.args.place) wide c.args.id c.args.bytes.now (ready_may u.kind (sector_at (sectors_of a area) c.args.place) c.requires.ready)
-    (fits_cost u (sector_at (sectors_of a area) c.args.place) (sector_at (sectors_of e area) c.args.place) wide (length c.args.bytes.now) c.requires.fits) c.in_ok-put_entry_at.ensures.ok
+pub returns-clause-ends : goal.returns-clause-ends
+returns-clause-ends g c = record {
+  only = search rules;
+  adds =
+      let a : Device = g.F.Flash.device c.args.flash.now in
+      let area : Area = c.args.area.now in
+      let u : Geometry = geometry_of a area in
+      let wide = large_there zms_role a area (g.met.F.Flash.is_lawful c.args.flash.now) c.requires.here.area c.args.place c.requires.here.inside in
+      let e : Device = g.F.Flash.device c.put_entry_at.new.flash in
+      adds u (sector_at (sectors_of a area) c.args.place) (sector_at (sectors_of e area) c.args.place) wide c.args.id c.args.bytes.now (ready_may u.kind (sector_at (sectors_of a area) c.args.place) c.requires.here.ready)
+      (fits_cost u (sector_at (sectors_of a area) c.args.place) (sector_at (sectors_of e area) c.args.place) wide (length c.args.bytes.now) c.requires.fits) c.in_ok-put_entry_at.ensures.ok;
+  kept =
+      let a : Device = g.F.Flash.device c.args.flash.now in
+      let area : Area = c.args.area.now in
+      let u : Geometry = geometry_of a area in
+      let size : length (sector_at (sectors_of a area) c.args.place) ≡ sector_size a area = size_there zms_role a area (g.met.F.Flash.is_lawful c.args.flash.now) c.requires.here.area c.args.place c.requires.here.inside in
+      let wide = large_there zms_role a area (g.met.F.Flash.is_lawful c.args.flash.now) c.requires.here.area c.args.place c.requires.here.inside in
+      let small : length (sector_at (sectors_of a area) c.args.place) ≤ 2 ^ 15 = omega (arith, c.requires.here.area.lawful.at_most) in
+      let e : Device = g.F.Flash.device c.put_entry_at.new.flash in
+      let room : cost (length c.args.bytes.now) ≤ free u.kind (sector_at (sectors_of a area) c.args.place) = fits_cost u (sector_at (sectors_of a area) c.args.place) (sector_at (sectors_of a area) c.args.place) wide (length c.args.bytes.now) c.requires.fits in
+      let price : c.cost.result ≡ cost (length c.args.bytes.now) = c.cost.ensures.value in
+      kept_added u (sector_at (sectors_of a area) c.args.place) c.args.self.now c.requires.here.kept (sector_at (sectors_of e area) c.args.place) wide small c.args.id c.args.bytes.now c.cost.result price (omega arith) c.in_ok-put_entry_at.ensures.ok;
+  lost = tt;
+  room_lost = tt;
+  sound =
+      let a : Device = g.F.Flash.device c.args.flash.now in
+      let area : Area = c.args.area.now in
+      let u : Geometry = geometry_of a area in
+      let wide = large_there zms_role a area (g.met.F.Flash.is_lawful c.args.flash.now) c.requires.here.area c.args.place c.requires.here.inside in
+      let e : Device = g.F.Flash.device c.put_entry_at.new.flash in
+      put_sound u (sector_at (sectors_of a area) c.args.place) (sector_at (sectors_of e area) c.args.place) wide c.args.id c.args.bytes.now c.requires.fits c.in_ok-put_entry_at.ensures.ok;
+  spends =
+      let a : Device = g.F.Flash.device c.args.flash.now in
+      let area : Area = c.args.area.now in
+      let u : Geometry = geometry_of a area in
+      let e : Device = g.F.Flash.device c.put_entry_at.new.flash in
+      ready_spends u.kind (sector_at (sectors_of a area) c.args.place) c.requires.here.ready a e (cost (length c.args.bytes.now) / 16) c.in_ok-put_entry_at.ensures.guards;
+  spends_lost = tt;
+}
 
-pub returns-clause-sound : goal.returns-clause-sound
-returns-clause-sound g c =
-    let a : Device = g.F.Flash.device c.args.flash.now in
-    let area : Area = c.args.area.now in
-    let u : Geometry = geometry_of a area in
-    let wide = large_there zms_role a area (g.met.F.Flash.is_lawful c.args.flash.now) c.requires.area c.args.place c.requires.inside in
-    let e : Device = g.F.Flash.device c.put_entry_at.new.flash in
-    put_sound u (sector_at (sectors_of a area) c.args.place) (sector_at (sectors_of e area) c.args.place) wide c.args.id c.args.bytes.now c.requires.fits c.in_ok-put_entry_at.ensures.ok
-
-pub returns-in_err-put_entry_at-clause-lost : goal.returns-in_err-put_entry_at-clause-lost
-returns-in_err-put_entry_at-clause-lost g c =
-    let a : Device = g.F.Flash.device c.args.flash.now in
-    let area : Area = c.args.area.now in
-    let u : Geometry = geometry_of a area in
-    let wide = large_there zms_role a area (g.met.F.Flash.is_lawful c.args.flash.now) c.requires.area c.args.place c.requires.inside in
-    let e : Device = g.F.Flash.device c.put_entry_at.new.flash in
-    on_err c.from_residual.result (inl (keeps u (sector_at (sectors_of a area) c.args.place) (sector_at (sectors_of e area) c.args.place) wide (left_over u.kind (data_len (length c.args.bytes.now))) c.in_err-put_entry_at.ensures.lost))
-
-pub returns-in_err-put_entry_at-clause-room_lost : goal.returns-in_err-put_entry_at-clause-room_lost
-returns-in_err-put_entry_at-clause-room_lost g c =
-    let a : Device = g.F.Flash.device c.args.flash.now in
-    let area : Area = c.args.area.now in
-    let u : Geometry = geometry_of a area in
-    let e : Device = g.F.Flash.device c.put_entry_at.new.flash in
-    on_err c.from_residual.result (put_room u (sector_at (sectors_of a area) c.args.place) (sector_at (sectors_of e area) c.args.place) (length c.args.bytes.now) c.in_err-put_entry_at.ensures.lost)
-
-pub returns-in_err-put_entry_at-clause-sound : goal.returns-in_err-put_entry_at-clause-sound
-returns-in_err-put_entry_at-clause-sound g c =
-    let a : Device = g.F.Flash.device c.args.flash.now in
-    let area : Area = c.args.area.now in
-    let u : Geometry = geometry_of a area in
-    let wide = large_there zms_role a area (g.met.F.Flash.is_lawful c.args.flash.now) c.requires.area c.args.place c.requires.inside in
-    let e : Device = g.F.Flash.device c.put_entry_at.new.flash in
-    (keeps u (sector_at (sectors_of a area) c.args.place) (sector_at (sectors_of e area) c.args.place) wide (left_over u.kind (data_len (length c.args.bytes.now))) c.in_err-put_entry_at.ensures.lost).sound
+pub returns-in_err-put_entry_at-clause-ends : goal.returns-in_err-put_entry_at-clause-ends
+returns-in_err-put_entry_at-clause-ends g c = record {
+  only = search rules;
+  adds = search rules;
+  kept = search rules;
+  lost =
+      let a : Device = g.F.Flash.device c.args.flash.now in
+      let area : Area = c.args.area.now in
+      let u : Geometry = geometry_of a area in
+      let wide = large_there zms_role a area (g.met.F.Flash.is_lawful c.args.flash.now) c.requires.here.area c.args.place c.requires.here.inside in
+      let e : Device = g.F.Flash.device c.put_entry_at.new.flash in
+      on_err c.from_residual.result (inl (keeps u (sector_at (sectors_of a area) c.args.place) (sector_at (sectors_of e area) c.args.place) wide (left_over u.kind (data_len (length c.args.bytes.now))) c.in_err-put_entry_at.ensures.lost));
+  room_lost =
+      let a : Device = g.F.Flash.device c.args.flash.now in
+      let area : Area = c.args.area.now in
+      let u : Geometry = geometry_of a area in
+      let e : Device = g.F.Flash.device c.put_entry_at.new.flash in
+      on_err c.from_residual.result (put_room u (sector_at (sectors_of a area) c.args.place) (sector_at (sectors_of e area) c.args.place) (length c.args.bytes.now) c.in_err-put_entry_at.ensures.lost);
+  sound =
+      let a : Device = g.F.Flash.device c.args.flash.now in
+      let area : Area = c.args.area.now in
+      let u : Geometry = geometry_of a area in
+      let wide = large_there zms_role a area (g.met.F.Flash.is_lawful c.args.flash.now) c.requires.here.area c.args.place c.requires.here.inside in
+      let e : Device = g.F.Flash.device c.put_entry_at.new.flash in
+      (keeps u (sector_at (sectors_of a area) c.args.place) (sector_at (sectors_of e area) c.args.place) wide (left_over u.kind (data_len (length c.args.bytes.now))) c.in_err-put_entry_at.ensures.lost).sound;
+  spends = search rules;
+  spends_lost = search rules;
+}
 
 pub overflow_cast-bytes : goal.overflow_cast-bytes
 overflow_cast-bytes g c =
     let a : Device = g.F.Flash.device c.args.flash.now in
     let area : Area = c.args.area.now in
     let u : Geometry = geometry_of a area in
-    let size : length (sector_at (sectors_of a area) c.args.place) ≡ sector_size a area = size_there zms_role a area (g.met.F.Flash.is_lawful c.args.flash.now) c.requires.area c.args.place c.requires.inside in
-    let wide = large_there zms_role a area (g.met.F.Flash.is_lawful c.args.flash.now) c.requires.area c.args.place c.requires.inside in
+    let size : length (sector_at (sectors_of a area) c.args.place) ≡ sector_size a area = size_there zms_role a area (g.met.F.Flash.is_lawful c.args.flash.now) c.requires.here.area c.args.place c.requires.here.inside in
+    let wide = large_there zms_role a area (g.met.F.Flash.is_lawful c.args.flash.now) c.requires.here.area c.args.place c.requires.here.inside in
     let room : cost (length c.args.bytes.now) ≤ free u.kind (sector_at (sectors_of a area) c.args.place) = fits_cost u (sector_at (sectors_of a area) c.args.place) (sector_at (sectors_of a area) c.args.place) wide (length c.args.bytes.now) c.requires.fits in
     let above : length c.args.bytes.now ≤ cost (length c.args.bytes.now) = cost_above (length c.args.bytes.now) in
-    omega (arith, c.requires.area.lawful.at_most)
+    omega (arith, c.requires.here.area.lawful.at_most)
 
 pub overflow_add-self : goal.overflow_add-self
 overflow_add-self g c =
     let a : Device = g.F.Flash.device c.args.flash.now in
     let area : Area = c.args.area.now in
     let u : Geometry = geometry_of a area in
-    let size : length (sector_at (sectors_of a area) c.args.place) ≡ sector_size a area = size_there zms_role a area (g.met.F.Flash.is_lawful c.args.flash.now) c.requires.area c.args.place c.requires.inside in
-    let few : c.args.self.now.slots ≤ length (sector_at (sectors_of a area) c.args.place) = kept_few u (sector_at (sectors_of a area) c.args.place) c.args.self.now c.requires.kept in
-    omega (arith, c.requires.area.lawful.at_most)
+    let size : length (sector_at (sectors_of a area) c.args.place) ≡ sector_size a area = size_there zms_role a area (g.met.F.Flash.is_lawful c.args.flash.now) c.requires.here.area c.args.place c.requires.here.inside in
+    let few : c.args.self.now.slots ≤ length (sector_at (sectors_of a area) c.args.place) = kept_few u (sector_at (sectors_of a area) c.args.place) c.args.self.now c.requires.here.kept in
+    omega (arith, c.requires.here.area.lawful.at_most)
 
 pub overflow_sub-self : goal.overflow_sub-self
 overflow_sub-self g c =
@@ -88,45 +112,24 @@ overflow_add-self-2 g c =
     let a : Device = g.F.Flash.device c.args.flash.now in
     let area : Area = c.args.area.now in
     let u : Geometry = geometry_of a area in
-    let size : length (sector_at (sectors_of a area) c.args.place) ≡ sector_size a area = size_there zms_role a area (g.met.F.Flash.is_lawful c.args.flash.now) c.requires.area c.args.place c.requires.inside in
-    let wide = large_there zms_role a area (g.met.F.Flash.is_lawful c.args.flash.now) c.requires.area c.args.place c.requires.inside in
-    let small : length (sector_at (sectors_of a area) c.args.place) ≤ 2 ^ 15 = omega (arith, c.requires.area.lawful.at_most) in
+    let size : length (sector_at (sectors_of a area) c.args.place) ≡ sector_size a area = size_there zms_role a area (g.met.F.Flash.is_lawful c.args.flash.now) c.requires.here.area c.args.place c.requires.here.inside in
+    let wide = large_there zms_role a area (g.met.F.Flash.is_lawful c.args.flash.now) c.requires.here.area c.args.place c.requires.here.inside in
+    let small : length (sector_at (sectors_of a area) c.args.place) ≤ 2 ^ 15 = omega (arith, c.requires.here.area.lawful.at_most) in
     let room : cost (length c.args.bytes.now) ≤ free u.kind (sector_at (sectors_of a area) c.args.place) = fits_cost u (sector_at (sectors_of a area) c.args.place) (sector_at (sectors_of a area) c.args.place) wide (length c.args.bytes.now) c.requires.fits in
     let price = c.cost.ensures.value in
-    let end : c.args.self.now.data_end + cost (length c.args.bytes.now) ≤ length (sector_at (sectors_of a area) c.args.place) = end_room u (sector_at (sectors_of a area) c.args.place) c.args.self.now c.requires.kept small (cost (length c.args.bytes.now)) (omega arith) room in
+    let end : c.args.self.now.data_end + cost (length c.args.bytes.now) ≤ length (sector_at (sectors_of a area) c.args.place) = end_room u (sector_at (sectors_of a area) c.args.place) c.args.self.now c.requires.here.kept small (cost (length c.args.bytes.now)) (omega arith) room in
     omega arith
-
-pub returns-clause-kept : goal.returns-clause-kept
-returns-clause-kept g c =
-    let a : Device = g.F.Flash.device c.args.flash.now in
-    let area : Area = c.args.area.now in
-    let u : Geometry = geometry_of a area in
-    let size : length (sector_at (sectors_of a area) c.args.place) ≡ sector_size a area = size_there zms_role a area (g.met.F.Flash.is_lawful c.args.flash.now) c.requires.area c.args.place c.requires.inside in
-    let wide = large_there zms_role a area (g.met.F.Flash.is_lawful c.args.flash.now) c.requires.area c.args.place c.requires.inside in
-    let small : length (sector_at (sectors_of a area) c.args.place) ≤ 2 ^ 15 = omega (arith, c.requires.area.lawful.at_most) in
-    let e : Device = g.F.Flash.device c.put_entry_at.new.flash in
-    let room : cost (length c.args.bytes.now) ≤ free u.kind (sector_at (sectors_of a area) c.args.place) = fits_cost u (sector_at (sectors_of a area) c.args.place) (sector_at (sectors_of a area) c.args.place) wide (length c.args.bytes.now) c.requires.fits in
-    let price : c.cost.result ≡ cost (length c.args.bytes.now) = c.cost.ensures.value in
-    kept_added u (sector_at (sectors_of a area) c.args.place) c.args.self.now c.requires.kept (sector_at (sectors_of e area) c.args.place) wide small c.args.id c.args.bytes.now c.cost.result price (omega arith) c.in_ok-put_entry_at.ensures.ok
-
-pub returns-clause-spends : goal.returns-clause-spends
-returns-clause-spends g c =
-    let a : Device = g.F.Flash.device c.args.flash.now in
-    let area : Area = c.args.area.now in
-    let u : Geometry = geometry_of a area in
-    let e : Device = g.F.Flash.device c.put_entry_at.new.flash in
-    ready_spends u.kind (sector_at (sectors_of a area) c.args.place) c.requires.ready a e (cost (length c.args.bytes.now) / 16) c.in_ok-put_entry_at.ensures.guards
 
 pub opened-opened-requires : goal.opened-opened-requires
 opened-opened-requires g c =
     let a : Device = g.F.Flash.device c.args.flash.now in
     let area : Area = c.args.area.now in
     let u : Geometry = geometry_of a area in
-    kept_some u (sector_at (sectors_of a area) c.args.place) c.args.self.now c.requires.kept (ready_cycle u.kind (sector_at (sectors_of a area) c.args.place) c.requires.ready)
+    kept_some u (sector_at (sectors_of a area) c.args.place) c.args.self.now c.requires.here.kept (ready_cycle u.kind (sector_at (sectors_of a area) c.args.place) c.requires.here.ready)
 
 pub put_entry_at-requires-clause-opened : goal.put_entry_at-requires-clause-opened
 put_entry_at-requires-clause-opened g c =
     let a : Device = g.F.Flash.device c.args.flash.now in
     let area : Area = c.args.area.now in
     let u : Geometry = geometry_of a area in
-    kept_opened u (sector_at (sectors_of a area) c.args.place) c.args.self.now c.requires.kept c.opened-opened.result c.opened-opened.ensures.cycle c.opened-opened.ensures.slots c.opened-opened.ensures.data_end
+    kept_opened u (sector_at (sectors_of a area) c.args.place) c.args.self.now c.requires.here.kept c.opened-opened.result c.opened-opened.ensures.cycle c.opened-opened.ensures.slots c.opened-opened.ensures.data_end

@@ -13,7 +13,7 @@ use Rattle.ring_store.specs.Kind.{Kind, fits, placed_at, slots}
 use Rattle.ring_store.specs.Listed.{kind_on, HasSlotOn}
 use Rattle.flash_map.specs.declared.area.Role.{Role}
 use Rattle.ring_store.specs.Standing.{IsStoreArea, SpendsIn, SpendsUpTo}
-use Rattle.ring_store.specs.Steps.{Keeps, KeepsMarks, LeavesRoom, Adds, Marks}
+use Rattle.ring_store.specs.Steps.{Keeps, KeepsMarks, LeavesRoom, Begins, Adds, Marks, Closes, Clears, StopsClearing}
 
 -- the bytes of the sector at a place
 abbrev pub sector_on : Device → Area → ℕ → List ℕ
@@ -88,6 +88,18 @@ KeepsMarksOn = StepOn KeepsMarks
 
 abbrev pub MarksOn : (Geometry → Kind) → Device → Device → Area → ℕ → Type 0
 MarksOn = StepOn Marks
+
+abbrev pub BeginsOn : (Geometry → Kind) → Device → Device → Area → ℕ → Type 0
+BeginsOn = StepOn Begins
+
+abbrev pub ClosesOn : (Geometry → Kind) → Device → Device → Area → ℕ → Type 0
+ClosesOn = StepOn Closes
+
+abbrev pub ClearsOn : (Geometry → Kind) → Device → Device → Area → ℕ → Type 0
+ClearsOn = StepOn Clears
+
+abbrev pub StopsClearingOn : (Geometry → Kind) → Device → Device → Area → ℕ → Type 0
+StopsClearingOn = StepOn StopsClearing
 
 abbrev pub AddsOn : (Geometry → Kind) → Device → Device → Area → ℕ → ℕ → List ℕ → Type 0
 AddsOn kind old new area place id bytes =

@@ -1,7 +1,7 @@
 // The cache of a store: the place of the latest entry of each cache slot's ids.
 ghost use Rattle.std.specs.Prelude.{◌≡◌, ◌<◌, length};
-ghost use Rattle.flash_map.specs.Area.{geometry_of, sectors_of, sector_at};
-ghost use Rattle.ring_laws.specs.Area.{open_sector};
+ghost use Rattle.flash_map.specs.Area.{sectors_of};
+ghost use Rattle.ring_store.specs.OnSector.{IsKeptOn, IsOpenOn};
 ghost use Rattle.ring_store.specs.Cached.{IsCacheOf, IsCacheOn, FollowsRound};
 ghost use Rattle.ring_store.specs.Listed.{kind_on};
 ghost use Rattle.ring_store.specs.Standing.{IsStoreArea};
@@ -35,10 +35,8 @@ pub fn fill<T: SlotSectors, F: Flash, L: Ledger>(
     steps: &mut Steps<L>,
 )
     requires area { IsStoreArea T.role (F.device flash.now).banks area.now }
-    requires kept { let d = F.device flash.now in
-        opened.now ≡ T.kept (geometry_of d area.now) (sector_at (sectors_of d area.now) current) }
-    requires current { let d = F.device flash.now in
-        current ≡ open_sector (kind_on T.kind d area.now).reading (sectors_of d area.now) }
+    requires kept { IsKeptOn T.kept (F.device flash.now) area.now current opened.now }
+    requires current { IsOpenOn T.kind (F.device flash.now) area.now current }
     requires slots { length cache.old ≡ 64 }
 
     ensures { IsCacheOn T.kind (F.device flash.now) area.now cache.new }
@@ -72,7 +70,8 @@ pub fn follow_round<T: SlotSectors, F: Flash, L: Ledger>(
     requires inside { opened < area.now.sectors }
 
     ensures { let d = F.device flash.now in
-        FollowsRound (kind_on T.kind d area.now) (sectors_of d area.now) opened cache.old cache.new }
+        FollowsRound (kind_on T.kind d area.now) (sectors_of d area.now) opened cache.old
+        cache.new }
 {
     let victim = area.next(opened);
     cache.forget_sector(victim);

@@ -1,18 +1,18 @@
 // Closing, collecting, and what a mount has to do again.
-ghost use Rattle.std.specs.Prelude.{◌≡◌, ℕ, ◌+◌, ◌*◌, ◌<◌, ◌≤◌, ◌∷◌, [], true, false, None, is_err, IfOk, IfSome, OnOk, OnErr, ◌⊎◌};
+ghost use Rattle.std.specs.Prelude.{◌≡◌, ◌+◌, ◌*◌, ◌<◌, ◌≤◌, ◌∷◌, [], true, false, None, is_err, IfOk, OnOk, OnErr, ◌⊎◌};
 ghost use Rattle.flash_map.specs.Area.{geometry_of, sector_size, sectors_of, sector_at, ChangesOnly};
 ghost use Rattle.flash_map.specs.Touches.{Touches};
-ghost use Rattle.ring_laws.specs.Area.{next, is_blank_at, is_closed_at, open_sector};
+ghost use Rattle.ring_laws.specs.Area.{next, is_blank_at, is_closed_at};
 ghost use Rattle.ring_laws.specs.Forms.{AtRest, Collecting, to_copy};
-ghost use Rattle.ring_laws.specs.Reading.{is_sound};
 ghost use Rattle.ring_laws.specs.Live.{live_in, cost_of};
+ghost use Rattle.ring_store.specs.OnSector.{sector_on, IsReadyOn, IsKeptOn, IsKeptAfter, IsOpenOn, NextIsClosedOn, NextIsNotClosedOn, HasNoGcDoneOn, IsSoundOn, ChangesOnlyOn, KeepsMarksOn};
 ghost use Rattle.ring_store.specs.Kind.{is_clean_at, slots};
-ghost use Rattle.ring_store.specs.Listed.{kind_on, HasSlotOn};
+ghost use Rattle.ring_store.specs.Listed.{kind_on};
 ghost use Rattle.ring_store.specs.Seen.{holds_live};
 ghost use Rattle.ring_store.specs.Collecting.{HasBegun, HasOpened, HasCopied, StopsCopying, CopiesOne, copy_units, CollectsAt, KeepsOrCollects, KeepsOrTurns, KeepsOrRedoes, TurnsAt, redo_of, redo_list, redo_units};
 ghost use Rattle.ring_store.specs.Spending.{copies, collect_units, ready_units, again_units, open_units, round_units};
 ghost use Rattle.ring_store.specs.Standing.{IsStoreArea, list_of, KeepsItems, SpendsIn, SpendsUpTo};
-ghost use Rattle.ring_store.specs.Steps.{Keeps, KeepsMarks, StopsClearing};
+ghost use Rattle.ring_store.specs.Steps.{Keeps, StopsClearing};
 ghost use Rattle.ring_store.specs.Written.{IsWritten};
 
 use crate::entry::{Placed, Redo};
@@ -34,29 +34,45 @@ fn copy_slot<T: SlotSectors, F: Flash, L: Ledger>(
     steps: &mut Steps<L>,
 ) -> Result<(), PowerLost>
     requires area { IsStoreArea T.role (F.device flash.old).banks area.now }
-    requires kept { let d = F.device flash.old in opened.old ≡ T.kept (geometry_of d area.now) (sector_at (sectors_of d area.now) current) }
-    requires current { let d = F.device flash.old in current ≡ open_sector (T.kind (geometry_of d area.now)).reading (sectors_of d area.now) }
+    requires kept { IsKeptOn T.kept (F.device flash.old) area.now current opened.old }
+    requires current { IsOpenOn T.kind (F.device flash.old) area.now current }
     requires place { current < area.now.sectors }
     requires inside { victim < area.now.sectors }
     requires other { victim ≡ current → ⊥ }
-    requires listed { let d = F.device flash.old in let k = T.kind (geometry_of d area.now) in
-        (k.first ≤ slot) × (slot < k.first + k.count (sector_at (sectors_of d area.now) victim)) }
-    requires ready { let d = F.device flash.old in (T.kind (geometry_of d area.now)).is_ready (sector_at (sectors_of d area.now) current) ≡ true }
-    requires collecting { let d = F.device flash.old in is_closed_at (T.kind (geometry_of d area.now)).reading (sectors_of d area.now) (next (sectors_of d area.now) current) ≡ true }
-    requires not_done { let d = F.device flash.old in (T.kind (geometry_of d area.now)).reading.has_gc_done (sector_at (sectors_of d area.now) current) ≡ false }
-    requires source { let d = F.device flash.old in is_sound (T.kind (geometry_of d area.now)).reading (sector_at (sectors_of d area.now) victim) ≡ true }
-    requires within { let d = F.device flash.old in (T.kind (geometry_of d area.now)).within (sector_at (sectors_of d area.now) victim) ≡ true }
-    requires room { let d = F.device flash.old in let k = T.kind (geometry_of d area.now) in
-        cost_of (slots k) (live_in (slots k) (sectors_of d area.now) victim slot) + 3 * k.slot ≤ k.free (sector_at (sectors_of d area.now) current) }
-    requires live { let d = F.device flash.old in live ≡ holds_live (kind_on T.kind d area.now) (sectors_of d area.now) victim slot }
-    ensures touches { Touches (area.now ∷ []) (F.device flash.old) (F.device flash.new) (is_err result) }
-    ensures copies { let d = F.device flash.old in let k = T.kind (geometry_of d area.now) in
-        OnOk result (CopiesOne k (sectors_of d area.now) (sectors_of (F.device flash.new) area.now) current (live_in (slots k) (sectors_of d area.now) victim slot)) }
-    ensures kept { let d = F.device flash.old in OnOk result (opened.new ≡ T.kept (geometry_of d area.now) (sector_at (sectors_of (F.device flash.new) area.now) current)) }
-    ensures only { OnErr result (ChangesOnly (sectors_of (F.device flash.old) area.now) (sectors_of (F.device flash.new) area.now) current) }
-    ensures lost { let d = F.device flash.old in OnErr result (KeepsMarks (T.kind (geometry_of d area.now)) (sector_at (sectors_of d area.now) current) (sector_at (sectors_of (F.device flash.new) area.now) current)) }
-    ensures spends { let d = F.device flash.old in let k = T.kind (geometry_of d area.now) in OnOk result (SpendsIn d (F.device flash.new) (copy_units k (live_in (slots k) (sectors_of d area.now) victim slot))) }
-    ensures spends_lost { let d = F.device flash.old in let k = T.kind (geometry_of d area.now) in OnErr result (SpendsUpTo d (F.device flash.new) (copy_units k (live_in (slots k) (sectors_of d area.now) victim slot))) }
+    requires listed { let d = F.device flash.old in let k = kind_on T.kind d area.now in
+        (k.first ≤ slot) × (slot < k.first + k.count (sector_on d area.now victim)) }
+    requires ready { IsReadyOn T.kind (F.device flash.old) area.now current }
+    requires collecting { NextIsClosedOn T.kind (F.device flash.old) area.now current }
+    requires not_done { HasNoGcDoneOn T.kind (F.device flash.old) area.now current }
+    requires source { IsSoundOn T.kind (F.device flash.old) area.now victim }
+    requires within { let d = F.device flash.old in
+        (kind_on T.kind d area.now).within (sector_on d area.now victim) ≡ true }
+    requires room { let d = F.device flash.old in let k = kind_on T.kind d area.now in
+        cost_of (slots k) (live_in (slots k) (sectors_of d area.now) victim slot) + 3 * k.slot
+        ≤ k.free (sector_on d area.now current) }
+    requires live { let d = F.device flash.old in
+        live ≡ holds_live (kind_on T.kind d area.now) (sectors_of d area.now) victim slot }
+    ensures touches { let d = F.device flash.old in let e = F.device flash.new in
+        Touches (area.now ∷ []) d e (is_err result) }
+    ensures copies { let d = F.device flash.old in let e = F.device flash.new in
+        let k = kind_on T.kind d area.now in
+        OnOk result
+        (CopiesOne k (sectors_of d area.now) (sectors_of e area.now) current
+        (live_in (slots k) (sectors_of d area.now) victim slot)) }
+    ensures kept { let d = F.device flash.old in let e = F.device flash.new in
+        OnOk result (IsKeptAfter T.kept d e area.now current opened.new) }
+    ensures only { let d = F.device flash.old in let e = F.device flash.new in
+        OnErr result (ChangesOnlyOn d e area.now current) }
+    ensures lost { let d = F.device flash.old in let e = F.device flash.new in
+        OnErr result (KeepsMarksOn T.kind d e area.now current) }
+    ensures spends { let d = F.device flash.old in let e = F.device flash.new in
+        let k = kind_on T.kind d area.now in
+        OnOk result
+        (SpendsIn d e (copy_units k (live_in (slots k) (sectors_of d area.now) victim slot))) }
+    ensures spends_lost { let d = F.device flash.old in let e = F.device flash.new in
+        let k = kind_on T.kind d area.now in
+        OnErr result
+        (SpendsUpTo d e (copy_units k (live_in (slots k) (sectors_of d area.now) victim slot))) }
 {
     match live_in::<T, F, L>(flash, area, victim, slot, live, steps) {
         Some(placed) => opened.copy(flash, area, current, &placed, steps),
@@ -75,17 +91,33 @@ fn copy_live<T: SlotSectors, F: Flash, L: Ledger>(
     steps: &mut Steps<L>,
 ) -> Result<(), PowerLost>
     requires area { IsStoreArea T.role (F.device flash.old).banks area.now }
-    requires kept { let d = F.device flash.old in opened.old ≡ T.kept (geometry_of d area.now) (sector_at (sectors_of d area.now) current) }
-    requires collecting { let d = F.device flash.old in Collecting (T.kind (geometry_of d area.now)).reading (sectors_of d area.now) current }
-    requires begun { let d = F.device flash.old in HasCopied (T.kind (geometry_of d area.now)) (sectors_of d area.now) (sectors_of d area.now) current [] }
+    requires kept { IsKeptOn T.kept (F.device flash.old) area.now current opened.old }
+    requires collecting { let d = F.device flash.old in
+        Collecting (kind_on T.kind d area.now).reading (sectors_of d area.now) current }
+    requires begun { let d = F.device flash.old in
+        HasCopied (kind_on T.kind d area.now) (sectors_of d area.now) (sectors_of d area.now)
+        current [] }
     requires victim { victim ≡ next (sectors_of (F.device flash.old) area.now) current }
-    ensures touches { Touches (area.now ∷ []) (F.device flash.old) (F.device flash.new) (is_err result) }
-    ensures copies { let d = F.device flash.old in let k = T.kind (geometry_of d area.now) in
-        OnOk result (HasCopied k (sectors_of d area.now) (sectors_of (F.device flash.new) area.now) current (to_copy k.reading (sectors_of d area.now) current)) }
-    ensures kept { let d = F.device flash.old in OnOk result (opened.new ≡ T.kept (geometry_of d area.now) (sector_at (sectors_of (F.device flash.new) area.now) current)) }
-    ensures lost { let d = F.device flash.old in OnErr result (StopsCopying (T.kind (geometry_of d area.now)) (sectors_of d area.now) (sectors_of (F.device flash.new) area.now) current) }
-    ensures spends { let d = F.device flash.old in let k = T.kind (geometry_of d area.now) in OnOk result (SpendsIn d (F.device flash.new) (copies k (to_copy k.reading (sectors_of d area.now) current))) }
-    ensures spends_lost { let d = F.device flash.old in let k = T.kind (geometry_of d area.now) in OnErr result (SpendsUpTo d (F.device flash.new) (copies k (to_copy k.reading (sectors_of d area.now) current))) }
+    ensures touches { let d = F.device flash.old in let e = F.device flash.new in
+        Touches (area.now ∷ []) d e (is_err result) }
+    ensures copies { let d = F.device flash.old in let e = F.device flash.new in
+        let k = kind_on T.kind d area.now in
+        OnOk result
+        (HasCopied k (sectors_of d area.now) (sectors_of e area.now) current
+        (to_copy k.reading (sectors_of d area.now) current)) }
+    ensures kept { let d = F.device flash.old in let e = F.device flash.new in
+        OnOk result (IsKeptAfter T.kept d e area.now current opened.new) }
+    ensures lost { let d = F.device flash.old in let e = F.device flash.new in
+        OnErr result
+        (StopsCopying (kind_on T.kind d area.now) (sectors_of d area.now) (sectors_of e area.now)
+        current) }
+    ensures spends { let d = F.device flash.old in let e = F.device flash.new in
+        let k = kind_on T.kind d area.now in
+        OnOk result (SpendsIn d e (copies k (to_copy k.reading (sectors_of d area.now) current))) }
+    ensures spends_lost { let d = F.device flash.old in let e = F.device flash.new in
+        let k = kind_on T.kind d area.now in
+        OnErr result
+        (SpendsUpTo d e (copies k (to_copy k.reading (sectors_of d area.now) current))) }
 {
     let mut live = LiveSlots::new();
     live_slots(flash, area, opened, current, victim, &mut live, steps);
@@ -107,18 +139,35 @@ fn collect<T: SlotSectors, F: Flash, L: Ledger>(
     steps: &mut Steps<L>,
 ) -> Result<(), PowerLost>
     requires area { IsStoreArea T.role (F.device flash.old).banks area.now }
-    requires kept { let d = F.device flash.old in opened.old ≡ T.kept (geometry_of d area.now) (sector_at (sectors_of d area.now) current) }
-    requires collecting { let d = F.device flash.old in Collecting (T.kind (geometry_of d area.now)).reading (sectors_of d area.now) current }
-    requires begun { let d = F.device flash.old in HasCopied (T.kind (geometry_of d area.now)) (sectors_of d area.now) (sectors_of d area.now) current [] }
-    ensures touches { Touches (area.now ∷ []) (F.device flash.old) (F.device flash.new) (is_err result) }
-    ensures collects { let d = F.device flash.old in OnOk result (CollectsAt (T.kind (geometry_of d area.now)) (sectors_of d area.now) (sectors_of (F.device flash.new) area.now) current) }
-    ensures items { let d = F.device flash.old in KeepsItems (T.kind (geometry_of d area.now)) (sectors_of d area.now) (sectors_of (F.device flash.new) area.now) }
-    ensures list_lost { let d = F.device flash.old in
-        OnErr result (KeepsOrCollects (T.kind (geometry_of d area.now)) (sectors_of d area.now) (sectors_of (F.device flash.new) area.now) current) }
-    ensures written { IsWritten (T.kind (geometry_of (F.device flash.old) area.now)) (sectors_of (F.device flash.new) area.now) }
-    ensures kept { let d = F.device flash.old in OnOk result (opened.new ≡ T.kept (geometry_of d area.now) (sector_at (sectors_of (F.device flash.new) area.now) current)) }
-    ensures spends { let d = F.device flash.old in OnOk result (SpendsIn d (F.device flash.new) (collect_units (T.kind (geometry_of d area.now)) (sectors_of d area.now) current)) }
-    ensures spends_lost { let d = F.device flash.old in OnErr result (SpendsUpTo d (F.device flash.new) (collect_units (T.kind (geometry_of d area.now)) (sectors_of d area.now) current)) }
+    requires kept { IsKeptOn T.kept (F.device flash.old) area.now current opened.old }
+    requires collecting { let d = F.device flash.old in
+        Collecting (kind_on T.kind d area.now).reading (sectors_of d area.now) current }
+    requires begun { let d = F.device flash.old in
+        HasCopied (kind_on T.kind d area.now) (sectors_of d area.now) (sectors_of d area.now)
+        current [] }
+    ensures touches { let d = F.device flash.old in let e = F.device flash.new in
+        Touches (area.now ∷ []) d e (is_err result) }
+    ensures collects { let d = F.device flash.old in let e = F.device flash.new in
+        OnOk result
+        (CollectsAt (kind_on T.kind d area.now) (sectors_of d area.now) (sectors_of e area.now)
+        current) }
+    ensures items { let d = F.device flash.old in let e = F.device flash.new in
+        KeepsItems (kind_on T.kind d area.now) (sectors_of d area.now) (sectors_of e area.now) }
+    ensures list_lost { let d = F.device flash.old in let e = F.device flash.new in
+        OnErr result
+        (KeepsOrCollects (kind_on T.kind d area.now) (sectors_of d area.now) (sectors_of e area.now)
+        current) }
+    ensures written { let d = F.device flash.old in let e = F.device flash.new in
+        IsWritten (kind_on T.kind d area.now) (sectors_of e area.now) }
+    ensures kept { let d = F.device flash.old in let e = F.device flash.new in
+        OnOk result (IsKeptAfter T.kept d e area.now current opened.new) }
+    ensures spends { let d = F.device flash.old in let e = F.device flash.new in
+        OnOk result
+        (SpendsIn d e (collect_units (kind_on T.kind d area.now) (sectors_of d area.now) current)) }
+    ensures spends_lost { let d = F.device flash.old in let e = F.device flash.new in
+        OnErr result
+        (SpendsUpTo d e
+        (collect_units (kind_on T.kind d area.now) (sectors_of d area.now) current)) }
 {
     let victim = area.next(current);
     copy_live(flash, area, opened, current, victim, steps)?;
@@ -135,30 +184,32 @@ fn prepare<T: SlotSectors, F: Flash, L: Ledger>(
     steps: &mut Steps<L>,
 ) -> Result<(), PowerLost>
     requires area { IsStoreArea T.role (F.device flash.old).banks area.now }
-    requires kept { let d = F.device flash.old in
-        opened.old ≡ T.kept (geometry_of d area.now) (sector_at (sectors_of d area.now) current) }
+    requires kept { IsKeptOn T.kept (F.device flash.old) area.now current opened.old }
     requires inside { current < area.now.sectors }
-    requires not_closed { let d = F.device flash.old in let k = T.kind (geometry_of d area.now) in
+    requires not_closed { let d = F.device flash.old in let k = kind_on T.kind d area.now in
         is_closed_at k.reading (sectors_of d area.now) current ≡ false }
-    ensures touches { Touches (area.now ∷ []) (F.device flash.old) (F.device flash.new) (is_err result) }
-    ensures begun { let d = F.device flash.old in let k = T.kind (geometry_of d area.now) in
-        let new = sectors_of (F.device flash.new) area.now in
+    ensures touches { let d = F.device flash.old in let e = F.device flash.new in
+        Touches (area.now ∷ []) d e (is_err result) }
+    ensures begun { let d = F.device flash.old in let e = F.device flash.new in
+        let k = kind_on T.kind d area.now in let new = sectors_of e area.now in
         OnOk result (HasBegun k (sectors_of d area.now) new current) }
     ensures kept { let d = F.device flash.old in
         let new = sectors_of (F.device flash.new) area.now in
         OnOk result (opened.new ≡ T.kept (geometry_of d area.now) (sector_at new current)) }
     ensures only { let new = sectors_of (F.device flash.new) area.now in
         ChangesOnly (sectors_of (F.device flash.old) area.now) new current }
-    ensures lost { let d = F.device flash.old in let k = T.kind (geometry_of d area.now) in
+    ensures lost { let d = F.device flash.old in let k = kind_on T.kind d area.now in
         let b = sector_at (sectors_of d area.now) current in
         let e = sector_at (sectors_of (F.device flash.new) area.now) current in
         OnErr result (Keeps k b e ⊎ StopsClearing k b e) }
-    ensures spends { let d = F.device flash.old in let k = T.kind (geometry_of d area.now) in
+    ensures spends { let d = F.device flash.old in let e = F.device flash.new in
+        let k = kind_on T.kind d area.now in
         let range = ready_units k (sectors_of d area.now) current in
-        OnOk result (SpendsIn d (F.device flash.new) range) }
-    ensures spends_lost { let d = F.device flash.old in let k = T.kind (geometry_of d area.now) in
+        OnOk result (SpendsIn d e range) }
+    ensures spends_lost { let d = F.device flash.old in let e = F.device flash.new in
+        let k = kind_on T.kind d area.now in
         let range = ready_units k (sectors_of d area.now) current in
-        OnErr result (SpendsUpTo d (F.device flash.new) range) }
+        OnErr result (SpendsUpTo d e range) }
 {
     if T::is_clean(flash, area, current, steps) {
         return opened.begin(flash, area, current, steps);
@@ -177,17 +228,31 @@ fn collect_again<T: SlotSectors, F: Flash, L: Ledger>(
     steps: &mut Steps<L>,
 ) -> Result<(), PowerLost>
     requires area { IsStoreArea T.role (F.device flash.old).banks area.now }
-    requires kept { let d = F.device flash.old in opened.old ≡ T.kept (geometry_of d area.now) (sector_at (sectors_of d area.now) current) }
-    requires collecting { let d = F.device flash.old in Collecting (T.kind (geometry_of d area.now)).reading (sectors_of d area.now) current }
-    ensures touches { Touches (area.now ∷ []) (F.device flash.old) (F.device flash.new) (is_err result) }
-    ensures collects { let d = F.device flash.old in OnOk result (CollectsAt (T.kind (geometry_of d area.now)) (sectors_of d area.now) (sectors_of (F.device flash.new) area.now) current) }
-    ensures items { let d = F.device flash.old in KeepsItems (T.kind (geometry_of d area.now)) (sectors_of d area.now) (sectors_of (F.device flash.new) area.now) }
-    ensures list_lost { let d = F.device flash.old in
-        OnErr result (KeepsOrCollects (T.kind (geometry_of d area.now)) (sectors_of d area.now) (sectors_of (F.device flash.new) area.now) current) }
-    ensures written { IsWritten (T.kind (geometry_of (F.device flash.old) area.now)) (sectors_of (F.device flash.new) area.now) }
-    ensures kept { let d = F.device flash.old in OnOk result (opened.new ≡ T.kept (geometry_of d area.now) (sector_at (sectors_of (F.device flash.new) area.now) current)) }
-    ensures spends { let d = F.device flash.old in OnOk result (SpendsIn d (F.device flash.new) (again_units (T.kind (geometry_of d area.now)) (sectors_of d area.now) current)) }
-    ensures spends_lost { let d = F.device flash.old in OnErr result (SpendsUpTo d (F.device flash.new) (again_units (T.kind (geometry_of d area.now)) (sectors_of d area.now) current)) }
+    requires kept { IsKeptOn T.kept (F.device flash.old) area.now current opened.old }
+    requires collecting { let d = F.device flash.old in
+        Collecting (kind_on T.kind d area.now).reading (sectors_of d area.now) current }
+    ensures touches { let d = F.device flash.old in let e = F.device flash.new in
+        Touches (area.now ∷ []) d e (is_err result) }
+    ensures collects { let d = F.device flash.old in let e = F.device flash.new in
+        OnOk result
+        (CollectsAt (kind_on T.kind d area.now) (sectors_of d area.now) (sectors_of e area.now)
+        current) }
+    ensures items { let d = F.device flash.old in let e = F.device flash.new in
+        KeepsItems (kind_on T.kind d area.now) (sectors_of d area.now) (sectors_of e area.now) }
+    ensures list_lost { let d = F.device flash.old in let e = F.device flash.new in
+        OnErr result
+        (KeepsOrCollects (kind_on T.kind d area.now) (sectors_of d area.now) (sectors_of e area.now)
+        current) }
+    ensures written { let d = F.device flash.old in let e = F.device flash.new in
+        IsWritten (kind_on T.kind d area.now) (sectors_of e area.now) }
+    ensures kept { let d = F.device flash.old in let e = F.device flash.new in
+        OnOk result (IsKeptAfter T.kept d e area.now current opened.new) }
+    ensures spends { let d = F.device flash.old in let e = F.device flash.new in
+        OnOk result
+        (SpendsIn d e (again_units (kind_on T.kind d area.now) (sectors_of d area.now) current)) }
+    ensures spends_lost { let d = F.device flash.old in let e = F.device flash.new in
+        OnErr result
+        (SpendsUpTo d e (again_units (kind_on T.kind d area.now) (sectors_of d area.now) current)) }
 {
     prepare(flash, area, opened, current, steps)?;
     collect(flash, area, opened, current, steps)
@@ -202,9 +267,10 @@ fn what_to_redo<T: SlotSectors, F: Flash, L: Ledger>(
     steps: &mut Steps<L>,
 ) -> Redo
     requires area { IsStoreArea T.role (F.device flash.now).banks area.now }
-    requires kept { let d = F.device flash.now in opened.now ≡ T.kept (geometry_of d area.now) (sector_at (sectors_of d area.now) current) }
+    requires kept { IsKeptOn T.kept (F.device flash.now) area.now current opened.now }
     requires within { current < area.now.sectors }
-    ensures { let d = F.device flash.now in result ≡ redo_of (T.kind (geometry_of d area.now)) (sectors_of d area.now) current }
+    ensures { let d = F.device flash.now in
+        result ≡ redo_of (kind_on T.kind d area.now) (sectors_of d area.now) current }
 {
     if T::is_closed(flash, area, area.next(current), steps) {
         if opened.has_gc_done() {
@@ -226,25 +292,52 @@ pub fn redo<T: SlotSectors, F: Flash, L: Ledger>(
     steps: &mut Steps<L>,
 ) -> Result<(), PowerLost>
     requires area { IsStoreArea T.role (F.device flash.old).banks area.now }
-    requires undamaged { let d = F.device flash.old in (T.kind (geometry_of d area.now)).damage (sectors_of d area.now) ≡ None }
-    requires current { let d = F.device flash.old in current ≡ open_sector (T.kind (geometry_of d area.now)).reading (sectors_of d area.now) }
-    requires kept { let d = F.device flash.old in opened.old ≡ T.kept (geometry_of d area.now) (sector_at (sectors_of d area.now) current) }
-    ensures touches { Touches (area.now ∷ []) (F.device flash.old) (F.device flash.new) (is_err result) }
-    ensures rested { let d = F.device flash.old in OnOk result (AtRest (T.kind (geometry_of d area.now)).reading (sectors_of (F.device flash.new) area.now) current) }
-    ensures items { let d = F.device flash.old in KeepsItems (T.kind (geometry_of d area.now)) (sectors_of d area.now) (sectors_of (F.device flash.new) area.now) }
-    ensures list { let d = F.device flash.old in let k = T.kind (geometry_of d area.now) in
-        OnOk result (list_of k (sectors_of (F.device flash.new) area.now) ≡ redo_list k (sectors_of d area.now) current (redo_of k (sectors_of d area.now) current)) }
-    ensures list_lost { let d = F.device flash.old in
-        OnErr result (KeepsOrRedoes (T.kind (geometry_of d area.now)) (sectors_of d area.now) (sectors_of (F.device flash.new) area.now) current) }
-    ensures written { let d = F.device flash.old in
-        (F.device flash.new ≡ d) ⊎ IsWritten (T.kind (geometry_of d area.now)) (sectors_of (F.device flash.new) area.now) }
-    ensures same { let d = F.device flash.old in AtRest (T.kind (geometry_of d area.now)).reading (sectors_of d area.now) current → F.device flash.new ≡ d }
-    ensures busy { let d = F.device flash.old in OnErr result (AtRest (T.kind (geometry_of d area.now)).reading (sectors_of d area.now) current → ⊥) }
-    ensures collects { let d = F.device flash.old in let k = T.kind (geometry_of d area.now) in
-        OnOk result (Collecting k.reading (sectors_of d area.now) current → CollectsAt k (sectors_of d area.now) (sectors_of (F.device flash.new) area.now) current) }
-    ensures kept { let d = F.device flash.old in OnOk result (opened.new ≡ T.kept (geometry_of d area.now) (sector_at (sectors_of (F.device flash.new) area.now) current)) }
-    ensures spends { let d = F.device flash.old in let k = T.kind (geometry_of d area.now) in OnOk result (SpendsIn d (F.device flash.new) (redo_units k (sectors_of d area.now) current (redo_of k (sectors_of d area.now) current))) }
-    ensures spends_lost { let d = F.device flash.old in let k = T.kind (geometry_of d area.now) in OnErr result (SpendsUpTo d (F.device flash.new) (redo_units k (sectors_of d area.now) current (redo_of k (sectors_of d area.now) current))) }
+    requires undamaged { let d = F.device flash.old in
+        (kind_on T.kind d area.now).damage (sectors_of d area.now) ≡ None }
+    requires current { IsOpenOn T.kind (F.device flash.old) area.now current }
+    requires kept { IsKeptOn T.kept (F.device flash.old) area.now current opened.old }
+    ensures touches { let d = F.device flash.old in let e = F.device flash.new in
+        Touches (area.now ∷ []) d e (is_err result) }
+    ensures rested { let d = F.device flash.old in let e = F.device flash.new in
+        OnOk result (AtRest (kind_on T.kind d area.now).reading (sectors_of e area.now) current) }
+    ensures items { let d = F.device flash.old in let e = F.device flash.new in
+        KeepsItems (kind_on T.kind d area.now) (sectors_of d area.now) (sectors_of e area.now) }
+    ensures list { let d = F.device flash.old in let e = F.device flash.new in
+        let k = kind_on T.kind d area.now in
+        OnOk result
+        (list_of k (sectors_of e area.now)
+        ≡ redo_list k (sectors_of d area.now) current (redo_of k (sectors_of d area.now) current)) }
+    ensures list_lost { let d = F.device flash.old in let e = F.device flash.new in
+        OnErr result
+        (KeepsOrRedoes (kind_on T.kind d area.now) (sectors_of d area.now) (sectors_of e area.now)
+        current) }
+    ensures written { let d = F.device flash.old in let e = F.device flash.new in
+        (F.device flash.new ≡ d) ⊎ IsWritten (kind_on T.kind d area.now) (sectors_of e area.now) }
+    ensures same { let d = F.device flash.old in
+        AtRest (kind_on T.kind d area.now).reading (sectors_of d area.now) current
+        → F.device flash.new ≡ d }
+    ensures busy { let d = F.device flash.old in
+        OnErr result
+        (AtRest (kind_on T.kind d area.now).reading (sectors_of d area.now) current → ⊥) }
+    ensures collects { let d = F.device flash.old in let e = F.device flash.new in
+        let k = kind_on T.kind d area.now in
+        OnOk result
+        (Collecting k.reading (sectors_of d area.now) current
+        → CollectsAt k (sectors_of d area.now) (sectors_of e area.now) current) }
+    ensures kept { let d = F.device flash.old in let e = F.device flash.new in
+        OnOk result (IsKeptAfter T.kept d e area.now current opened.new) }
+    ensures spends { let d = F.device flash.old in let e = F.device flash.new in
+        let k = kind_on T.kind d area.now in
+        OnOk result
+        (SpendsIn d e
+        (redo_units k (sectors_of d area.now) current
+        (redo_of k (sectors_of d area.now) current))) }
+    ensures spends_lost { let d = F.device flash.old in let e = F.device flash.new in
+        let k = kind_on T.kind d area.now in
+        OnErr result
+        (SpendsUpTo d e
+        (redo_units k (sectors_of d area.now) current
+        (redo_of k (sectors_of d area.now) current))) }
 {
     match what_to_redo(flash, area, opened, current, steps) {
         Redo::Nothing => Ok(()),
@@ -263,37 +356,42 @@ fn open_next<T: SlotSectors, F: Flash, L: Ledger>(
     steps: &mut Steps<L>,
 ) -> Result<(), PowerLost>
     requires area { IsStoreArea T.role (F.device flash.old).banks area.now }
-    requires kept { let d = F.device flash.old in
-        opened.old ≡ T.kept (geometry_of d area.now) (sector_at (sectors_of d area.now) current) }
-    requires form { let d = F.device flash.old in let k = T.kind (geometry_of d area.now) in
+    requires kept { IsKeptOn T.kept (F.device flash.old) area.now current opened.old }
+    requires form { let d = F.device flash.old in let k = kind_on T.kind d area.now in
         let old = sectors_of d area.now in
         AtRest k.reading old current ⊎ Collecting k.reading old current }
-    requires blank { let d = F.device flash.old in let k = T.kind (geometry_of d area.now) in
+    requires blank { let d = F.device flash.old in let k = kind_on T.kind d area.now in
         is_blank_at k.reading (sectors_of d area.now) current ≡ true }
-    ensures touches { Touches (area.now ∷ []) (F.device flash.old) (F.device flash.new) (is_err result) }
-    ensures opens { let d = F.device flash.old in let k = T.kind (geometry_of d area.now) in
-        let old = sectors_of d area.now in let new = sectors_of (F.device flash.new) area.now in
+    ensures touches { let d = F.device flash.old in let e = F.device flash.new in
+        Touches (area.now ∷ []) d e (is_err result) }
+    ensures opens { let d = F.device flash.old in let e = F.device flash.new in
+        let k = kind_on T.kind d area.now in let old = sectors_of d area.now in
+        let new = sectors_of e area.now in
         OnOk result (AtRest k.reading old current → HasOpened k old new current) }
-    ensures collects { let d = F.device flash.old in let k = T.kind (geometry_of d area.now) in
-        let old = sectors_of d area.now in let new = sectors_of (F.device flash.new) area.now in
+    ensures collects { let d = F.device flash.old in let e = F.device flash.new in
+        let k = kind_on T.kind d area.now in let old = sectors_of d area.now in
+        let new = sectors_of e area.now in
         OnOk result (Collecting k.reading old current → CollectsAt k old new current) }
-    ensures items { let d = F.device flash.old in let k = T.kind (geometry_of d area.now) in
-        KeepsItems k (sectors_of d area.now) (sectors_of (F.device flash.new) area.now) }
-    ensures list_lost { let d = F.device flash.old in let k = T.kind (geometry_of d area.now) in
-        let old = sectors_of d area.now in let new = sectors_of (F.device flash.new) area.now in
-        OnErr result (KeepsOrRedoes k old new current) }
-    ensures written { let d = F.device flash.old in let k = T.kind (geometry_of d area.now) in
-        let new = sectors_of (F.device flash.new) area.now in
+    ensures items { let d = F.device flash.old in let e = F.device flash.new in
+        let k = kind_on T.kind d area.now in
+        KeepsItems k (sectors_of d area.now) (sectors_of e area.now) }
+    ensures list_lost { let d = F.device flash.old in let e = F.device flash.new in
+        let k = kind_on T.kind d area.now in let old = sectors_of d area.now in
+        let new = sectors_of e area.now in OnErr result (KeepsOrRedoes k old new current) }
+    ensures written { let d = F.device flash.old in let e = F.device flash.new in
+        let k = kind_on T.kind d area.now in let new = sectors_of e area.now in
         IsWritten k (sectors_of d area.now) → IsWritten k new }
     ensures kept { let d = F.device flash.old in
         let new = sectors_of (F.device flash.new) area.now in
         OnOk result (opened.new ≡ T.kept (geometry_of d area.now) (sector_at new current)) }
-    ensures spends { let d = F.device flash.old in let k = T.kind (geometry_of d area.now) in
+    ensures spends { let d = F.device flash.old in let e = F.device flash.new in
+        let k = kind_on T.kind d area.now in
         let range = open_units k (sectors_of d area.now) current in
-        OnOk result (SpendsIn d (F.device flash.new) range) }
-    ensures spends_lost { let d = F.device flash.old in let k = T.kind (geometry_of d area.now) in
+        OnOk result (SpendsIn d e range) }
+    ensures spends_lost { let d = F.device flash.old in let e = F.device flash.new in
+        let k = kind_on T.kind d area.now in
         let range = open_units k (sectors_of d area.now) current in
-        OnErr result (SpendsUpTo d (F.device flash.new) range) }
+        OnErr result (SpendsUpTo d e range) }
 {
     if T::is_closed(flash, area, area.next(current), steps) {
         return collect_again(flash, area, opened, current, steps);
@@ -314,28 +412,46 @@ pub fn round<T: SlotSectors, F: Flash, L: Ledger>(
     steps: &mut Steps<L>,
 ) -> Result<u32, PowerLost>
     requires area { IsStoreArea T.role (F.device flash.old).banks area.now }
-    requires undamaged { let d = F.device flash.old in (T.kind (geometry_of d area.now)).damage (sectors_of d area.now) ≡ None }
-    requires current { let d = F.device flash.old in current ≡ open_sector (T.kind (geometry_of d area.now)).reading (sectors_of d area.now) }
-    requires kept { let d = F.device flash.old in opened.old ≡ T.kept (geometry_of d area.now) (sector_at (sectors_of d area.now) current) }
-    requires rested { let d = F.device flash.old in is_closed_at (T.kind (geometry_of d area.now)).reading (sectors_of d area.now) (next (sectors_of d area.now) current) ≡ false }
+    requires undamaged { let d = F.device flash.old in
+        (kind_on T.kind d area.now).damage (sectors_of d area.now) ≡ None }
+    requires current { IsOpenOn T.kind (F.device flash.old) area.now current }
+    requires kept { IsKeptOn T.kept (F.device flash.old) area.now current opened.old }
+    requires rested { NextIsNotClosedOn T.kind (F.device flash.old) area.now current }
     requires used { let d = F.device flash.old in
-        is_clean_at (T.kind (geometry_of d area.now)) (sectors_of d area.now) current ≡ false }
-    ensures touches { Touches (area.now ∷ []) (F.device flash.old) (F.device flash.new) (is_err result) }
-    ensures opened { let d = F.device flash.old in IfOk result (λ place. place ≡ next (sectors_of d area.now) current) }
-    ensures rested { let d = F.device flash.old in OnOk result (AtRest (T.kind (geometry_of d area.now)).reading (sectors_of (F.device flash.new) area.now) (next (sectors_of d area.now) current)) }
-    ensures items { let d = F.device flash.old in KeepsItems (T.kind (geometry_of d area.now)) (sectors_of d area.now) (sectors_of (F.device flash.new) area.now) }
-    ensures list_lost { let d = F.device flash.old in
-        OnErr result (KeepsOrTurns (T.kind (geometry_of d area.now)) (sectors_of d area.now) (sectors_of (F.device flash.new) area.now) current) }
-    ensures written { let d = F.device flash.old in let k = T.kind (geometry_of d area.now) in
-        let new = sectors_of (F.device flash.new) area.now in
+        is_clean_at (kind_on T.kind d area.now) (sectors_of d area.now) current ≡ false }
+    ensures touches { let d = F.device flash.old in let e = F.device flash.new in
+        Touches (area.now ∷ []) d e (is_err result) }
+    ensures opened { let d = F.device flash.old in
+        IfOk result (λ place. place ≡ next (sectors_of d area.now) current) }
+    ensures rested { let d = F.device flash.old in let e = F.device flash.new in
+        OnOk result
+        (AtRest (kind_on T.kind d area.now).reading (sectors_of e area.now)
+        (next (sectors_of d area.now) current)) }
+    ensures items { let d = F.device flash.old in let e = F.device flash.new in
+        KeepsItems (kind_on T.kind d area.now) (sectors_of d area.now) (sectors_of e area.now) }
+    ensures list_lost { let d = F.device flash.old in let e = F.device flash.new in
+        OnErr result
+        (KeepsOrTurns (kind_on T.kind d area.now) (sectors_of d area.now) (sectors_of e area.now)
+        current) }
+    ensures written { let d = F.device flash.old in let e = F.device flash.new in
+        let k = kind_on T.kind d area.now in let new = sectors_of e area.now in
         IsWritten k (sectors_of d area.now) → IsWritten k new }
-    ensures changed { let d = F.device flash.old in let k = T.kind (geometry_of d area.now) in
-        let new = sectors_of (F.device flash.new) area.now in
+    ensures changed { let d = F.device flash.old in let e = F.device flash.new in
+        let k = kind_on T.kind d area.now in let new = sectors_of e area.now in
         (new ≡ sectors_of d area.now) ⊎ IsWritten k new }
-    ensures kept { let d = F.device flash.old in OnOk result (opened.new ≡ T.kept (geometry_of d area.now) (sector_at (sectors_of (F.device flash.new) area.now) (next (sectors_of d area.now) current))) }
-    ensures turns { let d = F.device flash.old in OnOk result (TurnsAt (T.kind (geometry_of d area.now)) (sector_size d area.now) (sectors_of d area.now) (sectors_of (F.device flash.new) area.now) current) }
-    ensures spends { let d = F.device flash.old in OnOk result (SpendsIn d (F.device flash.new) (round_units (T.kind (geometry_of d area.now)) (sectors_of d area.now) current)) }
-    ensures spends_lost { let d = F.device flash.old in OnErr result (SpendsUpTo d (F.device flash.new) (round_units (T.kind (geometry_of d area.now)) (sectors_of d area.now) current)) }
+    ensures kept { let d = F.device flash.old in let e = F.device flash.new in
+        OnOk result
+        (IsKeptAfter T.kept d e area.now (next (sectors_of d area.now) current) opened.new) }
+    ensures turns { let d = F.device flash.old in let e = F.device flash.new in
+        OnOk result
+        (TurnsAt (kind_on T.kind d area.now) (sector_size d area.now) (sectors_of d area.now)
+        (sectors_of e area.now) current) }
+    ensures spends { let d = F.device flash.old in let e = F.device flash.new in
+        OnOk result
+        (SpendsIn d e (round_units (kind_on T.kind d area.now) (sectors_of d area.now) current)) }
+    ensures spends_lost { let d = F.device flash.old in let e = F.device flash.new in
+        OnErr result
+        (SpendsUpTo d e (round_units (kind_on T.kind d area.now) (sectors_of d area.now) current)) }
 {
     opened.close(flash, area, current, steps)?;
     let place = area.next(current);

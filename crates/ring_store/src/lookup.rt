@@ -1,9 +1,11 @@
 // Entries of the list of an area.
 ghost use Rattle.std.specs.Prelude.{◌≡◌, ◌+◌, ◌-◌, ◌<◌, ◌≤◌};
 ghost use Rattle.std.specs.List.{flat_map, range_with_len};
-ghost use Rattle.flash_map.specs.Area.{geometry_of, sectors_of, sector_at};
-ghost use Rattle.ring_laws.specs.Area.{counts_at, open_sector};
+ghost use Rattle.flash_map.specs.Area.{sectors_of};
+ghost use Rattle.ring_laws.specs.Area.{counts_at};
 ghost use Rattle.ring_laws.specs.Live.{last_of, last_placed, counted_in};
+ghost use Rattle.ring_store.specs.OnSector.{IsKeptOn, IsOpenOn};
+ghost use Rattle.ring_store.specs.Listed.{kind_on};
 ghost use Rattle.ring_store.specs.Kind.{slots};
 ghost use Rattle.ring_store.specs.Standing.{IsStoreArea};
 
@@ -23,9 +25,11 @@ pub fn counts<T: SlotSectors, F: Flash, L: Ledger>(
     steps: &mut Steps<L>,
 ) -> bool
     requires area { IsStoreArea T.role (F.device flash.now).banks area.now }
-    requires kept { let d = F.device flash.now in opened.now ≡ T.kept (geometry_of d area.now) (sector_at (sectors_of d area.now) current) }
+    requires kept { IsKeptOn T.kept (F.device flash.now) area.now current opened.now }
     requires current { current < area.now.sectors }
-    ensures { let d = F.device flash.now in result ≡ counts_at (T.kind (geometry_of d area.now)).reading (sectors_of d area.now) current place }
+    ensures { let d = F.device flash.now in
+        result
+        ≡ counts_at (kind_on T.kind d area.now).reading (sectors_of d area.now) current place }
 {
     let after = area.next(current);
     if T::is_closed(flash, area, after, steps) {
@@ -47,10 +51,11 @@ fn find_at<T: SlotSectors, F: Flash, L: Ledger>(
     steps: &mut Steps<L>,
 ) -> Option<Placed>
     requires area { IsStoreArea T.role (F.device flash.now).banks area.now }
-    requires kept { let d = F.device flash.now in opened.now ≡ T.kept (geometry_of d area.now) (sector_at (sectors_of d area.now) current) }
+    requires kept { IsKeptOn T.kept (F.device flash.now) area.now current opened.now }
     requires current { current < area.now.sectors }
     requires inside { place < area.now.sectors }
-    ensures { let d = F.device flash.now in let k = T.kind (geometry_of d area.now) in result ≡ last_of (slots k) id (counted_in (slots k) (sectors_of d area.now) current place) }
+    ensures { let d = F.device flash.now in let k = kind_on T.kind d area.now in
+        result ≡ last_of (slots k) id (counted_in (slots k) (sectors_of d area.now) current place) }
 {
     if counts(flash, area, opened, current, place, steps) {
         T::find_in(flash, area, place, id, steps)
@@ -71,12 +76,15 @@ pub fn find_among<T: SlotSectors, F: Flash, L: Ledger>(
     steps: &mut Steps<L>,
 ) -> Option<Placed>
     requires area { IsStoreArea T.role (F.device flash.now).banks area.now }
-    requires kept { let d = F.device flash.now in opened.now ≡ T.kept (geometry_of d area.now) (sector_at (sectors_of d area.now) current) }
+    requires kept { IsKeptOn T.kept (F.device flash.now) area.now current opened.now }
     requires current { current < area.now.sectors }
     requires order { first ≤ end }
     requires inside { end ≤ area.now.sectors }
-    ensures { let d = F.device flash.now in let k = T.kind (geometry_of d area.now) in
-        result ≡ last_of (slots k) id (flat_map (counted_in (slots k) (sectors_of d area.now) current) (range_with_len first (end - first))) }
+    ensures { let d = F.device flash.now in let k = kind_on T.kind d area.now in
+        result
+        ≡ last_of (slots k) id
+        (flat_map (counted_in (slots k) (sectors_of d area.now) current)
+        (range_with_len first (end - first))) }
 {
     let mut place = end;
     while place > first {
@@ -99,9 +107,10 @@ pub fn find<T: SlotSectors, F: Flash, L: Ledger>(
     steps: &mut Steps<L>,
 ) -> Option<Placed>
     requires area { IsStoreArea T.role (F.device flash.now).banks area.now }
-    requires kept { let d = F.device flash.now in opened.now ≡ T.kept (geometry_of d area.now) (sector_at (sectors_of d area.now) current) }
-    requires current { let d = F.device flash.now in current ≡ open_sector (T.kind (geometry_of d area.now)).reading (sectors_of d area.now) }
-    ensures { let d = F.device flash.now in result ≡ last_placed (slots (T.kind (geometry_of d area.now))) (sectors_of d area.now) id }
+    requires kept { IsKeptOn T.kept (F.device flash.now) area.now current opened.now }
+    requires current { IsOpenOn T.kind (F.device flash.now) area.now current }
+    ensures { let d = F.device flash.now in
+        result ≡ last_placed (slots (kind_on T.kind d area.now)) (sectors_of d area.now) id }
 {
     let newest = find_among(flash, area, opened, current, 0, current + 1, id, steps);
     if newest.is_some() {

@@ -1,9 +1,10 @@
 // Noting the entries of the list, sector by sector.
-ghost use Rattle.std.specs.Prelude.{◌≡◌, ◌-◌, ◌<◌, ◌≤◌, ℕ, List, [], ◌∷◌, ◌++◌, length, map};
+ghost use Rattle.std.specs.Prelude.{◌-◌, ◌<◌, ◌≤◌, ℕ, List, [], ◌∷◌, ◌++◌, map};
 ghost use Rattle.std.specs.List.{flat_map, range_with_len};
 ghost use Rattle.std.specs.Option.{option_map, option_to_list};
-ghost use Rattle.flash_map.specs.Area.{geometry_of, sectors_of, sector_at};
+ghost use Rattle.flash_map.specs.Area.{sectors_of};
 ghost use Rattle.ring_laws.specs.Live.{counted_in};
+ghost use Rattle.ring_store.specs.OnSector.{sector_on, IsKeptOn};
 ghost use Rattle.ring_store.specs.declared.entry.Placed.{Placed as PlacedEntry};
 ghost use Rattle.ring_store.specs.Kind.{placed_at, slots};
 ghost use Rattle.ring_store.specs.Listed.{kind_on, HasSlotOn};
@@ -22,7 +23,8 @@ pub trait Notes {
     ghost noted: { ℕ → Self → List PlacedEntry → Type 0 };
 
     fn note(&mut self, placed: &Placed)
-        ensures { (limit : ℕ) (before : List PlacedEntry) → placed.now.id < limit → noted limit self.old before → noted limit self.new (before ++ placed.now ∷ []) };
+        ensures { (limit : ℕ) (before : List PlacedEntry) → placed.now.id < limit
+            → noted limit self.old before → noted limit self.new (before ++ placed.now ∷ []) };
 }
 
 // Notes the entry in a slot, if there is one.
@@ -39,7 +41,10 @@ fn note_slot<T: SlotSectors, N: Notes, F: Flash, L: Ledger>(
     requires listed { HasSlotOn T.kind (F.device flash.now) area.now place slot }
     ensures { let d = F.device flash.now in let k = kind_on T.kind d area.now in
         (before : List PlacedEntry) → N.noted k.ids notes.old before
-        → N.noted k.ids notes.new (before ++ option_to_list (option_map (placed_at place) (k.in_slot (sector_at (sectors_of d area.now) place) slot))) }
+        → N.noted k.ids notes.new
+        (before
+        ++ option_to_list
+        (option_map (placed_at place) (k.in_slot (sector_on d area.now place) slot))) }
 {
     match T::entry_in(flash, area, place, slot, steps) {
         Some(placed) => notes.note(&placed),
@@ -59,7 +64,8 @@ pub fn note_sector<T: SlotSectors, N: Notes, F: Flash, L: Ledger>(
     requires inside { place < area.now.sectors }
     ensures { let d = F.device flash.now in let k = kind_on T.kind d area.now in
         (before : List PlacedEntry) → N.noted k.ids notes.old before
-        → N.noted k.ids notes.new (before ++ map (placed_at place) ((slots k).entries (sector_at (sectors_of d area.now) place))) }
+        → N.noted k.ids notes.new
+        (before ++ map (placed_at place) ((slots k).entries (sector_on d area.now place))) }
 {
     let slots = T::slots(flash, area, place, steps);
     let first = T::first_slot();
@@ -79,12 +85,13 @@ fn note_counting<T: SlotSectors, N: Notes, F: Flash, L: Ledger>(
     steps: &mut Steps<L>,
 )
     requires area { IsStoreArea T.role (F.device flash.now).banks area.now }
-    requires kept { let d = F.device flash.now in opened.now ≡ T.kept (geometry_of d area.now) (sector_at (sectors_of d area.now) current) }
+    requires kept { IsKeptOn T.kept (F.device flash.now) area.now current opened.now }
     requires current { current < area.now.sectors }
     requires inside { place < area.now.sectors }
     ensures { let d = F.device flash.now in let k = kind_on T.kind d area.now in
         (before : List PlacedEntry) → N.noted k.ids notes.old before
-        → N.noted k.ids notes.new (before ++ counted_in (slots k) (sectors_of d area.now) current place) }
+        → N.noted k.ids notes.new
+        (before ++ counted_in (slots k) (sectors_of d area.now) current place) }
 {
     if counts(flash, area, opened, current, place, steps) {
         note_sector::<T, N, F, L>(flash, area, place, notes, steps);
@@ -103,13 +110,16 @@ pub fn note_among<T: SlotSectors, N: Notes, F: Flash, L: Ledger>(
     steps: &mut Steps<L>,
 )
     requires area { IsStoreArea T.role (F.device flash.now).banks area.now }
-    requires kept { let d = F.device flash.now in opened.now ≡ T.kept (geometry_of d area.now) (sector_at (sectors_of d area.now) current) }
+    requires kept { IsKeptOn T.kept (F.device flash.now) area.now current opened.now }
     requires current { current < area.now.sectors }
     requires order { first ≤ end }
     requires inside { end ≤ area.now.sectors }
     ensures { let d = F.device flash.now in let k = kind_on T.kind d area.now in
         (before : List PlacedEntry) → N.noted k.ids notes.old before
-        → N.noted k.ids notes.new (before ++ flat_map (counted_in (slots k) (sectors_of d area.now) current) (range_with_len first (end - first))) }
+        → N.noted k.ids notes.new
+        (before
+        ++ flat_map (counted_in (slots k) (sectors_of d area.now) current)
+        (range_with_len first (end - first))) }
 {
     for place in first..end {
         note_counting(flash, area, opened, current, place, notes, steps);

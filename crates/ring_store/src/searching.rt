@@ -1,9 +1,11 @@
 // A search that goes from a sector back to the oldest one.
 ghost use Rattle.std.specs.Prelude.{◌≡◌, ◌<◌, [], ◌∷◌, ◌++◌, length};
 ghost use Rattle.std.specs.List.{flat_map};
-ghost use Rattle.flash_map.specs.Area.{geometry_of, sectors_of, sector_at};
+ghost use Rattle.flash_map.specs.Area.{sectors_of};
 ghost use Rattle.ring_laws.specs.Live.{last_of, counted_in};
 ghost use Rattle.ring_laws.specs.RoundParts.{places_before};
+ghost use Rattle.ring_store.specs.OnSector.{IsKeptOn};
+ghost use Rattle.ring_store.specs.Listed.{kind_on};
 ghost use Rattle.ring_store.specs.Kind.{slots};
 ghost use Rattle.ring_store.specs.Standing.{IsStoreArea};
 
@@ -26,11 +28,13 @@ pub fn find_up_to<T: SlotSectors, F: Flash, L: Ledger>(
     steps: &mut Steps<L>,
 ) -> Option<Placed>
     requires area { IsStoreArea T.role (F.device flash.now).banks area.now }
-    requires kept { let d = F.device flash.now in opened.now ≡ T.kept (geometry_of d area.now) (sector_at (sectors_of d area.now) current) }
+    requires kept { IsKeptOn T.kept (F.device flash.now) area.now current opened.now }
     requires current { current < area.now.sectors }
     requires inside { place < area.now.sectors }
-    ensures { let d = F.device flash.now in let k = T.kind (geometry_of d area.now) in
-        result ≡ last_of (slots k) id (flat_map (counted_in (slots k) (sectors_of d area.now) current)
+    ensures { let d = F.device flash.now in let k = kind_on T.kind d area.now in
+        result
+        ≡ last_of (slots k) id
+        (flat_map (counted_in (slots k) (sectors_of d area.now) current)
         (places_before (length (sectors_of d area.now)) current place ++ place ∷ [])) }
 {
     if current < place {

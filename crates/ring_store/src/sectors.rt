@@ -3,18 +3,17 @@ ghost use Rattle.std.specs.Prelude.{◌≡◌, ◌⊎◌, ℕ, ◌+◌, ◌*◌,
 ghost use Rattle.std.specs.Option.{option_map};
 ghost use Rattle.flash_map.specs.declared.area.Geometry.{Geometry as geometry_type};
 ghost use Rattle.flash_map.specs.declared.area.Role.{Role as role_type};
-ghost use Rattle.flash_map.specs.Area.{geometry_of, sector_size, sectors_of, sector_at, ChangesOnly};
+ghost use Rattle.flash_map.specs.Area.{sectors_of, sector_at};
 ghost use Rattle.flash_map.specs.Touches.{Touches};
 ghost use Rattle.flash_map.specs.Units.{IsUnit};
-ghost use Rattle.ring_laws.specs.Area.{is_closed_at, next, open_sector};
-ghost use Rattle.ring_laws.specs.Reading.{is_sound};
+ghost use Rattle.ring_laws.specs.Area.{is_closed_at};
 ghost use Rattle.ring_laws.specs.Live.{last_in, bytes_of};
 ghost use Rattle.ring_store.specs.Kind.{Kind, IsKind, placed_at, slots, fits};
 ghost use Rattle.ring_store.specs.Lasts.{AreOthers};
-ghost use Rattle.ring_store.specs.Listed.{IsListedOn, IsWithinOn, HasSlotOn, kind_on};
-ghost use Rattle.ring_store.specs.OnSector.{IsOpenSector, IsCollecting, IsSource, PutEnds, sector_on, free_on, bytes_on, IsKeptOn, IsKeptAfter, IsReadyOn, IsSoundOn, IsOpenOn, NextIsClosedOn, NextIsNotClosedOn, HasNoGcDoneOn, FitsOn, StandsThereOn, HasCopyRoomOn, ChangesOnlyOn, KeepsOn, KeepsMarksOn, MarksOn, AddsOn, LeavesRoomOn, KeepsSoundOn};
+ghost use Rattle.ring_store.specs.Listed.{IsListedOn, IsWithinOn, kind_on};
+ghost use Rattle.ring_store.specs.OnSector.{IsOpenSector, IsCollecting, IsSource, PutEnds, sector_on, free_on, bytes_on, IsKeptOn, IsKeptAfter, IsSoundOn, IsOpenOn, NextIsNotClosedOn, FitsOn, HasCopyRoomOn, ChangesOnlyOn, KeepsOn, KeepsMarksOn, MarksOn, AddsOn, ClosesOn, ClearsOn, BeginsOn, StopsClearingOn};
 ghost use Rattle.ring_store.specs.Standing.{IsStoreArea, SpendsIn, SpendsUpTo};
-ghost use Rattle.ring_store.specs.Steps.{Keeps, KeepsMarks, LeavesRoom, Begins, Adds, Marks, Closes, Clears, StopsClearing};
+ghost use Rattle.ring_store.specs.Steps.{Keeps, LeavesRoom, Marks, Closes};
 
 use crate::entry::Placed;
 use flash_map::{Area, Damaged, Geometry};
@@ -78,8 +77,7 @@ pub trait SlotSectors: Copy {
         requires area { IsStoreArea role (F.device flash.now).banks area.now }
         requires inside { place < area.now.sectors }
         ensures { let d = F.device flash.now in
-            result
-            ≡ (kind (geometry_of d area.now)).is_clean (sector_at (sectors_of d area.now) place) };
+            result ≡ (kind_on kind d area.now).is_clean (sector_on d area.now place) };
 
     /// Whether a sector is closed.
     fn is_closed<F: Flash, L: Ledger>(
@@ -91,15 +89,13 @@ pub trait SlotSectors: Copy {
         requires area { IsStoreArea role (F.device flash.now).banks area.now }
         requires inside { place < area.now.sectors }
         ensures { let d = F.device flash.now in
-            result
-            ≡ is_closed_at (kind (geometry_of d area.now)).reading (sectors_of d area.now) place };
+            result ≡ is_closed_at (kind_on kind d area.now).reading (sectors_of d area.now) place };
 
     /// What is kept of a sector, read from it.
     fn keep<F: Flash, L: Ledger>(flash: &F, area: &Area, place: u32, steps: &mut Steps<L>) -> Self
         requires area { IsStoreArea role (F.device flash.now).banks area.now }
         requires inside { place < area.now.sectors }
-        ensures { let d = F.device flash.now in
-            result ≡ kept (geometry_of d area.now) (sector_at (sectors_of d area.now) place) };
+        ensures { IsKeptOn kept (F.device flash.now) area.now place result };
 
     /// Whether gc-done stands in the sector.
     fn has_gc_done(&self) -> bool
@@ -116,11 +112,9 @@ pub trait SlotSectors: Copy {
     ) -> u32
         requires area { IsStoreArea role (F.device flash.now).banks area.now }
         requires inside { place < area.now.sectors }
-        requires kept { let d = F.device flash.now in
-            self.now ≡ kept (geometry_of d area.now) (sector_at (sectors_of d area.now) place) }
+        requires kept { IsKeptOn kept (F.device flash.now) area.now place self.now }
         ensures { let d = F.device flash.now in
-            result
-            ≡ (kind (geometry_of d area.now)).free (sector_at (sectors_of d area.now) place) };
+            result ≡ (kind_on kind d area.now).free (sector_on d area.now place) };
 
     /// How many slots the list of the sector has of which this is kept.
     fn own_slots<F: Flash, L: Ledger>(
@@ -132,11 +126,9 @@ pub trait SlotSectors: Copy {
     ) -> u32
         requires area { IsStoreArea role (F.device flash.now).banks area.now }
         requires inside { place < area.now.sectors }
-        requires kept { let d = F.device flash.now in
-            self.now ≡ kept (geometry_of d area.now) (sector_at (sectors_of d area.now) place) }
+        requires kept { IsKeptOn kept (F.device flash.now) area.now place self.now }
         ensures value { let d = F.device flash.now in
-            result
-            ≡ (kind (geometry_of d area.now)).count (sector_at (sectors_of d area.now) place) }
+            result ≡ (kind_on kind d area.now).count (sector_on d area.now place) }
         ensures few { result ≤ 2 ^ 15 };
 
     /// How many slots the list of a sector has.
@@ -144,8 +136,7 @@ pub trait SlotSectors: Copy {
         requires area { IsStoreArea role (F.device flash.now).banks area.now }
         requires inside { place < area.now.sectors }
         ensures value { let d = F.device flash.now in
-            result
-            ≡ (kind (geometry_of d area.now)).count (sector_at (sectors_of d area.now) place) }
+            result ≡ (kind_on kind d area.now).count (sector_on d area.now place) }
         ensures few { result ≤ 2 ^ 15 };
 
     /// The entry in a slot of a sector's list. It is one step at most.
@@ -158,15 +149,12 @@ pub trait SlotSectors: Copy {
     ) -> Option<Placed>
         requires area { IsStoreArea role (F.device flash.now).banks area.now }
         requires inside { place < area.now.sectors }
-        requires listed { let d = F.device flash.now in let k = kind (geometry_of d area.now) in
-            (k.first ≤ slot)
-            × (slot < k.first + k.count (sector_at (sectors_of d area.now) place)) }
-        ensures entry { let d = F.device flash.now in let k = kind (geometry_of d area.now) in
-            result
-            ≡ option_map (placed_at place)
-            (k.in_slot (sector_at (sectors_of d area.now) place) slot) }
+        requires listed { let d = F.device flash.now in let k = kind_on kind d area.now in
+            (k.first ≤ slot) × (slot < k.first + k.count (sector_on d area.now place)) }
+        ensures entry { let d = F.device flash.now in let k = kind_on kind d area.now in
+            result ≡ option_map (placed_at place) (k.in_slot (sector_on d area.now place) slot) }
         ensures small { let d = F.device flash.now in
-            IfSome result (λ p. p.id < (kind (geometry_of d area.now)).ids) }
+            IfSome result (λ p. p.id < (kind_on kind d area.now).ids) }
         ensures short { IfSome result (λ p. p.len < 2 ^ 16) }
         ensures step { steps.new ≤ steps.old + 1 };
 
@@ -181,13 +169,12 @@ pub trait SlotSectors: Copy {
     ) -> u32
         requires area { IsStoreArea role (F.device flash.now).banks area.now }
         requires inside { place < area.now.sectors }
-        requires listed { let d = F.device flash.now in let k = kind (geometry_of d area.now) in
-            (k.first ≤ slot)
-            × (slot < k.first + k.count (sector_at (sectors_of d area.now) place)) }
-        ensures id { let d = F.device flash.now in let k = kind (geometry_of d area.now) in
-            IfSome (k.in_slot (sector_at (sectors_of d area.now) place) slot) (λ e. e.id ≡ result) }
+        requires listed { let d = F.device flash.now in let k = kind_on kind d area.now in
+            (k.first ≤ slot) × (slot < k.first + k.count (sector_on d area.now place)) }
+        ensures id { let d = F.device flash.now in let k = kind_on kind d area.now in
+            IfSome (k.in_slot (sector_on d area.now place) slot) (λ e. e.id ≡ result) }
         ensures small { let d = F.device flash.now in
-            (kind (geometry_of d area.now)).ids ≤ 2 ^ 16 → result < 2 ^ 16 }
+            (kind_on kind d area.now).ids ≤ 2 ^ 16 → result < 2 ^ 16 }
         ensures step { steps.new ≤ steps.old + 1 };
 
     /// The bytes of an entry of a sector's list. It is one step at most.
@@ -202,7 +189,7 @@ pub trait SlotSectors: Copy {
         requires within { IsWithinOn kind (F.device flash.now) area.now placed.now.sector }
         ensures bytes { let d = F.device flash.now in
             result.now
-            ≡ bytes_of (slots (kind (geometry_of d area.now))) (sectors_of d area.now) placed.now }
+            ≡ bytes_of (slots (kind_on kind d area.now)) (sectors_of d area.now) placed.now }
         ensures step { steps.new ≤ steps.old + 1 };
 
     /// The last entry of an id in a sector.
@@ -215,11 +202,10 @@ pub trait SlotSectors: Copy {
     ) -> Option<Placed>
         requires area { IsStoreArea role (F.device flash.now).banks area.now }
         requires inside { place < area.now.sectors }
-        ensures { let d = F.device flash.now in let k = kind (geometry_of d area.now) in
+        ensures { let d = F.device flash.now in let k = kind_on kind d area.now in
             result
             ≡ option_map (placed_at place)
-            (last_in (slots k) place id
-            ((slots k).entries (sector_at (sectors_of d area.now) place))) };
+            (last_in (slots k) place id ((slots k).entries (sector_on d area.now place))) };
 
     /// How many slots of a sector's list have to be looked at for the ids from `least` to `most`: those behind them have no
     /// entry of these.
@@ -234,10 +220,9 @@ pub trait SlotSectors: Copy {
         requires area { IsStoreArea role (F.device flash.now).banks area.now }
         requires inside { place < area.now.sectors }
         ensures few { let d = F.device flash.now in
-            result
-            ≤ (kind (geometry_of d area.now)).count (sector_at (sectors_of d area.now) place) }
+            result ≤ (kind_on kind d area.now).count (sector_on d area.now place) }
         ensures small { result ≤ 2 ^ 15 }
-        ensures others { let d = F.device flash.now in let k = kind (geometry_of d area.now) in
+        ensures others { let d = F.device flash.now in let k = kind_on kind d area.now in
             let b = sector_at (sectors_of d area.now) place in
             AreOthers k b result (k.count b) least most };
 
@@ -254,12 +239,11 @@ pub trait SlotSectors: Copy {
         requires area { IsStoreArea role (F.device flash.now).banks area.now }
         requires inside { place < area.now.sectors }
         requires listed { let d = F.device flash.now in
-            slots
-            ≤ (kind (geometry_of d area.now)).count (sector_at (sectors_of d area.now) place) }
+            slots ≤ (kind_on kind d area.now).count (sector_on d area.now place) }
         ensures few { result ≤ slots }
         ensures others { let d = F.device flash.now in
-            AreOthers (kind (geometry_of d area.now)) (sector_at (sectors_of d area.now) place)
-            result slots least most };
+            AreOthers (kind_on kind d area.now) (sector_on d area.now place) result slots least
+            most };
 
     // ---- steps in the open sector
 
@@ -276,45 +260,29 @@ pub trait SlotSectors: Copy {
     ) -> Result<(), PowerLost>
         requires area { IsStoreArea role (F.device flash.old).banks area.now }
         requires inside { place < area.now.sectors }
-        requires kept { let d = F.device flash.old in
-            self.old ≡ kept (geometry_of d area.now) (sector_at (sectors_of d area.now) place) }
-        requires sound { let d = F.device flash.old in
-            is_sound (kind (geometry_of d area.now)).reading
-            (sector_at (sectors_of d area.now) place) ≡ true }
+        requires kept { IsKeptOn kept (F.device flash.old) area.now place self.old }
+        requires sound { IsSoundOn kind (F.device flash.old) area.now place }
         requires opened { let d = F.device flash.old in
-            is_closed_at (kind (geometry_of d area.now)).reading (sectors_of d area.now) place
-            ≡ false }
+            is_closed_at (kind_on kind d area.now).reading (sectors_of d area.now) place ≡ false }
         ensures touches { Touches (area.now ∷ []) (F.device flash.old) (F.device flash.new)
             (is_err result) }
-        ensures only { ChangesOnly (sectors_of (F.device flash.old) area.now)
-            (sectors_of (F.device flash.new) area.now) place }
-        ensures begins { let d = F.device flash.old in
-            OnOk result
-            (Begins (kind (geometry_of d area.now)) (sector_at (sectors_of d area.now) place)
-            (sector_at (sectors_of (F.device flash.new) area.now) place)) }
-        ensures kept { let d = F.device flash.old in
-            OnOk result
-            (self.new
-            ≡ kept (geometry_of d area.now)
-            (sector_at (sectors_of (F.device flash.new) area.now) place)) }
-        ensures lost { let d = F.device flash.old in
+        ensures only { ChangesOnlyOn (F.device flash.old) (F.device flash.new) area.now place }
+        ensures begins { let d = F.device flash.old in let e = F.device flash.new in
+            OnOk result (BeginsOn kind d e area.now place) }
+        ensures kept { let d = F.device flash.old in let e = F.device flash.new in
+            OnOk result (IsKeptAfter kept d e area.now place self.new) }
+        ensures lost { let d = F.device flash.old in let e = F.device flash.new in
+            OnErr result (KeepsOn kind d e area.now place) }
+        ensures room_lost { let d = F.device flash.old in let e = F.device flash.new in
+            let k = kind_on kind d area.now in
             OnErr result
-            (Keeps (kind (geometry_of d area.now)) (sector_at (sectors_of d area.now) place)
-            (sector_at (sectors_of (F.device flash.new) area.now) place)) }
-        ensures room_lost { let d = F.device flash.old in let k = kind (geometry_of d area.now) in
-            OnErr result
-            (LeavesRoom k (sector_at (sectors_of d area.now) place)
-            (sector_at (sectors_of (F.device flash.new) area.now) place) 0) }
-        ensures spends { let d = F.device flash.old in
+            (LeavesRoom k (sector_on d area.now place) (sector_on e area.now place) 0) }
+        ensures spends { let d = F.device flash.old in let e = F.device flash.new in
             OnOk result
-            (SpendsIn d (F.device flash.new)
-            ((kind (geometry_of d area.now)).units.begin
-            (sector_at (sectors_of d area.now) place))) }
-        ensures spends_lost { let d = F.device flash.old in
+            (SpendsIn d e ((kind_on kind d area.now).units.begin (sector_on d area.now place))) }
+        ensures spends_lost { let d = F.device flash.old in let e = F.device flash.new in
             OnErr result
-            (SpendsUpTo d (F.device flash.new)
-            ((kind (geometry_of d area.now)).units.begin
-            (sector_at (sectors_of d area.now) place))) };
+            (SpendsUpTo d e ((kind_on kind d area.now).units.begin (sector_on d area.now place))) };
 
     /// Puts an item's bytes and their entry. No bytes are a delete.
     ///
@@ -418,48 +386,33 @@ pub trait SlotSectors: Copy {
     ) -> Result<(), PowerLost>
         requires area { IsStoreArea role (F.device flash.old).banks area.now }
         requires inside { place < area.now.sectors }
-        requires kept { let d = F.device flash.old in
-            self.now ≡ kept (geometry_of d area.now) (sector_at (sectors_of d area.now) place) }
-        requires opened { let d = F.device flash.old in
-            place ≡ open_sector (kind (geometry_of d area.now)).reading (sectors_of d area.now) }
-        requires rested { let d = F.device flash.old in
-            is_closed_at (kind (geometry_of d area.now)).reading (sectors_of d area.now)
-            (next (sectors_of d area.now) place) ≡ false }
-        requires sound { let d = F.device flash.old in
-            is_sound (kind (geometry_of d area.now)).reading
-            (sector_at (sectors_of d area.now) place) ≡ true }
+        requires kept { IsKeptOn kept (F.device flash.old) area.now place self.now }
+        requires opened { IsOpenOn kind (F.device flash.old) area.now place }
+        requires rested { NextIsNotClosedOn kind (F.device flash.old) area.now place }
+        requires sound { IsSoundOn kind (F.device flash.old) area.now place }
         requires not_closed { let d = F.device flash.old in
-            is_closed_at (kind (geometry_of d area.now)).reading (sectors_of d area.now) place
-            ≡ false }
+            is_closed_at (kind_on kind d area.now).reading (sectors_of d area.now) place ≡ false }
         requires used { let d = F.device flash.old in
-            (kind (geometry_of d area.now)).is_clean (sector_at (sectors_of d area.now) place)
-            ≡ false }
+            (kind_on kind d area.now).is_clean (sector_on d area.now place) ≡ false }
         ensures touches { Touches (area.now ∷ []) (F.device flash.old) (F.device flash.new)
             (is_err result) }
-        ensures only { ChangesOnly (sectors_of (F.device flash.old) area.now)
-            (sectors_of (F.device flash.new) area.now) place }
-        ensures closes { let d = F.device flash.old in
-            OnOk result
-            (Closes (kind (geometry_of d area.now)) (sector_at (sectors_of d area.now) place)
-            (sector_at (sectors_of (F.device flash.new) area.now) place)) }
-        ensures lost { let d = F.device flash.old in let k = kind (geometry_of d area.now) in
+        ensures only { ChangesOnlyOn (F.device flash.old) (F.device flash.new) area.now place }
+        ensures closes { let d = F.device flash.old in let e = F.device flash.new in
+            OnOk result (ClosesOn kind d e area.now place) }
+        ensures lost { let d = F.device flash.old in let k = kind_on kind d area.now in
             let b = sector_at (sectors_of d area.now) place in
             let e = sector_at (sectors_of (F.device flash.new) area.now) place in
             OnErr result (Keeps k b e ⊎ Closes k b e) }
-        ensures blank_lost { let d = F.device flash.old in let k = kind (geometry_of d area.now) in
+        ensures blank_lost { let d = F.device flash.old in let k = kind_on kind d area.now in
             let b = sector_at (sectors_of d area.now) place in
             let e = sector_at (sectors_of (F.device flash.new) area.now) place in
             OnErr result (k.reading.is_blank b ≡ true → (e ≡ b) ⊎ Closes k b e) }
-        ensures spends { let d = F.device flash.old in
+        ensures spends { let d = F.device flash.old in let e = F.device flash.new in
             OnOk result
-            (SpendsIn d (F.device flash.new)
-            ((kind (geometry_of d area.now)).units.close
-            (sector_at (sectors_of d area.now) place))) }
-        ensures spends_lost { let d = F.device flash.old in
+            (SpendsIn d e ((kind_on kind d area.now).units.close (sector_on d area.now place))) }
+        ensures spends_lost { let d = F.device flash.old in let e = F.device flash.new in
             OnErr result
-            (SpendsUpTo d (F.device flash.new)
-            ((kind (geometry_of d area.now)).units.close
-            (sector_at (sectors_of d area.now) place))) };
+            (SpendsUpTo d e ((kind_on kind d area.now).units.close (sector_on d area.now place))) };
 
     // ---- a step in any sector
 
@@ -477,26 +430,17 @@ pub trait SlotSectors: Copy {
         requires inside { place < area.now.sectors }
         ensures touches { Touches (area.now ∷ []) (F.device flash.old) (F.device flash.new)
             (is_err result) }
-        ensures only { ChangesOnly (sectors_of (F.device flash.old) area.now)
-            (sectors_of (F.device flash.new) area.now) place }
-        ensures clears { let d = F.device flash.old in
+        ensures only { ChangesOnlyOn (F.device flash.old) (F.device flash.new) area.now place }
+        ensures clears { let d = F.device flash.old in let e = F.device flash.new in
+            OnOk result (ClearsOn kind d e area.now place) }
+        ensures lost { let d = F.device flash.old in let e = F.device flash.new in
+            OnErr result (StopsClearingOn kind d e area.now place) }
+        ensures spends { let d = F.device flash.old in let e = F.device flash.new in
             OnOk result
-            (Clears (kind (geometry_of d area.now)) (sector_at (sectors_of d area.now) place)
-            (sector_at (sectors_of (F.device flash.new) area.now) place)) }
-        ensures lost { let d = F.device flash.old in
+            (SpendsIn d e ((kind_on kind d area.now).units.clear (sector_on d area.now place))) }
+        ensures spends_lost { let d = F.device flash.old in let e = F.device flash.new in
             OnErr result
-            (StopsClearing (kind (geometry_of d area.now)) (sector_at (sectors_of d area.now) place)
-            (sector_at (sectors_of (F.device flash.new) area.now) place)) }
-        ensures spends { let d = F.device flash.old in
-            OnOk result
-            (SpendsIn d (F.device flash.new)
-            ((kind (geometry_of d area.now)).units.clear
-            (sector_at (sectors_of d area.now) place))) }
-        ensures spends_lost { let d = F.device flash.old in
-            OnErr result
-            (SpendsUpTo d (F.device flash.new)
-            ((kind (geometry_of d area.now)).units.clear
-            (sector_at (sectors_of d area.now) place))) };
+            (SpendsUpTo d e ((kind_on kind d area.now).units.clear (sector_on d area.now place))) };
 
     // ---- reading an area
 
@@ -507,17 +451,13 @@ pub trait SlotSectors: Copy {
         steps: &mut Steps<L>,
     ) -> Result<u32, Damaged>
         requires area { IsStoreArea role (F.device flash.now).banks area.now }
-        ensures opened { let d = F.device flash.now in
-            IfOk result
-            (λ place. place
-            ≡ open_sector (kind (geometry_of d area.now)).reading (sectors_of d area.now)) }
+        ensures opened { IfOk result (λ place. IsOpenOn kind (F.device flash.now) area.now place) }
         ensures within { IfOk result (λ place. place < area.now.sectors) }
         ensures undamaged { let d = F.device flash.now in
-            OnOk result ((kind (geometry_of d area.now)).damage (sectors_of d area.now) ≡ None) }
+            OnOk result ((kind_on kind d area.now).damage (sectors_of d area.now) ≡ None) }
         ensures damaged { let d = F.device flash.now in
             IfErr result
-            (λ damaged. (kind (geometry_of d area.now)).damage (sectors_of d area.now)
-            ≡ Some damaged) };
+            (λ damaged. (kind_on kind d area.now).damage (sectors_of d area.now) ≡ Some damaged) };
 
     /// The kind is one.
     ghost lawful: { (geometry : geometry_type) → IsUnit geometry.unit → IsKind (kind geometry) };

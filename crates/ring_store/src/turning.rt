@@ -1,6 +1,6 @@
 // Mounting, and closing with a collection.
 ghost use Rattle.std.specs.Prelude.{◌≡◌, ◌∷◌, [], false, is_err, length, OnOk, OnErr, ◌⊎◌};
-ghost use Rattle.flash_map.specs.Area.{geometry_of, sector_size, sectors_of};
+ghost use Rattle.flash_map.specs.Area.{sector_size, sectors_of};
 ghost use Rattle.flash_map.specs.Faults.{mount_lost};
 ghost use Rattle.flash_map.specs.Spending.{SpendsBetween};
 ghost use Rattle.flash_map.specs.Touches.{Touches};
@@ -34,13 +34,17 @@ impl<T: SlotSectors> Store<T> {
         steps: &mut Steps<L>,
     ) -> Result<Store<T>, MountFault>
         requires { IsStoreArea T.role (F.device flash.old).banks area }
-        ensures touches { Touches (area ∷ []) (F.device flash.old) (F.device flash.new) (mount_lost result) }
-        ensures ends { MountEnds T.role T.kind T.kept (F.device flash.old) (F.device flash.new) area result }
-        ensures at_most { let d = F.device flash.old in SpendsBetween d (F.device flash.new) 0 ((T.kind (geometry_of d area)).units.mount (sector_size d area)) }
-        ensures written { let d = F.device flash.old in let k = T.kind (geometry_of d area) in
-            IsWritten k (sectors_of d area) → IsWritten k (sectors_of (F.device flash.new) area) }
-        ensures changed { let d = F.device flash.old in
-            (F.device flash.new ≡ d) ⊎ IsWritten (T.kind (geometry_of d area)) (sectors_of (F.device flash.new) area) }
+        ensures touches { let d = F.device flash.old in let e = F.device flash.new in
+            Touches (area ∷ []) d e (mount_lost result) }
+        ensures ends { let d = F.device flash.old in let e = F.device flash.new in
+            MountEnds T.role T.kind T.kept d e area result }
+        ensures at_most { let d = F.device flash.old in let e = F.device flash.new in
+            SpendsBetween d e 0 ((kind_on T.kind d area).units.mount (sector_size d area)) }
+        ensures written { let d = F.device flash.old in let e = F.device flash.new in
+            let k = kind_on T.kind d area in
+            IsWritten k (sectors_of d area) → IsWritten k (sectors_of e area) }
+        ensures changed { let d = F.device flash.old in let e = F.device flash.new in
+            (F.device flash.new ≡ d) ⊎ IsWritten (kind_on T.kind d area) (sectors_of e area) }
     {
         match Cache::with_slots(alloc, CACHE_SLOTS) {
             Err(_) => Err(MountFault::NoMemory),
@@ -57,13 +61,17 @@ impl<T: SlotSectors> Store<T> {
     ) -> Result<Store<T>, MountFault>
         requires area { IsStoreArea T.role (F.device flash.old).banks area }
         requires slots { length cache ≡ 64 }
-        ensures touches { Touches (area ∷ []) (F.device flash.old) (F.device flash.new) (mount_lost result) }
-        ensures ends { MountEnds T.role T.kind T.kept (F.device flash.old) (F.device flash.new) area result }
-        ensures at_most { let d = F.device flash.old in SpendsBetween d (F.device flash.new) 0 ((T.kind (geometry_of d area)).units.mount (sector_size d area)) }
-        ensures written { let d = F.device flash.old in let k = T.kind (geometry_of d area) in
-            IsWritten k (sectors_of d area) → IsWritten k (sectors_of (F.device flash.new) area) }
-        ensures changed { let d = F.device flash.old in
-            (F.device flash.new ≡ d) ⊎ IsWritten (T.kind (geometry_of d area)) (sectors_of (F.device flash.new) area) }
+        ensures touches { let d = F.device flash.old in let e = F.device flash.new in
+            Touches (area ∷ []) d e (mount_lost result) }
+        ensures ends { let d = F.device flash.old in let e = F.device flash.new in
+            MountEnds T.role T.kind T.kept d e area result }
+        ensures at_most { let d = F.device flash.old in let e = F.device flash.new in
+            SpendsBetween d e 0 ((kind_on T.kind d area).units.mount (sector_size d area)) }
+        ensures written { let d = F.device flash.old in let e = F.device flash.new in
+            let k = kind_on T.kind d area in
+            IsWritten k (sectors_of d area) → IsWritten k (sectors_of e area) }
+        ensures changed { let d = F.device flash.old in let e = F.device flash.new in
+            (F.device flash.new ≡ d) ⊎ IsWritten (kind_on T.kind d area) (sectors_of e area) }
     {
         match T::scan(flash, &area, steps) {
             Err(damaged) => Err(MountFault::Damaged(damaged)),
@@ -123,8 +131,9 @@ impl<T: SlotSectors> Store<T> {
         ensures touches { let d = F.device flash.old in
             Touches (self.old.area ∷ []) d (F.device flash.new) (is_err result) }
         ensures area { self.new.area ≡ self.old.area }
-        ensures items { let d = F.device flash.old in let area = self.old.area in
-            KeepsItems (kind_on T.kind d area) (sectors_of d area) (sectors_of (F.device flash.new) area) }
+        ensures items { let d = F.device flash.old in let e = F.device flash.new in
+            let area = self.old.area in
+            KeepsItems (kind_on T.kind d area) (sectors_of d area) (sectors_of e area) }
         ensures written { let d = F.device flash.old in let area = self.old.area in
             let k = kind_on T.kind d area in
             IsWritten k (sectors_of d area) → IsWritten k (sectors_of (F.device flash.new) area) }
@@ -156,8 +165,9 @@ impl<T: SlotSectors> Store<T> {
         ensures touches { let d = F.device flash.old in
             Touches (self.old.area ∷ []) d (F.device flash.new) (is_err result) }
         ensures area { self.new.area ≡ self.old.area }
-        ensures items { let d = F.device flash.old in let area = self.old.area in
-            KeepsItems (kind_on T.kind d area) (sectors_of d area) (sectors_of (F.device flash.new) area) }
+        ensures items { let d = F.device flash.old in let e = F.device flash.new in
+            let area = self.old.area in
+            KeepsItems (kind_on T.kind d area) (sectors_of d area) (sectors_of e area) }
         ensures written { let d = F.device flash.old in let area = self.old.area in
             let k = kind_on T.kind d area in
             IsWritten k (sectors_of d area) → IsWritten k (sectors_of (F.device flash.new) area) }

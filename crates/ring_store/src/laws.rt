@@ -1,6 +1,6 @@
 //! Laws on versions of items. The functions do nothing: their contracts are the laws.
 
-ghost use Rattle.std.specs.Prelude.{◌≡◌, ◌∷◌, [], ◌++◌, ◌==◌, ℕ, List, slice_get};
+ghost use Rattle.std.specs.Prelude.{◌≡◌, ◌∷◌, [], ◌++◌, ◌==◌, ℕ, List, slice_get, if◌then◌else◌};
 ghost use Rattle.std.specs.Option.{option_and_then};
 ghost use Rattle.pair_laws.specs.Items.{last, value_of, SameItems};
 ghost use Rattle.pair_laws.specs.Live.{live_pairs};

@@ -151,3 +151,15 @@ pub record PutEnds {T X E : Type 0} (kind : Geometry → Kind) (keep : Geometry 
   pub sound : KeepsSoundOn kind old new on place
   pub spends : OnOk result (SpendsIn old new ((kind_on kind old on).units.put (sector_on old on place) (length bytes)))
   pub spends_lost : OnErr result (SpendsUpTo old new ((kind_on kind old on).units.put (sector_on old on place) (length bytes)))
+
+-- gc-done stands in the sector
+pub record IsMarked {T : Type 0} (kind : Geometry → Kind) (keep : Geometry → List ℕ → T)
+    (old new : Device) (on : Area) (place : ℕ) (held : T) : Type 0 where
+  pub marks : MarksOn kind old new on place
+  pub kept : IsKeptAfter keep old new on place held
+  pub spends : SpendsIn old new ((kind_on kind old on).units.done (sector_on old on place))
+
+-- power was lost in that
+pub record StopsMarking (kind : Geometry → Kind) (old new : Device) (on : Area) (place : ℕ) : Type 0 where
+  pub lost : KeepsMarksOn kind old new on place
+  pub spends_lost : SpendsUpTo old new ((kind_on kind old on).units.done (sector_on old on place))

@@ -11,7 +11,7 @@ ghost use Rattle.ring_laws.specs.Live.{last_in, bytes_of};
 ghost use Rattle.ring_store.specs.Kind.{Kind, IsKind, placed_at, slots, fits};
 ghost use Rattle.ring_store.specs.Lasts.{AreOthers};
 ghost use Rattle.ring_store.specs.Listed.{IsListedOn, IsWithinOn, kind_on};
-ghost use Rattle.ring_store.specs.OnSector.{IsOpenSector, IsCollecting, IsSource, PutEnds, sector_on, free_on, bytes_on, IsKeptOn, IsKeptAfter, IsSoundOn, IsOpenOn, NextIsNotClosedOn, FitsOn, HasCopyRoomOn, ChangesOnlyOn, KeepsOn, KeepsMarksOn, MarksOn, AddsOn, ClosesOn, ClearsOn, BeginsOn, StopsClearingOn};
+ghost use Rattle.ring_store.specs.OnSector.{IsMarked, StopsMarking, IsOpenSector, IsCollecting, IsSource, PutEnds, sector_on, free_on, bytes_on, IsKeptOn, IsKeptAfter, IsSoundOn, IsOpenOn, NextIsNotClosedOn, FitsOn, HasCopyRoomOn, ChangesOnlyOn, KeepsOn, KeepsMarksOn, MarksOn, AddsOn, ClosesOn, ClearsOn, BeginsOn, StopsClearingOn};
 ghost use Rattle.ring_store.specs.Standing.{IsStoreArea, SpendsIn, SpendsUpTo};
 ghost use Rattle.ring_store.specs.Steps.{Keeps, LeavesRoom, Marks, Closes};
 
@@ -359,18 +359,10 @@ pub trait SlotSectors: Copy {
         ensures touches { Touches (area.now ∷ []) (F.device flash.old) (F.device flash.new)
             (is_err result) }
         ensures only { ChangesOnlyOn (F.device flash.old) (F.device flash.new) area.now place }
-        ensures marks { OnOk result
-            (MarksOn kind (F.device flash.old) (F.device flash.new) area.now place) }
-        ensures kept { OnOk result
-            (IsKeptAfter kept (F.device flash.old) (F.device flash.new) area.now place self.new) }
-        ensures lost { OnErr result
-            (KeepsMarksOn kind (F.device flash.old) (F.device flash.new) area.now place) }
-        ensures spends { let d = F.device flash.old in let e = F.device flash.new in
-            OnOk result
-            (SpendsIn d e ((kind_on kind d area.now).units.done (sector_on d area.now place))) }
-        ensures spends_lost { let d = F.device flash.old in let e = F.device flash.new in
-            OnErr result
-            (SpendsUpTo d e ((kind_on kind d area.now).units.done (sector_on d area.now place))) };
+        ensures ok { let d = F.device flash.old in let e = F.device flash.new in
+            OnOk result (IsMarked kind kept d e area.now place self.new) }
+        ensures err { let d = F.device flash.old in let e = F.device flash.new in
+            OnErr result (StopsMarking kind d e area.now place) };
 
     /// Closes the open sector, which is not clean.
     ///

@@ -94,7 +94,7 @@ returns-in_err-mark_done-clause-items g c =
     let d : Device = g.F.Flash.device c.copy_live.new.flash in
     let did = c.in_ok-copy_live.ensures in
     let e : Device = g.F.Flash.device c.mark_done.new.flash in
-    mark_lost g.T.SlotSectors.kind g.T.SlotSectors.role a area place law (g.met.F.Flash.is_lawful c.args.flash.now) c.requires.area c.requires.collecting d did.touches.banks did.copies e c.in_err-mark_done.ensures.only c.in_err-mark_done.ensures.lost
+    mark_lost g.T.SlotSectors.kind g.T.SlotSectors.role a area place law (g.met.F.Flash.is_lawful c.args.flash.now) c.requires.area c.requires.collecting d did.touches.banks did.copies e c.in_err-mark_done.ensures.only c.in_err-mark_done.ensures.err.lost
 
 pub returns-in_err-copy_live-clause-spends_lost : goal.returns-in_err-copy_live-clause-spends_lost
 returns-in_err-copy_live-clause-spends_lost g c =
@@ -112,7 +112,7 @@ returns-in_err-mark_done-clause-spends_lost g c =
     let d : Device = g.F.Flash.device c.copy_live.new.flash in
     let did = c.in_ok-copy_live.ensures in
     let e : Device = g.F.Flash.device c.mark_done.new.flash in
-    on_err c.from_residual-in_err-mark_done.result (mark_spends_lost g.T.SlotSectors.kind g.T.SlotSectors.role a area place law (g.met.F.Flash.is_lawful c.args.flash.now) c.requires.area c.requires.collecting d did.touches.banks did.copies e did.spends c.in_err-mark_done.ensures.spends_lost)
+    on_err c.from_residual-in_err-mark_done.result (mark_spends_lost g.T.SlotSectors.kind g.T.SlotSectors.role a area place law (g.met.F.Flash.is_lawful c.args.flash.now) c.requires.area c.requires.collecting d did.touches.banks did.copies e did.spends c.in_err-mark_done.ensures.err.spends_lost)
 
 pub returns-clause-touches : goal.returns-clause-touches
 returns-clause-touches g c =
@@ -131,7 +131,7 @@ returns-clause-collects g c =
     let marked = c.in_ok-mark_done.ensures in
     let z : Device = g.F.Flash.device c.clear.new.flash in
     let at : c.next-victim.result ≡ next (sectors_of a area) place = c.next-victim.ensures.value ∙ next_there a area place in
-    on_ok_weaker c.clear.result (λ clears. cleared g.T.SlotSectors.kind g.T.SlotSectors.role a area place law (g.met.F.Flash.is_lawful c.args.flash.now) c.requires.area c.requires.collecting d did.touches.banks did.copies e both.banks marked.only marked.marks c.next-victim.result at z c.clear.ensures.only clears.clean) c.clear.ensures.clears
+    on_ok_weaker c.clear.result (λ clears. cleared g.T.SlotSectors.kind g.T.SlotSectors.role a area place law (g.met.F.Flash.is_lawful c.args.flash.now) c.requires.area c.requires.collecting d did.touches.banks did.copies e both.banks marked.only marked.ok.marks c.next-victim.result at z c.clear.ensures.only clears.clean) c.clear.ensures.clears
 
 pub returns-clause-items : goal.returns-clause-items
 returns-clause-items g c =
@@ -147,8 +147,8 @@ returns-clause-items g c =
     let z : Device = g.F.Flash.device c.clear.new.flash in
     let at : c.next-victim.result ≡ next (sectors_of a area) place = c.next-victim.ensures.value ∙ next_there a area place in
     either c.clear.result
-    (on_ok_weaker c.clear.result (λ clears. cleared_keeps g.T.SlotSectors.kind g.T.SlotSectors.role a area place law (g.met.F.Flash.is_lawful c.args.flash.now) c.requires.area c.requires.collecting d did.touches.banks did.copies e both.banks marked.only marked.marks c.next-victim.result at z c.clear.ensures.only clears.clean) c.clear.ensures.clears)
-    (on_err_weaker c.clear.result (λ keeps. clear_lost g.T.SlotSectors.kind g.T.SlotSectors.role a area place law (g.met.F.Flash.is_lawful c.args.flash.now) c.requires.area c.requires.collecting d did.touches.banks did.copies e both.banks marked.only marked.marks c.next-victim.result at z c.clear.ensures.only keeps) c.clear.ensures.lost)
+    (on_ok_weaker c.clear.result (λ clears. cleared_keeps g.T.SlotSectors.kind g.T.SlotSectors.role a area place law (g.met.F.Flash.is_lawful c.args.flash.now) c.requires.area c.requires.collecting d did.touches.banks did.copies e both.banks marked.only marked.ok.marks c.next-victim.result at z c.clear.ensures.only clears.clean) c.clear.ensures.clears)
+    (on_err_weaker c.clear.result (λ keeps. clear_lost g.T.SlotSectors.kind g.T.SlotSectors.role a area place law (g.met.F.Flash.is_lawful c.args.flash.now) c.requires.area c.requires.collecting d did.touches.banks did.copies e both.banks marked.only marked.ok.marks c.next-victim.result at z c.clear.ensures.only keeps) c.clear.ensures.lost)
 
 pub returns-clause-spends : goal.returns-clause-spends
 returns-clause-spends g c =
@@ -163,7 +163,7 @@ returns-clause-spends g c =
     let marked = c.in_ok-mark_done.ensures in
     let z : Device = g.F.Flash.device c.clear.new.flash in
     let at : c.next-victim.result ≡ next (sectors_of a area) place = c.next-victim.ensures.value ∙ next_there a area place in
-    on_ok_weaker c.clear.result (λ s. spends_all g.T.SlotSectors.kind g.T.SlotSectors.role a area place law (g.met.F.Flash.is_lawful c.args.flash.now) c.requires.area c.requires.collecting d did.touches.banks did.copies e both.banks marked.only marked.marks c.next-victim.result at z did.spends marked.spends s) c.clear.ensures.spends
+    on_ok_weaker c.clear.result (λ s. spends_all g.T.SlotSectors.kind g.T.SlotSectors.role a area place law (g.met.F.Flash.is_lawful c.args.flash.now) c.requires.area c.requires.collecting d did.touches.banks did.copies e both.banks marked.only marked.ok.marks c.next-victim.result at z did.spends marked.ok.spends s) c.clear.ensures.spends
 
 pub returns-clause-spends_lost : goal.returns-clause-spends_lost
 returns-clause-spends_lost g c =
@@ -178,7 +178,7 @@ returns-clause-spends_lost g c =
     let marked = c.in_ok-mark_done.ensures in
     let z : Device = g.F.Flash.device c.clear.new.flash in
     let at : c.next-victim.result ≡ next (sectors_of a area) place = c.next-victim.ensures.value ∙ next_there a area place in
-    on_err_weaker c.clear.result (λ s. spends_all_lost g.T.SlotSectors.kind g.T.SlotSectors.role a area place law (g.met.F.Flash.is_lawful c.args.flash.now) c.requires.area c.requires.collecting d did.touches.banks did.copies e both.banks marked.only marked.marks c.next-victim.result at z did.spends marked.spends s) c.clear.ensures.spends_lost
+    on_err_weaker c.clear.result (λ s. spends_all_lost g.T.SlotSectors.kind g.T.SlotSectors.role a area place law (g.met.F.Flash.is_lawful c.args.flash.now) c.requires.area c.requires.collecting d did.touches.banks did.copies e both.banks marked.only marked.ok.marks c.next-victim.result at z did.spends marked.ok.spends s) c.clear.ensures.spends_lost
 
 pub returns-in_err-copy_live-clause-written : goal.returns-in_err-copy_live-clause-written
 returns-in_err-copy_live-clause-written g c =
@@ -197,7 +197,7 @@ returns-in_err-mark_done-clause-written g c =
     let d : Device = g.F.Flash.device c.copy_live.new.flash in
     let did = c.in_ok-copy_live.ensures in
     let e : Device = g.F.Flash.device c.mark_done.new.flash in
-    mark_cut-written g.T.SlotSectors.kind a area place law c.requires.collecting d did.touches.banks e c.in_err-mark_done.ensures.only did.copies c.in_err-mark_done.ensures.lost
+    mark_cut-written g.T.SlotSectors.kind a area place law c.requires.collecting d did.touches.banks e c.in_err-mark_done.ensures.only did.copies c.in_err-mark_done.ensures.err.lost
 
 pub returns-clause-written : goal.returns-clause-written
 returns-clause-written g c =
@@ -211,7 +211,7 @@ returns-clause-written g c =
     let marked = c.in_ok-mark_done.ensures in
     let z : Device = g.F.Flash.device c.clear.new.flash in
     let at : c.next-victim.result ≡ next (sectors_of a area) place = c.next-victim.ensures.value ∙ next_there a area place in
-    clear-written g.T.SlotSectors.kind a area place law c.requires.collecting d did.touches.banks e marked.only marked.marks c.next-victim.result at z c.clear.ensures.only
+    clear-written g.T.SlotSectors.kind a area place law c.requires.collecting d did.touches.banks e marked.only marked.ok.marks c.next-victim.result at z c.clear.ensures.only
 
 pub returns-in_err-copy_live-clause-list_lost : goal.returns-in_err-copy_live-clause-list_lost
 returns-in_err-copy_live-clause-list_lost g c =
@@ -230,7 +230,7 @@ returns-in_err-mark_done-clause-list_lost g c =
     let d : Device = g.F.Flash.device c.copy_live.new.flash in
     let did = c.in_ok-copy_live.ensures in
     let e : Device = g.F.Flash.device c.mark_done.new.flash in
-    on_err c.from_residual-in_err-mark_done.result (mark_lost_list g.T.SlotSectors.kind g.T.SlotSectors.role a area place law (g.met.F.Flash.is_lawful c.args.flash.now) c.requires.area c.requires.collecting d did.touches.banks did.copies e c.in_err-mark_done.ensures.only c.in_err-mark_done.ensures.lost)
+    on_err c.from_residual-in_err-mark_done.result (mark_lost_list g.T.SlotSectors.kind g.T.SlotSectors.role a area place law (g.met.F.Flash.is_lawful c.args.flash.now) c.requires.area c.requires.collecting d did.touches.banks did.copies e c.in_err-mark_done.ensures.only c.in_err-mark_done.ensures.err.lost)
 
 pub returns-clause-list_lost : goal.returns-clause-list_lost
 returns-clause-list_lost g c =
@@ -245,7 +245,7 @@ returns-clause-list_lost g c =
     let marked = c.in_ok-mark_done.ensures in
     let z : Device = g.F.Flash.device c.clear.new.flash in
     let at : c.next-victim.result ≡ next (sectors_of a area) place = c.next-victim.ensures.value ∙ next_there a area place in
-    on_err_weaker c.clear.result (λ keeps. clear_lost_list g.T.SlotSectors.kind g.T.SlotSectors.role a area place law (g.met.F.Flash.is_lawful c.args.flash.now) c.requires.area c.requires.collecting d did.touches.banks did.copies e both.banks marked.only marked.marks c.next-victim.result at z c.clear.ensures.only keeps) c.clear.ensures.lost
+    on_err_weaker c.clear.result (λ keeps. clear_lost_list g.T.SlotSectors.kind g.T.SlotSectors.role a area place law (g.met.F.Flash.is_lawful c.args.flash.now) c.requires.area c.requires.collecting d did.touches.banks did.copies e both.banks marked.only marked.ok.marks c.next-victim.result at z c.clear.ensures.only keeps) c.clear.ensures.lost
 
 pub mark_done-requires-clause-collects : goal.mark_done-requires-clause-collects
 mark_done-requires-clause-collects g c = record {
@@ -297,7 +297,7 @@ returns-clause-kept g c =
     let z : Device = g.F.Flash.device c.clear.new.flash in
     let at : c.next-victim.result ≡ next (sectors_of a area) place = c.next-victim.ensures.value ∙ next_there a area place in
     let own : sector_at (sectors_of z area) place ≡ sector_at (sectors_of e area) place =
-    open_same g.T.SlotSectors.kind g.T.SlotSectors.role a area place law (g.met.F.Flash.is_lawful c.args.flash.now) c.requires.area c.requires.collecting d did.touches.banks did.copies e both.banks marked.only marked.marks c.next-victim.result at z c.clear.ensures.only in
+    open_same g.T.SlotSectors.kind g.T.SlotSectors.role a area place law (g.met.F.Flash.is_lawful c.args.flash.now) c.requires.area c.requires.collecting d did.touches.banks did.copies e both.banks marked.only marked.ok.marks c.next-victim.result at z c.clear.ensures.only in
     let here : c.mark_done.new.self ≡ g.T.SlotSectors.kept (geometry_of a area) (sector_at (sectors_of e area) place) =
-    to_geometry (λ u. c.mark_done.new.self ≡ g.T.SlotSectors.kept u (sector_at (sectors_of e area) place)) a d area did.touches.banks marked.kept in
+    to_geometry (λ u. c.mark_done.new.self ≡ g.T.SlotSectors.kept u (sector_at (sectors_of e area) place)) a d area did.touches.banks marked.ok.kept in
     on_ok_weaker c.clear.result (λ clears. here ∙ ap (λ (b : List ℕ). g.T.SlotSectors.kept (geometry_of a area) b) (sym own)) c.clear.ensures.clears

@@ -18,7 +18,9 @@ use std::sync::ledger::Ledger;
 
 // Whether bytes are greater than some others and less than others still, where there are such.
 fn is_between(bytes: &[u8], after: Option<&[u8]>, least: Option<&[u8]>) -> bool
-    ensures { result ≡ (is_past (option_map (λ other. other.now) after.entry) bytes.now && is_below bytes.now (option_map (λ other. other.now) least.entry)) }
+    ensures { result
+        ≡ (is_past (option_map (λ other. other.now) after.entry) bytes.now
+        && is_below bytes.now (option_map (λ other. other.now) least.entry)) }
 {
     after.is_none_or(|after| after.cmp(bytes).is_lt())
         && least.is_none_or(|least| bytes.cmp(least).is_lt())
@@ -34,11 +36,18 @@ impl<T: SlotSectors> Store<T> {
         steps: &mut Steps<L>,
     ) -> bool
         requires stands { StandsOn T.role T.kind T.kept (F.device flash.now) self.now }
-        requires placed { IsPlacedOn T.kind (F.device flash.now) self.now.area self.now.current placed.now }
-        ensures yes_it { let d = F.device flash.now in result ≡ true
-            → value_of (bytes_of (slots (kind_on T.kind d self.now.area)) (sectors_of d self.now.area) placed.now) ≡ Some bytes.now }
-        ensures not_it { let d = F.device flash.now in result ≡ false
-            → value_of (bytes_of (slots (kind_on T.kind d self.now.area)) (sectors_of d self.now.area) placed.now) ≡ Some bytes.now → ⊥ }
+        requires placed { IsPlacedOn T.kind (F.device flash.now) self.now.area self.now.current
+            placed.now }
+        ensures yes_it { let d = F.device flash.now in
+            result ≡ true
+            → value_of
+            (bytes_of (slots (kind_on T.kind d self.now.area)) (sectors_of d self.now.area)
+            placed.now) ≡ Some bytes.now }
+        ensures not_it { let d = F.device flash.now in
+            result ≡ false
+            → value_of
+            (bytes_of (slots (kind_on T.kind d self.now.area)) (sectors_of d self.now.area)
+            placed.now) ≡ Some bytes.now → ⊥ }
     {
         if placed.len as usize != bytes.len() {
             return false;
@@ -61,7 +70,8 @@ impl<T: SlotSectors> Store<T> {
     ) -> Option<u32>
         requires stands { StandsOn T.role T.kind T.kept (F.device flash.now) self.now }
         requires range { most < least + 0x1_0020 }
-        ensures { IsIdOf least most (items_on T.kind (F.device flash.now) self.now.area) bytes.now result }
+        ensures { IsIdOf least most (items_on T.kind (F.device flash.now) self.now.area) bytes.now
+            result }
     {
         let mut lasts = Lasts::start(
             flash,
@@ -90,9 +100,14 @@ impl<T: SlotSectors> Store<T> {
         steps: &mut Steps<L>,
     ) -> Option<&'a [u8]>
         requires stands { StandsOn T.role T.kind T.kept (F.device flash.now) self.now }
-        requires placed { IsPlacedOn T.kind (F.device flash.now) self.now.area self.now.current placed.now }
-        ensures { let d = F.device flash.now in option_map (λ bytes. bytes.now) result
-            ≡ lesser_of (option_map (λ other. other.now) after.entry) (value_of (bytes_of (slots (kind_on T.kind d self.now.area)) (sectors_of d self.now.area) placed.now)) (option_map (λ bytes. bytes.now) least.entry) }
+        requires placed { IsPlacedOn T.kind (F.device flash.now) self.now.area self.now.current
+            placed.now }
+        ensures { let d = F.device flash.now in
+            option_map (λ bytes. bytes.now) result
+            ≡ lesser_of (option_map (λ other. other.now) after.entry)
+            (value_of
+            (bytes_of (slots (kind_on T.kind d self.now.area)) (sectors_of d self.now.area)
+            placed.now)) (option_map (λ bytes. bytes.now) least.entry) }
     {
         match self.bytes_at(flash, placed, steps) {
             Some(bytes) => {

@@ -72,7 +72,8 @@ pub fn follow_round<T: SlotSectors, F: Flash, L: Ledger>(
     requires inside { opened < area.now.sectors }
 
     ensures { let d = F.device flash.now in
-        FollowsRound (kind_on T.kind d area.now) (sectors_of d area.now) opened cache.old cache.new }
+        FollowsRound (kind_on T.kind d area.now) (sectors_of d area.now) opened cache.old
+        cache.new }
 {
     let victim = area.next(opened);
     cache.forget_sector(victim);

@@ -34,29 +34,60 @@ fn copy_slot<T: SlotSectors, F: Flash, L: Ledger>(
     steps: &mut Steps<L>,
 ) -> Result<(), PowerLost>
     requires area { IsStoreArea T.role (F.device flash.old).banks area.now }
-    requires kept { let d = F.device flash.old in opened.old ≡ T.kept (geometry_of d area.now) (sector_at (sectors_of d area.now) current) }
-    requires current { let d = F.device flash.old in current ≡ open_sector (T.kind (geometry_of d area.now)).reading (sectors_of d area.now) }
+    requires kept { let d = F.device flash.old in
+        opened.old ≡ T.kept (geometry_of d area.now) (sector_at (sectors_of d area.now) current) }
+    requires current { let d = F.device flash.old in
+        current ≡ open_sector (T.kind (geometry_of d area.now)).reading (sectors_of d area.now) }
     requires place { current < area.now.sectors }
     requires inside { victim < area.now.sectors }
     requires other { victim ≡ current → ⊥ }
     requires listed { let d = F.device flash.old in let k = T.kind (geometry_of d area.now) in
         (k.first ≤ slot) × (slot < k.first + k.count (sector_at (sectors_of d area.now) victim)) }
-    requires ready { let d = F.device flash.old in (T.kind (geometry_of d area.now)).is_ready (sector_at (sectors_of d area.now) current) ≡ true }
-    requires collecting { let d = F.device flash.old in is_closed_at (T.kind (geometry_of d area.now)).reading (sectors_of d area.now) (next (sectors_of d area.now) current) ≡ true }
-    requires not_done { let d = F.device flash.old in (T.kind (geometry_of d area.now)).reading.has_gc_done (sector_at (sectors_of d area.now) current) ≡ false }
-    requires source { let d = F.device flash.old in is_sound (T.kind (geometry_of d area.now)).reading (sector_at (sectors_of d area.now) victim) ≡ true }
-    requires within { let d = F.device flash.old in (T.kind (geometry_of d area.now)).within (sector_at (sectors_of d area.now) victim) ≡ true }
+    requires ready { let d = F.device flash.old in
+        (T.kind (geometry_of d area.now)).is_ready (sector_at (sectors_of d area.now) current)
+        ≡ true }
+    requires collecting { let d = F.device flash.old in
+        is_closed_at (T.kind (geometry_of d area.now)).reading (sectors_of d area.now)
+        (next (sectors_of d area.now) current) ≡ true }
+    requires not_done { let d = F.device flash.old in
+        (T.kind (geometry_of d area.now)).reading.has_gc_done
+        (sector_at (sectors_of d area.now) current) ≡ false }
+    requires source { let d = F.device flash.old in
+        is_sound (T.kind (geometry_of d area.now)).reading
+        (sector_at (sectors_of d area.now) victim) ≡ true }
+    requires within { let d = F.device flash.old in
+        (T.kind (geometry_of d area.now)).within (sector_at (sectors_of d area.now) victim) ≡ true }
     requires room { let d = F.device flash.old in let k = T.kind (geometry_of d area.now) in
-        cost_of (slots k) (live_in (slots k) (sectors_of d area.now) victim slot) + 3 * k.slot ≤ k.free (sector_at (sectors_of d area.now) current) }
-    requires live { let d = F.device flash.old in live ≡ holds_live (kind_on T.kind d area.now) (sectors_of d area.now) victim slot }
-    ensures touches { Touches (area.now ∷ []) (F.device flash.old) (F.device flash.new) (is_err result) }
+        cost_of (slots k) (live_in (slots k) (sectors_of d area.now) victim slot) + 3 * k.slot
+        ≤ k.free (sector_at (sectors_of d area.now) current) }
+    requires live { let d = F.device flash.old in
+        live ≡ holds_live (kind_on T.kind d area.now) (sectors_of d area.now) victim slot }
+    ensures touches { Touches (area.now ∷ []) (F.device flash.old) (F.device flash.new)
+        (is_err result) }
     ensures copies { let d = F.device flash.old in let k = T.kind (geometry_of d area.now) in
-        OnOk result (CopiesOne k (sectors_of d area.now) (sectors_of (F.device flash.new) area.now) current (live_in (slots k) (sectors_of d area.now) victim slot)) }
-    ensures kept { let d = F.device flash.old in OnOk result (opened.new ≡ T.kept (geometry_of d area.now) (sector_at (sectors_of (F.device flash.new) area.now) current)) }
-    ensures only { OnErr result (ChangesOnly (sectors_of (F.device flash.old) area.now) (sectors_of (F.device flash.new) area.now) current) }
-    ensures lost { let d = F.device flash.old in OnErr result (KeepsMarks (T.kind (geometry_of d area.now)) (sector_at (sectors_of d area.now) current) (sector_at (sectors_of (F.device flash.new) area.now) current)) }
-    ensures spends { let d = F.device flash.old in let k = T.kind (geometry_of d area.now) in OnOk result (SpendsIn d (F.device flash.new) (copy_units k (live_in (slots k) (sectors_of d area.now) victim slot))) }
-    ensures spends_lost { let d = F.device flash.old in let k = T.kind (geometry_of d area.now) in OnErr result (SpendsUpTo d (F.device flash.new) (copy_units k (live_in (slots k) (sectors_of d area.now) victim slot))) }
+        OnOk result
+        (CopiesOne k (sectors_of d area.now) (sectors_of (F.device flash.new) area.now) current
+        (live_in (slots k) (sectors_of d area.now) victim slot)) }
+    ensures kept { let d = F.device flash.old in
+        OnOk result
+        (opened.new
+        ≡ T.kept (geometry_of d area.now)
+        (sector_at (sectors_of (F.device flash.new) area.now) current)) }
+    ensures only { OnErr result
+        (ChangesOnly (sectors_of (F.device flash.old) area.now)
+        (sectors_of (F.device flash.new) area.now) current) }
+    ensures lost { let d = F.device flash.old in
+        OnErr result
+        (KeepsMarks (T.kind (geometry_of d area.now)) (sector_at (sectors_of d area.now) current)
+        (sector_at (sectors_of (F.device flash.new) area.now) current)) }
+    ensures spends { let d = F.device flash.old in let k = T.kind (geometry_of d area.now) in
+        OnOk result
+        (SpendsIn d (F.device flash.new)
+        (copy_units k (live_in (slots k) (sectors_of d area.now) victim slot))) }
+    ensures spends_lost { let d = F.device flash.old in let k = T.kind (geometry_of d area.now) in
+        OnErr result
+        (SpendsUpTo d (F.device flash.new)
+        (copy_units k (live_in (slots k) (sectors_of d area.now) victim slot))) }
 {
     match live_in::<T, F, L>(flash, area, victim, slot, live, steps) {
         Some(placed) => opened.copy(flash, area, current, &placed, steps),
@@ -75,17 +106,37 @@ fn copy_live<T: SlotSectors, F: Flash, L: Ledger>(
     steps: &mut Steps<L>,
 ) -> Result<(), PowerLost>
     requires area { IsStoreArea T.role (F.device flash.old).banks area.now }
-    requires kept { let d = F.device flash.old in opened.old ≡ T.kept (geometry_of d area.now) (sector_at (sectors_of d area.now) current) }
-    requires collecting { let d = F.device flash.old in Collecting (T.kind (geometry_of d area.now)).reading (sectors_of d area.now) current }
-    requires begun { let d = F.device flash.old in HasCopied (T.kind (geometry_of d area.now)) (sectors_of d area.now) (sectors_of d area.now) current [] }
+    requires kept { let d = F.device flash.old in
+        opened.old ≡ T.kept (geometry_of d area.now) (sector_at (sectors_of d area.now) current) }
+    requires collecting { let d = F.device flash.old in
+        Collecting (T.kind (geometry_of d area.now)).reading (sectors_of d area.now) current }
+    requires begun { let d = F.device flash.old in
+        HasCopied (T.kind (geometry_of d area.now)) (sectors_of d area.now) (sectors_of d area.now)
+        current [] }
     requires victim { victim ≡ next (sectors_of (F.device flash.old) area.now) current }
-    ensures touches { Touches (area.now ∷ []) (F.device flash.old) (F.device flash.new) (is_err result) }
+    ensures touches { Touches (area.now ∷ []) (F.device flash.old) (F.device flash.new)
+        (is_err result) }
     ensures copies { let d = F.device flash.old in let k = T.kind (geometry_of d area.now) in
-        OnOk result (HasCopied k (sectors_of d area.now) (sectors_of (F.device flash.new) area.now) current (to_copy k.reading (sectors_of d area.now) current)) }
-    ensures kept { let d = F.device flash.old in OnOk result (opened.new ≡ T.kept (geometry_of d area.now) (sector_at (sectors_of (F.device flash.new) area.now) current)) }
-    ensures lost { let d = F.device flash.old in OnErr result (StopsCopying (T.kind (geometry_of d area.now)) (sectors_of d area.now) (sectors_of (F.device flash.new) area.now) current) }
-    ensures spends { let d = F.device flash.old in let k = T.kind (geometry_of d area.now) in OnOk result (SpendsIn d (F.device flash.new) (copies k (to_copy k.reading (sectors_of d area.now) current))) }
-    ensures spends_lost { let d = F.device flash.old in let k = T.kind (geometry_of d area.now) in OnErr result (SpendsUpTo d (F.device flash.new) (copies k (to_copy k.reading (sectors_of d area.now) current))) }
+        OnOk result
+        (HasCopied k (sectors_of d area.now) (sectors_of (F.device flash.new) area.now) current
+        (to_copy k.reading (sectors_of d area.now) current)) }
+    ensures kept { let d = F.device flash.old in
+        OnOk result
+        (opened.new
+        ≡ T.kept (geometry_of d area.now)
+        (sector_at (sectors_of (F.device flash.new) area.now) current)) }
+    ensures lost { let d = F.device flash.old in
+        OnErr result
+        (StopsCopying (T.kind (geometry_of d area.now)) (sectors_of d area.now)
+        (sectors_of (F.device flash.new) area.now) current) }
+    ensures spends { let d = F.device flash.old in let k = T.kind (geometry_of d area.now) in
+        OnOk result
+        (SpendsIn d (F.device flash.new)
+        (copies k (to_copy k.reading (sectors_of d area.now) current))) }
+    ensures spends_lost { let d = F.device flash.old in let k = T.kind (geometry_of d area.now) in
+        OnErr result
+        (SpendsUpTo d (F.device flash.new)
+        (copies k (to_copy k.reading (sectors_of d area.now) current))) }
 {
     let mut live = LiveSlots::new();
     live_slots(flash, area, opened, current, victim, &mut live, steps);
@@ -107,18 +158,41 @@ fn collect<T: SlotSectors, F: Flash, L: Ledger>(
     steps: &mut Steps<L>,
 ) -> Result<(), PowerLost>
     requires area { IsStoreArea T.role (F.device flash.old).banks area.now }
-    requires kept { let d = F.device flash.old in opened.old ≡ T.kept (geometry_of d area.now) (sector_at (sectors_of d area.now) current) }
-    requires collecting { let d = F.device flash.old in Collecting (T.kind (geometry_of d area.now)).reading (sectors_of d area.now) current }
-    requires begun { let d = F.device flash.old in HasCopied (T.kind (geometry_of d area.now)) (sectors_of d area.now) (sectors_of d area.now) current [] }
-    ensures touches { Touches (area.now ∷ []) (F.device flash.old) (F.device flash.new) (is_err result) }
-    ensures collects { let d = F.device flash.old in OnOk result (CollectsAt (T.kind (geometry_of d area.now)) (sectors_of d area.now) (sectors_of (F.device flash.new) area.now) current) }
-    ensures items { let d = F.device flash.old in KeepsItems (T.kind (geometry_of d area.now)) (sectors_of d area.now) (sectors_of (F.device flash.new) area.now) }
+    requires kept { let d = F.device flash.old in
+        opened.old ≡ T.kept (geometry_of d area.now) (sector_at (sectors_of d area.now) current) }
+    requires collecting { let d = F.device flash.old in
+        Collecting (T.kind (geometry_of d area.now)).reading (sectors_of d area.now) current }
+    requires begun { let d = F.device flash.old in
+        HasCopied (T.kind (geometry_of d area.now)) (sectors_of d area.now) (sectors_of d area.now)
+        current [] }
+    ensures touches { Touches (area.now ∷ []) (F.device flash.old) (F.device flash.new)
+        (is_err result) }
+    ensures collects { let d = F.device flash.old in
+        OnOk result
+        (CollectsAt (T.kind (geometry_of d area.now)) (sectors_of d area.now)
+        (sectors_of (F.device flash.new) area.now) current) }
+    ensures items { let d = F.device flash.old in
+        KeepsItems (T.kind (geometry_of d area.now)) (sectors_of d area.now)
+        (sectors_of (F.device flash.new) area.now) }
     ensures list_lost { let d = F.device flash.old in
-        OnErr result (KeepsOrCollects (T.kind (geometry_of d area.now)) (sectors_of d area.now) (sectors_of (F.device flash.new) area.now) current) }
-    ensures written { IsWritten (T.kind (geometry_of (F.device flash.old) area.now)) (sectors_of (F.device flash.new) area.now) }
-    ensures kept { let d = F.device flash.old in OnOk result (opened.new ≡ T.kept (geometry_of d area.now) (sector_at (sectors_of (F.device flash.new) area.now) current)) }
-    ensures spends { let d = F.device flash.old in OnOk result (SpendsIn d (F.device flash.new) (collect_units (T.kind (geometry_of d area.now)) (sectors_of d area.now) current)) }
-    ensures spends_lost { let d = F.device flash.old in OnErr result (SpendsUpTo d (F.device flash.new) (collect_units (T.kind (geometry_of d area.now)) (sectors_of d area.now) current)) }
+        OnErr result
+        (KeepsOrCollects (T.kind (geometry_of d area.now)) (sectors_of d area.now)
+        (sectors_of (F.device flash.new) area.now) current) }
+    ensures written { IsWritten (T.kind (geometry_of (F.device flash.old) area.now))
+        (sectors_of (F.device flash.new) area.now) }
+    ensures kept { let d = F.device flash.old in
+        OnOk result
+        (opened.new
+        ≡ T.kept (geometry_of d area.now)
+        (sector_at (sectors_of (F.device flash.new) area.now) current)) }
+    ensures spends { let d = F.device flash.old in
+        OnOk result
+        (SpendsIn d (F.device flash.new)
+        (collect_units (T.kind (geometry_of d area.now)) (sectors_of d area.now) current)) }
+    ensures spends_lost { let d = F.device flash.old in
+        OnErr result
+        (SpendsUpTo d (F.device flash.new)
+        (collect_units (T.kind (geometry_of d area.now)) (sectors_of d area.now) current)) }
 {
     let victim = area.next(current);
     copy_live(flash, area, opened, current, victim, steps)?;
@@ -140,7 +214,8 @@ fn prepare<T: SlotSectors, F: Flash, L: Ledger>(
     requires inside { current < area.now.sectors }
     requires not_closed { let d = F.device flash.old in let k = T.kind (geometry_of d area.now) in
         is_closed_at k.reading (sectors_of d area.now) current ≡ false }
-    ensures touches { Touches (area.now ∷ []) (F.device flash.old) (F.device flash.new) (is_err result) }
+    ensures touches { Touches (area.now ∷ []) (F.device flash.old) (F.device flash.new)
+        (is_err result) }
     ensures begun { let d = F.device flash.old in let k = T.kind (geometry_of d area.now) in
         let new = sectors_of (F.device flash.new) area.now in
         OnOk result (HasBegun k (sectors_of d area.now) new current) }
@@ -177,17 +252,38 @@ fn collect_again<T: SlotSectors, F: Flash, L: Ledger>(
     steps: &mut Steps<L>,
 ) -> Result<(), PowerLost>
     requires area { IsStoreArea T.role (F.device flash.old).banks area.now }
-    requires kept { let d = F.device flash.old in opened.old ≡ T.kept (geometry_of d area.now) (sector_at (sectors_of d area.now) current) }
-    requires collecting { let d = F.device flash.old in Collecting (T.kind (geometry_of d area.now)).reading (sectors_of d area.now) current }
-    ensures touches { Touches (area.now ∷ []) (F.device flash.old) (F.device flash.new) (is_err result) }
-    ensures collects { let d = F.device flash.old in OnOk result (CollectsAt (T.kind (geometry_of d area.now)) (sectors_of d area.now) (sectors_of (F.device flash.new) area.now) current) }
-    ensures items { let d = F.device flash.old in KeepsItems (T.kind (geometry_of d area.now)) (sectors_of d area.now) (sectors_of (F.device flash.new) area.now) }
+    requires kept { let d = F.device flash.old in
+        opened.old ≡ T.kept (geometry_of d area.now) (sector_at (sectors_of d area.now) current) }
+    requires collecting { let d = F.device flash.old in
+        Collecting (T.kind (geometry_of d area.now)).reading (sectors_of d area.now) current }
+    ensures touches { Touches (area.now ∷ []) (F.device flash.old) (F.device flash.new)
+        (is_err result) }
+    ensures collects { let d = F.device flash.old in
+        OnOk result
+        (CollectsAt (T.kind (geometry_of d area.now)) (sectors_of d area.now)
+        (sectors_of (F.device flash.new) area.now) current) }
+    ensures items { let d = F.device flash.old in
+        KeepsItems (T.kind (geometry_of d area.now)) (sectors_of d area.now)
+        (sectors_of (F.device flash.new) area.now) }
     ensures list_lost { let d = F.device flash.old in
-        OnErr result (KeepsOrCollects (T.kind (geometry_of d area.now)) (sectors_of d area.now) (sectors_of (F.device flash.new) area.now) current) }
-    ensures written { IsWritten (T.kind (geometry_of (F.device flash.old) area.now)) (sectors_of (F.device flash.new) area.now) }
-    ensures kept { let d = F.device flash.old in OnOk result (opened.new ≡ T.kept (geometry_of d area.now) (sector_at (sectors_of (F.device flash.new) area.now) current)) }
-    ensures spends { let d = F.device flash.old in OnOk result (SpendsIn d (F.device flash.new) (again_units (T.kind (geometry_of d area.now)) (sectors_of d area.now) current)) }
-    ensures spends_lost { let d = F.device flash.old in OnErr result (SpendsUpTo d (F.device flash.new) (again_units (T.kind (geometry_of d area.now)) (sectors_of d area.now) current)) }
+        OnErr result
+        (KeepsOrCollects (T.kind (geometry_of d area.now)) (sectors_of d area.now)
+        (sectors_of (F.device flash.new) area.now) current) }
+    ensures written { IsWritten (T.kind (geometry_of (F.device flash.old) area.now))
+        (sectors_of (F.device flash.new) area.now) }
+    ensures kept { let d = F.device flash.old in
+        OnOk result
+        (opened.new
+        ≡ T.kept (geometry_of d area.now)
+        (sector_at (sectors_of (F.device flash.new) area.now) current)) }
+    ensures spends { let d = F.device flash.old in
+        OnOk result
+        (SpendsIn d (F.device flash.new)
+        (again_units (T.kind (geometry_of d area.now)) (sectors_of d area.now) current)) }
+    ensures spends_lost { let d = F.device flash.old in
+        OnErr result
+        (SpendsUpTo d (F.device flash.new)
+        (again_units (T.kind (geometry_of d area.now)) (sectors_of d area.now) current)) }
 {
     prepare(flash, area, opened, current, steps)?;
     collect(flash, area, opened, current, steps)
@@ -202,9 +298,11 @@ fn what_to_redo<T: SlotSectors, F: Flash, L: Ledger>(
     steps: &mut Steps<L>,
 ) -> Redo
     requires area { IsStoreArea T.role (F.device flash.now).banks area.now }
-    requires kept { let d = F.device flash.now in opened.now ≡ T.kept (geometry_of d area.now) (sector_at (sectors_of d area.now) current) }
+    requires kept { let d = F.device flash.now in
+        opened.now ≡ T.kept (geometry_of d area.now) (sector_at (sectors_of d area.now) current) }
     requires within { current < area.now.sectors }
-    ensures { let d = F.device flash.now in result ≡ redo_of (T.kind (geometry_of d area.now)) (sectors_of d area.now) current }
+    ensures { let d = F.device flash.now in
+        result ≡ redo_of (T.kind (geometry_of d area.now)) (sectors_of d area.now) current }
 {
     if T::is_closed(flash, area, area.next(current), steps) {
         if opened.has_gc_done() {
@@ -226,25 +324,57 @@ pub fn redo<T: SlotSectors, F: Flash, L: Ledger>(
     steps: &mut Steps<L>,
 ) -> Result<(), PowerLost>
     requires area { IsStoreArea T.role (F.device flash.old).banks area.now }
-    requires undamaged { let d = F.device flash.old in (T.kind (geometry_of d area.now)).damage (sectors_of d area.now) ≡ None }
-    requires current { let d = F.device flash.old in current ≡ open_sector (T.kind (geometry_of d area.now)).reading (sectors_of d area.now) }
-    requires kept { let d = F.device flash.old in opened.old ≡ T.kept (geometry_of d area.now) (sector_at (sectors_of d area.now) current) }
-    ensures touches { Touches (area.now ∷ []) (F.device flash.old) (F.device flash.new) (is_err result) }
-    ensures rested { let d = F.device flash.old in OnOk result (AtRest (T.kind (geometry_of d area.now)).reading (sectors_of (F.device flash.new) area.now) current) }
-    ensures items { let d = F.device flash.old in KeepsItems (T.kind (geometry_of d area.now)) (sectors_of d area.now) (sectors_of (F.device flash.new) area.now) }
+    requires undamaged { let d = F.device flash.old in
+        (T.kind (geometry_of d area.now)).damage (sectors_of d area.now) ≡ None }
+    requires current { let d = F.device flash.old in
+        current ≡ open_sector (T.kind (geometry_of d area.now)).reading (sectors_of d area.now) }
+    requires kept { let d = F.device flash.old in
+        opened.old ≡ T.kept (geometry_of d area.now) (sector_at (sectors_of d area.now) current) }
+    ensures touches { Touches (area.now ∷ []) (F.device flash.old) (F.device flash.new)
+        (is_err result) }
+    ensures rested { let d = F.device flash.old in
+        OnOk result
+        (AtRest (T.kind (geometry_of d area.now)).reading (sectors_of (F.device flash.new) area.now)
+        current) }
+    ensures items { let d = F.device flash.old in
+        KeepsItems (T.kind (geometry_of d area.now)) (sectors_of d area.now)
+        (sectors_of (F.device flash.new) area.now) }
     ensures list { let d = F.device flash.old in let k = T.kind (geometry_of d area.now) in
-        OnOk result (list_of k (sectors_of (F.device flash.new) area.now) ≡ redo_list k (sectors_of d area.now) current (redo_of k (sectors_of d area.now) current)) }
+        OnOk result
+        (list_of k (sectors_of (F.device flash.new) area.now)
+        ≡ redo_list k (sectors_of d area.now) current (redo_of k (sectors_of d area.now) current)) }
     ensures list_lost { let d = F.device flash.old in
-        OnErr result (KeepsOrRedoes (T.kind (geometry_of d area.now)) (sectors_of d area.now) (sectors_of (F.device flash.new) area.now) current) }
+        OnErr result
+        (KeepsOrRedoes (T.kind (geometry_of d area.now)) (sectors_of d area.now)
+        (sectors_of (F.device flash.new) area.now) current) }
     ensures written { let d = F.device flash.old in
-        (F.device flash.new ≡ d) ⊎ IsWritten (T.kind (geometry_of d area.now)) (sectors_of (F.device flash.new) area.now) }
-    ensures same { let d = F.device flash.old in AtRest (T.kind (geometry_of d area.now)).reading (sectors_of d area.now) current → F.device flash.new ≡ d }
-    ensures busy { let d = F.device flash.old in OnErr result (AtRest (T.kind (geometry_of d area.now)).reading (sectors_of d area.now) current → ⊥) }
+        (F.device flash.new ≡ d)
+        ⊎ IsWritten (T.kind (geometry_of d area.now)) (sectors_of (F.device flash.new) area.now) }
+    ensures same { let d = F.device flash.old in
+        AtRest (T.kind (geometry_of d area.now)).reading (sectors_of d area.now) current
+        → F.device flash.new ≡ d }
+    ensures busy { let d = F.device flash.old in
+        OnErr result
+        (AtRest (T.kind (geometry_of d area.now)).reading (sectors_of d area.now) current → ⊥) }
     ensures collects { let d = F.device flash.old in let k = T.kind (geometry_of d area.now) in
-        OnOk result (Collecting k.reading (sectors_of d area.now) current → CollectsAt k (sectors_of d area.now) (sectors_of (F.device flash.new) area.now) current) }
-    ensures kept { let d = F.device flash.old in OnOk result (opened.new ≡ T.kept (geometry_of d area.now) (sector_at (sectors_of (F.device flash.new) area.now) current)) }
-    ensures spends { let d = F.device flash.old in let k = T.kind (geometry_of d area.now) in OnOk result (SpendsIn d (F.device flash.new) (redo_units k (sectors_of d area.now) current (redo_of k (sectors_of d area.now) current))) }
-    ensures spends_lost { let d = F.device flash.old in let k = T.kind (geometry_of d area.now) in OnErr result (SpendsUpTo d (F.device flash.new) (redo_units k (sectors_of d area.now) current (redo_of k (sectors_of d area.now) current))) }
+        OnOk result
+        (Collecting k.reading (sectors_of d area.now) current
+        → CollectsAt k (sectors_of d area.now) (sectors_of (F.device flash.new) area.now) current) }
+    ensures kept { let d = F.device flash.old in
+        OnOk result
+        (opened.new
+        ≡ T.kept (geometry_of d area.now)
+        (sector_at (sectors_of (F.device flash.new) area.now) current)) }
+    ensures spends { let d = F.device flash.old in let k = T.kind (geometry_of d area.now) in
+        OnOk result
+        (SpendsIn d (F.device flash.new)
+        (redo_units k (sectors_of d area.now) current
+        (redo_of k (sectors_of d area.now) current))) }
+    ensures spends_lost { let d = F.device flash.old in let k = T.kind (geometry_of d area.now) in
+        OnErr result
+        (SpendsUpTo d (F.device flash.new)
+        (redo_units k (sectors_of d area.now) current
+        (redo_of k (sectors_of d area.now) current))) }
 {
     match what_to_redo(flash, area, opened, current, steps) {
         Redo::Nothing => Ok(()),
@@ -270,7 +400,8 @@ fn open_next<T: SlotSectors, F: Flash, L: Ledger>(
         AtRest k.reading old current ⊎ Collecting k.reading old current }
     requires blank { let d = F.device flash.old in let k = T.kind (geometry_of d area.now) in
         is_blank_at k.reading (sectors_of d area.now) current ≡ true }
-    ensures touches { Touches (area.now ∷ []) (F.device flash.old) (F.device flash.new) (is_err result) }
+    ensures touches { Touches (area.now ∷ []) (F.device flash.old) (F.device flash.new)
+        (is_err result) }
     ensures opens { let d = F.device flash.old in let k = T.kind (geometry_of d area.now) in
         let old = sectors_of d area.now in let new = sectors_of (F.device flash.new) area.now in
         OnOk result (AtRest k.reading old current → HasOpened k old new current) }
@@ -314,28 +445,56 @@ pub fn round<T: SlotSectors, F: Flash, L: Ledger>(
     steps: &mut Steps<L>,
 ) -> Result<u32, PowerLost>
     requires area { IsStoreArea T.role (F.device flash.old).banks area.now }
-    requires undamaged { let d = F.device flash.old in (T.kind (geometry_of d area.now)).damage (sectors_of d area.now) ≡ None }
-    requires current { let d = F.device flash.old in current ≡ open_sector (T.kind (geometry_of d area.now)).reading (sectors_of d area.now) }
-    requires kept { let d = F.device flash.old in opened.old ≡ T.kept (geometry_of d area.now) (sector_at (sectors_of d area.now) current) }
-    requires rested { let d = F.device flash.old in is_closed_at (T.kind (geometry_of d area.now)).reading (sectors_of d area.now) (next (sectors_of d area.now) current) ≡ false }
+    requires undamaged { let d = F.device flash.old in
+        (T.kind (geometry_of d area.now)).damage (sectors_of d area.now) ≡ None }
+    requires current { let d = F.device flash.old in
+        current ≡ open_sector (T.kind (geometry_of d area.now)).reading (sectors_of d area.now) }
+    requires kept { let d = F.device flash.old in
+        opened.old ≡ T.kept (geometry_of d area.now) (sector_at (sectors_of d area.now) current) }
+    requires rested { let d = F.device flash.old in
+        is_closed_at (T.kind (geometry_of d area.now)).reading (sectors_of d area.now)
+        (next (sectors_of d area.now) current) ≡ false }
     requires used { let d = F.device flash.old in
         is_clean_at (T.kind (geometry_of d area.now)) (sectors_of d area.now) current ≡ false }
-    ensures touches { Touches (area.now ∷ []) (F.device flash.old) (F.device flash.new) (is_err result) }
-    ensures opened { let d = F.device flash.old in IfOk result (λ place. place ≡ next (sectors_of d area.now) current) }
-    ensures rested { let d = F.device flash.old in OnOk result (AtRest (T.kind (geometry_of d area.now)).reading (sectors_of (F.device flash.new) area.now) (next (sectors_of d area.now) current)) }
-    ensures items { let d = F.device flash.old in KeepsItems (T.kind (geometry_of d area.now)) (sectors_of d area.now) (sectors_of (F.device flash.new) area.now) }
+    ensures touches { Touches (area.now ∷ []) (F.device flash.old) (F.device flash.new)
+        (is_err result) }
+    ensures opened { let d = F.device flash.old in
+        IfOk result (λ place. place ≡ next (sectors_of d area.now) current) }
+    ensures rested { let d = F.device flash.old in
+        OnOk result
+        (AtRest (T.kind (geometry_of d area.now)).reading (sectors_of (F.device flash.new) area.now)
+        (next (sectors_of d area.now) current)) }
+    ensures items { let d = F.device flash.old in
+        KeepsItems (T.kind (geometry_of d area.now)) (sectors_of d area.now)
+        (sectors_of (F.device flash.new) area.now) }
     ensures list_lost { let d = F.device flash.old in
-        OnErr result (KeepsOrTurns (T.kind (geometry_of d area.now)) (sectors_of d area.now) (sectors_of (F.device flash.new) area.now) current) }
+        OnErr result
+        (KeepsOrTurns (T.kind (geometry_of d area.now)) (sectors_of d area.now)
+        (sectors_of (F.device flash.new) area.now) current) }
     ensures written { let d = F.device flash.old in let k = T.kind (geometry_of d area.now) in
         let new = sectors_of (F.device flash.new) area.now in
         IsWritten k (sectors_of d area.now) → IsWritten k new }
     ensures changed { let d = F.device flash.old in let k = T.kind (geometry_of d area.now) in
         let new = sectors_of (F.device flash.new) area.now in
         (new ≡ sectors_of d area.now) ⊎ IsWritten k new }
-    ensures kept { let d = F.device flash.old in OnOk result (opened.new ≡ T.kept (geometry_of d area.now) (sector_at (sectors_of (F.device flash.new) area.now) (next (sectors_of d area.now) current))) }
-    ensures turns { let d = F.device flash.old in OnOk result (TurnsAt (T.kind (geometry_of d area.now)) (sector_size d area.now) (sectors_of d area.now) (sectors_of (F.device flash.new) area.now) current) }
-    ensures spends { let d = F.device flash.old in OnOk result (SpendsIn d (F.device flash.new) (round_units (T.kind (geometry_of d area.now)) (sectors_of d area.now) current)) }
-    ensures spends_lost { let d = F.device flash.old in OnErr result (SpendsUpTo d (F.device flash.new) (round_units (T.kind (geometry_of d area.now)) (sectors_of d area.now) current)) }
+    ensures kept { let d = F.device flash.old in
+        OnOk result
+        (opened.new
+        ≡ T.kept (geometry_of d area.now)
+        (sector_at (sectors_of (F.device flash.new) area.now)
+        (next (sectors_of d area.now) current))) }
+    ensures turns { let d = F.device flash.old in
+        OnOk result
+        (TurnsAt (T.kind (geometry_of d area.now)) (sector_size d area.now) (sectors_of d area.now)
+        (sectors_of (F.device flash.new) area.now) current) }
+    ensures spends { let d = F.device flash.old in
+        OnOk result
+        (SpendsIn d (F.device flash.new)
+        (round_units (T.kind (geometry_of d area.now)) (sectors_of d area.now) current)) }
+    ensures spends_lost { let d = F.device flash.old in
+        OnErr result
+        (SpendsUpTo d (F.device flash.new)
+        (round_units (T.kind (geometry_of d area.now)) (sectors_of d area.now) current)) }
 {
     opened.close(flash, area, current, steps)?;
     let place = area.next(current);

@@ -29,7 +29,8 @@ fn slot_cost<T: SlotSectors, F: Flash, L: Ledger>(
     requires area { IsStoreArea T.role (F.device flash.now).banks area.now }
     requires inside { place < area.now.sectors }
     requires listed { HasSlotOn T.kind (F.device flash.now) area.now place slot }
-    requires live { let d = F.device flash.now in live ≡ holds_live (kind_on T.kind d area.now) (sectors_of d area.now) place slot }
+    requires live { let d = F.device flash.now in
+        live ≡ holds_live (kind_on T.kind d area.now) (sectors_of d area.now) place slot }
     ensures cost { let d = F.device flash.now in let k = kind_on T.kind d area.now in
         result ≡ cost_of (slots k) (live_in (slots k) (sectors_of d area.now) place slot) }
     ensures small { result ≤ 2 ^ 18 }
@@ -53,9 +54,14 @@ fn sector_cost<T: SlotSectors, F: Flash, L: Ledger>(
     requires inside { place < area.now.sectors }
     requires within { IsWithinOn T.kind (F.device flash.now) area.now place }
     requires live { let d = F.device flash.now in let k = kind_on T.kind d area.now in
-        (index : ℕ) → index < k.count (sector_at (sectors_of d area.now) place) → has_bit live.now.bits index ≡ holds_live k (sectors_of d area.now) place (k.first + index) }
+        (index : ℕ) → index < k.count (sector_at (sectors_of d area.now) place)
+        → has_bit live.now.bits index
+        ≡ holds_live k (sectors_of d area.now) place (k.first + index) }
     ensures cost { let d = F.device flash.now in let k = kind_on T.kind d area.now in
-        result ≡ copies_cost k.cost (live_to (slots k) (sectors_of d area.now) place (k.count (sector_at (sectors_of d area.now) place))) }
+        result
+        ≡ copies_cost k.cost
+        (live_to (slots k) (sectors_of d area.now) place
+        (k.count (sector_at (sectors_of d area.now) place))) }
     ensures small { result ≤ 2 ^ 33 }
 {
     let slots = T::slots(flash, area, place, steps);
@@ -83,10 +89,15 @@ impl<T: SlotSectors> Store<T> {
         requires seen { let d = F.device flash.now in let k = kind_on T.kind d self.now.area in
             HasSeen k.ids seen.old (behind k (sectors_of d self.now.area) self.now.current place) }
         ensures cost { let d = F.device flash.now in let k = kind_on T.kind d self.now.area in
-            result ≡ copies_cost k.cost (live_to (slots k) (sectors_of d self.now.area) place (k.count (sector_at (sectors_of d self.now.area) place))) }
+            result
+            ≡ copies_cost k.cost
+            (live_to (slots k) (sectors_of d self.now.area) place
+            (k.count (sector_at (sectors_of d self.now.area) place))) }
         ensures small { result ≤ 2 ^ 33 }
         ensures seen { let d = F.device flash.now in let k = kind_on T.kind d self.now.area in
-            HasSeen k.ids seen.new (counted_in (slots k) (sectors_of d self.now.area) self.now.current place ++ behind k (sectors_of d self.now.area) self.now.current place) }
+            HasSeen k.ids seen.new
+            (counted_in (slots k) (sectors_of d self.now.area) self.now.current place
+            ++ behind k (sectors_of d self.now.area) self.now.current place) }
     {
         let mut live = LiveSlots::new();
         live_by(
@@ -107,7 +118,9 @@ impl<T: SlotSectors> Store<T> {
     #[inline(never)]
     pub fn live_cost<F: Flash, L: Ledger>(&self, flash: &F, steps: &mut Steps<L>) -> u64
         requires { StandsOn T.role T.kind T.kept (F.device flash.now) self.now }
-        ensures { let d = F.device flash.now in result ≡ live_cost (kind_on T.kind d self.now.area).cost (list_on T.kind d self.now.area) }
+        ensures { let d = F.device flash.now in
+            result
+            ≡ live_cost (kind_on T.kind d self.now.area).cost (list_on T.kind d self.now.area) }
     {
         let oldest = self.area.next(self.current);
         let mut seen = Seen::new();

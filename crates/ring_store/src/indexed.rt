@@ -39,7 +39,8 @@ impl<T: SlotSectors> Store<T> {
     ) -> Option<&'a [u8]>
         requires stands { StandsOn T.role T.kind T.kept (F.device flash.now) self.now }
         requires last { TellsOn T.kind (F.device flash.now) self.now.area last.now }
-        ensures value { option_map (λ bytes. bytes.now) result ≡ map.get (items_on T.kind (F.device flash.now) self.now.area) id }
+        ensures value { option_map (λ bytes. bytes.now) result
+            ≡ map.get (items_on T.kind (F.device flash.now) self.now.area) id }
         ensures few { IsTold last.now.bound id → steps.new ≤ steps.old + 1 }
     {
         if !last.tells_of(id) {
@@ -63,7 +64,8 @@ impl<T: SlotSectors> Store<T> {
         requires stands { StandsOn T.role T.kind T.kept (F.device flash.now) self.now }
         requires last { TellsOn T.kind (F.device flash.now) self.now.area last.now }
         ensures next { IsNextId (items_on T.kind (F.device flash.now) self.now.area) after result }
-        ensures known { let d = F.device flash.now in IfSome result (λ id. id < (kind_on T.kind d self.now.area).ids) }
+        ensures known { let d = F.device flash.now in
+            IfSome result (λ id. id < (kind_on T.kind d self.now.area).ids) }
         ensures told { IfSome result (λ id. IsTold last.now.bound id → steps.new ≡ steps.old) }
         ensures all { last.now.bound ≡ None → steps.new ≡ steps.old }
     {

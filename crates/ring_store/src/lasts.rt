@@ -43,15 +43,21 @@ fn reach_counting<T: SlotSectors, F: Flash, L: Ledger>(
     steps: &mut Steps<L>,
 ) -> u32
     requires area { IsStoreArea T.role (F.device flash.now).banks area.now }
-    requires kept { let d = F.device flash.now in opened.now ≡ T.kept (geometry_of d area.now) (sector_at (sectors_of d area.now) current) }
+    requires kept { let d = F.device flash.now in
+        opened.now ≡ T.kept (geometry_of d area.now) (sector_at (sectors_of d area.now) current) }
     requires current { current < area.now.sectors }
     requires inside { place < area.now.sectors }
-    ensures few { let d = F.device flash.now in result ≤ (kind_on T.kind d area.now).count (sector_at (sectors_of d area.now) place) }
+    ensures few { let d = F.device flash.now in
+        result ≤ (kind_on T.kind d area.now).count (sector_at (sectors_of d area.now) place) }
     ensures small { result ≤ 2 ^ 15 }
     ensures counts { let d = F.device flash.now in
-        0 < result → counts_at (kind_on T.kind d area.now).reading (sectors_of d area.now) current place ≡ true }
-    ensures others { let d = F.device flash.now in let k = kind_on T.kind d area.now in let b = sector_at (sectors_of d area.now) place in
-        counts_at k.reading (sectors_of d area.now) current place ≡ true → AreOthers k b result (k.count b) least most }
+        0 < result
+        → counts_at (kind_on T.kind d area.now).reading (sectors_of d area.now) current place
+        ≡ true }
+    ensures others { let d = F.device flash.now in let k = kind_on T.kind d area.now in
+        let b = sector_at (sectors_of d area.now) place in
+        counts_at k.reading (sectors_of d area.now) current place ≡ true
+        → AreOthers k b result (k.count b) least most }
 {
     if counts(flash, area, opened, current, place, steps) {
         T::reach(flash, area, place, least, most, steps)
@@ -72,11 +78,17 @@ impl Lasts {
         steps: &mut Steps<L>,
     ) -> Lasts
         requires area { IsStoreArea T.role (F.device flash.now).banks area.now }
-        requires kept { let d = F.device flash.now in opened.now ≡ T.kept (geometry_of d area.now) (sector_at (sectors_of d area.now) current) }
-        requires current { let d = F.device flash.now in current ≡ open_sector (kind_on T.kind d area.now).reading (sectors_of d area.now) }
+        requires kept { let d = F.device flash.now in
+            opened.now
+            ≡ T.kept (geometry_of d area.now) (sector_at (sectors_of d area.now) current) }
+        requires current { let d = F.device flash.now in
+            current ≡ open_sector (kind_on T.kind d area.now).reading (sectors_of d area.now) }
         requires range { most < least + 0x1_0020 }
-        ensures at { let d = F.device flash.now in IsAt (kind_on T.kind d area.now) (sectors_of d area.now) current result }
-        ensures none { let d = F.device flash.now in (p : PlacedEntry) → ¬ WasTold (kind_on T.kind d area.now) (sectors_of d area.now) current result p }
+        ensures at { let d = F.device flash.now in
+            IsAt (kind_on T.kind d area.now) (sectors_of d area.now) current result }
+        ensures none { let d = F.device flash.now in
+            (p : PlacedEntry)
+            → ¬ WasTold (kind_on T.kind d area.now) (sectors_of d area.now) current result p }
         ensures least { result.least ≡ least }
         ensures most { result.most ≡ most }
     {
@@ -92,9 +104,12 @@ impl Lasts {
     // Whether an id is in the range and was not noted. It is noted then.
     fn is_new(&mut self, id: u32) -> bool
         requires { self.old.most < self.old.least + 0x1_0020 }
-        ensures new { result ≡ (in_range self.old.least self.old.most id && not (has_bit self.old.seen (id - self.old.least))) }
+        ensures new { result
+            ≡ (in_range self.old.least self.old.most id
+            && not (has_bit self.old.seen (id - self.old.least))) }
         ensures noted { (other : ℕ) → in_range self.old.least self.old.most other ≡ true
-            → has_bit self.new.seen (other - self.old.least) ≡ (has_bit self.old.seen (other - self.old.least) || (id == other)) }
+            → has_bit self.new.seen (other - self.old.least)
+            ≡ (has_bit self.old.seen (other - self.old.least) || (id == other)) }
         ensures range { SameRange self.old self.new }
         ensures place { self.new.place ≡ self.old.place }
         ensures left { self.new.left ≡ self.old.left }
@@ -119,17 +134,22 @@ impl Lasts {
         steps: &mut Steps<L>,
     ) -> Option<Placed>
         requires area { IsStoreArea T.role (F.device flash.now).banks area.now }
-        requires current { let d = F.device flash.now in current ≡ open_sector (kind_on T.kind d area.now).reading (sectors_of d area.now) }
-        requires at { let d = F.device flash.now in IsAt (kind_on T.kind d area.now) (sectors_of d area.now) current self.old }
+        requires current { let d = F.device flash.now in
+            current ≡ open_sector (kind_on T.kind d area.now).reading (sectors_of d area.now) }
+        requires at { let d = F.device flash.now in
+            IsAt (kind_on T.kind d area.now) (sectors_of d area.now) current self.old }
         requires some_left { 0 < self.old.left }
-        ensures at { let d = F.device flash.now in IsAt (kind_on T.kind d area.now) (sectors_of d area.now) current self.new }
+        ensures at { let d = F.device flash.now in
+            IsAt (kind_on T.kind d area.now) (sectors_of d area.now) current self.new }
         ensures range { SameRange self.old self.new }
         ensures place { self.new.place ≡ self.old.place }
         ensures fewer { self.new.left < self.old.left }
-        ensures next { let d = F.device flash.now in let k = kind_on T.kind d area.now in let sectors = sectors_of d area.now in
-            IfSome result (IsLastIn k sectors self.old) }
-        ensures told { let d = F.device flash.now in let k = kind_on T.kind d area.now in let sectors = sectors_of d area.now in
-            (p : PlacedEntry) → WasTold k sectors current self.new p → (Some p ≡ result) ⊎ WasTold k sectors current self.old p }
+        ensures next { let d = F.device flash.now in let k = kind_on T.kind d area.now in
+            let sectors = sectors_of d area.now in IfSome result (IsLastIn k sectors self.old) }
+        ensures told { let d = F.device flash.now in let k = kind_on T.kind d area.now in
+            let sectors = sectors_of d area.now in
+            (p : PlacedEntry) → WasTold k sectors current self.new p
+            → (Some p ≡ result) ⊎ WasTold k sectors current self.old p }
     {
         let rest = self.left - 1;
         let slot = T::first_slot() + rest;
@@ -155,17 +175,22 @@ impl Lasts {
         steps: &mut Steps<L>,
     ) -> Option<Placed>
         requires area { IsStoreArea T.role (F.device flash.now).banks area.now }
-        requires current { let d = F.device flash.now in current ≡ open_sector (kind_on T.kind d area.now).reading (sectors_of d area.now) }
-        requires at { let d = F.device flash.now in IsAt (kind_on T.kind d area.now) (sectors_of d area.now) current self.old }
-        ensures at { let d = F.device flash.now in IsAt (kind_on T.kind d area.now) (sectors_of d area.now) current self.new }
+        requires current { let d = F.device flash.now in
+            current ≡ open_sector (kind_on T.kind d area.now).reading (sectors_of d area.now) }
+        requires at { let d = F.device flash.now in
+            IsAt (kind_on T.kind d area.now) (sectors_of d area.now) current self.old }
+        ensures at { let d = F.device flash.now in
+            IsAt (kind_on T.kind d area.now) (sectors_of d area.now) current self.new }
         ensures range { SameRange self.old self.new }
         ensures place { self.new.place ≡ self.old.place }
         ensures ends { result ≡ None → self.new.left ≡ 0 }
         ensures fewer { IfSome result (λ _. self.new.left < self.old.left) }
-        ensures next { let d = F.device flash.now in let k = kind_on T.kind d area.now in let sectors = sectors_of d area.now in
-            IfSome result (IsLastIn k sectors self.old) }
-        ensures told { let d = F.device flash.now in let k = kind_on T.kind d area.now in let sectors = sectors_of d area.now in
-            (p : PlacedEntry) → WasTold k sectors current self.new p → (Some p ≡ result) ⊎ WasTold k sectors current self.old p }
+        ensures next { let d = F.device flash.now in let k = kind_on T.kind d area.now in
+            let sectors = sectors_of d area.now in IfSome result (IsLastIn k sectors self.old) }
+        ensures told { let d = F.device flash.now in let k = kind_on T.kind d area.now in
+            let sectors = sectors_of d area.now in
+            (p : PlacedEntry) → WasTold k sectors current self.new p
+            → (Some p ≡ result) ⊎ WasTold k sectors current self.old p }
     {
         while self.left > 0 {
             let found = self.look_at_slot::<T, F, L>(flash, area, current, steps);
@@ -186,16 +211,25 @@ impl Lasts {
         steps: &mut Steps<L>,
     )
         requires area { IsStoreArea T.role (F.device flash.now).banks area.now }
-        requires kept { let d = F.device flash.now in opened.now ≡ T.kept (geometry_of d area.now) (sector_at (sectors_of d area.now) current) }
-        requires current { let d = F.device flash.now in current ≡ open_sector (kind_on T.kind d area.now).reading (sectors_of d area.now) }
-        requires at { let d = F.device flash.now in IsAt (kind_on T.kind d area.now) (sectors_of d area.now) current self.old }
+        requires kept { let d = F.device flash.now in
+            opened.now
+            ≡ T.kept (geometry_of d area.now) (sector_at (sectors_of d area.now) current) }
+        requires current { let d = F.device flash.now in
+            current ≡ open_sector (kind_on T.kind d area.now).reading (sectors_of d area.now) }
+        requires at { let d = F.device flash.now in
+            IsAt (kind_on T.kind d area.now) (sectors_of d area.now) current self.old }
         requires none_left { self.old.left ≡ 0 }
-        requires further { self.old.place ≡ next (sectors_of (F.device flash.now) area.now) current → ⊥ }
-        ensures at { let d = F.device flash.now in IsAt (kind_on T.kind d area.now) (sectors_of d area.now) current self.new }
+        requires further { self.old.place ≡ next (sectors_of (F.device flash.now) area.now) current
+            → ⊥ }
+        ensures at { let d = F.device flash.now in
+            IsAt (kind_on T.kind d area.now) (sectors_of d area.now) current self.new }
         ensures range { SameRange self.old self.new }
-        ensures place { self.new.place ≡ previous (sectors_of (F.device flash.now) area.now) self.old.place }
-        ensures told { let d = F.device flash.now in let k = kind_on T.kind d area.now in let sectors = sectors_of d area.now in
-            (p : PlacedEntry) → WasTold k sectors current self.new p → WasTold k sectors current self.old p }
+        ensures place { self.new.place
+            ≡ previous (sectors_of (F.device flash.now) area.now) self.old.place }
+        ensures told { let d = F.device flash.now in let k = kind_on T.kind d area.now in
+            let sectors = sectors_of d area.now in
+            (p : PlacedEntry) → WasTold k sectors current self.new p
+            → WasTold k sectors current self.old p }
     {
         self.place = area.previous(self.place);
         self.left = reach_counting(
@@ -213,14 +247,23 @@ impl Lasts {
         steps: &mut Steps<L>,
     ) -> Option<Placed>
         requires area { IsStoreArea T.role (F.device flash.now).banks area.now }
-        requires kept { let d = F.device flash.now in opened.now ≡ T.kept (geometry_of d area.now) (sector_at (sectors_of d area.now) current) }
-        requires current { let d = F.device flash.now in current ≡ open_sector (kind_on T.kind d area.now).reading (sectors_of d area.now) }
-        requires at { let d = F.device flash.now in IsAt (kind_on T.kind d area.now) (sectors_of d area.now) current self.old }
-        ensures at { let d = F.device flash.now in IsAt (kind_on T.kind d area.now) (sectors_of d area.now) current self.new }
+        requires kept { let d = F.device flash.now in
+            opened.now
+            ≡ T.kept (geometry_of d area.now) (sector_at (sectors_of d area.now) current) }
+        requires current { let d = F.device flash.now in
+            current ≡ open_sector (kind_on T.kind d area.now).reading (sectors_of d area.now) }
+        requires at { let d = F.device flash.now in
+            IsAt (kind_on T.kind d area.now) (sectors_of d area.now) current self.old }
+        ensures at { let d = F.device flash.now in
+            IsAt (kind_on T.kind d area.now) (sectors_of d area.now) current self.new }
         ensures range { SameRange self.old self.new }
         ensures placed { IfSome result (IsPlacedOn T.kind (F.device flash.now) area.now current) }
-        ensures next { let d = F.device flash.now in TellsNext (kind_on T.kind d area.now) (sectors_of d area.now) current self.old self.new result }
-        ensures fewer { IfSome result (λ _. slots_left area.now.sectors current self.new < slots_left area.now.sectors current self.old) }
+        ensures next { let d = F.device flash.now in
+            TellsNext (kind_on T.kind d area.now) (sectors_of d area.now) current self.old self.new
+            result }
+        ensures fewer { IfSome result
+            (λ _. slots_left area.now.sectors current self.new
+            < slots_left area.now.sectors current self.old) }
     {
         let oldest = area.next(current);
         let mut found = self.next_here::<T, F, L>(flash, area, current, steps);

@@ -101,8 +101,11 @@ impl LastSlots {
 
     // From this place on the ids are behind the given one, and before it none is.
     fn first_behind(&self, after: Option<u32>) -> usize
-        ensures before { Rises self.now.entries.items → AllWithin (λ p. IsBehind after p.id → ⊥) self.now.entries.items 0 result }
-        ensures behind { Rises self.now.entries.items → AllWithin (λ p. IsBehind after p.id) self.now.entries.items result (length self.now.entries.items) }
+        ensures before { Rises self.now.entries.items
+            → AllWithin (λ p. IsBehind after p.id → ⊥) self.now.entries.items 0 result }
+        ensures behind { Rises self.now.entries.items
+            → AllWithin (λ p. IsBehind after p.id) self.now.entries.items result
+            (length self.now.entries.items) }
     {
         match after {
             Some(after) => match search(self.entries.as_slice(), after) {
@@ -139,10 +142,12 @@ impl LastSlots {
     // greatest id goes out of it, this one or another.
     fn put_new(&mut self, at: usize, placed: &Placed)
         requires inside { at ≤ length self.old.entries.items }
-        ensures { (limit : ℕ) (before : List PlacedEntry) → placed.now.id < limit → ¬ (placed.now.len ≡ 0)
+        ensures { (limit : ℕ) (before : List PlacedEntry) → placed.now.id < limit
+            → ¬ (placed.now.len ≡ 0)
             → AllWithin (λ p. p.id < placed.now.id) self.old.entries.items 0 at
-            → AllWithin (λ p. placed.now.id < p.id) self.old.entries.items at (length self.old.entries.items)
-            → IsTold self.old.bound placed.now.id → Tells limit self.old before → Tells limit self.new (before ++ placed.now ∷ []) }
+            → AllWithin (λ p. placed.now.id < p.id) self.old.entries.items at
+            (length self.old.entries.items) → IsTold self.old.bound placed.now.id
+            → Tells limit self.old before → Tells limit self.new (before ++ placed.now ∷ []) }
     {
         if !self.entries.is_full() {
             self.entries.insert(at, *placed);
@@ -158,8 +163,9 @@ impl LastSlots {
 
     // Takes an entry as the last one of its id, of which the table tells and has none.
     fn put(&mut self, placed: &Placed)
-        ensures { (limit : ℕ) (before : List PlacedEntry) → placed.now.id < limit → last_of_id placed.now.id before ≡ None
-            → IsTold self.old.bound placed.now.id → Tells limit self.old before → Tells limit self.new (before ++ placed.now ∷ []) }
+        ensures { (limit : ℕ) (before : List PlacedEntry) → placed.now.id < limit
+            → last_of_id placed.now.id before ≡ None → IsTold self.old.bound placed.now.id
+            → Tells limit self.old before → Tells limit self.new (before ++ placed.now ∷ []) }
     {
         match search(self.entries.as_slice(), placed.id) {
             Ok(_) => {}
@@ -173,8 +179,9 @@ impl LastSlots {
 
     // Takes an entry that stands behind others, none of which has its id.
     fn note(&mut self, placed: &Placed)
-        ensures { (limit : ℕ) (before : List PlacedEntry) → placed.now.id < limit → last_of_id placed.now.id before ≡ None
-            → Tells limit self.old before → Tells limit self.new (before ++ placed.now ∷ []) }
+        ensures { (limit : ℕ) (before : List PlacedEntry) → placed.now.id < limit
+            → last_of_id placed.now.id before ≡ None → Tells limit self.old before
+            → Tells limit self.new (before ++ placed.now ∷ []) }
     {
         if self.tells_of(placed.id) {
             self.put(placed);
@@ -207,8 +214,9 @@ impl LastSlots {
 // Whether an entry of this very id was told, as far as that is sure.
 fn was_told<T: SlotSectors>(last: &LastSlots, seen: &Seen, id: u32) -> bool
     ensures { (geometry : geometry_type) (later : List PlacedEntry)
-        → ((T.kind geometry).ids ≤ 2 ^ 16 → id < 2 ^ 16) → Covers (T.kind geometry).ids last.now seen.now later
-        → result ≡ true → is_some (last_of_id id later) ≡ true }
+        → ((T.kind geometry).ids ≤ 2 ^ 16 → id < 2 ^ 16)
+        → Covers (T.kind geometry).ids last.now seen.now later → result ≡ true
+        → is_some (last_of_id id later) ≡ true }
 {
     if !seen.has(id) {
         return false;
@@ -240,8 +248,10 @@ fn has_later<T: SlotSectors, F: Flash, L: Ledger>(
     steps: &mut Steps<L>,
 ) -> bool
     requires area { IsStoreArea T.role (F.device flash.now).banks area.now }
-    requires kept { let d = F.device flash.now in opened.now ≡ T.kept (geometry_of d area.now) (sector_at (sectors_of d area.now) current) }
-    requires current { let d = F.device flash.now in current ≡ open_sector (T.kind (geometry_of d area.now)).reading (sectors_of d area.now) }
+    requires kept { let d = F.device flash.now in
+        opened.now ≡ T.kept (geometry_of d area.now) (sector_at (sectors_of d area.now) current) }
+    requires current { let d = F.device flash.now in
+        current ≡ open_sector (T.kind (geometry_of d area.now)).reading (sectors_of d area.now) }
     ensures { let d = F.device flash.now in let k = kind_on T.kind d area.now in
         (later : List PlacedEntry) → AreBehind k (sectors_of d area.now) placed.now later
         → HasSeen k.ids seen.now later → result ≡ is_some (last_of_id placed.now.id later) }
@@ -267,12 +277,15 @@ fn tell_entry<T: SlotSectors, F: Flash, L: Ledger>(
     steps: &mut Steps<L>,
 )
     requires area { IsStoreArea T.role (F.device flash.now).banks area.now }
-    requires kept { let d = F.device flash.now in opened.now ≡ T.kept (geometry_of d area.now) (sector_at (sectors_of d area.now) current) }
-    requires current { let d = F.device flash.now in current ≡ open_sector (T.kind (geometry_of d area.now)).reading (sectors_of d area.now) }
+    requires kept { let d = F.device flash.now in
+        opened.now ≡ T.kept (geometry_of d area.now) (sector_at (sectors_of d area.now) current) }
+    requires current { let d = F.device flash.now in
+        current ≡ open_sector (T.kind (geometry_of d area.now)).reading (sectors_of d area.now) }
     requires known { let d = F.device flash.now in placed.now.id < (kind_on T.kind d area.now).ids }
     ensures { let d = F.device flash.now in let k = kind_on T.kind d area.now in
         (later : List PlacedEntry) → AreBehind k (sectors_of d area.now) placed.now later
-        → Covers k.ids last.old seen.old later → Covers k.ids last.new seen.new (placed.now ∷ later) }
+        → Covers k.ids last.old seen.old later
+        → Covers k.ids last.new seen.new (placed.now ∷ later) }
 {
     let older = has_later(flash, area, opened, current, placed, seen, steps);
     last.take_older(placed, older);
@@ -293,15 +306,22 @@ fn tell_slot<T: SlotSectors, F: Flash, L: Ledger>(
     steps: &mut Steps<L>,
 )
     requires area { IsStoreArea T.role (F.device flash.now).banks area.now }
-    requires kept { let d = F.device flash.now in opened.now ≡ T.kept (geometry_of d area.now) (sector_at (sectors_of d area.now) current) }
-    requires current { let d = F.device flash.now in current ≡ open_sector (T.kind (geometry_of d area.now)).reading (sectors_of d area.now) }
+    requires kept { let d = F.device flash.now in
+        opened.now ≡ T.kept (geometry_of d area.now) (sector_at (sectors_of d area.now) current) }
+    requires current { let d = F.device flash.now in
+        current ≡ open_sector (T.kind (geometry_of d area.now)).reading (sectors_of d area.now) }
     requires inside { place < area.now.sectors }
     requires listed { HasSlotOn T.kind (F.device flash.now) area.now place slot }
     ensures { let d = F.device flash.now in let k = kind_on T.kind d area.now in
         (later : List PlacedEntry)
-        → ((p : PlacedEntry) → option_map (placed_at place) (k.in_slot (sector_at (sectors_of d area.now) place) slot) ≡ Some p → AreBehind k (sectors_of d area.now) p later)
+        → ((p : PlacedEntry)
+        → option_map (placed_at place) (k.in_slot (sector_at (sectors_of d area.now) place) slot)
+        ≡ Some p → AreBehind k (sectors_of d area.now) p later)
         → Covers k.ids last.old seen.old later
-        → Covers k.ids last.new seen.new (option_to_list (option_map (placed_at place) (k.in_slot (sector_at (sectors_of d area.now) place) slot)) ++ later) }
+        → Covers k.ids last.new seen.new
+        (option_to_list
+        (option_map (placed_at place) (k.in_slot (sector_at (sectors_of d area.now) place) slot))
+        ++ later) }
 {
     let id = T::id_in(flash, area, place, slot, steps);
     if was_told::<T>(last, seen, id) {
@@ -325,14 +345,19 @@ fn tell_sector<T: SlotSectors, F: Flash, L: Ledger>(
     steps: &mut Steps<L>,
 )
     requires area { IsStoreArea T.role (F.device flash.now).banks area.now }
-    requires kept { let d = F.device flash.now in opened.now ≡ T.kept (geometry_of d area.now) (sector_at (sectors_of d area.now) current) }
-    requires current { let d = F.device flash.now in current ≡ open_sector (T.kind (geometry_of d area.now)).reading (sectors_of d area.now) }
+    requires kept { let d = F.device flash.now in
+        opened.now ≡ T.kept (geometry_of d area.now) (sector_at (sectors_of d area.now) current) }
+    requires current { let d = F.device flash.now in
+        current ≡ open_sector (T.kind (geometry_of d area.now)).reading (sectors_of d area.now) }
     requires inside { place < area.now.sectors }
-    requires counts { let d = F.device flash.now in counts_at (kind_on T.kind d area.now).reading (sectors_of d area.now) current place ≡ true }
+    requires counts { let d = F.device flash.now in
+        counts_at (kind_on T.kind d area.now).reading (sectors_of d area.now) current place ≡ true }
     requires covers { let d = F.device flash.now in let k = kind_on T.kind d area.now in
         Covers k.ids last.old seen.old (behind k (sectors_of d area.now) current place) }
     ensures { let d = F.device flash.now in let k = kind_on T.kind d area.now in
-        Covers k.ids last.new seen.new (counted_in (slots k) (sectors_of d area.now) current place ++ behind k (sectors_of d area.now) current place) }
+        Covers k.ids last.new seen.new
+        (counted_in (slots k) (sectors_of d area.now) current place
+        ++ behind k (sectors_of d area.now) current place) }
 {
     let first = T::first_slot();
     let mut left = T::slots(flash, area, place, steps);
@@ -355,13 +380,17 @@ fn tell_counting<T: SlotSectors, F: Flash, L: Ledger>(
     steps: &mut Steps<L>,
 )
     requires area { IsStoreArea T.role (F.device flash.now).banks area.now }
-    requires kept { let d = F.device flash.now in opened.now ≡ T.kept (geometry_of d area.now) (sector_at (sectors_of d area.now) current) }
-    requires current { let d = F.device flash.now in current ≡ open_sector (T.kind (geometry_of d area.now)).reading (sectors_of d area.now) }
+    requires kept { let d = F.device flash.now in
+        opened.now ≡ T.kept (geometry_of d area.now) (sector_at (sectors_of d area.now) current) }
+    requires current { let d = F.device flash.now in
+        current ≡ open_sector (T.kind (geometry_of d area.now)).reading (sectors_of d area.now) }
     requires inside { place < area.now.sectors }
     requires covers { let d = F.device flash.now in let k = kind_on T.kind d area.now in
         Covers k.ids last.old seen.old (behind k (sectors_of d area.now) current place) }
     ensures { let d = F.device flash.now in let k = kind_on T.kind d area.now in
-        Covers k.ids last.new seen.new (counted_in (slots k) (sectors_of d area.now) current place ++ behind k (sectors_of d area.now) current place) }
+        Covers k.ids last.new seen.new
+        (counted_in (slots k) (sectors_of d area.now) current place
+        ++ behind k (sectors_of d area.now) current place) }
 {
     if counts(flash, area, opened, current, place, steps) {
         tell_sector(flash, area, opened, current, place, last, seen, steps);
@@ -379,9 +408,12 @@ fn tell_all<T: SlotSectors, F: Flash, L: Ledger>(
     steps: &mut Steps<L>,
 )
     requires area { IsStoreArea T.role (F.device flash.now).banks area.now }
-    requires kept { let d = F.device flash.now in opened.now ≡ T.kept (geometry_of d area.now) (sector_at (sectors_of d area.now) current) }
-    requires current { let d = F.device flash.now in current ≡ open_sector (kind_on T.kind d area.now).reading (sectors_of d area.now) }
-    requires none { let d = F.device flash.now in Tells (kind_on T.kind d area.now).ids last.old [] }
+    requires kept { let d = F.device flash.now in
+        opened.now ≡ T.kept (geometry_of d area.now) (sector_at (sectors_of d area.now) current) }
+    requires current { let d = F.device flash.now in
+        current ≡ open_sector (kind_on T.kind d area.now).reading (sectors_of d area.now) }
+    requires none { let d = F.device flash.now in
+        Tells (kind_on T.kind d area.now).ids last.old [] }
     ensures { TellsOn T.kind (F.device flash.now) area.now last.new }
 {
     let oldest = area.next(current);
@@ -405,8 +437,10 @@ pub fn tell_last_slots<T: SlotSectors, F: Flash, L: Ledger>(
     steps: &mut Steps<L>,
 )
     requires area { IsStoreArea T.role (F.device flash.now).banks area.now }
-    requires kept { let d = F.device flash.now in opened.now ≡ T.kept (geometry_of d area.now) (sector_at (sectors_of d area.now) current) }
-    requires current { let d = F.device flash.now in current ≡ open_sector (kind_on T.kind d area.now).reading (sectors_of d area.now) }
+    requires kept { let d = F.device flash.now in
+        opened.now ≡ T.kept (geometry_of d area.now) (sector_at (sectors_of d area.now) current) }
+    requires current { let d = F.device flash.now in
+        current ≡ open_sector (kind_on T.kind d area.now).reading (sectors_of d area.now) }
     ensures { TellsOn T.kind (F.device flash.now) area.now last.new }
 {
     last.clear();

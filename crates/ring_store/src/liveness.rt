@@ -47,7 +47,8 @@ impl LiveSlots {
     fn put(&mut self, index: u32, live: bool)
         requires { index < 2 ^ 15 }
         ensures put { has_bit self.new.bits index ≡ (has_bit self.old.bits index || live) }
-        ensures others { (other : ℕ) → other ≢ index → has_bit self.new.bits other ≡ has_bit self.old.bits other }
+        ensures others { (other : ℕ) → other ≢ index
+            → has_bit self.new.bits other ≡ has_bit self.old.bits other }
     {
         if live {
             set_bit(&mut self.bits, index);
@@ -65,9 +66,13 @@ pub fn is_live<T: SlotSectors, F: Flash, L: Ledger>(
     steps: &mut Steps<L>,
 ) -> bool
     requires area { IsStoreArea T.role (F.device flash.now).banks area.now }
-    requires kept { let d = F.device flash.now in opened.now ≡ T.kept (geometry_of d area.now) (sector_at (sectors_of d area.now) current) }
-    requires current { let d = F.device flash.now in current ≡ open_sector (T.kind (geometry_of d area.now)).reading (sectors_of d area.now) }
-    ensures { let d = F.device flash.now in result ≡ is_live (slots (T.kind (geometry_of d area.now))) (sectors_of d area.now) placed.now }
+    requires kept { let d = F.device flash.now in
+        opened.now ≡ T.kept (geometry_of d area.now) (sector_at (sectors_of d area.now) current) }
+    requires current { let d = F.device flash.now in
+        current ≡ open_sector (T.kind (geometry_of d area.now)).reading (sectors_of d area.now) }
+    ensures { let d = F.device flash.now in
+        result
+        ≡ is_live (slots (T.kind (geometry_of d area.now))) (sectors_of d area.now) placed.now }
 {
     match find(flash, area, opened, current, placed.id, steps) {
         Some(last) => last.sector == placed.sector && last.slot == placed.slot && placed.len > 0,
@@ -86,11 +91,14 @@ fn is_live_by<T: SlotSectors, F: Flash, L: Ledger>(
     steps: &mut Steps<L>,
 ) -> bool
     requires area { IsStoreArea T.role (F.device flash.now).banks area.now }
-    requires kept { let d = F.device flash.now in opened.now ≡ T.kept (geometry_of d area.now) (sector_at (sectors_of d area.now) current) }
-    requires current { let d = F.device flash.now in current ≡ open_sector (T.kind (geometry_of d area.now)).reading (sectors_of d area.now) }
+    requires kept { let d = F.device flash.now in
+        opened.now ≡ T.kept (geometry_of d area.now) (sector_at (sectors_of d area.now) current) }
+    requires current { let d = F.device flash.now in
+        current ≡ open_sector (T.kind (geometry_of d area.now)).reading (sectors_of d area.now) }
     requires known { let d = F.device flash.now in placed.now.id < (kind_on T.kind d area.now).ids }
     ensures { let d = F.device flash.now in let k = kind_on T.kind d area.now in
-        (later : List PlacedEntry) → AreBehind k (sectors_of d area.now) placed.now later → HasSeen k.ids seen.now later
+        (later : List PlacedEntry) → AreBehind k (sectors_of d area.now) placed.now later
+        → HasSeen k.ids seen.now later
         → result ≡ is_live (slots k) (sectors_of d area.now) placed.now }
 {
     if placed.len == 0 {
@@ -120,17 +128,24 @@ fn look_at<T: SlotSectors, F: Flash, L: Ledger>(
     steps: &mut Steps<L>,
 ) -> bool
     requires area { IsStoreArea T.role (F.device flash.now).banks area.now }
-    requires kept { let d = F.device flash.now in opened.now ≡ T.kept (geometry_of d area.now) (sector_at (sectors_of d area.now) current) }
-    requires current { let d = F.device flash.now in current ≡ open_sector (T.kind (geometry_of d area.now)).reading (sectors_of d area.now) }
+    requires kept { let d = F.device flash.now in
+        opened.now ≡ T.kept (geometry_of d area.now) (sector_at (sectors_of d area.now) current) }
+    requires current { let d = F.device flash.now in
+        current ≡ open_sector (T.kind (geometry_of d area.now)).reading (sectors_of d area.now) }
     requires inside { place < area.now.sectors }
     requires listed { HasSlotOn T.kind (F.device flash.now) area.now place slot }
     ensures live { let d = F.device flash.now in let k = kind_on T.kind d area.now in
         (later : List PlacedEntry)
-        → ((p : PlacedEntry) → option_map (placed_at place) (k.in_slot (sector_at (sectors_of d area.now) place) slot) ≡ Some p → AreBehind k (sectors_of d area.now) p later)
-        → HasSeen k.ids seen.old later → result ≡ holds_live k (sectors_of d area.now) place slot }
+        → ((p : PlacedEntry)
+        → option_map (placed_at place) (k.in_slot (sector_at (sectors_of d area.now) place) slot)
+        ≡ Some p → AreBehind k (sectors_of d area.now) p later) → HasSeen k.ids seen.old later
+        → result ≡ holds_live k (sectors_of d area.now) place slot }
     ensures seen { let d = F.device flash.now in let k = kind_on T.kind d area.now in
         (later : List PlacedEntry) → HasSeen k.ids seen.old later
-        → HasSeen k.ids seen.new (option_to_list (option_map (placed_at place) (k.in_slot (sector_at (sectors_of d area.now) place) slot)) ++ later) }
+        → HasSeen k.ids seen.new
+        (option_to_list
+        (option_map (placed_at place) (k.in_slot (sector_at (sectors_of d area.now) place) slot))
+        ++ later) }
 {
     match T::entry_in(flash, area, place, slot, steps) {
         Some(placed) => {
@@ -155,16 +170,24 @@ pub fn live_by<T: SlotSectors, F: Flash, L: Ledger>(
     steps: &mut Steps<L>,
 )
     requires area { IsStoreArea T.role (F.device flash.now).banks area.now }
-    requires kept { let d = F.device flash.now in opened.now ≡ T.kept (geometry_of d area.now) (sector_at (sectors_of d area.now) current) }
-    requires current { let d = F.device flash.now in current ≡ open_sector (T.kind (geometry_of d area.now)).reading (sectors_of d area.now) }
+    requires kept { let d = F.device flash.now in
+        opened.now ≡ T.kept (geometry_of d area.now) (sector_at (sectors_of d area.now) current) }
+    requires current { let d = F.device flash.now in
+        current ≡ open_sector (T.kind (geometry_of d area.now)).reading (sectors_of d area.now) }
     requires inside { place < area.now.sectors }
-    requires counts { let d = F.device flash.now in counts_at (kind_on T.kind d area.now).reading (sectors_of d area.now) current place ≡ true }
-    requires seen { let d = F.device flash.now in let k = kind_on T.kind d area.now in HasSeen k.ids seen.old (behind k (sectors_of d area.now) current place) }
+    requires counts { let d = F.device flash.now in
+        counts_at (kind_on T.kind d area.now).reading (sectors_of d area.now) current place ≡ true }
+    requires seen { let d = F.device flash.now in let k = kind_on T.kind d area.now in
+        HasSeen k.ids seen.old (behind k (sectors_of d area.now) current place) }
     requires none { (index : ℕ) → index < 2 ^ 15 → has_bit live.old.bits index ≡ false }
     ensures live { let d = F.device flash.now in let k = kind_on T.kind d area.now in
-        (index : ℕ) → index < k.count (sector_at (sectors_of d area.now) place) → has_bit live.new.bits index ≡ holds_live k (sectors_of d area.now) place (k.first + index) }
+        (index : ℕ) → index < k.count (sector_at (sectors_of d area.now) place)
+        → has_bit live.new.bits index
+        ≡ holds_live k (sectors_of d area.now) place (k.first + index) }
     ensures seen { let d = F.device flash.now in let k = kind_on T.kind d area.now in
-        HasSeen k.ids seen.new (counted_in (slots k) (sectors_of d area.now) current place ++ behind k (sectors_of d area.now) current place) }
+        HasSeen k.ids seen.new
+        (counted_in (slots k) (sectors_of d area.now) current place
+        ++ behind k (sectors_of d area.now) current place) }
 {
     let first = T::first_slot();
     let mut left = T::slots(flash, area, place, steps);
@@ -188,13 +211,18 @@ pub fn live_slots<T: SlotSectors, F: Flash, L: Ledger>(
     steps: &mut Steps<L>,
 )
     requires area { IsStoreArea T.role (F.device flash.now).banks area.now }
-    requires kept { let d = F.device flash.now in opened.now ≡ T.kept (geometry_of d area.now) (sector_at (sectors_of d area.now) current) }
-    requires current { let d = F.device flash.now in current ≡ open_sector (T.kind (geometry_of d area.now)).reading (sectors_of d area.now) }
+    requires kept { let d = F.device flash.now in
+        opened.now ≡ T.kept (geometry_of d area.now) (sector_at (sectors_of d area.now) current) }
+    requires current { let d = F.device flash.now in
+        current ≡ open_sector (T.kind (geometry_of d area.now)).reading (sectors_of d area.now) }
     requires inside { place < area.now.sectors }
-    requires counts { let d = F.device flash.now in counts_at (kind_on T.kind d area.now).reading (sectors_of d area.now) current place ≡ true }
+    requires counts { let d = F.device flash.now in
+        counts_at (kind_on T.kind d area.now).reading (sectors_of d area.now) current place ≡ true }
     requires none { (index : ℕ) → index < 2 ^ 15 → has_bit live.old.bits index ≡ false }
     ensures { let d = F.device flash.now in let k = kind_on T.kind d area.now in
-        (index : ℕ) → index < k.count (sector_at (sectors_of d area.now) place) → has_bit live.new.bits index ≡ holds_live k (sectors_of d area.now) place (k.first + index) }
+        (index : ℕ) → index < k.count (sector_at (sectors_of d area.now) place)
+        → has_bit live.new.bits index
+        ≡ holds_live k (sectors_of d area.now) place (k.first + index) }
 {
     let mut seen = Seen::new();
     note_behind(flash, area, opened, current, place, &mut seen, steps);
@@ -213,8 +241,11 @@ pub fn live_in<T: SlotSectors, F: Flash, L: Ledger>(
     requires area { IsStoreArea T.role (F.device flash.now).banks area.now }
     requires inside { place < area.now.sectors }
     requires listed { HasSlotOn T.kind (F.device flash.now) area.now place slot }
-    requires live { let d = F.device flash.now in live ≡ holds_live (kind_on T.kind d area.now) (sectors_of d area.now) place slot }
-    ensures entry { let d = F.device flash.now in result ≡ live_in (slots (T.kind (geometry_of d area.now))) (sectors_of d area.now) place slot }
+    requires live { let d = F.device flash.now in
+        live ≡ holds_live (kind_on T.kind d area.now) (sectors_of d area.now) place slot }
+    ensures entry { let d = F.device flash.now in
+        result
+        ≡ live_in (slots (T.kind (geometry_of d area.now))) (sectors_of d area.now) place slot }
     ensures short { IfSome result (λ p. p.len < 2 ^ 16) }
 {
     if live {

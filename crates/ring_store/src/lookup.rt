@@ -23,9 +23,13 @@ pub fn counts<T: SlotSectors, F: Flash, L: Ledger>(
     steps: &mut Steps<L>,
 ) -> bool
     requires area { IsStoreArea T.role (F.device flash.now).banks area.now }
-    requires kept { let d = F.device flash.now in opened.now ≡ T.kept (geometry_of d area.now) (sector_at (sectors_of d area.now) current) }
+    requires kept { let d = F.device flash.now in
+        opened.now ≡ T.kept (geometry_of d area.now) (sector_at (sectors_of d area.now) current) }
     requires current { current < area.now.sectors }
-    ensures { let d = F.device flash.now in result ≡ counts_at (T.kind (geometry_of d area.now)).reading (sectors_of d area.now) current place }
+    ensures { let d = F.device flash.now in
+        result
+        ≡ counts_at (T.kind (geometry_of d area.now)).reading (sectors_of d area.now) current
+        place }
 {
     let after = area.next(current);
     if T::is_closed(flash, area, after, steps) {
@@ -47,10 +51,12 @@ fn find_at<T: SlotSectors, F: Flash, L: Ledger>(
     steps: &mut Steps<L>,
 ) -> Option<Placed>
     requires area { IsStoreArea T.role (F.device flash.now).banks area.now }
-    requires kept { let d = F.device flash.now in opened.now ≡ T.kept (geometry_of d area.now) (sector_at (sectors_of d area.now) current) }
+    requires kept { let d = F.device flash.now in
+        opened.now ≡ T.kept (geometry_of d area.now) (sector_at (sectors_of d area.now) current) }
     requires current { current < area.now.sectors }
     requires inside { place < area.now.sectors }
-    ensures { let d = F.device flash.now in let k = T.kind (geometry_of d area.now) in result ≡ last_of (slots k) id (counted_in (slots k) (sectors_of d area.now) current place) }
+    ensures { let d = F.device flash.now in let k = T.kind (geometry_of d area.now) in
+        result ≡ last_of (slots k) id (counted_in (slots k) (sectors_of d area.now) current place) }
 {
     if counts(flash, area, opened, current, place, steps) {
         T::find_in(flash, area, place, id, steps)
@@ -71,12 +77,16 @@ pub fn find_among<T: SlotSectors, F: Flash, L: Ledger>(
     steps: &mut Steps<L>,
 ) -> Option<Placed>
     requires area { IsStoreArea T.role (F.device flash.now).banks area.now }
-    requires kept { let d = F.device flash.now in opened.now ≡ T.kept (geometry_of d area.now) (sector_at (sectors_of d area.now) current) }
+    requires kept { let d = F.device flash.now in
+        opened.now ≡ T.kept (geometry_of d area.now) (sector_at (sectors_of d area.now) current) }
     requires current { current < area.now.sectors }
     requires order { first ≤ end }
     requires inside { end ≤ area.now.sectors }
     ensures { let d = F.device flash.now in let k = T.kind (geometry_of d area.now) in
-        result ≡ last_of (slots k) id (flat_map (counted_in (slots k) (sectors_of d area.now) current) (range_with_len first (end - first))) }
+        result
+        ≡ last_of (slots k) id
+        (flat_map (counted_in (slots k) (sectors_of d area.now) current)
+        (range_with_len first (end - first))) }
 {
     let mut place = end;
     while place > first {
@@ -99,9 +109,12 @@ pub fn find<T: SlotSectors, F: Flash, L: Ledger>(
     steps: &mut Steps<L>,
 ) -> Option<Placed>
     requires area { IsStoreArea T.role (F.device flash.now).banks area.now }
-    requires kept { let d = F.device flash.now in opened.now ≡ T.kept (geometry_of d area.now) (sector_at (sectors_of d area.now) current) }
-    requires current { let d = F.device flash.now in current ≡ open_sector (T.kind (geometry_of d area.now)).reading (sectors_of d area.now) }
-    ensures { let d = F.device flash.now in result ≡ last_placed (slots (T.kind (geometry_of d area.now))) (sectors_of d area.now) id }
+    requires kept { let d = F.device flash.now in
+        opened.now ≡ T.kept (geometry_of d area.now) (sector_at (sectors_of d area.now) current) }
+    requires current { let d = F.device flash.now in
+        current ≡ open_sector (T.kind (geometry_of d area.now)).reading (sectors_of d area.now) }
+    ensures { let d = F.device flash.now in
+        result ≡ last_placed (slots (T.kind (geometry_of d area.now))) (sectors_of d area.now) id }
 {
     let newest = find_among(flash, area, opened, current, 0, current + 1, id, steps);
     if newest.is_some() {

@@ -22,7 +22,8 @@ pub trait Notes {
     ghost noted: { ℕ → Self → List PlacedEntry → Type 0 };
 
     fn note(&mut self, placed: &Placed)
-        ensures { (limit : ℕ) (before : List PlacedEntry) → placed.now.id < limit → noted limit self.old before → noted limit self.new (before ++ placed.now ∷ []) };
+        ensures { (limit : ℕ) (before : List PlacedEntry) → placed.now.id < limit
+            → noted limit self.old before → noted limit self.new (before ++ placed.now ∷ []) };
 }
 
 // Notes the entry in a slot, if there is one.
@@ -39,7 +40,10 @@ fn note_slot<T: SlotSectors, N: Notes, F: Flash, L: Ledger>(
     requires listed { HasSlotOn T.kind (F.device flash.now) area.now place slot }
     ensures { let d = F.device flash.now in let k = kind_on T.kind d area.now in
         (before : List PlacedEntry) → N.noted k.ids notes.old before
-        → N.noted k.ids notes.new (before ++ option_to_list (option_map (placed_at place) (k.in_slot (sector_at (sectors_of d area.now) place) slot))) }
+        → N.noted k.ids notes.new
+        (before
+        ++ option_to_list
+        (option_map (placed_at place) (k.in_slot (sector_at (sectors_of d area.now) place) slot))) }
 {
     match T::entry_in(flash, area, place, slot, steps) {
         Some(placed) => notes.note(&placed),
@@ -59,7 +63,9 @@ pub fn note_sector<T: SlotSectors, N: Notes, F: Flash, L: Ledger>(
     requires inside { place < area.now.sectors }
     ensures { let d = F.device flash.now in let k = kind_on T.kind d area.now in
         (before : List PlacedEntry) → N.noted k.ids notes.old before
-        → N.noted k.ids notes.new (before ++ map (placed_at place) ((slots k).entries (sector_at (sectors_of d area.now) place))) }
+        → N.noted k.ids notes.new
+        (before
+        ++ map (placed_at place) ((slots k).entries (sector_at (sectors_of d area.now) place))) }
 {
     let slots = T::slots(flash, area, place, steps);
     let first = T::first_slot();
@@ -79,12 +85,14 @@ fn note_counting<T: SlotSectors, N: Notes, F: Flash, L: Ledger>(
     steps: &mut Steps<L>,
 )
     requires area { IsStoreArea T.role (F.device flash.now).banks area.now }
-    requires kept { let d = F.device flash.now in opened.now ≡ T.kept (geometry_of d area.now) (sector_at (sectors_of d area.now) current) }
+    requires kept { let d = F.device flash.now in
+        opened.now ≡ T.kept (geometry_of d area.now) (sector_at (sectors_of d area.now) current) }
     requires current { current < area.now.sectors }
     requires inside { place < area.now.sectors }
     ensures { let d = F.device flash.now in let k = kind_on T.kind d area.now in
         (before : List PlacedEntry) → N.noted k.ids notes.old before
-        → N.noted k.ids notes.new (before ++ counted_in (slots k) (sectors_of d area.now) current place) }
+        → N.noted k.ids notes.new
+        (before ++ counted_in (slots k) (sectors_of d area.now) current place) }
 {
     if counts(flash, area, opened, current, place, steps) {
         note_sector::<T, N, F, L>(flash, area, place, notes, steps);
@@ -103,13 +111,17 @@ pub fn note_among<T: SlotSectors, N: Notes, F: Flash, L: Ledger>(
     steps: &mut Steps<L>,
 )
     requires area { IsStoreArea T.role (F.device flash.now).banks area.now }
-    requires kept { let d = F.device flash.now in opened.now ≡ T.kept (geometry_of d area.now) (sector_at (sectors_of d area.now) current) }
+    requires kept { let d = F.device flash.now in
+        opened.now ≡ T.kept (geometry_of d area.now) (sector_at (sectors_of d area.now) current) }
     requires current { current < area.now.sectors }
     requires order { first ≤ end }
     requires inside { end ≤ area.now.sectors }
     ensures { let d = F.device flash.now in let k = kind_on T.kind d area.now in
         (before : List PlacedEntry) → N.noted k.ids notes.old before
-        → N.noted k.ids notes.new (before ++ flat_map (counted_in (slots k) (sectors_of d area.now) current) (range_with_len first (end - first))) }
+        → N.noted k.ids notes.new
+        (before
+        ++ flat_map (counted_in (slots k) (sectors_of d area.now) current)
+        (range_with_len first (end - first))) }
 {
     for place in first..end {
         note_counting(flash, area, opened, current, place, notes, steps);

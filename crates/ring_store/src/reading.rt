@@ -39,9 +39,12 @@ impl<T: SlotSectors> Store<T> {
         steps: &mut Steps<L>,
     ) -> Option<&'a [u8]>
         requires { StandsOn T.role T.kind T.kept (F.device flash.now) self.now }
-        ensures value { option_map (λ bytes. bytes.now) result ≡ map.get (items_on T.kind (F.device flash.now) self.now.area) id }
-        ensures none { latest_on T.kind (F.device flash.now) self.now.area id ≡ None → steps.new ≡ steps.old }
-        ensures few { IfSome (latest_on T.kind (F.device flash.now) self.now.area id) (λ p. p.id ≡ id → steps.new ≤ steps.old + 2) }
+        ensures value { option_map (λ bytes. bytes.now) result
+            ≡ map.get (items_on T.kind (F.device flash.now) self.now.area) id }
+        ensures none { latest_on T.kind (F.device flash.now) self.now.area id ≡ None
+            → steps.new ≡ steps.old }
+        ensures few { IfSome (latest_on T.kind (F.device flash.now) self.now.area id)
+            (λ p. p.id ≡ id → steps.new ≤ steps.old + 2) }
     {
         let latest = self.latest(flash, id, steps)?;
         if latest.id == id {
@@ -53,8 +56,10 @@ impl<T: SlotSectors> Store<T> {
     /// Whether an item may be there: `true` exactly where an entry of the list has an id of the same cache slot. Else the id
     /// has none. It looks at the cache alone.
     pub fn may_hold(&self, id: u32) -> bool
-        ensures exactly { (d : Device) → StandsOn T.role T.kind T.kept d self.now → result ≡ is_some (latest_on T.kind d self.now.area id) }
-        ensures none { (d : Device) → IsLawful d.banks d.bytes → StandsOn T.role T.kind T.kept d self.now → result ≡ false
+        ensures exactly { (d : Device) → StandsOn T.role T.kind T.kept d self.now
+            → result ≡ is_some (latest_on T.kind d self.now.area id) }
+        ensures none { (d : Device) → IsLawful d.banks d.bytes
+            → StandsOn T.role T.kind T.kept d self.now → result ≡ false
             → map.get (items_on T.kind d self.now.area) id ≡ None }
     {
         self.cache.start_of(id).is_some()
@@ -86,7 +91,8 @@ impl<T: SlotSectors> Store<T> {
     ) -> Option<&'a [u8]>
         requires stands { StandsOn T.role T.kind T.kept (F.device flash.now) self.now }
         requires latest { Some latest.now ≡ latest_on T.kind (F.device flash.now) self.now.area id }
-        ensures { option_map (λ bytes. bytes.now) result ≡ map.get (items_on T.kind (F.device flash.now) self.now.area) id }
+        ensures { option_map (λ bytes. bytes.now) result
+            ≡ map.get (items_on T.kind (F.device flash.now) self.now.area) id }
     {
         let placed = find_up_to(
             flash,
@@ -108,9 +114,13 @@ impl<T: SlotSectors> Store<T> {
         steps: &mut Steps<L>,
     ) -> Option<&'a [u8]>
         requires stands { StandsOn T.role T.kind T.kept (F.device flash.now) self.now }
-        requires placed { IsPlacedOn T.kind (F.device flash.now) self.now.area self.now.current placed.now }
+        requires placed { IsPlacedOn T.kind (F.device flash.now) self.now.area self.now.current
+            placed.now }
         ensures value { let d = F.device flash.now in
-            option_map (λ bytes. bytes.now) result ≡ value_of (bytes_of (slots (kind_on T.kind d self.now.area)) (sectors_of d self.now.area) placed.now) }
+            option_map (λ bytes. bytes.now) result
+            ≡ value_of
+            (bytes_of (slots (kind_on T.kind d self.now.area)) (sectors_of d self.now.area)
+            placed.now) }
         ensures step { steps.new ≤ steps.old + 1 }
     {
         if placed.len == 0 {
@@ -129,13 +139,18 @@ impl<T: SlotSectors> Store<T> {
         steps: &mut Steps<L>,
     ) -> Option<u32>
         requires stands { StandsOn T.role T.kind T.kept (F.device flash.now) self.now }
-        requires some { IfSome least (Follows (items_on T.kind (F.device flash.now) self.now.area) after) }
-        requires small { let d = F.device flash.now in IfSome least (λ l. l < (kind_on T.kind d self.now.area).ids) }
+        requires some { IfSome least
+            (Follows (items_on T.kind (F.device flash.now) self.now.area) after) }
+        requires small { let d = F.device flash.now in
+            IfSome least (λ l. l < (kind_on T.kind d self.now.area).ids) }
         requires own { let d = F.device flash.now in id < (kind_on T.kind d self.now.area).ids }
-        ensures some { IfSome result (Follows (items_on T.kind (F.device flash.now) self.now.area) after) }
-        ensures small { let d = F.device flash.now in IfSome result (λ l. l < (kind_on T.kind d self.now.area).ids) }
+        ensures some { IfSome result
+            (Follows (items_on T.kind (F.device flash.now) self.now.area) after) }
+        ensures small { let d = F.device flash.now in
+            IfSome result (λ l. l < (kind_on T.kind d self.now.area).ids) }
         ensures kept { IfSome least (IsAtMost result) }
-        ensures id { Follows (items_on T.kind (F.device flash.now) self.now.area) after id → IsAtMost result id }
+        ensures id { Follows (items_on T.kind (F.device flash.now) self.now.area) after id
+            → IsAtMost result id }
     {
         if !is_between(id, after, least) {
             return least;
@@ -157,13 +172,20 @@ impl<T: SlotSectors> Store<T> {
         steps: &mut Steps<L>,
     ) -> Option<u32>
         requires stands { StandsOn T.role T.kind T.kept (F.device flash.now) self.now }
-        requires some { IfSome least (Follows (items_on T.kind (F.device flash.now) self.now.area) after) }
-        requires small { let d = F.device flash.now in IfSome least (λ l. l < (kind_on T.kind d self.now.area).ids) }
-        requires own { let d = F.device flash.now in IfSome placed (λ p. p.id < (kind_on T.kind d self.now.area).ids) }
-        ensures some { IfSome result (Follows (items_on T.kind (F.device flash.now) self.now.area) after) }
-        ensures small { let d = F.device flash.now in IfSome result (λ l. l < (kind_on T.kind d self.now.area).ids) }
+        requires some { IfSome least
+            (Follows (items_on T.kind (F.device flash.now) self.now.area) after) }
+        requires small { let d = F.device flash.now in
+            IfSome least (λ l. l < (kind_on T.kind d self.now.area).ids) }
+        requires own { let d = F.device flash.now in
+            IfSome placed (λ p. p.id < (kind_on T.kind d self.now.area).ids) }
+        ensures some { IfSome result
+            (Follows (items_on T.kind (F.device flash.now) self.now.area) after) }
+        ensures small { let d = F.device flash.now in
+            IfSome result (λ l. l < (kind_on T.kind d self.now.area).ids) }
         ensures kept { IfSome least (IsAtMost result) }
-        ensures id { IfSome placed (λ p. Follows (items_on T.kind (F.device flash.now) self.now.area) after p.id → IsAtMost result p.id) }
+        ensures id { IfSome placed
+            (λ p. Follows (items_on T.kind (F.device flash.now) self.now.area) after p.id
+            → IsAtMost result p.id) }
     {
         match placed {
             Some(placed) => self.lesser(flash, placed.id, after, least, steps),
@@ -182,13 +204,19 @@ impl<T: SlotSectors> Store<T> {
     ) -> Option<u32>
         requires stands { StandsOn T.role T.kind T.kept (F.device flash.now) self.now }
         requires inside { place < self.now.area.sectors }
-        requires some { IfSome least (Follows (items_on T.kind (F.device flash.now) self.now.area) after) }
-        requires small { let d = F.device flash.now in IfSome least (λ l. l < (kind_on T.kind d self.now.area).ids) }
-        ensures some { IfSome result (Follows (items_on T.kind (F.device flash.now) self.now.area) after) }
-        ensures small { let d = F.device flash.now in IfSome result (λ l. l < (kind_on T.kind d self.now.area).ids) }
+        requires some { IfSome least
+            (Follows (items_on T.kind (F.device flash.now) self.now.area) after) }
+        requires small { let d = F.device flash.now in
+            IfSome least (λ l. l < (kind_on T.kind d self.now.area).ids) }
+        ensures some { IfSome result
+            (Follows (items_on T.kind (F.device flash.now) self.now.area) after) }
+        ensures small { let d = F.device flash.now in
+            IfSome result (λ l. l < (kind_on T.kind d self.now.area).ids) }
         ensures kept { IfSome least (IsAtMost result) }
         ensures least { let d = F.device flash.now in
-            IsLeastOf (items_on T.kind d self.now.area) after ((kind_on T.kind d self.now.area).reading.pairs (sector_at (sectors_of d self.now.area) place)) result }
+            IsLeastOf (items_on T.kind d self.now.area) after
+            ((kind_on T.kind d self.now.area).reading.pairs
+            (sector_at (sectors_of d self.now.area) place)) result }
     {
         let mut next = least;
         let slots = T::slots(flash, &self.area, place, steps);
@@ -209,7 +237,8 @@ impl<T: SlotSectors> Store<T> {
     ) -> Option<u32>
         requires { StandsOn T.role T.kind T.kept (F.device flash.now) self.now }
         ensures next { IsNextId (items_on T.kind (F.device flash.now) self.now.area) after result }
-        ensures known { let d = F.device flash.now in IfSome result (λ id. id < (kind_on T.kind d self.now.area).ids) }
+        ensures known { let d = F.device flash.now in
+            IfSome result (λ id. id < (kind_on T.kind d self.now.area).ids) }
     {
         let mut least = None;
         for place in 0..self.area.sectors {
@@ -230,10 +259,14 @@ impl<T: SlotSectors> Store<T> {
         requires stands { StandsOn T.role T.kind T.kept (F.device flash.now) self.now }
         requires inside { IfSome after (λ place. place.0 < self.now.area.sectors) }
 
-        ensures older { IsNextOlder (entries_on T.kind (F.device flash.now) self.now.area) after result }
+        ensures older { IsNextOlder (entries_on T.kind (F.device flash.now) self.now.area) after
+            result }
         ensures before { let d = F.device flash.now in
-            IfSome after (λ place. result ≡ newest_before (kind_on T.kind d self.now.area) (sectors_of d self.now.area) place) }
-        ensures placed { IfSome result (IsPlacedOn T.kind (F.device flash.now) self.now.area self.now.current) }
+            IfSome after
+            (λ place. result
+            ≡ newest_before (kind_on T.kind d self.now.area) (sectors_of d self.now.area) place) }
+        ensures placed { IfSome result
+            (IsPlacedOn T.kind (F.device flash.now) self.now.area self.now.current) }
     {
         walk(flash, &self.area, &self.opened, self.current, after, steps)
     }

@@ -22,7 +22,8 @@ use std::sync::ledger::Ledger;
 pub fn is_too_long<T: SlotSectors>(geometry: &Geometry, len: usize) -> bool
     requires unit { IsUnit geometry.now.unit }
     requires size { geometry.now.sector ≤ 32768 }
-    ensures { result ≡ nat_lt ((T.kind geometry.now).cap geometry.now.sector) ((T.kind geometry.now).cost len) }
+    ensures { result
+        ≡ nat_lt ((T.kind geometry.now).cap geometry.now.sector) ((T.kind geometry.now).cost len) }
 {
     len > 0xFFFF || u64::from(T::capacity(geometry)) < T::cost(geometry, len as u32)
 }
@@ -42,7 +43,8 @@ pub fn fits<T: SlotSectors, F: Flash, L: Ledger>(
         opened.now ≡ T.kept (geometry_of d area.now) (sector_at (sectors_of d area.now) place) }
     requires narrow { len < 2 ^ 16 }
     ensures { let d = F.device flash.now in
-        result ≡ fits (T.kind (geometry_of d area.now)) (sector_at (sectors_of d area.now) place) len }
+        result
+        ≡ fits (T.kind (geometry_of d area.now)) (sector_at (sectors_of d area.now) place) len }
 {
     let geometry = geometry(flash, area);
     let slot = u64::from(T::slot_size(&geometry));
@@ -68,27 +70,35 @@ pub fn make_room<T: SlotSectors, F: Flash, L: Ledger>(
     len: u32,
     steps: &mut Steps<L>,
 ) -> Result<bool, PowerLost>
-    requires stands { StandsAt T.role T.kind T.kept (F.device flash.old) area.now current.old opened.old }
+    requires stands { StandsAt T.role T.kind T.kept (F.device flash.old) area.now current.old
+        opened.old }
     requires cached { IsCacheOn T.kind (F.device flash.old) area.now cache.old }
     requires narrow { len < 2 ^ 16 }
     requires short { let d = F.device flash.old in
         0 < len → IsShort (T.kind (geometry_of d area.now)) d area.now len }
 
-    ensures touches { Touches (area.now ∷ []) (F.device flash.old) (F.device flash.new) (is_err result) }
+    ensures touches { Touches (area.now ∷ []) (F.device flash.old) (F.device flash.new)
+        (is_err result) }
     ensures written { let d = F.device flash.old in let k = T.kind (geometry_of d area.now) in
-        IsWritten k (sectors_of d area.now) → IsWritten k (sectors_of (F.device flash.new) area.now) }
+        IsWritten k (sectors_of d area.now)
+        → IsWritten k (sectors_of (F.device flash.new) area.now) }
 
-    ensures stands { OnOk result (StandsAt T.role T.kind T.kept (F.device flash.new) area.now current.new opened.new) }
+    ensures stands { OnOk result
+        (StandsAt T.role T.kind T.kept (F.device flash.new) area.now current.new opened.new) }
     ensures cached { OnOk result (IsCacheOn T.kind (F.device flash.new) area.now cache.new) }
     ensures makes { let d = F.device flash.old in
-        OnOk result (MakesRoom (T.kind (geometry_of d area.now)) d (F.device flash.new) area.now len) }
+        OnOk result
+        (MakesRoom (T.kind (geometry_of d area.now)) d (F.device flash.new) area.now len) }
     ensures room { let k = T.kind (geometry_of (F.device flash.old) area.now) in
         IfOk result (λ room. room ≡ has_room k (sectors_of (F.device flash.new) area.now) len) }
     ensures full { let d = F.device flash.old in
-        IfOk result (λ room. room ≡ false → IsFull (T.kind (geometry_of d area.now)) d (F.device flash.new) area.now len) }
+        IfOk result
+        (λ room. room ≡ false
+        → IsFull (T.kind (geometry_of d area.now)) d (F.device flash.new) area.now len) }
 
     ensures stops { let d = F.device flash.old in
-        OnErr result (StopsMakingRoom (T.kind (geometry_of d area.now)) d (F.device flash.new) area.now len) }
+        OnErr result
+        (StopsMakingRoom (T.kind (geometry_of d area.now)) d (F.device flash.new) area.now len) }
 {
     for _round in 1..area.sectors {
         if fits(flash, area, opened, *current, len, steps) {

@@ -26,11 +26,14 @@ pub fn find_up_to<T: SlotSectors, F: Flash, L: Ledger>(
     steps: &mut Steps<L>,
 ) -> Option<Placed>
     requires area { IsStoreArea T.role (F.device flash.now).banks area.now }
-    requires kept { let d = F.device flash.now in opened.now ≡ T.kept (geometry_of d area.now) (sector_at (sectors_of d area.now) current) }
+    requires kept { let d = F.device flash.now in
+        opened.now ≡ T.kept (geometry_of d area.now) (sector_at (sectors_of d area.now) current) }
     requires current { current < area.now.sectors }
     requires inside { place < area.now.sectors }
     ensures { let d = F.device flash.now in let k = T.kind (geometry_of d area.now) in
-        result ≡ last_of (slots k) id (flat_map (counted_in (slots k) (sectors_of d area.now) current)
+        result
+        ≡ last_of (slots k) id
+        (flat_map (counted_in (slots k) (sectors_of d area.now) current)
         (places_before (length (sectors_of d area.now)) current place ++ place ∷ [])) }
 {
     if current < place {

@@ -77,7 +77,8 @@ pub trait SlotSectors: Copy {
         requires area { IsStoreArea role (F.device flash.now).banks area.now }
         requires inside { place < area.now.sectors }
         ensures { let d = F.device flash.now in
-            result ≡ (kind (geometry_of d area.now)).is_clean (sector_at (sectors_of d area.now) place) };
+            result
+            ≡ (kind (geometry_of d area.now)).is_clean (sector_at (sectors_of d area.now) place) };
 
     /// Whether a sector is closed.
     fn is_closed<F: Flash, L: Ledger>(
@@ -88,17 +89,21 @@ pub trait SlotSectors: Copy {
     ) -> bool
         requires area { IsStoreArea role (F.device flash.now).banks area.now }
         requires inside { place < area.now.sectors }
-        ensures { let d = F.device flash.now in result ≡ is_closed_at (kind (geometry_of d area.now)).reading (sectors_of d area.now) place };
+        ensures { let d = F.device flash.now in
+            result
+            ≡ is_closed_at (kind (geometry_of d area.now)).reading (sectors_of d area.now) place };
 
     /// What is kept of a sector, read from it.
     fn keep<F: Flash, L: Ledger>(flash: &F, area: &Area, place: u32, steps: &mut Steps<L>) -> Self
         requires area { IsStoreArea role (F.device flash.now).banks area.now }
         requires inside { place < area.now.sectors }
-        ensures { let d = F.device flash.now in result ≡ kept (geometry_of d area.now) (sector_at (sectors_of d area.now) place) };
+        ensures { let d = F.device flash.now in
+            result ≡ kept (geometry_of d area.now) (sector_at (sectors_of d area.now) place) };
 
     /// Whether gc-done stands in the sector.
     fn has_gc_done(&self) -> bool
-        ensures { (geometry : geometry_type) (b : List ℕ) → self.now ≡ kept geometry b → result ≡ (kind geometry).reading.has_gc_done b };
+        ensures { (geometry : geometry_type) (b : List ℕ) → self.now ≡ kept geometry b
+            → result ≡ (kind geometry).reading.has_gc_done b };
 
     /// The bytes between what stands of values in the sector, cut ones too, and its slots.
     fn free<F: Flash, L: Ledger>(
@@ -110,8 +115,11 @@ pub trait SlotSectors: Copy {
     ) -> u32
         requires area { IsStoreArea role (F.device flash.now).banks area.now }
         requires inside { place < area.now.sectors }
-        requires kept { let d = F.device flash.now in self.now ≡ kept (geometry_of d area.now) (sector_at (sectors_of d area.now) place) }
-        ensures { let d = F.device flash.now in result ≡ (kind (geometry_of d area.now)).free (sector_at (sectors_of d area.now) place) };
+        requires kept { let d = F.device flash.now in
+            self.now ≡ kept (geometry_of d area.now) (sector_at (sectors_of d area.now) place) }
+        ensures { let d = F.device flash.now in
+            result
+            ≡ (kind (geometry_of d area.now)).free (sector_at (sectors_of d area.now) place) };
 
     /// How many slots the list of the sector has of which this is kept.
     fn own_slots<F: Flash, L: Ledger>(
@@ -123,15 +131,20 @@ pub trait SlotSectors: Copy {
     ) -> u32
         requires area { IsStoreArea role (F.device flash.now).banks area.now }
         requires inside { place < area.now.sectors }
-        requires kept { let d = F.device flash.now in self.now ≡ kept (geometry_of d area.now) (sector_at (sectors_of d area.now) place) }
-        ensures value { let d = F.device flash.now in result ≡ (kind (geometry_of d area.now)).count (sector_at (sectors_of d area.now) place) }
+        requires kept { let d = F.device flash.now in
+            self.now ≡ kept (geometry_of d area.now) (sector_at (sectors_of d area.now) place) }
+        ensures value { let d = F.device flash.now in
+            result
+            ≡ (kind (geometry_of d area.now)).count (sector_at (sectors_of d area.now) place) }
         ensures few { result ≤ 2 ^ 15 };
 
     /// How many slots the list of a sector has.
     fn slots<F: Flash, L: Ledger>(flash: &F, area: &Area, place: u32, steps: &mut Steps<L>) -> u32
         requires area { IsStoreArea role (F.device flash.now).banks area.now }
         requires inside { place < area.now.sectors }
-        ensures value { let d = F.device flash.now in result ≡ (kind (geometry_of d area.now)).count (sector_at (sectors_of d area.now) place) }
+        ensures value { let d = F.device flash.now in
+            result
+            ≡ (kind (geometry_of d area.now)).count (sector_at (sectors_of d area.now) place) }
         ensures few { result ≤ 2 ^ 15 };
 
     /// The entry in a slot of a sector's list. It is one step at most.
@@ -145,10 +158,14 @@ pub trait SlotSectors: Copy {
         requires area { IsStoreArea role (F.device flash.now).banks area.now }
         requires inside { place < area.now.sectors }
         requires listed { let d = F.device flash.now in let k = kind (geometry_of d area.now) in
-            (k.first ≤ slot) × (slot < k.first + k.count (sector_at (sectors_of d area.now) place)) }
+            (k.first ≤ slot)
+            × (slot < k.first + k.count (sector_at (sectors_of d area.now) place)) }
         ensures entry { let d = F.device flash.now in let k = kind (geometry_of d area.now) in
-            result ≡ option_map (placed_at place) (k.in_slot (sector_at (sectors_of d area.now) place) slot) }
-        ensures small { let d = F.device flash.now in IfSome result (λ p. p.id < (kind (geometry_of d area.now)).ids) }
+            result
+            ≡ option_map (placed_at place)
+            (k.in_slot (sector_at (sectors_of d area.now) place) slot) }
+        ensures small { let d = F.device flash.now in
+            IfSome result (λ p. p.id < (kind (geometry_of d area.now)).ids) }
         ensures short { IfSome result (λ p. p.len < 2 ^ 16) }
         ensures step { steps.new ≤ steps.old + 1 };
 
@@ -164,10 +181,12 @@ pub trait SlotSectors: Copy {
         requires area { IsStoreArea role (F.device flash.now).banks area.now }
         requires inside { place < area.now.sectors }
         requires listed { let d = F.device flash.now in let k = kind (geometry_of d area.now) in
-            (k.first ≤ slot) × (slot < k.first + k.count (sector_at (sectors_of d area.now) place)) }
+            (k.first ≤ slot)
+            × (slot < k.first + k.count (sector_at (sectors_of d area.now) place)) }
         ensures id { let d = F.device flash.now in let k = kind (geometry_of d area.now) in
             IfSome (k.in_slot (sector_at (sectors_of d area.now) place) slot) (λ e. e.id ≡ result) }
-        ensures small { let d = F.device flash.now in (kind (geometry_of d area.now)).ids ≤ 2 ^ 16 → result < 2 ^ 16 }
+        ensures small { let d = F.device flash.now in
+            (kind (geometry_of d area.now)).ids ≤ 2 ^ 16 → result < 2 ^ 16 }
         ensures step { steps.new ≤ steps.old + 1 };
 
     /// The bytes of an entry of a sector's list. It is one step at most.
@@ -180,7 +199,9 @@ pub trait SlotSectors: Copy {
         requires area { IsStoreArea role (F.device flash.now).banks area.now }
         requires listed { IsListedOn kind (F.device flash.now) area.now placed.now }
         requires within { IsWithinOn kind (F.device flash.now) area.now placed.now.sector }
-        ensures bytes { let d = F.device flash.now in result.now ≡ bytes_of (slots (kind (geometry_of d area.now))) (sectors_of d area.now) placed.now }
+        ensures bytes { let d = F.device flash.now in
+            result.now
+            ≡ bytes_of (slots (kind (geometry_of d area.now))) (sectors_of d area.now) placed.now }
         ensures step { steps.new ≤ steps.old + 1 };
 
     /// The last entry of an id in a sector.
@@ -194,7 +215,10 @@ pub trait SlotSectors: Copy {
         requires area { IsStoreArea role (F.device flash.now).banks area.now }
         requires inside { place < area.now.sectors }
         ensures { let d = F.device flash.now in let k = kind (geometry_of d area.now) in
-            result ≡ option_map (placed_at place) (last_in (slots k) place id ((slots k).entries (sector_at (sectors_of d area.now) place))) };
+            result
+            ≡ option_map (placed_at place)
+            (last_in (slots k) place id
+            ((slots k).entries (sector_at (sectors_of d area.now) place))) };
 
     /// How many slots of a sector's list have to be looked at for the ids from `least` to `most`: those behind them have no
     /// entry of these.
@@ -209,10 +233,12 @@ pub trait SlotSectors: Copy {
         requires area { IsStoreArea role (F.device flash.now).banks area.now }
         requires inside { place < area.now.sectors }
         ensures few { let d = F.device flash.now in
-            result ≤ (kind (geometry_of d area.now)).count (sector_at (sectors_of d area.now) place) }
+            result
+            ≤ (kind (geometry_of d area.now)).count (sector_at (sectors_of d area.now) place) }
         ensures small { result ≤ 2 ^ 15 }
         ensures others { let d = F.device flash.now in let k = kind (geometry_of d area.now) in
-            let b = sector_at (sectors_of d area.now) place in AreOthers k b result (k.count b) least most };
+            let b = sector_at (sectors_of d area.now) place in
+            AreOthers k b result (k.count b) least most };
 
     /// The same for the first so many slots of the list.
     fn reach_of<F: Flash, L: Ledger>(
@@ -227,10 +253,12 @@ pub trait SlotSectors: Copy {
         requires area { IsStoreArea role (F.device flash.now).banks area.now }
         requires inside { place < area.now.sectors }
         requires listed { let d = F.device flash.now in
-            slots ≤ (kind (geometry_of d area.now)).count (sector_at (sectors_of d area.now) place) }
+            slots
+            ≤ (kind (geometry_of d area.now)).count (sector_at (sectors_of d area.now) place) }
         ensures few { result ≤ slots }
         ensures others { let d = F.device flash.now in
-            AreOthers (kind (geometry_of d area.now)) (sector_at (sectors_of d area.now) place) result slots least most };
+            AreOthers (kind (geometry_of d area.now)) (sector_at (sectors_of d area.now) place)
+            result slots least most };
 
     // ---- steps in the open sector
 
@@ -247,18 +275,45 @@ pub trait SlotSectors: Copy {
     ) -> Result<(), PowerLost>
         requires area { IsStoreArea role (F.device flash.old).banks area.now }
         requires inside { place < area.now.sectors }
-        requires kept { let d = F.device flash.old in self.old ≡ kept (geometry_of d area.now) (sector_at (sectors_of d area.now) place) }
-        requires sound { let d = F.device flash.old in is_sound (kind (geometry_of d area.now)).reading (sector_at (sectors_of d area.now) place) ≡ true }
-        requires opened { let d = F.device flash.old in is_closed_at (kind (geometry_of d area.now)).reading (sectors_of d area.now) place ≡ false }
-        ensures touches { Touches (area.now ∷ []) (F.device flash.old) (F.device flash.new) (is_err result) }
-        ensures only { ChangesOnly (sectors_of (F.device flash.old) area.now) (sectors_of (F.device flash.new) area.now) place }
-        ensures begins { let d = F.device flash.old in OnOk result (Begins (kind (geometry_of d area.now)) (sector_at (sectors_of d area.now) place) (sector_at (sectors_of (F.device flash.new) area.now) place)) }
-        ensures kept { let d = F.device flash.old in OnOk result (self.new ≡ kept (geometry_of d area.now) (sector_at (sectors_of (F.device flash.new) area.now) place)) }
-        ensures lost { let d = F.device flash.old in OnErr result (Keeps (kind (geometry_of d area.now)) (sector_at (sectors_of d area.now) place) (sector_at (sectors_of (F.device flash.new) area.now) place)) }
+        requires kept { let d = F.device flash.old in
+            self.old ≡ kept (geometry_of d area.now) (sector_at (sectors_of d area.now) place) }
+        requires sound { let d = F.device flash.old in
+            is_sound (kind (geometry_of d area.now)).reading
+            (sector_at (sectors_of d area.now) place) ≡ true }
+        requires opened { let d = F.device flash.old in
+            is_closed_at (kind (geometry_of d area.now)).reading (sectors_of d area.now) place
+            ≡ false }
+        ensures touches { Touches (area.now ∷ []) (F.device flash.old) (F.device flash.new)
+            (is_err result) }
+        ensures only { ChangesOnly (sectors_of (F.device flash.old) area.now)
+            (sectors_of (F.device flash.new) area.now) place }
+        ensures begins { let d = F.device flash.old in
+            OnOk result
+            (Begins (kind (geometry_of d area.now)) (sector_at (sectors_of d area.now) place)
+            (sector_at (sectors_of (F.device flash.new) area.now) place)) }
+        ensures kept { let d = F.device flash.old in
+            OnOk result
+            (self.new
+            ≡ kept (geometry_of d area.now)
+            (sector_at (sectors_of (F.device flash.new) area.now) place)) }
+        ensures lost { let d = F.device flash.old in
+            OnErr result
+            (Keeps (kind (geometry_of d area.now)) (sector_at (sectors_of d area.now) place)
+            (sector_at (sectors_of (F.device flash.new) area.now) place)) }
         ensures room_lost { let d = F.device flash.old in let k = kind (geometry_of d area.now) in
-            OnErr result (LeavesRoom k (sector_at (sectors_of d area.now) place) (sector_at (sectors_of (F.device flash.new) area.now) place) 0) }
-        ensures spends { let d = F.device flash.old in OnOk result (SpendsIn d (F.device flash.new) ((kind (geometry_of d area.now)).units.begin (sector_at (sectors_of d area.now) place))) }
-        ensures spends_lost { let d = F.device flash.old in OnErr result (SpendsUpTo d (F.device flash.new) ((kind (geometry_of d area.now)).units.begin (sector_at (sectors_of d area.now) place))) };
+            OnErr result
+            (LeavesRoom k (sector_at (sectors_of d area.now) place)
+            (sector_at (sectors_of (F.device flash.new) area.now) place) 0) }
+        ensures spends { let d = F.device flash.old in
+            OnOk result
+            (SpendsIn d (F.device flash.new)
+            ((kind (geometry_of d area.now)).units.begin
+            (sector_at (sectors_of d area.now) place))) }
+        ensures spends_lost { let d = F.device flash.old in
+            OnErr result
+            (SpendsUpTo d (F.device flash.new)
+            ((kind (geometry_of d area.now)).units.begin
+            (sector_at (sectors_of d area.now) place))) };
 
     /// Puts an item's bytes and their entry. No bytes are a delete.
     ///
@@ -275,23 +330,57 @@ pub trait SlotSectors: Copy {
     ) -> Result<(), PowerLost>
         requires area { IsStoreArea role (F.device flash.old).banks area.now }
         requires inside { place < area.now.sectors }
-        requires kept { let d = F.device flash.old in self.old ≡ kept (geometry_of d area.now) (sector_at (sectors_of d area.now) place) }
-        requires ready { let d = F.device flash.old in (kind (geometry_of d area.now)).is_ready (sector_at (sectors_of d area.now) place) ≡ true }
-        requires opened { let d = F.device flash.old in place ≡ open_sector (kind (geometry_of d area.now)).reading (sectors_of d area.now) }
-        requires rested { let d = F.device flash.old in is_closed_at (kind (geometry_of d area.now)).reading (sectors_of d area.now) (next (sectors_of d area.now) place) ≡ false }
+        requires kept { let d = F.device flash.old in
+            self.old ≡ kept (geometry_of d area.now) (sector_at (sectors_of d area.now) place) }
+        requires ready { let d = F.device flash.old in
+            (kind (geometry_of d area.now)).is_ready (sector_at (sectors_of d area.now) place)
+            ≡ true }
+        requires opened { let d = F.device flash.old in
+            place ≡ open_sector (kind (geometry_of d area.now)).reading (sectors_of d area.now) }
+        requires rested { let d = F.device flash.old in
+            is_closed_at (kind (geometry_of d area.now)).reading (sectors_of d area.now)
+            (next (sectors_of d area.now) place) ≡ false }
         requires ordinary { id < (kind (geometry_of (F.device flash.old) area.now)).ids }
-        requires fits { let d = F.device flash.old in IsTrue (fits (kind (geometry_of d area.now)) (sector_at (sectors_of d area.now) place) (length bytes.now)) }
-        ensures touches { Touches (area.now ∷ []) (F.device flash.old) (F.device flash.new) (is_err result) }
-        ensures only { ChangesOnly (sectors_of (F.device flash.old) area.now) (sectors_of (F.device flash.new) area.now) place }
-        ensures adds { let d = F.device flash.old in OnOk result (Adds (kind (geometry_of d area.now)) (sector_at (sectors_of d area.now) place) (sector_at (sectors_of (F.device flash.new) area.now) place) id bytes.now) }
-        ensures kept { let d = F.device flash.old in OnOk result (self.new ≡ kept (geometry_of d area.now) (sector_at (sectors_of (F.device flash.new) area.now) place)) }
-        ensures lost { let d = F.device flash.old in let k = kind (geometry_of d area.now) in let b = sector_at (sectors_of d area.now) place in let e = sector_at (sectors_of (F.device flash.new) area.now) place in
+        requires fits { let d = F.device flash.old in
+            IsTrue
+            (fits (kind (geometry_of d area.now)) (sector_at (sectors_of d area.now) place)
+            (length bytes.now)) }
+        ensures touches { Touches (area.now ∷ []) (F.device flash.old) (F.device flash.new)
+            (is_err result) }
+        ensures only { ChangesOnly (sectors_of (F.device flash.old) area.now)
+            (sectors_of (F.device flash.new) area.now) place }
+        ensures adds { let d = F.device flash.old in
+            OnOk result
+            (Adds (kind (geometry_of d area.now)) (sector_at (sectors_of d area.now) place)
+            (sector_at (sectors_of (F.device flash.new) area.now) place) id bytes.now) }
+        ensures kept { let d = F.device flash.old in
+            OnOk result
+            (self.new
+            ≡ kept (geometry_of d area.now)
+            (sector_at (sectors_of (F.device flash.new) area.now) place)) }
+        ensures lost { let d = F.device flash.old in let k = kind (geometry_of d area.now) in
+            let b = sector_at (sectors_of d area.now) place in
+            let e = sector_at (sectors_of (F.device flash.new) area.now) place in
             OnErr result (Keeps k b e ⊎ Adds k b e id bytes.now) }
         ensures room_lost { let d = F.device flash.old in let k = kind (geometry_of d area.now) in
-            OnErr result (LeavesRoom k (sector_at (sectors_of d area.now) place) (sector_at (sectors_of (F.device flash.new) area.now) place) (k.cost (length bytes.now))) }
-        ensures sound { let d = F.device flash.old in let k = kind (geometry_of d area.now) in is_sound k.reading (sector_at (sectors_of d area.now) place) ≡ true → is_sound k.reading (sector_at (sectors_of (F.device flash.new) area.now) place) ≡ true }
-        ensures spends { let d = F.device flash.old in OnOk result (SpendsIn d (F.device flash.new) ((kind (geometry_of d area.now)).units.put (sector_at (sectors_of d area.now) place) (length bytes.now))) }
-        ensures spends_lost { let d = F.device flash.old in OnErr result (SpendsUpTo d (F.device flash.new) ((kind (geometry_of d area.now)).units.put (sector_at (sectors_of d area.now) place) (length bytes.now))) };
+            OnErr result
+            (LeavesRoom k (sector_at (sectors_of d area.now) place)
+            (sector_at (sectors_of (F.device flash.new) area.now) place)
+            (k.cost (length bytes.now))) }
+        ensures sound { let d = F.device flash.old in let k = kind (geometry_of d area.now) in
+            is_sound k.reading (sector_at (sectors_of d area.now) place) ≡ true
+            → is_sound k.reading (sector_at (sectors_of (F.device flash.new) area.now) place)
+            ≡ true }
+        ensures spends { let d = F.device flash.old in
+            OnOk result
+            (SpendsIn d (F.device flash.new)
+            ((kind (geometry_of d area.now)).units.put (sector_at (sectors_of d area.now) place)
+            (length bytes.now))) }
+        ensures spends_lost { let d = F.device flash.old in
+            OnErr result
+            (SpendsUpTo d (F.device flash.new)
+            ((kind (geometry_of d area.now)).units.put (sector_at (sectors_of d area.now) place)
+            (length bytes.now))) };
 
     /// Copies an entry with bytes from another sector.
     ///
@@ -307,29 +396,62 @@ pub trait SlotSectors: Copy {
     ) -> Result<(), PowerLost>
         requires area { IsStoreArea role (F.device flash.old).banks area.now }
         requires inside { place < area.now.sectors }
-        requires kept { let d = F.device flash.old in self.old ≡ kept (geometry_of d area.now) (sector_at (sectors_of d area.now) place) }
-        requires ready { let d = F.device flash.old in (kind (geometry_of d area.now)).is_ready (sector_at (sectors_of d area.now) place) ≡ true }
-        requires opened { let d = F.device flash.old in place ≡ open_sector (kind (geometry_of d area.now)).reading (sectors_of d area.now) }
-        requires collecting { let d = F.device flash.old in is_closed_at (kind (geometry_of d area.now)).reading (sectors_of d area.now) (next (sectors_of d area.now) place) ≡ true }
-        requires not_done { let d = F.device flash.old in (kind (geometry_of d area.now)).reading.has_gc_done (sector_at (sectors_of d area.now) place) ≡ false }
+        requires kept { let d = F.device flash.old in
+            self.old ≡ kept (geometry_of d area.now) (sector_at (sectors_of d area.now) place) }
+        requires ready { let d = F.device flash.old in
+            (kind (geometry_of d area.now)).is_ready (sector_at (sectors_of d area.now) place)
+            ≡ true }
+        requires opened { let d = F.device flash.old in
+            place ≡ open_sector (kind (geometry_of d area.now)).reading (sectors_of d area.now) }
+        requires collecting { let d = F.device flash.old in
+            is_closed_at (kind (geometry_of d area.now)).reading (sectors_of d area.now)
+            (next (sectors_of d area.now) place) ≡ true }
+        requires not_done { let d = F.device flash.old in
+            (kind (geometry_of d area.now)).reading.has_gc_done
+            (sector_at (sectors_of d area.now) place) ≡ false }
         requires has_source { from.now.sector < area.now.sectors }
         requires other { from.now.sector ≡ place → ⊥ }
-        requires source { let d = F.device flash.old in let k = kind (geometry_of d area.now) in is_sound k.reading (sector_at (sectors_of d area.now) from.now.sector) ≡ true }
+        requires source { let d = F.device flash.old in let k = kind (geometry_of d area.now) in
+            is_sound k.reading (sector_at (sectors_of d area.now) from.now.sector) ≡ true }
         requires listed { let d = F.device flash.old in let k = kind (geometry_of d area.now) in
-            (k.first ≤ from.now.slot) × (from.now.slot < k.first + k.count (sector_at (sectors_of d area.now) from.now.sector)) }
+            (k.first ≤ from.now.slot)
+            × (from.now.slot
+            < k.first + k.count (sector_at (sectors_of d area.now) from.now.sector)) }
         requires there { let d = F.device flash.old in let k = kind (geometry_of d area.now) in
-            option_map (placed_at from.now.sector) (k.in_slot (sector_at (sectors_of d area.now) from.now.sector) from.now.slot) ≡ Some from.now }
+            option_map (placed_at from.now.sector)
+            (k.in_slot (sector_at (sectors_of d area.now) from.now.sector) from.now.slot)
+            ≡ Some from.now }
         requires some { 0 < from.now.len }
-        requires room { let d = F.device flash.old in let k = kind (geometry_of d area.now) in k.cost from.now.len + 3 * k.slot ≤ k.free (sector_at (sectors_of d area.now) place) }
-        ensures touches { Touches (area.now ∷ []) (F.device flash.old) (F.device flash.new) (is_err result) }
-        ensures only { ChangesOnly (sectors_of (F.device flash.old) area.now) (sectors_of (F.device flash.new) area.now) place }
-        ensures adds { let d = F.device flash.old in OnOk result (Adds (kind (geometry_of d area.now)) (sector_at (sectors_of d area.now) place) (sector_at (sectors_of (F.device flash.new) area.now) place) from.now.id (bytes_of (slots (kind (geometry_of d area.now))) (sectors_of d area.now) from.now)) }
-        ensures kept { let d = F.device flash.old in OnOk result (self.new ≡ kept (geometry_of d area.now) (sector_at (sectors_of (F.device flash.new) area.now) place)) }
-        ensures lost { let d = F.device flash.old in OnErr result (KeepsMarks (kind (geometry_of d area.now)) (sector_at (sectors_of d area.now) place) (sector_at (sectors_of (F.device flash.new) area.now) place)) }
+        requires room { let d = F.device flash.old in let k = kind (geometry_of d area.now) in
+            k.cost from.now.len + 3 * k.slot ≤ k.free (sector_at (sectors_of d area.now) place) }
+        ensures touches { Touches (area.now ∷ []) (F.device flash.old) (F.device flash.new)
+            (is_err result) }
+        ensures only { ChangesOnly (sectors_of (F.device flash.old) area.now)
+            (sectors_of (F.device flash.new) area.now) place }
+        ensures adds { let d = F.device flash.old in
+            OnOk result
+            (Adds (kind (geometry_of d area.now)) (sector_at (sectors_of d area.now) place)
+            (sector_at (sectors_of (F.device flash.new) area.now) place) from.now.id
+            (bytes_of (slots (kind (geometry_of d area.now))) (sectors_of d area.now) from.now)) }
+        ensures kept { let d = F.device flash.old in
+            OnOk result
+            (self.new
+            ≡ kept (geometry_of d area.now)
+            (sector_at (sectors_of (F.device flash.new) area.now) place)) }
+        ensures lost { let d = F.device flash.old in
+            OnErr result
+            (KeepsMarks (kind (geometry_of d area.now)) (sector_at (sectors_of d area.now) place)
+            (sector_at (sectors_of (F.device flash.new) area.now) place)) }
         ensures spends { let d = F.device flash.old in
-            OnOk result (SpendsIn d (F.device flash.new) ((kind (geometry_of d area.now)).units.copy (sector_at (sectors_of d area.now) place) from.now.len)) }
+            OnOk result
+            (SpendsIn d (F.device flash.new)
+            ((kind (geometry_of d area.now)).units.copy (sector_at (sectors_of d area.now) place)
+            from.now.len)) }
         ensures spends_lost { let d = F.device flash.old in
-            OnErr result (SpendsUpTo d (F.device flash.new) ((kind (geometry_of d area.now)).units.copy (sector_at (sectors_of d area.now) place) from.now.len)) };
+            OnErr result
+            (SpendsUpTo d (F.device flash.new)
+            ((kind (geometry_of d area.now)).units.copy (sector_at (sectors_of d area.now) place)
+            from.now.len)) };
 
     /// Marks the sector as one that has all copies.
     ///
@@ -344,19 +466,48 @@ pub trait SlotSectors: Copy {
     ) -> Result<(), PowerLost>
         requires area { IsStoreArea role (F.device flash.old).banks area.now }
         requires inside { place < area.now.sectors }
-        requires kept { let d = F.device flash.old in self.old ≡ kept (geometry_of d area.now) (sector_at (sectors_of d area.now) place) }
-        requires ready { let d = F.device flash.old in (kind (geometry_of d area.now)).is_ready (sector_at (sectors_of d area.now) place) ≡ true }
-        requires opened { let d = F.device flash.old in place ≡ open_sector (kind (geometry_of d area.now)).reading (sectors_of d area.now) }
-        requires collecting { let d = F.device flash.old in is_closed_at (kind (geometry_of d area.now)).reading (sectors_of d area.now) (next (sectors_of d area.now) place) ≡ true }
-        requires not_done { let d = F.device flash.old in (kind (geometry_of d area.now)).reading.has_gc_done (sector_at (sectors_of d area.now) place) ≡ false }
-        requires room { let d = F.device flash.old in let k = kind (geometry_of d area.now) in 2 * k.slot ≤ k.free (sector_at (sectors_of d area.now) place) }
-        ensures touches { Touches (area.now ∷ []) (F.device flash.old) (F.device flash.new) (is_err result) }
-        ensures only { ChangesOnly (sectors_of (F.device flash.old) area.now) (sectors_of (F.device flash.new) area.now) place }
-        ensures marks { let d = F.device flash.old in OnOk result (Marks (kind (geometry_of d area.now)) (sector_at (sectors_of d area.now) place) (sector_at (sectors_of (F.device flash.new) area.now) place)) }
-        ensures kept { let d = F.device flash.old in OnOk result (self.new ≡ kept (geometry_of d area.now) (sector_at (sectors_of (F.device flash.new) area.now) place)) }
-        ensures lost { let d = F.device flash.old in OnErr result (KeepsMarks (kind (geometry_of d area.now)) (sector_at (sectors_of d area.now) place) (sector_at (sectors_of (F.device flash.new) area.now) place)) }
-        ensures spends { let d = F.device flash.old in OnOk result (SpendsIn d (F.device flash.new) ((kind (geometry_of d area.now)).units.done (sector_at (sectors_of d area.now) place))) }
-        ensures spends_lost { let d = F.device flash.old in OnErr result (SpendsUpTo d (F.device flash.new) ((kind (geometry_of d area.now)).units.done (sector_at (sectors_of d area.now) place))) };
+        requires kept { let d = F.device flash.old in
+            self.old ≡ kept (geometry_of d area.now) (sector_at (sectors_of d area.now) place) }
+        requires ready { let d = F.device flash.old in
+            (kind (geometry_of d area.now)).is_ready (sector_at (sectors_of d area.now) place)
+            ≡ true }
+        requires opened { let d = F.device flash.old in
+            place ≡ open_sector (kind (geometry_of d area.now)).reading (sectors_of d area.now) }
+        requires collecting { let d = F.device flash.old in
+            is_closed_at (kind (geometry_of d area.now)).reading (sectors_of d area.now)
+            (next (sectors_of d area.now) place) ≡ true }
+        requires not_done { let d = F.device flash.old in
+            (kind (geometry_of d area.now)).reading.has_gc_done
+            (sector_at (sectors_of d area.now) place) ≡ false }
+        requires room { let d = F.device flash.old in let k = kind (geometry_of d area.now) in
+            2 * k.slot ≤ k.free (sector_at (sectors_of d area.now) place) }
+        ensures touches { Touches (area.now ∷ []) (F.device flash.old) (F.device flash.new)
+            (is_err result) }
+        ensures only { ChangesOnly (sectors_of (F.device flash.old) area.now)
+            (sectors_of (F.device flash.new) area.now) place }
+        ensures marks { let d = F.device flash.old in
+            OnOk result
+            (Marks (kind (geometry_of d area.now)) (sector_at (sectors_of d area.now) place)
+            (sector_at (sectors_of (F.device flash.new) area.now) place)) }
+        ensures kept { let d = F.device flash.old in
+            OnOk result
+            (self.new
+            ≡ kept (geometry_of d area.now)
+            (sector_at (sectors_of (F.device flash.new) area.now) place)) }
+        ensures lost { let d = F.device flash.old in
+            OnErr result
+            (KeepsMarks (kind (geometry_of d area.now)) (sector_at (sectors_of d area.now) place)
+            (sector_at (sectors_of (F.device flash.new) area.now) place)) }
+        ensures spends { let d = F.device flash.old in
+            OnOk result
+            (SpendsIn d (F.device flash.new)
+            ((kind (geometry_of d area.now)).units.done
+            (sector_at (sectors_of d area.now) place))) }
+        ensures spends_lost { let d = F.device flash.old in
+            OnErr result
+            (SpendsUpTo d (F.device flash.new)
+            ((kind (geometry_of d area.now)).units.done
+            (sector_at (sectors_of d area.now) place))) };
 
     /// Closes the open sector, which is not clean.
     ///
@@ -372,23 +523,48 @@ pub trait SlotSectors: Copy {
     ) -> Result<(), PowerLost>
         requires area { IsStoreArea role (F.device flash.old).banks area.now }
         requires inside { place < area.now.sectors }
-        requires kept { let d = F.device flash.old in self.now ≡ kept (geometry_of d area.now) (sector_at (sectors_of d area.now) place) }
-        requires opened { let d = F.device flash.old in place ≡ open_sector (kind (geometry_of d area.now)).reading (sectors_of d area.now) }
-        requires rested { let d = F.device flash.old in is_closed_at (kind (geometry_of d area.now)).reading (sectors_of d area.now) (next (sectors_of d area.now) place) ≡ false }
-        requires sound { let d = F.device flash.old in is_sound (kind (geometry_of d area.now)).reading (sector_at (sectors_of d area.now) place) ≡ true }
-        requires not_closed { let d = F.device flash.old in is_closed_at (kind (geometry_of d area.now)).reading (sectors_of d area.now) place ≡ false }
-        requires used { let d = F.device flash.old in (kind (geometry_of d area.now)).is_clean (sector_at (sectors_of d area.now) place) ≡ false }
-        ensures touches { Touches (area.now ∷ []) (F.device flash.old) (F.device flash.new) (is_err result) }
-        ensures only { ChangesOnly (sectors_of (F.device flash.old) area.now) (sectors_of (F.device flash.new) area.now) place }
-        ensures closes { let d = F.device flash.old in OnOk result (Closes (kind (geometry_of d area.now)) (sector_at (sectors_of d area.now) place) (sector_at (sectors_of (F.device flash.new) area.now) place)) }
-        ensures lost { let d = F.device flash.old in let k = kind (geometry_of d area.now) in let b = sector_at (sectors_of d area.now) place in let e = sector_at (sectors_of (F.device flash.new) area.now) place in
+        requires kept { let d = F.device flash.old in
+            self.now ≡ kept (geometry_of d area.now) (sector_at (sectors_of d area.now) place) }
+        requires opened { let d = F.device flash.old in
+            place ≡ open_sector (kind (geometry_of d area.now)).reading (sectors_of d area.now) }
+        requires rested { let d = F.device flash.old in
+            is_closed_at (kind (geometry_of d area.now)).reading (sectors_of d area.now)
+            (next (sectors_of d area.now) place) ≡ false }
+        requires sound { let d = F.device flash.old in
+            is_sound (kind (geometry_of d area.now)).reading
+            (sector_at (sectors_of d area.now) place) ≡ true }
+        requires not_closed { let d = F.device flash.old in
+            is_closed_at (kind (geometry_of d area.now)).reading (sectors_of d area.now) place
+            ≡ false }
+        requires used { let d = F.device flash.old in
+            (kind (geometry_of d area.now)).is_clean (sector_at (sectors_of d area.now) place)
+            ≡ false }
+        ensures touches { Touches (area.now ∷ []) (F.device flash.old) (F.device flash.new)
+            (is_err result) }
+        ensures only { ChangesOnly (sectors_of (F.device flash.old) area.now)
+            (sectors_of (F.device flash.new) area.now) place }
+        ensures closes { let d = F.device flash.old in
+            OnOk result
+            (Closes (kind (geometry_of d area.now)) (sector_at (sectors_of d area.now) place)
+            (sector_at (sectors_of (F.device flash.new) area.now) place)) }
+        ensures lost { let d = F.device flash.old in let k = kind (geometry_of d area.now) in
+            let b = sector_at (sectors_of d area.now) place in
+            let e = sector_at (sectors_of (F.device flash.new) area.now) place in
             OnErr result (Keeps k b e ⊎ Closes k b e) }
         ensures blank_lost { let d = F.device flash.old in let k = kind (geometry_of d area.now) in
             let b = sector_at (sectors_of d area.now) place in
             let e = sector_at (sectors_of (F.device flash.new) area.now) place in
             OnErr result (k.reading.is_blank b ≡ true → (e ≡ b) ⊎ Closes k b e) }
-        ensures spends { let d = F.device flash.old in OnOk result (SpendsIn d (F.device flash.new) ((kind (geometry_of d area.now)).units.close (sector_at (sectors_of d area.now) place))) }
-        ensures spends_lost { let d = F.device flash.old in OnErr result (SpendsUpTo d (F.device flash.new) ((kind (geometry_of d area.now)).units.close (sector_at (sectors_of d area.now) place))) };
+        ensures spends { let d = F.device flash.old in
+            OnOk result
+            (SpendsIn d (F.device flash.new)
+            ((kind (geometry_of d area.now)).units.close
+            (sector_at (sectors_of d area.now) place))) }
+        ensures spends_lost { let d = F.device flash.old in
+            OnErr result
+            (SpendsUpTo d (F.device flash.new)
+            ((kind (geometry_of d area.now)).units.close
+            (sector_at (sectors_of d area.now) place))) };
 
     // ---- a step in any sector
 
@@ -404,12 +580,28 @@ pub trait SlotSectors: Copy {
     ) -> Result<(), PowerLost>
         requires area { IsStoreArea role (F.device flash.old).banks area.now }
         requires inside { place < area.now.sectors }
-        ensures touches { Touches (area.now ∷ []) (F.device flash.old) (F.device flash.new) (is_err result) }
-        ensures only { ChangesOnly (sectors_of (F.device flash.old) area.now) (sectors_of (F.device flash.new) area.now) place }
-        ensures clears { let d = F.device flash.old in OnOk result (Clears (kind (geometry_of d area.now)) (sector_at (sectors_of d area.now) place) (sector_at (sectors_of (F.device flash.new) area.now) place)) }
-        ensures lost { let d = F.device flash.old in OnErr result (StopsClearing (kind (geometry_of d area.now)) (sector_at (sectors_of d area.now) place) (sector_at (sectors_of (F.device flash.new) area.now) place)) }
-        ensures spends { let d = F.device flash.old in OnOk result (SpendsIn d (F.device flash.new) ((kind (geometry_of d area.now)).units.clear (sector_at (sectors_of d area.now) place))) }
-        ensures spends_lost { let d = F.device flash.old in OnErr result (SpendsUpTo d (F.device flash.new) ((kind (geometry_of d area.now)).units.clear (sector_at (sectors_of d area.now) place))) };
+        ensures touches { Touches (area.now ∷ []) (F.device flash.old) (F.device flash.new)
+            (is_err result) }
+        ensures only { ChangesOnly (sectors_of (F.device flash.old) area.now)
+            (sectors_of (F.device flash.new) area.now) place }
+        ensures clears { let d = F.device flash.old in
+            OnOk result
+            (Clears (kind (geometry_of d area.now)) (sector_at (sectors_of d area.now) place)
+            (sector_at (sectors_of (F.device flash.new) area.now) place)) }
+        ensures lost { let d = F.device flash.old in
+            OnErr result
+            (StopsClearing (kind (geometry_of d area.now)) (sector_at (sectors_of d area.now) place)
+            (sector_at (sectors_of (F.device flash.new) area.now) place)) }
+        ensures spends { let d = F.device flash.old in
+            OnOk result
+            (SpendsIn d (F.device flash.new)
+            ((kind (geometry_of d area.now)).units.clear
+            (sector_at (sectors_of d area.now) place))) }
+        ensures spends_lost { let d = F.device flash.old in
+            OnErr result
+            (SpendsUpTo d (F.device flash.new)
+            ((kind (geometry_of d area.now)).units.clear
+            (sector_at (sectors_of d area.now) place))) };
 
     // ---- reading an area
 
@@ -420,10 +612,17 @@ pub trait SlotSectors: Copy {
         steps: &mut Steps<L>,
     ) -> Result<u32, Damaged>
         requires area { IsStoreArea role (F.device flash.now).banks area.now }
-        ensures opened { let d = F.device flash.now in IfOk result (λ place. place ≡ open_sector (kind (geometry_of d area.now)).reading (sectors_of d area.now)) }
+        ensures opened { let d = F.device flash.now in
+            IfOk result
+            (λ place. place
+            ≡ open_sector (kind (geometry_of d area.now)).reading (sectors_of d area.now)) }
         ensures within { IfOk result (λ place. place < area.now.sectors) }
-        ensures undamaged { let d = F.device flash.now in OnOk result ((kind (geometry_of d area.now)).damage (sectors_of d area.now) ≡ None) }
-        ensures damaged { let d = F.device flash.now in IfErr result (λ damaged. (kind (geometry_of d area.now)).damage (sectors_of d area.now) ≡ Some damaged) };
+        ensures undamaged { let d = F.device flash.now in
+            OnOk result ((kind (geometry_of d area.now)).damage (sectors_of d area.now) ≡ None) }
+        ensures damaged { let d = F.device flash.now in
+            IfErr result
+            (λ damaged. (kind (geometry_of d area.now)).damage (sectors_of d area.now)
+            ≡ Some damaged) };
 
     /// The kind is one.
     ghost lawful: { (geometry : geometry_type) → IsUnit geometry.unit → IsKind (kind geometry) };

@@ -80,7 +80,8 @@ impl Seen {
 
     /// Adds an id.
     pub fn add(&mut self, id: u32)
-        ensures bits { (key : ℕ) → key < 2 ^ 16 → has_bit self.new.bits key ≡ (has_bit self.old.bits key || (key_of id == key)) }
+        ensures bits { (key : ℕ) → key < 2 ^ 16
+            → has_bit self.new.bits key ≡ (has_bit self.old.bits key || (key_of id == key)) }
         ensures mixed { self.new.mixed ≡ (self.old.mixed || not (id == usual_id (key_of id))) }
         ensures long { self.new.long ≡ (self.old.long || not (nat_lt id 0x1_0000)) }
     {
@@ -110,11 +111,13 @@ pub fn note_behind<T: SlotSectors, F: Flash, L: Ledger>(
     steps: &mut Steps<L>,
 )
     requires area { IsStoreArea T.role (F.device flash.now).banks area.now }
-    requires kept { let d = F.device flash.now in opened.now ≡ T.kept (geometry_of d area.now) (sector_at (sectors_of d area.now) current) }
+    requires kept { let d = F.device flash.now in
+        opened.now ≡ T.kept (geometry_of d area.now) (sector_at (sectors_of d area.now) current) }
     requires current { current < area.now.sectors }
     requires inside { place < area.now.sectors }
     ensures { let d = F.device flash.now in let k = kind_on T.kind d area.now in
-        HasSeen k.ids seen.old [] → HasSeen k.ids seen.new (behind k (sectors_of d area.now) current place) }
+        HasSeen k.ids seen.old []
+        → HasSeen k.ids seen.new (behind k (sectors_of d area.now) current place) }
 {
     let after = place + 1;
     if place <= current {

@@ -34,13 +34,18 @@ impl<T: SlotSectors> Store<T> {
         steps: &mut Steps<L>,
     ) -> Result<Store<T>, MountFault>
         requires { IsStoreArea T.role (F.device flash.old).banks area }
-        ensures touches { Touches (area ∷ []) (F.device flash.old) (F.device flash.new) (mount_lost result) }
-        ensures ends { MountEnds T.role T.kind T.kept (F.device flash.old) (F.device flash.new) area result }
-        ensures at_most { let d = F.device flash.old in SpendsBetween d (F.device flash.new) 0 ((T.kind (geometry_of d area)).units.mount (sector_size d area)) }
+        ensures touches { Touches (area ∷ []) (F.device flash.old) (F.device flash.new)
+            (mount_lost result) }
+        ensures ends { MountEnds T.role T.kind T.kept (F.device flash.old) (F.device flash.new) area
+            result }
+        ensures at_most { let d = F.device flash.old in
+            SpendsBetween d (F.device flash.new) 0
+            ((T.kind (geometry_of d area)).units.mount (sector_size d area)) }
         ensures written { let d = F.device flash.old in let k = T.kind (geometry_of d area) in
             IsWritten k (sectors_of d area) → IsWritten k (sectors_of (F.device flash.new) area) }
         ensures changed { let d = F.device flash.old in
-            (F.device flash.new ≡ d) ⊎ IsWritten (T.kind (geometry_of d area)) (sectors_of (F.device flash.new) area) }
+            (F.device flash.new ≡ d)
+            ⊎ IsWritten (T.kind (geometry_of d area)) (sectors_of (F.device flash.new) area) }
     {
         match Cache::with_slots(alloc, CACHE_SLOTS) {
             Err(_) => Err(MountFault::NoMemory),
@@ -57,13 +62,18 @@ impl<T: SlotSectors> Store<T> {
     ) -> Result<Store<T>, MountFault>
         requires area { IsStoreArea T.role (F.device flash.old).banks area }
         requires slots { length cache ≡ 64 }
-        ensures touches { Touches (area ∷ []) (F.device flash.old) (F.device flash.new) (mount_lost result) }
-        ensures ends { MountEnds T.role T.kind T.kept (F.device flash.old) (F.device flash.new) area result }
-        ensures at_most { let d = F.device flash.old in SpendsBetween d (F.device flash.new) 0 ((T.kind (geometry_of d area)).units.mount (sector_size d area)) }
+        ensures touches { Touches (area ∷ []) (F.device flash.old) (F.device flash.new)
+            (mount_lost result) }
+        ensures ends { MountEnds T.role T.kind T.kept (F.device flash.old) (F.device flash.new) area
+            result }
+        ensures at_most { let d = F.device flash.old in
+            SpendsBetween d (F.device flash.new) 0
+            ((T.kind (geometry_of d area)).units.mount (sector_size d area)) }
         ensures written { let d = F.device flash.old in let k = T.kind (geometry_of d area) in
             IsWritten k (sectors_of d area) → IsWritten k (sectors_of (F.device flash.new) area) }
         ensures changed { let d = F.device flash.old in
-            (F.device flash.new ≡ d) ⊎ IsWritten (T.kind (geometry_of d area)) (sectors_of (F.device flash.new) area) }
+            (F.device flash.new ≡ d)
+            ⊎ IsWritten (T.kind (geometry_of d area)) (sectors_of (F.device flash.new) area) }
     {
         match T::scan(flash, &area, steps) {
             Err(damaged) => Err(MountFault::Damaged(damaged)),
@@ -124,7 +134,8 @@ impl<T: SlotSectors> Store<T> {
             Touches (self.old.area ∷ []) d (F.device flash.new) (is_err result) }
         ensures area { self.new.area ≡ self.old.area }
         ensures items { let d = F.device flash.old in let area = self.old.area in
-            KeepsItems (kind_on T.kind d area) (sectors_of d area) (sectors_of (F.device flash.new) area) }
+            KeepsItems (kind_on T.kind d area) (sectors_of d area)
+            (sectors_of (F.device flash.new) area) }
         ensures written { let d = F.device flash.old in let area = self.old.area in
             let k = kind_on T.kind d area in
             IsWritten k (sectors_of d area) → IsWritten k (sectors_of (F.device flash.new) area) }
@@ -157,7 +168,8 @@ impl<T: SlotSectors> Store<T> {
             Touches (self.old.area ∷ []) d (F.device flash.new) (is_err result) }
         ensures area { self.new.area ≡ self.old.area }
         ensures items { let d = F.device flash.old in let area = self.old.area in
-            KeepsItems (kind_on T.kind d area) (sectors_of d area) (sectors_of (F.device flash.new) area) }
+            KeepsItems (kind_on T.kind d area) (sectors_of d area)
+            (sectors_of (F.device flash.new) area) }
         ensures written { let d = F.device flash.old in let area = self.old.area in
             let k = kind_on T.kind d area in
             IsWritten k (sectors_of d area) → IsWritten k (sectors_of (F.device flash.new) area) }

@@ -29,7 +29,11 @@ fn newest_in<T: SlotSectors, F: Flash, L: Ledger>(
     requires area { IsStoreArea T.role (F.device flash.now).banks area.now }
     requires inside { place < area.now.sectors }
     ensures last { let d = F.device flash.now in
-        result ≡ last_or None (map (placed_at place) (entries_within (slots (kind_on T.kind d area.now)) (sector_at (sectors_of d area.now) place) limit)) }
+        result
+        ≡ last_or None
+        (map (placed_at place)
+        (entries_within (slots (kind_on T.kind d area.now))
+        (sector_at (sectors_of d area.now) place) limit)) }
     ensures listed { IfSome result (IsListedOn T.kind (F.device flash.now) area.now) }
     ensures sector { IfSome result (λ p. p.sector ≡ place) }
 {
@@ -56,11 +60,15 @@ fn newest_at<T: SlotSectors, F: Flash, L: Ledger>(
     steps: &mut Steps<L>,
 ) -> Option<Placed>
     requires area { IsStoreArea T.role (F.device flash.now).banks area.now }
-    requires kept { let d = F.device flash.now in opened.now ≡ T.kept (geometry_of d area.now) (sector_at (sectors_of d area.now) current) }
+    requires kept { let d = F.device flash.now in
+        opened.now ≡ T.kept (geometry_of d area.now) (sector_at (sectors_of d area.now) current) }
     requires current { current < area.now.sectors }
     requires inside { place < area.now.sectors }
     ensures last { let d = F.device flash.now in
-        result ≡ last_or None (counted_within (slots (kind_on T.kind d area.now)) (sectors_of d area.now) current place limit) }
+        result
+        ≡ last_or None
+        (counted_within (slots (kind_on T.kind d area.now)) (sectors_of d area.now) current place
+        limit) }
     ensures placed { IfSome result (IsPlacedOn T.kind (F.device flash.now) area.now current) }
 {
     if counts(flash, area, opened, current, place, steps) {
@@ -80,10 +88,14 @@ fn newest_of<T: SlotSectors, F: Flash, L: Ledger>(
     steps: &mut Steps<L>,
 ) -> Option<Placed>
     requires area { IsStoreArea T.role (F.device flash.now).banks area.now }
-    requires kept { let d = F.device flash.now in opened.now ≡ T.kept (geometry_of d area.now) (sector_at (sectors_of d area.now) current) }
+    requires kept { let d = F.device flash.now in
+        opened.now ≡ T.kept (geometry_of d area.now) (sector_at (sectors_of d area.now) current) }
     requires current { current < area.now.sectors }
     requires inside { place < area.now.sectors }
-    ensures last { let d = F.device flash.now in result ≡ last_or None (counted_in (slots (kind_on T.kind d area.now)) (sectors_of d area.now) current place) }
+    ensures last { let d = F.device flash.now in
+        result
+        ≡ last_or None
+        (counted_in (slots (kind_on T.kind d area.now)) (sectors_of d area.now) current place) }
     ensures placed { IfSome result (IsPlacedOn T.kind (F.device flash.now) area.now current) }
 {
     let all = T::slots(flash, area, place, steps);
@@ -101,12 +113,16 @@ fn newest_among<T: SlotSectors, F: Flash, L: Ledger>(
     steps: &mut Steps<L>,
 ) -> Option<Placed>
     requires area { IsStoreArea T.role (F.device flash.now).banks area.now }
-    requires kept { let d = F.device flash.now in opened.now ≡ T.kept (geometry_of d area.now) (sector_at (sectors_of d area.now) current) }
+    requires kept { let d = F.device flash.now in
+        opened.now ≡ T.kept (geometry_of d area.now) (sector_at (sectors_of d area.now) current) }
     requires current { current < area.now.sectors }
     requires order { first ≤ end }
     requires inside { end ≤ area.now.sectors }
     ensures last { let d = F.device flash.now in
-        result ≡ last_or None (flat_map (counted_in (slots (kind_on T.kind d area.now)) (sectors_of d area.now) current) (range_with_len first (end - first))) }
+        result
+        ≡ last_or None
+        (flat_map (counted_in (slots (kind_on T.kind d area.now)) (sectors_of d area.now) current)
+        (range_with_len first (end - first))) }
     ensures placed { IfSome result (IsPlacedOn T.kind (F.device flash.now) area.now current) }
 {
     let mut place = end;
@@ -130,11 +146,15 @@ fn newest_before<T: SlotSectors, F: Flash, L: Ledger>(
     steps: &mut Steps<L>,
 ) -> Option<Placed>
     requires area { IsStoreArea T.role (F.device flash.now).banks area.now }
-    requires kept { let d = F.device flash.now in opened.now ≡ T.kept (geometry_of d area.now) (sector_at (sectors_of d area.now) current) }
+    requires kept { let d = F.device flash.now in
+        opened.now ≡ T.kept (geometry_of d area.now) (sector_at (sectors_of d area.now) current) }
     requires current { current < area.now.sectors }
     requires inside { place < area.now.sectors }
     ensures last { let d = F.device flash.now in
-        result ≡ last_or None (flat_map (counted_in (slots (kind_on T.kind d area.now)) (sectors_of d area.now) current) (places_before (length (sectors_of d area.now)) current place)) }
+        result
+        ≡ last_or None
+        (flat_map (counted_in (slots (kind_on T.kind d area.now)) (sectors_of d area.now) current)
+        (places_before (length (sectors_of d area.now)) current place)) }
     ensures placed { IfSome result (IsPlacedOn T.kind (F.device flash.now) area.now current) }
 {
     if current < place {
@@ -166,11 +186,15 @@ fn newest_up_to<T: SlotSectors, F: Flash, L: Ledger>(
     steps: &mut Steps<L>,
 ) -> Option<Placed>
     requires area { IsStoreArea T.role (F.device flash.now).banks area.now }
-    requires kept { let d = F.device flash.now in opened.now ≡ T.kept (geometry_of d area.now) (sector_at (sectors_of d area.now) current) }
+    requires kept { let d = F.device flash.now in
+        opened.now ≡ T.kept (geometry_of d area.now) (sector_at (sectors_of d area.now) current) }
     requires current { current < area.now.sectors }
     requires inside { place < area.now.sectors }
     ensures last { let d = F.device flash.now in
-        result ≡ last_or None (placed_up_to (slots (kind_on T.kind d area.now)) (sectors_of d area.now) current place limit) }
+        result
+        ≡ last_or None
+        (placed_up_to (slots (kind_on T.kind d area.now)) (sectors_of d area.now) current place
+        limit) }
     ensures placed { IfSome result (IsPlacedOn T.kind (F.device flash.now) area.now current) }
 {
     let newest = newest_at(flash, area, opened, current, place, limit, steps);
@@ -192,13 +216,17 @@ pub fn walk<T: SlotSectors, F: Flash, L: Ledger>(
     steps: &mut Steps<L>,
 ) -> Option<Placed>
     requires area { IsStoreArea T.role (F.device flash.now).banks area.now }
-    requires kept { let d = F.device flash.now in opened.now ≡ T.kept (geometry_of d area.now) (sector_at (sectors_of d area.now) current) }
-    requires current { let d = F.device flash.now in current ≡ open_sector (kind_on T.kind d area.now).reading (sectors_of d area.now) }
+    requires kept { let d = F.device flash.now in
+        opened.now ≡ T.kept (geometry_of d area.now) (sector_at (sectors_of d area.now) current) }
+    requires current { let d = F.device flash.now in
+        current ≡ open_sector (kind_on T.kind d area.now).reading (sectors_of d area.now) }
     requires inside { IfSome after (λ place. place.0 < area.now.sectors) }
 
     ensures older { IsNextOlder (entries_on T.kind (F.device flash.now) area.now) after result }
     ensures before { let d = F.device flash.now in
-        IfSome after (λ place. result ≡ newest_before_place (kind_on T.kind d area.now) (sectors_of d area.now) place) }
+        IfSome after
+        (λ place. result
+        ≡ newest_before_place (kind_on T.kind d area.now) (sectors_of d area.now) place) }
     ensures placed { IfSome result (IsPlacedOn T.kind (F.device flash.now) area.now current) }
 {
     match after {

@@ -29,23 +29,33 @@ fn put<T: SlotSectors, F: Flash, L: Ledger>(
     bytes: &[u8],
     steps: &mut Steps<L>,
 ) -> Result<(), PowerLost>
-    requires stands { StandsAt T.role T.kind T.kept (F.device flash.old) area.now current opened.old }
+    requires stands { StandsAt T.role T.kind T.kept (F.device flash.old) area.now current
+        opened.old }
     requires ordinary { id < (T.kind (geometry_of (F.device flash.old) area.now)).ids }
     requires room { let d = F.device flash.old in
-        has_room (T.kind (geometry_of d area.now)) (sectors_of d area.now) (length bytes.now) ≡ true }
+        has_room (T.kind (geometry_of d area.now)) (sectors_of d area.now) (length bytes.now)
+        ≡ true }
 
-    ensures touches { Touches (area.now ∷ []) (F.device flash.old) (F.device flash.new) (is_err result) }
+    ensures touches { Touches (area.now ∷ []) (F.device flash.old) (F.device flash.new)
+        (is_err result) }
     ensures written { let d = F.device flash.old in let k = T.kind (geometry_of d area.now) in
-        IsWritten k (sectors_of d area.now) → IsWritten k (sectors_of (F.device flash.new) area.now) }
+        IsWritten k (sectors_of d area.now)
+        → IsWritten k (sectors_of (F.device flash.new) area.now) }
 
-    ensures stands { OnOk result (StandsAt T.role T.kind T.kept (F.device flash.new) area.now current opened.new) }
+    ensures stands { OnOk result
+        (StandsAt T.role T.kind T.kept (F.device flash.new) area.now current opened.new) }
     ensures puts { let d = F.device flash.old in
-        OnOk result (PutsPair (T.kind (geometry_of d area.now)) d (F.device flash.new) area.now id bytes.now) }
+        OnOk result
+        (PutsPair (T.kind (geometry_of d area.now)) d (F.device flash.new) area.now id bytes.now) }
     ensures entry { let d = F.device flash.old in let k = T.kind (geometry_of d area.now) in
-        OnOk result (AddsEntry k (sectors_of d area.now) (sectors_of (F.device flash.new) area.now) current id (length bytes.now)) }
+        OnOk result
+        (AddsEntry k (sectors_of d area.now) (sectors_of (F.device flash.new) area.now) current id
+        (length bytes.now)) }
 
     ensures stops { let d = F.device flash.old in
-        OnErr result (StopsPutting (T.kind (geometry_of d area.now)) d (F.device flash.new) area.now id bytes.now) }
+        OnErr result
+        (StopsPutting (T.kind (geometry_of d area.now)) d (F.device flash.new) area.now id
+        bytes.now) }
 {
     opened.begin(flash, area, current, steps)?;
     opened.put(flash, area, current, id, bytes, steps)
@@ -62,23 +72,31 @@ fn put_noted<T: SlotSectors, F: Flash, L: Ledger>(
     bytes: &[u8],
     steps: &mut Steps<L>,
 ) -> Result<(), PowerLost>
-    requires stands { StandsAt T.role T.kind T.kept (F.device flash.old) area.now current opened.old }
+    requires stands { StandsAt T.role T.kind T.kept (F.device flash.old) area.now current
+        opened.old }
     requires cached { IsCacheOn T.kind (F.device flash.old) area.now cache.old }
     requires ordinary { id < (T.kind (geometry_of (F.device flash.old) area.now)).ids }
     requires room { let d = F.device flash.old in
-        has_room (T.kind (geometry_of d area.now)) (sectors_of d area.now) (length bytes.now) ≡ true }
+        has_room (T.kind (geometry_of d area.now)) (sectors_of d area.now) (length bytes.now)
+        ≡ true }
 
-    ensures touches { Touches (area.now ∷ []) (F.device flash.old) (F.device flash.new) (is_err result) }
+    ensures touches { Touches (area.now ∷ []) (F.device flash.old) (F.device flash.new)
+        (is_err result) }
     ensures written { let d = F.device flash.old in let k = T.kind (geometry_of d area.now) in
-        IsWritten k (sectors_of d area.now) → IsWritten k (sectors_of (F.device flash.new) area.now) }
+        IsWritten k (sectors_of d area.now)
+        → IsWritten k (sectors_of (F.device flash.new) area.now) }
 
-    ensures stands { OnOk result (StandsAt T.role T.kind T.kept (F.device flash.new) area.now current opened.new) }
+    ensures stands { OnOk result
+        (StandsAt T.role T.kind T.kept (F.device flash.new) area.now current opened.new) }
     ensures cached { OnOk result (IsCacheOn T.kind (F.device flash.new) area.now cache.new) }
     ensures puts { let d = F.device flash.old in
-        OnOk result (PutsPair (T.kind (geometry_of d area.now)) d (F.device flash.new) area.now id bytes.now) }
+        OnOk result
+        (PutsPair (T.kind (geometry_of d area.now)) d (F.device flash.new) area.now id bytes.now) }
 
     ensures stops { let d = F.device flash.old in
-        OnErr result (StopsPutting (T.kind (geometry_of d area.now)) d (F.device flash.new) area.now id bytes.now) }
+        OnErr result
+        (StopsPutting (T.kind (geometry_of d area.now)) d (F.device flash.new) area.now id
+        bytes.now) }
 {
     put(flash, area, opened, current, id, bytes, steps)?;
     let first = T::first_slot();
@@ -99,21 +117,28 @@ fn append<T: SlotSectors, F: Flash, L: Ledger>(
     bytes: &[u8],
     steps: &mut Steps<L>,
 ) -> Result<bool, PowerLost>
-    requires stands { StandsAt T.role T.kind T.kept (F.device flash.old) area.now current.old opened.old }
+    requires stands { StandsAt T.role T.kind T.kept (F.device flash.old) area.now current.old
+        opened.old }
     requires cached { IsCacheOn T.kind (F.device flash.old) area.now cache.old }
     requires ordinary { id < (T.kind (geometry_of (F.device flash.old) area.now)).ids }
     requires narrow { length bytes.now < 2 ^ 16 }
     requires short { let d = F.device flash.old in
-        0 < length bytes.now → IsShort (T.kind (geometry_of d area.now)) d area.now (length bytes.now) }
+        0 < length bytes.now
+        → IsShort (T.kind (geometry_of d area.now)) d area.now (length bytes.now) }
 
-    ensures touches { Touches (area.now ∷ []) (F.device flash.old) (F.device flash.new) (is_err result) }
+    ensures touches { Touches (area.now ∷ []) (F.device flash.old) (F.device flash.new)
+        (is_err result) }
     ensures written { let d = F.device flash.old in let k = T.kind (geometry_of d area.now) in
-        IsWritten k (sectors_of d area.now) → IsWritten k (sectors_of (F.device flash.new) area.now) }
-    ensures stands { OnOk result (StandsAt T.role T.kind T.kept (F.device flash.new) area.now current.new opened.new) }
+        IsWritten k (sectors_of d area.now)
+        → IsWritten k (sectors_of (F.device flash.new) area.now) }
+    ensures stands { OnOk result
+        (StandsAt T.role T.kind T.kept (F.device flash.new) area.now current.new opened.new) }
     ensures cached { OnOk result (IsCacheOn T.kind (F.device flash.new) area.now cache.new) }
     ensures ends { let d = F.device flash.old in
-        AppendEnds (T.kind (geometry_of d area.now)) d (F.device flash.new) area.now id bytes.now result }
-    ensures undamaged { (T.kind (geometry_of (F.device flash.old) area.now)).damage (sectors_of (F.device flash.new) area.now) ≡ None }
+        AppendEnds (T.kind (geometry_of d area.now)) d (F.device flash.new) area.now id bytes.now
+        result }
+    ensures undamaged { (T.kind (geometry_of (F.device flash.old) area.now)).damage
+        (sectors_of (F.device flash.new) area.now) ≡ None }
 {
     let len = bytes.len() as u32;
     let room = make_room(flash, area, opened, current, cache, len, steps)?;
@@ -137,7 +162,8 @@ impl<T: SlotSectors> Store<T> {
     ) -> bool
         requires { StandsOn T.role T.kind T.kept (F.device flash.now) self.now }
         ensures { let d = F.device flash.now in let k = kind_on T.kind d self.now.area in
-            MatchBool result (Holds k d self.now.area id bytes.now) (¬ Holds k d self.now.area id bytes.now) }
+            MatchBool result (Holds k d self.now.area id bytes.now)
+            (¬ Holds k d self.now.area id bytes.now) }
     {
         match self.get(flash, id, steps) {
             Some(stored) => stored == bytes,
@@ -163,14 +189,19 @@ impl<T: SlotSectors> Store<T> {
         requires ordinary { id < (kind_on T.kind (F.device flash.old) self.old.area).ids }
         requires some { 0 < length bytes.now }
 
-        ensures touches { Touches (self.old.area ∷ []) (F.device flash.old) (F.device flash.new) (write_lost result) }
+        ensures touches { Touches (self.old.area ∷ []) (F.device flash.old) (F.device flash.new)
+            (write_lost result) }
         ensures area { self.new.area ≡ self.old.area }
         ensures written { let d = F.device flash.old in let k = kind_on T.kind d self.old.area in
-            IsWritten k (sectors_of d self.old.area) → IsWritten k (sectors_of (F.device flash.new) self.old.area) }
+            IsWritten k (sectors_of d self.old.area)
+            → IsWritten k (sectors_of (F.device flash.new) self.old.area) }
         ensures ends { let d = F.device flash.old in
-            WriteEnds (kind_on T.kind d self.old.area) d (F.device flash.new) self.old.area id bytes.now result }
-        ensures undamaged { (kind_on T.kind (F.device flash.old) self.old.area).damage (sectors_of (F.device flash.new) self.old.area) ≡ None }
-        ensures stands { write_lost result ≡ false → StandsOn T.role T.kind T.kept (F.device flash.new) self.new }
+            WriteEnds (kind_on T.kind d self.old.area) d (F.device flash.new) self.old.area id
+            bytes.now result }
+        ensures undamaged { (kind_on T.kind (F.device flash.old) self.old.area).damage
+            (sectors_of (F.device flash.new) self.old.area) ≡ None }
+        ensures stands { write_lost result ≡ false
+            → StandsOn T.role T.kind T.kept (F.device flash.new) self.new }
         ensures down { write_lost result ≡ true → self.new.up ≡ false }
     {
         let g = geometry(flash, &self.area);
@@ -218,14 +249,19 @@ impl<T: SlotSectors> Store<T> {
         requires stands { StandsOn T.role T.kind T.kept (F.device flash.old) self.old }
         requires small { id ≤ (kind_on T.kind (F.device flash.old) self.old.area).ids }
 
-        ensures touches { Touches (self.old.area ∷ []) (F.device flash.old) (F.device flash.new) (is_err result) }
+        ensures touches { Touches (self.old.area ∷ []) (F.device flash.old) (F.device flash.new)
+            (is_err result) }
         ensures area { self.new.area ≡ self.old.area }
         ensures written { let d = F.device flash.old in let k = kind_on T.kind d self.old.area in
-            IsWritten k (sectors_of d self.old.area) → IsWritten k (sectors_of (F.device flash.new) self.old.area) }
+            IsWritten k (sectors_of d self.old.area)
+            → IsWritten k (sectors_of (F.device flash.new) self.old.area) }
         ensures ends { let d = F.device flash.old in
-            DeleteEnds (kind_on T.kind d self.old.area) d (F.device flash.new) self.old.area id result }
-        ensures undamaged { (kind_on T.kind (F.device flash.old) self.old.area).damage (sectors_of (F.device flash.new) self.old.area) ≡ None }
-        ensures stands { is_err result ≡ false → StandsOn T.role T.kind T.kept (F.device flash.new) self.new }
+            DeleteEnds (kind_on T.kind d self.old.area) d (F.device flash.new) self.old.area id
+            result }
+        ensures undamaged { (kind_on T.kind (F.device flash.old) self.old.area).damage
+            (sectors_of (F.device flash.new) self.old.area) ≡ None }
+        ensures stands { is_err result ≡ false
+            → StandsOn T.role T.kind T.kept (F.device flash.new) self.new }
         ensures down { is_err result ≡ true → self.new.up ≡ false }
     {
         if self.get(flash, id, steps).is_none() {

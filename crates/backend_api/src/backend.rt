@@ -89,18 +89,23 @@ pub trait Backend: Drop {
         requires lawful { IsLawfulFor (F.device flash.old).banks area }
         requires serves { serves area (geometry_of (F.device flash.old) area) }
 
-        ensures touches { Touches (area ∷ []) (F.device flash.old) (F.device flash.new) (mount_lost result) }
-        ensures ends { let d = F.device flash.old in MountEnds (on damage d area) d (F.device flash.new) result }
+        ensures touches { Touches (area ∷ []) (F.device flash.old) (F.device flash.new)
+            (mount_lost result) }
+        ensures ends { let d = F.device flash.old in
+            MountEnds (on damage d area) d (F.device flash.new) result }
         ensures sound { let d = F.device flash.old in let e = F.device flash.new in
             on damage d area ≡ None → on damage e area ≡ None }
         ensures keeps { let d = F.device flash.old in let e = F.device flash.new in
             on damage d area ≡ None → on contents e area ≡ on contents d area }
-        ensures rests { HoldsOn rests (F.device flash.old) area → F.device flash.new ≡ F.device flash.old }
+        ensures rests { HoldsOn rests (F.device flash.old) area
+            → F.device flash.new ≡ F.device flash.old }
         ensures written { let d = F.device flash.old in
             (area.role ≡ FcbRole → ⊥) → StaysWritten d (F.device flash.new) area }
-        ensures at_most { let d = F.device flash.old in SpendsAtMost d (F.device flash.new) (mount_units (geometry_of d area)) }
+        ensures at_most { let d = F.device flash.old in
+            SpendsAtMost d (F.device flash.new) (mount_units (geometry_of d area)) }
         ensures on { IfOk result (λ state. mounted_on state ≡ area) }
-        ensures stands { IfOk result (λ state. StandsOn mounted_on stands (F.device flash.new) state) };
+        ensures stands { IfOk result
+            (λ state. StandsOn mounted_on stands (F.device flash.new) state) };
 
     /// The value of a name, as long as the area allows; none where it has no value.
     fn get<'a, F: Flash, L: Ledger>(
@@ -132,7 +137,8 @@ pub trait Backend: Drop {
         requires some { 0 < length value.now }
         requires short { length value.now ≤ value_limit (mounted_on self.old) }
 
-        ensures touches { Touches (mounted_on self.old ∷ []) (F.device flash.old) (F.device flash.new) (set_lost result) }
+        ensures touches { Touches (mounted_on self.old ∷ []) (F.device flash.old)
+            (F.device flash.new) (set_lost result) }
         ensures area { mounted_on self.new ≡ mounted_on self.old }
         ensures ends { let d = F.device flash.old in let e = F.device flash.new in
             SetEndsOn room contents d e (mounted_on self.old) name.now value.now result }
@@ -142,7 +148,8 @@ pub trait Backend: Drop {
         ensures cut { let d = F.device flash.old in let e = F.device flash.new in
             d.is_on ≡ true → set_lost result ≡ true
             → StopsOn chance tears contents (Put name.now value.now) d e (mounted_on self.old) }
-        ensures stands { set_lost result ≡ false → StandsOn mounted_on stands (F.device flash.new) self.new }
+        ensures stands { set_lost result ≡ false
+            → StandsOn mounted_on stands (F.device flash.new) self.new }
         ensures down { set_lost result ≡ true → runs self.new ≡ false };
 
     /// Takes a name's value away. An absent name programs nothing. It never answers for room.
@@ -159,7 +166,8 @@ pub trait Backend: Drop {
         requires lawful { IsLawfulFor (F.device flash.old).banks (mounted_on self.old) }
         requires stands { StandsOn mounted_on stands (F.device flash.old) self.old }
 
-        ensures touches { Touches (mounted_on self.old ∷ []) (F.device flash.old) (F.device flash.new) (is_err result) }
+        ensures touches { Touches (mounted_on self.old ∷ []) (F.device flash.old)
+            (F.device flash.new) (is_err result) }
         ensures area { mounted_on self.new ≡ mounted_on self.old }
         ensures ends { let d = F.device flash.old in let e = F.device flash.new in
             DeleteEndsOn contents d e (mounted_on self.old) name.now result }
@@ -169,7 +177,8 @@ pub trait Backend: Drop {
         ensures cut { let d = F.device flash.old in let e = F.device flash.new in
             d.is_on ≡ true → is_err result ≡ true
             → StopsOn chance tears contents (Del name.now) d e (mounted_on self.old) }
-        ensures stands { is_err result ≡ false → StandsOn mounted_on stands (F.device flash.new) self.new }
+        ensures stands { is_err result ≡ false
+            → StandsOn mounted_on stands (F.device flash.new) self.new }
         ensures down { is_err result ≡ true → runs self.new ≡ false };
 
     /// The least name in byte order that is greater than `after`, or the least of all.
@@ -196,18 +205,24 @@ pub trait Backend: Drop {
         requires lawful { IsLawfulFor (F.device flash.old).banks area.now }
         requires serves { serves area.now (geometry_of (F.device flash.old) area.now) }
 
-        ensures touches { Touches (area.now ∷ []) (F.device flash.old) (F.device flash.new) (is_err result) }
+        ensures touches { Touches (area.now ∷ []) (F.device flash.old) (F.device flash.new)
+            (is_err result) }
         ensures blank { let d = F.device flash.old in
-            OnOk result (sectors_of (F.device flash.new) area.now ≡ replicate area.now.sectors (replicate (sector_size d area.now) 0xFF)) }
+            OnOk result
+            (sectors_of (F.device flash.new) area.now
+            ≡ replicate area.now.sectors (replicate (sector_size d area.now) 0xFF)) }
         ensures sound { OnOk result (on damage (F.device flash.new) area.now ≡ None) }
         ensures empty { OnOk result (on contents (F.device flash.new) area.now ≡ finite.empty) }
         ensures units { let d = F.device flash.old in
-            OnOk result (Spends d (F.device flash.new) (count_by is_written (sectors_of d area.now))) }
+            OnOk result
+            (Spends d (F.device flash.new) (count_by is_written (sectors_of d area.now))) }
 
         ensures part { let d = F.device flash.old in let e = F.device flash.new in
-            OnErr result ((n : ℕ) × (sectors_of e area.now ≡ blanked_up_to n (sectors_of d area.now))) }
+            OnErr result
+            ((n : ℕ) × (sectors_of e area.now ≡ blanked_up_to n (sectors_of d area.now))) }
         ensures units_lost { let d = F.device flash.old in
-            OnErr result (SpendsAtMost d (F.device flash.new) (count_by is_written (sectors_of d area.now))) };
+            OnErr result
+            (SpendsAtMost d (F.device flash.new) (count_by is_written (sectors_of d area.now))) };
 
     /// Whether the units that were put before this loss spell, by chance, another record than the one that was to be put.
     fn chance<F: Flash, L: Ledger>(

@@ -53,8 +53,11 @@ impl FcbBackend {
     ) -> bool
         requires stands { RingStandsOn (F.device flash.now) self.now.ring }
         requires some { 0 < length value.now }
-        ensures yes_it { result ≡ true → IsStored (settings_on (F.device flash.now) self.now.ring.area) name.now value.now }
-        ensures not_it { result ≡ false → IsStored (settings_on (F.device flash.now) self.now.ring.area) name.now value.now → ⊥ }
+        ensures yes_it { result ≡ true
+            → IsStored (settings_on (F.device flash.now) self.now.ring.area) name.now value.now }
+        ensures not_it { result ≡ false
+            → IsStored (settings_on (F.device flash.now) self.now.ring.area) name.now value.now
+            → ⊥ }
     {
         match last_value(&self.ring, flash, name, steps) {
             Some(stored) => stored == value,
@@ -104,20 +107,27 @@ impl Backend for FcbBackend {
         requires lawful { IsLawfulFor (F.device flash.old).banks area }
         requires serves { area.role ≡ FcbRole }
 
-        ensures touches { Touches (area ∷ []) (F.device flash.old) (F.device flash.new) (mount_lost result) }
-        ensures ends { let d = F.device flash.old in MountEnds (on damage_by d area) d (F.device flash.new) result }
+        ensures touches { Touches (area ∷ []) (F.device flash.old) (F.device flash.new)
+            (mount_lost result) }
+        ensures ends { let d = F.device flash.old in
+            MountEnds (on damage_by d area) d (F.device flash.new) result }
         ensures sound { let d = F.device flash.old in let e = F.device flash.new in
             on damage_by d area ≡ None → on damage_by e area ≡ None }
         ensures keeps { let d = F.device flash.old in let e = F.device flash.new in
             on damage_by d area ≡ None → on settings_by e area ≡ on settings_by d area }
-        ensures rests { erases_on (F.device flash.old) area ≡ 0 → F.device flash.new ≡ F.device flash.old }
+        ensures rests { erases_on (F.device flash.old) area ≡ 0
+            → F.device flash.new ≡ F.device flash.old }
         ensures written { let d = F.device flash.old in
             (area.role ≡ FcbRole → ⊥) → StaysWritten d (F.device flash.new) area }
-        ensures at_most { let d = F.device flash.old in SpendsAtMost d (F.device flash.new) (mount_units (geometry_of d area)) }
+        ensures at_most { let d = F.device flash.old in
+            SpendsAtMost d (F.device flash.new) (mount_units (geometry_of d area)) }
         ensures on { IfOk result (λ state. area_of state ≡ area) }
-        ensures stands { IfOk result (λ state. StandsOn area_of StandsBy (F.device flash.new) state) }
-        ensures exact { let d = F.device flash.old in OnOk result (Spends d (F.device flash.new) (erases_on d area)) }
-        ensures few { let d = F.device flash.old in SpendsAtMost d (F.device flash.new) (erases_on d area) }
+        ensures stands { IfOk result
+            (λ state. StandsOn area_of StandsBy (F.device flash.new) state) }
+        ensures exact { let d = F.device flash.old in
+            OnOk result (Spends d (F.device flash.new) (erases_on d area)) }
+        ensures few { let d = F.device flash.old in
+            SpendsAtMost d (F.device flash.new) (erases_on d area) }
     {
         let unit = geometry(flash, &area).unit;
         let mut ring = match Ring::inspect(flash, area, reserve(unit), steps) {
@@ -157,7 +167,8 @@ impl Backend for FcbBackend {
         requires some { 0 < length value.now }
         requires short { length value.now ≤ value_limit (area_of self.old) }
 
-        ensures touches { Touches (area_of self.old ∷ []) (F.device flash.old) (F.device flash.new) (set_lost result) }
+        ensures touches { Touches (area_of self.old ∷ []) (F.device flash.old) (F.device flash.new)
+            (set_lost result) }
         ensures area { area_of self.new ≡ area_of self.old }
         ensures ends { let d = F.device flash.old in let e = F.device flash.new in
             SetEndsOn room_by settings_by d e (area_of self.old) name.now value.now result }
@@ -166,12 +177,17 @@ impl Backend for FcbBackend {
         ensures sound { on damage_by (F.device flash.new) (area_of self.old) ≡ None }
         ensures cut { let d = F.device flash.old in let e = F.device flash.new in
             d.is_on ≡ true → set_lost result ≡ true
-            → StopsOn chance_of TearsBy settings_by (Put name.now value.now) d e (area_of self.old) }
-        ensures stands { set_lost result ≡ false → StandsOn area_of StandsBy (F.device flash.new) self.new }
+            → StopsOn chance_of TearsBy settings_by (Put name.now value.now) d e
+            (area_of self.old) }
+        ensures stands { set_lost result ≡ false
+            → StandsOn area_of StandsBy (F.device flash.new) self.new }
         ensures down { set_lost result ≡ true → is_running self.new ≡ false }
-        ensures exact { OnOk result (SpendsCostOf (F.device flash.old) (F.device flash.new) self.old (Put name.now value.now)) }
+        ensures exact { OnOk result
+            (SpendsCostOf (F.device flash.old) (F.device flash.new) self.old
+            (Put name.now value.now)) }
         ensures no_more { set_lost result ≡ true
-            → SpendsUpToCostOf (F.device flash.old) (F.device flash.new) self.old (Put name.now value.now) }
+            → SpendsUpToCostOf (F.device flash.old) (F.device flash.new) self.old
+            (Put name.now value.now) }
         ensures few { let rounds = (area_of self.old).sectors - 1 in
             SpendsRounds (F.device flash.old) (F.device flash.new) self.old rounds }
     {
@@ -209,7 +225,8 @@ impl Backend for FcbBackend {
         requires lawful { IsLawfulFor (F.device flash.old).banks (area_of self.old) }
         requires stands { StandsOn area_of StandsBy (F.device flash.old) self.old }
 
-        ensures touches { Touches (area_of self.old ∷ []) (F.device flash.old) (F.device flash.new) (is_err result) }
+        ensures touches { Touches (area_of self.old ∷ []) (F.device flash.old) (F.device flash.new)
+            (is_err result) }
         ensures area { area_of self.new ≡ area_of self.old }
         ensures ends { let d = F.device flash.old in let e = F.device flash.new in
             DeleteEndsOn settings_by d e (area_of self.old) name.now result }
@@ -219,10 +236,13 @@ impl Backend for FcbBackend {
         ensures cut { let d = F.device flash.old in let e = F.device flash.new in
             d.is_on ≡ true → is_err result ≡ true
             → StopsOn chance_of TearsBy settings_by (Del name.now) d e (area_of self.old) }
-        ensures stands { is_err result ≡ false → StandsOn area_of StandsBy (F.device flash.new) self.new }
+        ensures stands { is_err result ≡ false
+            → StandsOn area_of StandsBy (F.device flash.new) self.new }
         ensures down { is_err result ≡ true → is_running self.new ≡ false }
-        ensures exact { OnOk result (SpendsCostOf (F.device flash.old) (F.device flash.new) self.old (Del name.now)) }
-        ensures no_more { OnErr result (SpendsUpToCostOf (F.device flash.old) (F.device flash.new) self.old (Del name.now)) }
+        ensures exact { OnOk result
+            (SpendsCostOf (F.device flash.old) (F.device flash.new) self.old (Del name.now)) }
+        ensures no_more { OnErr result
+            (SpendsUpToCostOf (F.device flash.old) (F.device flash.new) self.old (Del name.now)) }
         ensures few { SpendsRounds (F.device flash.old) (F.device flash.new) self.old 1 }
     {
         if self.get(flash, name, steps).is_none() {

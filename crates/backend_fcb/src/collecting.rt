@@ -31,17 +31,23 @@ fn copy_all<F: Flash, L: Ledger>(
     requires of_oldest { AreKeptWithin (Some ring.old.oldest) live.now }
     requires short { AreShort (F.device flash.old) ring.old.area live.now }
     requires fits { let d = F.device flash.old in
-        ring.old.end + bodies_cost (unit_of d ring.old.area) (bodies_at d ring.old.area live.now) ≤ sector_size d ring.old.area }
+        ring.old.end + bodies_cost (unit_of d ring.old.area) (bodies_at d ring.old.area live.now)
+        ≤ sector_size d ring.old.area }
 
-    ensures touches { Touches (ring.old.area ∷ []) (F.device flash.old) (F.device flash.new) (is_err result) }
+    ensures touches { Touches (ring.old.area ∷ []) (F.device flash.old) (F.device flash.new)
+        (is_err result) }
     ensures list { KeepsEntries (F.device flash.old) (F.device flash.new) ring.old.area }
-    ensures others { OthersStay (F.device flash.old) (F.device flash.new) ring.old.area (newest_place ring.old) }
+    ensures others { OthersStay (F.device flash.old) (F.device flash.new) ring.old.area
+        (newest_place ring.old) }
     ensures area { ring.new.area ≡ ring.old.area }
     ensures reserve { ring.new.reserve ≡ ring.old.reserve }
     ensures copies { let d = F.device flash.old in
-        OnOk result (Copies d (F.device flash.new) ring.old ring.new (bodies_at d ring.old.area live.now)) }
-    ensures stops { OnErr result (StopsCopying (F.device flash.old) (F.device flash.new) ring.old ring.new) }
-    ensures lost { OnErr result ((F.device flash.old).is_on ≡ true → HasNoChance (F.device flash.new) ring.old.area) }
+        OnOk result
+        (Copies d (F.device flash.new) ring.old ring.new (bodies_at d ring.old.area live.now)) }
+    ensures stops { OnErr result
+        (StopsCopying (F.device flash.old) (F.device flash.new) ring.old ring.new) }
+    ensures lost { OnErr result
+        ((F.device flash.old).is_on ≡ true → HasNoChance (F.device flash.new) ring.old.area) }
 {
     for kept in live {
         ring.copy(flash, &kept.at, steps)?;
@@ -60,17 +66,23 @@ fn copy_live<F: Flash, L: Ledger>(
     requires stands { RingStandsOn (F.device flash.old) ring.old }
     requires collecting { ring.old.stage ≡ Stage.Collecting }
     requires undamaged { damage_on (F.device flash.old) ring.old.area ≡ None }
-    requires no_copies { sector_list (F.device flash.old) ring.old.area (newest_place ring.old) ≡ [] }
+    requires no_copies { sector_list (F.device flash.old) ring.old.area (newest_place ring.old)
+        ≡ [] }
     requires end { ring.old.end ≡ padded (unit_of (F.device flash.old) ring.old.area) 8 }
 
-    ensures touches { Touches (ring.old.area ∷ []) (F.device flash.old) (F.device flash.new) (is_err result) }
+    ensures touches { Touches (ring.old.area ∷ []) (F.device flash.old) (F.device flash.new)
+        (is_err result) }
     ensures list { KeepsEntries (F.device flash.old) (F.device flash.new) ring.old.area }
-    ensures others { OthersStay (F.device flash.old) (F.device flash.new) ring.old.area (newest_place ring.old) }
+    ensures others { OthersStay (F.device flash.old) (F.device flash.new) ring.old.area
+        (newest_place ring.old) }
     ensures area { ring.new.area ≡ ring.old.area }
     ensures reserve { ring.new.reserve ≡ ring.old.reserve }
-    ensures copies { OnOk result (CopiesLive (F.device flash.old) (F.device flash.new) ring.old ring.new) }
-    ensures stops { OnErr result (StopsCopying (F.device flash.old) (F.device flash.new) ring.old ring.new) }
-    ensures lost { OnErr result ((F.device flash.old).is_on ≡ true → HasNoChance (F.device flash.new) ring.old.area) }
+    ensures copies { OnOk result
+        (CopiesLive (F.device flash.old) (F.device flash.new) ring.old ring.new) }
+    ensures stops { OnErr result
+        (StopsCopying (F.device flash.old) (F.device flash.new) ring.old ring.new) }
+    ensures lost { OnErr result
+        ((F.device flash.old).is_on ≡ true → HasNoChance (F.device flash.new) ring.old.area) }
 {
     let oldest = ring.oldest();
     let mut table = Table::new();
@@ -92,18 +104,23 @@ pub(crate) fn collect<F: Flash, L: Ledger>(
     requires ready { IsReady (F.device flash.old) ring.old }
     requires left { is_scratch_left ring.old ≡ true }
 
-    ensures touches { Touches (ring.old.area ∷ []) (F.device flash.old) (F.device flash.new) (is_err result) }
+    ensures touches { Touches (ring.old.area ∷ []) (F.device flash.old) (F.device flash.new)
+        (is_err result) }
     ensures area { ring.new.area ≡ ring.old.area }
-    ensures settings { settings_on (F.device flash.new) ring.old.area ≡ settings_on (F.device flash.old) ring.old.area }
+    ensures settings { settings_on (F.device flash.new) ring.old.area
+        ≡ settings_on (F.device flash.old) ring.old.area }
     ensures undamaged { damage_on (F.device flash.new) ring.old.area ≡ None }
-    ensures at_most { SpendsAtMost (F.device flash.old) (F.device flash.new) (collect_units (F.device flash.old) ring.old) }
+    ensures at_most { SpendsAtMost (F.device flash.old) (F.device flash.new)
+        (collect_units (F.device flash.old) ring.old) }
 
     ensures ready { OnOk result (IsReady (F.device flash.new) ring.new) }
-    ensures collects { OnOk result (Collects (F.device flash.old) (F.device flash.new) ring.old ring.new) }
+    ensures collects { OnOk result
+        (Collects (F.device flash.old) (F.device flash.new) ring.old ring.new) }
     ensures used { OnOk result (ring.new.used ≡ ring.old.used) }
     ensures reserve { OnOk result (ring.new.reserve ≡ ring.old.reserve) }
     ensures down { OnErr result (is_up ring.new.stage ≡ false) }
-    ensures lost { OnErr result ((F.device flash.old).is_on ≡ true → HasNoChance (F.device flash.new) ring.old.area) }
+    ensures lost { OnErr result
+        ((F.device flash.old).is_on ≡ true → HasNoChance (F.device flash.new) ring.old.area) }
 {
     ring.begin_collect(flash)?;
     copy_live(ring, flash, steps)?;

@@ -194,9 +194,11 @@ fn gather<F: Flash, L: Ledger>(
     requires from { ForSome from (IsListed (F.device flash.now) ring.now.area) }
     ensures kept { All (IsKept (F.device flash.now) ring.now.area) table.new.items }
     ensures within { AreKeptWithin part table.new.items }
-    ensures passes { PassesFrom (F.device flash.now) ring.now.area part from table.new.items result }
+    ensures passes { PassesFrom (F.device flash.now) ring.now.area part from table.new.items
+        result }
     ensures listed { ForSome result (IsListed (F.device flash.now) ring.now.area) }
-    ensures full { (r : Place) → result ≡ Some r → is_within part r ≡ true → length table.new.items ≡ TABLE }
+    ensures full { (r : Place) → result ≡ Some r → is_within part r ≡ true
+        → length table.new.items ≡ TABLE }
 {
     let mut at = from;
     while let Some(entry) = at {
@@ -222,8 +224,10 @@ fn strike_from<F: Flash, L: Ledger>(
     requires kept { All (IsKept (F.device flash.now) ring.now.area) table.old.items }
     requires from { ForSome from (IsListed (F.device flash.now) ring.now.area) }
     ensures kept { All (IsKept (F.device flash.now) ring.now.area) table.new.items }
-    ensures some { (test : KeptOf → Bool) → AllPass test table.old.items → AllPass test table.new.items }
-    ensures strikes { StrikesFrom (F.device flash.now) ring.now.area from table.old.items table.new.items }
+    ensures some { (test : KeptOf → Bool) → AllPass test table.old.items
+        → AllPass test table.new.items }
+    ensures strikes { StrikesFrom (F.device flash.now) ring.now.area from table.old.items
+        table.new.items }
 {
     let mut at = from;
     while let Some(later) = at {
@@ -246,7 +250,8 @@ pub(crate) fn gather_live<F: Flash, L: Ledger>(
     requires from { ForSome from (IsListed (F.device flash.now) ring.now.area) }
     ensures kept { All (IsKept (F.device flash.now) ring.now.area) table.new.items }
     ensures within { AreKeptWithin part table.new.items }
-    ensures gathers { GathersFrom (F.device flash.now) ring.now.area part from table.new.items result }
+    ensures gathers { GathersFrom (F.device flash.now) ring.now.area part from table.new.items
+        result }
     ensures listed { ForSome result (IsListed (F.device flash.now) ring.now.area) }
 {
     table.clear();

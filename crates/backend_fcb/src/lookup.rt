@@ -22,7 +22,8 @@ use std::sync::ledger::Ledger;
 
 // The value that a body gives to this name, where it is of the name; no bytes where it takes the value away.
 fn value_for<'a>(ring: &Ring, body: &'a [u8], name: &[u8]) -> Option<&'a [u8]>
-    ensures { option_map (λ value. value.now) result ≡ value_for name.now (setting_of (value_limit ring.now.area) body.now) }
+    ensures { option_map (λ value. value.now) result
+        ≡ value_for name.now (setting_of (value_limit ring.now.area) body.now) }
 {
     match setting_in(ring, body) {
         Some(setting) if setting.name == name => Some(setting.value),
@@ -39,7 +40,9 @@ pub(crate) fn last_value<'a, F: Flash, L: Ledger>(
     steps: &mut Steps<L>,
 ) -> Option<&'a [u8]>
     requires { RingStandsOn (F.device flash.now) ring.now }
-    ensures { option_map (λ value. value.now) result ≡ last_value_of (value_limit ring.now.area) name.now (bodies_on (F.device flash.now) ring.now.area) }
+    ensures { option_map (λ value. value.now) result
+        ≡ last_value_of (value_limit ring.now.area) name.now
+        (bodies_on (F.device flash.now) ring.now.area) }
 {
     let start = body_of(name, &[]);
     let front = start.as_slice();
@@ -75,7 +78,9 @@ fn cost_of<F: Flash, L: Ledger>(ring: &Ring, flash: &F, table: &[Kept], steps: &
     requires kept { All (IsKept (F.device flash.now) ring.now.area) table.now }
     requires few { length table.now ≤ TABLE }
     ensures cost { let d = F.device flash.now in
-        result ≡ sum_by (put_cost (value_limit ring.now.area) (unit_of d ring.now.area)) (bodies_at d ring.now.area table.now) }
+        result
+        ≡ sum_by (put_cost (value_limit ring.now.area) (unit_of d ring.now.area))
+        (bodies_at d ring.now.area table.now) }
     ensures small { result ≤ PROGRAM_LIMIT * length table.now }
 {
     let unit = geometry(flash, ring.area()).unit;
@@ -89,7 +94,10 @@ fn cost_of<F: Flash, L: Ledger>(ring: &Ring, flash: &F, table: &[Kept], steps: &
 // What all settings cost, in bytes. For each table that live records fill, it goes once over what is left of the list.
 pub(crate) fn live_cost<F: Flash, L: Ledger>(ring: &Ring, flash: &F, steps: &mut Steps<L>) -> u64
     requires { RingStandsOn (F.device flash.now) ring.now }
-    ensures { let d = F.device flash.now in result ≡ (room (unit_of d ring.now.area) (sector_size d ring.now.area)).cost (settings_on d ring.now.area) }
+    ensures { let d = F.device flash.now in
+        result
+        ≡ (room (unit_of d ring.now.area) (sector_size d ring.now.area)).cost
+        (settings_on d ring.now.area) }
 {
     let mut table = Table::new();
     let mut live = 0;

@@ -17,8 +17,11 @@ const SECTORS: usize = 64;
 // What the records of each sector cost that put a value.
 fn costs<F: Flash, L: Ledger>(ring: &Ring, flash: &F, steps: &mut Steps<L>) -> [u64; SECTORS]
     requires { RingStandsOn (F.device flash.now) ring.now }
-    ensures { let d = F.device flash.now in (place : ℕ) → place < SECTORS
-        → slice_index result place ≡ puts_cost (value_limit ring.now.area) (unit_of d ring.now.area) (entries_on d ring.now.area) place }
+    ensures { let d = F.device flash.now in
+        (place : ℕ) → place < SECTORS
+        → slice_index result place
+        ≡ puts_cost (value_limit ring.now.area) (unit_of d ring.now.area)
+        (entries_on d ring.now.area) place }
 {
     let unit = geometry(flash, ring.area()).unit;
     let mut costs = [0; SECTORS];
@@ -38,7 +41,11 @@ pub(crate) fn first_overfull<F: Flash, L: Ledger>(
     steps: &mut Steps<L>,
 ) -> Option<Damaged>
     requires { RingStandsOn (F.device flash.now) ring.now }
-    ensures { let d = F.device flash.now in result ≡ option_map (λ place. record { sector = place; why = Overfull }) (first_overfull (value_limit ring.now.area) (unit_of d ring.now.area) (sectors_of d ring.now.area)) }
+    ensures { let d = F.device flash.now in
+        result
+        ≡ option_map (λ place. record { sector = place; why = Overfull })
+        (first_overfull (value_limit ring.now.area) (unit_of d ring.now.area)
+        (sectors_of d ring.now.area)) }
 {
     let geometry = geometry(flash, ring.area());
     let most = u64::from(cap(geometry));

@@ -29,7 +29,9 @@ fn is_before(name: &[u8], before: Option<&Name>) -> bool
 
 // Whether a name is greater than the one, and less than the other.
 fn is_between(name: &[u8], after: Option<&Name>, before: Option<&Name>) -> bool
-    ensures { result ≡ (is_behind (option_map (λ other. other.now) after.entry) name.now && is_before name.now (option_map (λ other. other.now) before.entry)) }
+    ensures { result
+        ≡ (is_behind (option_map (λ other. other.now) after.entry) name.now
+        && is_before name.now (option_map (λ other. other.now) before.entry)) }
 {
     is_behind(name, after) && is_before(name, before)
 }
@@ -41,7 +43,10 @@ fn name_between(
     after: Option<&Name>,
     before: Option<&Name>,
 ) -> Option<Name>
-    ensures { result ≡ name_between (option_map (λ other. other.now) after.entry) (option_map (λ other. other.now) before.entry) (setting_of (value_limit ring.now.area) body.now) }
+    ensures { result
+        ≡ name_between (option_map (λ other. other.now) after.entry)
+        (option_map (λ other. other.now) before.entry)
+        (setting_of (value_limit ring.now.area) body.now) }
 {
     let setting = setting_in(ring, body)?;
     if !is_between(setting.name, after, before) {
@@ -58,7 +63,9 @@ fn least_name<F: Flash, L: Ledger>(
     steps: &mut Steps<L>,
 ) -> Option<Name>
     requires { RingStandsOn (F.device flash.now) ring.now }
-    ensures { IsLeast (option_map (λ other. other.now) after.entry) (λ name. names (value_limit ring.now.area) name (bodies_on (F.device flash.now) ring.now.area)) result }
+    ensures { IsLeast (option_map (λ other. other.now) after.entry)
+        (λ name. names (value_limit ring.now.area) name
+        (bodies_on (F.device flash.now) ring.now.area)) result }
 {
     let mut least = None;
     let mut at = ring.next(flash, None, steps);
@@ -79,7 +86,9 @@ pub(crate) fn next_name<F: Flash, L: Ledger>(
     steps: &mut Steps<L>,
 ) -> Option<Name>
     requires { RingStandsOn (F.device flash.now) ring.now }
-    ensures { result ≡ next_name_of (settings_on (F.device flash.now) ring.now.area) (option_map (λ name. name.now) after.entry) }
+    ensures { result
+        ≡ next_name_of (settings_on (F.device flash.now) ring.now.area)
+        (option_map (λ name. name.now) after.entry) }
 {
     let mut name = least_name(ring, flash, after, steps)?;
     while !has_value(ring, flash, &name, steps) {

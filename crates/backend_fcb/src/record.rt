@@ -41,7 +41,8 @@ fn value_limit(ring: &Ring) -> usize
 
 // What a body says in the ring's area, where it is a lawful name, `=` and a value.
 pub(crate) fn setting_in<'a>(ring: &Ring, body: &'a [u8]) -> Option<Setting<'a>>
-    ensures { option_map (λ setting. (setting.name.now, setting.value.now)) result ≡ setting_of (value_limit ring.now.area) body.now }
+    ensures { option_map (λ setting. (setting.name.now, setting.value.now)) result
+        ≡ setting_of (value_limit ring.now.area) body.now }
 {
     let limit = value_limit(ring);
     let end = first_equals(body)?;

@@ -24,11 +24,15 @@ fn try_append<F: Flash>(
     requires ready { IsReady (F.device flash.old) ring.old }
     requires some { 0 < length body.now }
     requires short { length body.now ≤ longest (value_limit ring.old.area) }
-    requires no_put { into_reserve ≡ true → put_cost (value_limit ring.old.area) (unit_of (F.device flash.old) ring.old.area) body.now ≡ 0 }
+    requires no_put { into_reserve ≡ true
+        → put_cost (value_limit ring.old.area) (unit_of (F.device flash.old) ring.old.area) body.now
+        ≡ 0 }
 
-    ensures touches { Touches (ring.old.area ∷ []) (F.device flash.old) (F.device flash.new) (append_lost result) }
+    ensures touches { Touches (ring.old.area ∷ []) (F.device flash.old) (F.device flash.new)
+        (append_lost result) }
     ensures area { ring.new.area ≡ ring.old.area }
-    ensures ends { TryEnds (F.device flash.old) (F.device flash.new) ring.old ring.new body.now (kept_room ring.old into_reserve) result }
+    ensures ends { TryEnds (F.device flash.old) (F.device flash.new) ring.old ring.new body.now
+        (kept_room ring.old into_reserve) result }
 {
     ring.append(flash, body, into_reserve)
 }
@@ -45,13 +49,18 @@ pub(crate) fn put<F: Flash, L: Ledger>(
     requires ready { IsReady (F.device flash.old) ring.old }
     requires some { 0 < length body.now }
     requires short { length body.now ≤ longest (value_limit ring.old.area) }
-    requires no_put { into_reserve ≡ true → put_cost (value_limit ring.old.area) (unit_of (F.device flash.old) ring.old.area) body.now ≡ 0 }
+    requires no_put { into_reserve ≡ true
+        → put_cost (value_limit ring.old.area) (unit_of (F.device flash.old) ring.old.area) body.now
+        ≡ 0 }
     requires few { rounds < ring.old.area.sectors }
 
-    ensures touches { Touches (ring.old.area ∷ []) (F.device flash.old) (F.device flash.new) (append_lost result) }
+    ensures touches { Touches (ring.old.area ∷ []) (F.device flash.old) (F.device flash.new)
+        (append_lost result) }
     ensures area { ring.new.area ≡ ring.old.area }
-    ensures ends { PutEnds (F.device flash.old) (F.device flash.new) ring.old ring.new body.now (kept_room ring.old into_reserve) rounds result }
-    ensures at_most { SpendsAtMost (F.device flash.old) (F.device flash.new) ((rounds + 1) * collect_units (F.device flash.old) ring.old) }
+    ensures ends { PutEnds (F.device flash.old) (F.device flash.new) ring.old ring.new body.now
+        (kept_room ring.old into_reserve) rounds result }
+    ensures at_most { SpendsAtMost (F.device flash.old) (F.device flash.new)
+        ((rounds + 1) * collect_units (F.device flash.old) ring.old) }
 {
     for _round in 0..rounds {
         match try_append(ring, flash, body, into_reserve) {

@@ -26,8 +26,13 @@ fn stands_at<S: ItemStore, F: Flash, L: Ledger>(
     requires stands { StandsOn S.mounted_on S.stands (F.device flash.now) store.now }
     requires tells { HoldsOn (S.tells index.now) (F.device flash.now) (S.mounted_on store.now) }
     requires known { place < TOP }
-    ensures yes_it { let area = S.mounted_on store.now in result ≡ true → (name : List ℕ) × IsAt (numbers_in area) (on S.contents (F.device flash.now) area) name place }
-    ensures not_it { let area = S.mounted_on store.now in result ≡ false → (name : List ℕ) → IsAt (numbers_in area) (on S.contents (F.device flash.now) area) name place → ⊥ }
+    ensures yes_it { let area = S.mounted_on store.now in
+        result ≡ true
+        → (name : List ℕ)
+        × IsAt (numbers_in area) (on S.contents (F.device flash.now) area) name place }
+    ensures not_it { let area = S.mounted_on store.now in
+        result ≡ false → (name : List ℕ)
+        → IsAt (numbers_in area) (on S.contents (F.device flash.now) area) name place → ⊥ }
 {
     let name = match store.get_by(flash, index, place, steps) {
         Some(bytes) => match Name::read(bytes) {
@@ -65,8 +70,10 @@ pub(crate) fn is_kept<S: ItemStore, F: Flash, L: Ledger>(
     requires stands { StandsOn S.mounted_on S.stands (F.device flash.now) store.now }
     requires tells { HoldsOn (S.tells index.now) (F.device flash.now) (S.mounted_on store.now) }
     requires known { id < TOP }
-    ensures yes_it { let area = S.mounted_on store.now in result ≡ true → IsKept (numbers_in area) (on S.contents (F.device flash.now) area) id }
-    ensures not_it { let area = S.mounted_on store.now in result ≡ false → IsKept (numbers_in area) (on S.contents (F.device flash.now) area) id → ⊥ }
+    ensures yes_it { let area = S.mounted_on store.now in
+        result ≡ true → IsKept (numbers_in area) (on S.contents (F.device flash.now) area) id }
+    ensures not_it { let area = S.mounted_on store.now in
+        result ≡ false → IsKept (numbers_in area) (on S.contents (F.device flash.now) area) id → ⊥ }
 {
     if id == COUNT {
         return is_count(store.get_by(flash, index, COUNT, steps));

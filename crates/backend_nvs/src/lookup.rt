@@ -46,7 +46,8 @@ pub(crate) fn read_count<S: ItemStore, F: Flash, L: Ledger>(
     requires lawful { IsLawfulFor (F.device flash.now).banks (S.mounted_on store.now) }
     requires stands { StandsOn S.mounted_on S.stands (F.device flash.now) store.now }
     requires tells { HoldsOn (S.tells index.now) (F.device flash.now) (S.mounted_on store.now) }
-    ensures count { let area = S.mounted_on store.now in result ≡ count_in (numbers_in area) (on S.contents (F.device flash.now) area) }
+    ensures count { let area = S.mounted_on store.now in
+        result ≡ count_in (numbers_in area) (on S.contents (F.device flash.now) area) }
     ensures few { result ≤ LIMIT }
 {
     match store.get_by(flash, index, COUNT, steps) {
@@ -64,7 +65,8 @@ pub(crate) fn has_count<S: ItemStore, F: Flash, L: Ledger>(
     requires ids { HasIds TOP S.is_id }
     requires lawful { IsLawfulFor (F.device flash.now).banks (S.mounted_on store.now) }
     requires stands { StandsOn S.mounted_on S.stands (F.device flash.now) store.now }
-    ensures { let area = S.mounted_on store.now in result ≡ false → count_in (numbers_in area) (on S.contents (F.device flash.now) area) ≡ 0 }
+    ensures { let area = S.mounted_on store.now in
+        result ≡ false → count_in (numbers_in area) (on S.contents (F.device flash.now) area) ≡ 0 }
 {
     match store.get(flash, COUNT, steps) {
         Some(bytes) => number_of(bytes) > 0,
@@ -86,8 +88,10 @@ fn is_here<S: ItemStore, F: Flash, L: Ledger>(
     requires stands { StandsOn S.mounted_on S.stands (F.device flash.now) store.now }
     requires tells { HoldsOn (S.tells index.now) (F.device flash.now) (S.mounted_on store.now) }
     requires low { place < FIRST + LIMIT }
-    ensures { let area = S.mounted_on store.now in let items = on S.contents (F.device flash.now) area in
-        MatchBool result (HasName (pair_at (numbers_in area) items place) name.now) (¬ HasName (pair_at (numbers_in area) items place) name.now) }
+    ensures { let area = S.mounted_on store.now in
+        let items = on S.contents (F.device flash.now) area in
+        MatchBool result (HasName (pair_at (numbers_in area) items place) name.now)
+        (¬ HasName (pair_at (numbers_in area) items place) name.now) }
 {
     is_at(store, flash, index, name, place, place + STEP, steps)
 }
@@ -104,7 +108,8 @@ pub(crate) fn place_of<S: ItemStore, F: Flash, L: Ledger>(
     requires lawful { IsLawfulFor (F.device flash.now).banks (S.mounted_on store.now) }
     requires stands { StandsOn S.mounted_on S.stands (F.device flash.now) store.now }
     requires tells { HoldsOn (S.tells index.now) (F.device flash.now) (S.mounted_on store.now) }
-    ensures { let area = S.mounted_on store.now in IsPlaceOf (numbers_in area) (on S.contents (F.device flash.now) area) name.now result }
+    ensures { let area = S.mounted_on store.now in
+        IsPlaceOf (numbers_in area) (on S.contents (F.device flash.now) area) name.now result }
 {
     let count = read_count(store, flash, index, steps);
     for place in FIRST..FIRST + count {
@@ -126,7 +131,8 @@ pub(crate) fn free_place<S: ItemStore, F: Flash, L: Ledger>(
     requires lawful { IsLawfulFor (F.device flash.now).banks (S.mounted_on store.now) }
     requires stands { StandsOn S.mounted_on S.stands (F.device flash.now) store.now }
     requires tells { HoldsOn (S.tells index.now) (F.device flash.now) (S.mounted_on store.now) }
-    ensures { let area = S.mounted_on store.now in IsFreePlace (numbers_in area) (on S.contents (F.device flash.now) area) result }
+    ensures { let area = S.mounted_on store.now in
+        IsFreePlace (numbers_in area) (on S.contents (F.device flash.now) area) result }
 {
     let count = read_count(store, flash, index, steps);
     for place in FIRST..FIRST + count {

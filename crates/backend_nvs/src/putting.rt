@@ -33,8 +33,10 @@ pub(crate) fn settings_cost<S: ItemStore, F: Flash, L: Ledger>(
     requires ids { HasIds TOP S.is_id }
     requires lawful { IsLawfulFor (F.device flash.now).banks (S.mounted_on store.now) }
     requires stands { StandsOn S.mounted_on S.stands (F.device flash.now) store.now }
-    requires clean { let area = S.mounted_on store.now in HasNoStrays (numbers_in area) (on S.contents (F.device flash.now) area) }
-    ensures { let d = F.device flash.now in let area = S.mounted_on store.now in let g = geometry_of d area in
+    requires clean { let area = S.mounted_on store.now in
+        HasNoStrays (numbers_in area) (on S.contents (F.device flash.now) area) }
+    ensures { let d = F.device flash.now in let area = S.mounted_on store.now in
+        let g = geometry_of d area in
         result ≡ (nvs_room S.price S.cap g).cost (settings_of area (on S.contents d area)) }
 {
     match store.get(flash, COUNT, steps) {
@@ -72,25 +74,41 @@ fn add_name<S: ItemStore, F: Flash, L: Ledger>(
     requires ids { HasIds TOP S.is_id }
     requires lawful { IsLawfulFor (F.device flash.old).banks (S.mounted_on store.old) }
     requires stands { StandsOn S.mounted_on S.stands (F.device flash.old) store.old }
-    requires clean { let area = S.mounted_on store.old in HasNoStrays (numbers_in area) (on S.contents (F.device flash.old) area) }
-    requires fits { let g = geometry_of (F.device flash.old) (S.mounted_on store.old) in Fits (value_limit (S.mounted_on store.old)) (S.price g) (S.cap g) }
+    requires clean { let area = S.mounted_on store.old in
+        HasNoStrays (numbers_in area) (on S.contents (F.device flash.old) area) }
+    requires fits { let g = geometry_of (F.device flash.old) (S.mounted_on store.old) in
+        Fits (value_limit (S.mounted_on store.old)) (S.price g) (S.cap g) }
     requires some { 0 < length value.now }
     requires short { length value.now ≤ value_limit (S.mounted_on store.old) }
     requires named { IsName name.now }
-    requires needs { let g = geometry_of (F.device flash.old) (S.mounted_on store.old) in need ≡ S.price g (length value.now) + S.price g (length name.now) }
-    requires absent { let area = S.mounted_on store.old in IsPlaceOf (numbers_in area) (on S.contents (F.device flash.old) area) name.now None }
-    requires counted { let area = S.mounted_on store.old in count ≡ count_in (numbers_in area) (on S.contents (F.device flash.old) area) }
+    requires needs { let g = geometry_of (F.device flash.old) (S.mounted_on store.old) in
+        need ≡ S.price g (length value.now) + S.price g (length name.now) }
+    requires absent { let area = S.mounted_on store.old in
+        IsPlaceOf (numbers_in area) (on S.contents (F.device flash.old) area) name.now None }
+    requires counted { let area = S.mounted_on store.old in
+        count ≡ count_in (numbers_in area) (on S.contents (F.device flash.old) area) }
     requires few { count < LIMIT }
 
-    ensures touches { Touches (S.mounted_on store.old ∷ []) (F.device flash.old) (F.device flash.new) (set_lost result) }
+    ensures touches { Touches (S.mounted_on store.old ∷ []) (F.device flash.old)
+        (F.device flash.new) (set_lost result) }
     ensures area { S.mounted_on store.new ≡ S.mounted_on store.old }
-    ensures ends { let area = S.mounted_on store.old in let d = F.device flash.old in let e = F.device flash.new in let g = geometry_of d area in
-        SetEnds (nvs_room S.price S.cap g) area.sectors d e (settings_of area (on S.contents d area)) (settings_of area (on S.contents e area)) name.now value.now result }
-    ensures at_most { let d = F.device flash.old in SpendsAtMost d (F.device flash.new) (most_units (geometry_of d (S.mounted_on store.old))) }
+    ensures ends { let area = S.mounted_on store.old in let d = F.device flash.old in
+        let e = F.device flash.new in let g = geometry_of d area in
+        SetEnds (nvs_room S.price S.cap g) area.sectors d e
+        (settings_of area (on S.contents d area)) (settings_of area (on S.contents e area)) name.now
+        value.now result }
+    ensures at_most { let d = F.device flash.old in
+        SpendsAtMost d (F.device flash.new) (most_units (geometry_of d (S.mounted_on store.old))) }
     ensures sound { on S.damage (F.device flash.new) (S.mounted_on store.old) ≡ None }
-    ensures cut { let area = S.mounted_on store.old in set_lost result ≡ true → IsPut (settings_of area (on S.contents (F.device flash.old) area)) (settings_of area (on S.contents (F.device flash.new) area)) name.now value.now }
-    ensures stands { set_lost result ≡ false → StandsOn S.mounted_on S.stands (F.device flash.new) store.new }
-    ensures clean { let area = S.mounted_on store.old in set_lost result ≡ false → HasNoStrays (numbers_in area) (on S.contents (F.device flash.new) area) }
+    ensures cut { let area = S.mounted_on store.old in
+        set_lost result ≡ true
+        → IsPut (settings_of area (on S.contents (F.device flash.old) area))
+        (settings_of area (on S.contents (F.device flash.new) area)) name.now value.now }
+    ensures stands { set_lost result ≡ false
+        → StandsOn S.mounted_on S.stands (F.device flash.new) store.new }
+    ensures clean { let area = S.mounted_on store.old in
+        set_lost result ≡ false
+        → HasNoStrays (numbers_in area) (on S.contents (F.device flash.new) area) }
     ensures down { set_lost result ≡ true → S.runs store.new ≡ false }
 {
     let bytes = bytes_of_count(count + 1);
@@ -125,23 +143,38 @@ fn put_name<S: ItemStore, F: Flash, L: Ledger>(
     requires ids { HasIds TOP S.is_id }
     requires lawful { IsLawfulFor (F.device flash.old).banks (S.mounted_on store.old) }
     requires stands { StandsOn S.mounted_on S.stands (F.device flash.old) store.old }
-    requires clean { let area = S.mounted_on store.old in HasNoStrays (numbers_in area) (on S.contents (F.device flash.old) area) }
-    requires fits { let g = geometry_of (F.device flash.old) (S.mounted_on store.old) in Fits (value_limit (S.mounted_on store.old)) (S.price g) (S.cap g) }
+    requires clean { let area = S.mounted_on store.old in
+        HasNoStrays (numbers_in area) (on S.contents (F.device flash.old) area) }
+    requires fits { let g = geometry_of (F.device flash.old) (S.mounted_on store.old) in
+        Fits (value_limit (S.mounted_on store.old)) (S.price g) (S.cap g) }
     requires some { 0 < length value.now }
     requires short { length value.now ≤ value_limit (S.mounted_on store.old) }
     requires named { IsName name.now }
-    requires needs { let g = geometry_of (F.device flash.old) (S.mounted_on store.old) in need ≡ S.price g (length value.now) + S.price g (length name.now) }
-    requires absent { let area = S.mounted_on store.old in IsPlaceOf (numbers_in area) (on S.contents (F.device flash.old) area) name.now None }
+    requires needs { let g = geometry_of (F.device flash.old) (S.mounted_on store.old) in
+        need ≡ S.price g (length value.now) + S.price g (length name.now) }
+    requires absent { let area = S.mounted_on store.old in
+        IsPlaceOf (numbers_in area) (on S.contents (F.device flash.old) area) name.now None }
 
-    ensures touches { Touches (S.mounted_on store.old ∷ []) (F.device flash.old) (F.device flash.new) (set_lost result) }
+    ensures touches { Touches (S.mounted_on store.old ∷ []) (F.device flash.old)
+        (F.device flash.new) (set_lost result) }
     ensures area { S.mounted_on store.new ≡ S.mounted_on store.old }
-    ensures ends { let area = S.mounted_on store.old in let d = F.device flash.old in let e = F.device flash.new in let g = geometry_of d area in
-        SetEnds (nvs_room S.price S.cap g) area.sectors d e (settings_of area (on S.contents d area)) (settings_of area (on S.contents e area)) name.now value.now result }
-    ensures at_most { let d = F.device flash.old in SpendsAtMost d (F.device flash.new) (most_units (geometry_of d (S.mounted_on store.old))) }
+    ensures ends { let area = S.mounted_on store.old in let d = F.device flash.old in
+        let e = F.device flash.new in let g = geometry_of d area in
+        SetEnds (nvs_room S.price S.cap g) area.sectors d e
+        (settings_of area (on S.contents d area)) (settings_of area (on S.contents e area)) name.now
+        value.now result }
+    ensures at_most { let d = F.device flash.old in
+        SpendsAtMost d (F.device flash.new) (most_units (geometry_of d (S.mounted_on store.old))) }
     ensures sound { on S.damage (F.device flash.new) (S.mounted_on store.old) ≡ None }
-    ensures cut { let area = S.mounted_on store.old in set_lost result ≡ true → IsPut (settings_of area (on S.contents (F.device flash.old) area)) (settings_of area (on S.contents (F.device flash.new) area)) name.now value.now }
-    ensures stands { set_lost result ≡ false → StandsOn S.mounted_on S.stands (F.device flash.new) store.new }
-    ensures clean { let area = S.mounted_on store.old in set_lost result ≡ false → HasNoStrays (numbers_in area) (on S.contents (F.device flash.new) area) }
+    ensures cut { let area = S.mounted_on store.old in
+        set_lost result ≡ true
+        → IsPut (settings_of area (on S.contents (F.device flash.old) area))
+        (settings_of area (on S.contents (F.device flash.new) area)) name.now value.now }
+    ensures stands { set_lost result ≡ false
+        → StandsOn S.mounted_on S.stands (F.device flash.new) store.new }
+    ensures clean { let area = S.mounted_on store.old in
+        set_lost result ≡ false
+        → HasNoStrays (numbers_in area) (on S.contents (F.device flash.new) area) }
     ensures down { set_lost result ≡ true → S.runs store.new ≡ false }
 {
     let mut index = S::new_index();
@@ -179,20 +212,33 @@ pub(crate) fn set_value<S: ItemStore, F: Flash, L: Ledger>(
     requires ids { HasIds TOP S.is_id }
     requires lawful { IsLawfulFor (F.device flash.old).banks (S.mounted_on store.old) }
     requires stands { StandsOn S.mounted_on S.stands (F.device flash.old) store.old }
-    requires clean { let area = S.mounted_on store.old in HasNoStrays (numbers_in area) (on S.contents (F.device flash.old) area) }
-    requires fits { let g = geometry_of (F.device flash.old) (S.mounted_on store.old) in Fits (value_limit (S.mounted_on store.old)) (S.price g) (S.cap g) }
+    requires clean { let area = S.mounted_on store.old in
+        HasNoStrays (numbers_in area) (on S.contents (F.device flash.old) area) }
+    requires fits { let g = geometry_of (F.device flash.old) (S.mounted_on store.old) in
+        Fits (value_limit (S.mounted_on store.old)) (S.price g) (S.cap g) }
     requires some { 0 < length value.now }
     requires short { length value.now ≤ value_limit (S.mounted_on store.old) }
 
-    ensures touches { Touches (S.mounted_on store.old ∷ []) (F.device flash.old) (F.device flash.new) (set_lost result) }
+    ensures touches { Touches (S.mounted_on store.old ∷ []) (F.device flash.old)
+        (F.device flash.new) (set_lost result) }
     ensures area { S.mounted_on store.new ≡ S.mounted_on store.old }
-    ensures ends { let area = S.mounted_on store.old in let d = F.device flash.old in let e = F.device flash.new in let g = geometry_of d area in
-        SetEnds (nvs_room S.price S.cap g) area.sectors d e (settings_of area (on S.contents d area)) (settings_of area (on S.contents e area)) name.now value.now result }
-    ensures at_most { let d = F.device flash.old in SpendsAtMost d (F.device flash.new) (most_units (geometry_of d (S.mounted_on store.old))) }
+    ensures ends { let area = S.mounted_on store.old in let d = F.device flash.old in
+        let e = F.device flash.new in let g = geometry_of d area in
+        SetEnds (nvs_room S.price S.cap g) area.sectors d e
+        (settings_of area (on S.contents d area)) (settings_of area (on S.contents e area)) name.now
+        value.now result }
+    ensures at_most { let d = F.device flash.old in
+        SpendsAtMost d (F.device flash.new) (most_units (geometry_of d (S.mounted_on store.old))) }
     ensures sound { on S.damage (F.device flash.new) (S.mounted_on store.old) ≡ None }
-    ensures cut { let area = S.mounted_on store.old in set_lost result ≡ true → IsPut (settings_of area (on S.contents (F.device flash.old) area)) (settings_of area (on S.contents (F.device flash.new) area)) name.now value.now }
-    ensures stands { set_lost result ≡ false → StandsOn S.mounted_on S.stands (F.device flash.new) store.new }
-    ensures clean { let area = S.mounted_on store.old in set_lost result ≡ false → HasNoStrays (numbers_in area) (on S.contents (F.device flash.new) area) }
+    ensures cut { let area = S.mounted_on store.old in
+        set_lost result ≡ true
+        → IsPut (settings_of area (on S.contents (F.device flash.old) area))
+        (settings_of area (on S.contents (F.device flash.new) area)) name.now value.now }
+    ensures stands { set_lost result ≡ false
+        → StandsOn S.mounted_on S.stands (F.device flash.new) store.new }
+    ensures clean { let area = S.mounted_on store.old in
+        set_lost result ≡ false
+        → HasNoStrays (numbers_in area) (on S.contents (F.device flash.new) area) }
     ensures down { set_lost result ≡ true → S.runs store.new ≡ false }
 {
     match standing_place::<NvsNumbers, S, F, L>(store, flash, name, steps) {

@@ -120,8 +120,9 @@ fn place_of<S: ItemStore, F: Flash, L: Ledger>(
 fn may_stand<S: ItemStore>(store: &S, name: &Name) -> bool
     requires { HasIds top S.is_id }
     ensures { let area = S.mounted_on store.now in
-        (d : Device) → IsLawful d.banks d.bytes → IsLawfulFor d.banks area → StandsOn S.mounted_on S.stands d store.now
-        → result ≡ false → IsPlaceOf (numbers_in area) (on S.contents d area) name.now None }
+        (d : Device) → IsLawful d.banks d.bytes → IsLawfulFor d.banks area
+        → StandsOn S.mounted_on S.stands d store.now → result ≡ false
+        → IsPlaceOf (numbers_in area) (on S.contents d area) name.now None }
 {
     let from = first_of(name.bytes());
     for place in from..from + GROUP_SIZE {
@@ -145,9 +146,11 @@ fn stands_at<S: ItemStore, F: Flash, L: Ledger>(
     requires stands { StandsOn S.mounted_on S.stands (F.device flash.now) store.now }
     requires tells { HoldsOn (S.tells index.now) (F.device flash.now) (S.mounted_on store.now) }
     requires known { id < top }
-    ensures yes_it { let area = S.mounted_on store.now in let items = on S.contents (F.device flash.now) area in
+    ensures yes_it { let area = S.mounted_on store.now in
+        let items = on S.contents (F.device flash.now) area in
         result ≡ true → (name : List ℕ) × IsAt (numbers_in area) items name id }
-    ensures not_it { let area = S.mounted_on store.now in let items = on S.contents (F.device flash.now) area in
+    ensures not_it { let area = S.mounted_on store.now in
+        let items = on S.contents (F.device flash.now) area in
         result ≡ false → (name : List ℕ) → ¬ IsAt (numbers_in area) items name id }
 {
     match name_in(store, flash, index, id, steps) {

@@ -74,7 +74,8 @@ const BED: Bank = Bank {
 };
 
 fn load_blank<B: Bench>(alloc: Global, bench: &mut B) -> Result<(), Fail>
-    ensures { OnOk result (B.device bench.new ≡ loaded (B.device bench.old) (BED ∷ []) (replicate 64 255 ∷ [])) }
+    ensures { OnOk result
+        (B.device bench.new ≡ loaded (B.device bench.old) (BED ∷ []) (replicate 64 255 ∷ [])) }
 {
     let banks = vec![in alloc; BED]?;
     let bytes = vec![in alloc; vec![in alloc; 255u8; 64]?]?;

@@ -17,7 +17,9 @@ const SMALL: Bank = Bank {
 
 // Two sectors, the first of which is erased.
 fn load<B: Bench>(alloc: Global, bench: &mut B) -> Result<(), Fail>
-    ensures { OnOk result (B.device bench.new ≡ loaded (B.device bench.old) (SMALL ∷ []) ((replicate 16 255 ++ replicate 16 7) ∷ [])) }
+    ensures { OnOk result
+        (B.device bench.new
+        ≡ loaded (B.device bench.old) (SMALL ∷ []) ((replicate 16 255 ++ replicate 16 7) ∷ [])) }
 {
     let banks = vec![in alloc; SMALL]?;
     let mut bank = vec![in alloc; 255u8; 16]?;

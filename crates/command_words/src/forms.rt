@@ -25,7 +25,8 @@ fn form<'a>(
     name: &'static str,
     operands: &'static [&'static str],
 ) -> Result<Command<'a>, AllocError>
-    ensures shape { IfOk result (λ command. shape_of command ≡ form name.entry.now (map (λ s. s.now) operands.now)) }
+    ensures shape { IfOk result
+        (λ command. shape_of command ≡ form name.entry.now (map (λ s. s.now) operands.now)) }
     ensures local { IfOk result (λ command. (fields_of command).has_globals ≡ false) }
 {
     let mut command = Command::new(alloc, name);

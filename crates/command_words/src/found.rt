@@ -12,7 +12,8 @@ use std::alloc::{AllocError, Global};
 // The image, the script and the file to write, of a command that runs a script on an image.
 fn script_operands<'a>(operands: &ArgMatches<'a>) -> Option<(&'a str, &'a str, &'a str)>
     ensures { let values = values_at script_names (rows_of (found_of operands.now)) in
-        MatchOption result (AreNoWords values) (λ o. AreWords values (o.0.now ∷ o.1.now ∷ o.2.now ∷ [])) }
+        MatchOption result (AreNoWords values)
+        (λ o. AreWords values (o.0.now ∷ o.1.now ∷ o.2.now ∷ [])) }
 {
     Some((
         operands.get_str("IMAGE")?,

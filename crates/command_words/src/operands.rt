@@ -27,7 +27,8 @@ pub fn store_kind(word: &str) -> Option<StoreKind>
 /// # Errors
 /// Want of memory alone.
 pub fn line_count(alloc: Global, word: &str) -> Result<Option<u32>, AllocError>
-    ensures { IfOk result (λ found. MatchOption found (IsNoLineCount word.now) (IsLineCount word.now)) }
+    ensures { IfOk result
+        (λ found. MatchOption found (IsNoLineCount word.now) (IsLineCount word.now)) }
 {
     match read_number(alloc, word.as_bytes(), LINES_END)? {
         Some(0) | None => Ok(None),

@@ -36,7 +36,9 @@ fn asks_for_help(words: &[String]) -> bool
 /// that memory ran out.
 #[inline(never)]
 pub fn read_words<'a>(alloc: Global, words: &'a [String]) -> Result<Option<Command<'a>>, AllocError>
-    ensures { IfOk result (λ command. MatchOption command (IsNoCommand (map string_bytes words.now)) (IsCommand (map string_bytes words.now))) }
+    ensures { IfOk result
+        (λ command. MatchOption command (IsNoCommand (map string_bytes words.now))
+        (IsCommand (map string_bytes words.now))) }
 {
     if asks_for_help(words) || !are_operands(words) {
         return Ok(None);

@@ -35,9 +35,11 @@ fn put<F: Flash>(ring: &mut Ring, flash: &mut F, body: &[u8]) -> Result<(), Appe
     requires mounted { IsOpen (F.device flash.old) ring.old }
     requires short { is_too_long ring.old.area (length body.now) ≡ false }
 
-    ensures touches { Touches (ring.old.area ∷ []) (F.device flash.old) (F.device flash.new) (append_lost result) }
+    ensures touches { Touches (ring.old.area ∷ []) (F.device flash.old) (F.device flash.new)
+        (append_lost result) }
     ensures area { ring.new.area ≡ ring.old.area }
-    ensures ends { PutEnds (F.device flash.old) (F.device flash.new) ring.old ring.new body.now result }
+    ensures ends { PutEnds (F.device flash.old) (F.device flash.new) ring.old ring.new body.now
+        result }
 {
     ring.append(flash, body, false)
 }
@@ -55,9 +57,11 @@ fn drop_and_put<F: Flash, L: Ledger>(
     requires no_room { stays_for (F.device flash.old) ring.old body.now 0 ≡ false }
     requires left { is_scratch_left ring.old ≡ true }
 
-    ensures touches { Touches (ring.old.area ∷ []) (F.device flash.old) (F.device flash.new) (lost_in result) }
+    ensures touches { Touches (ring.old.area ∷ []) (F.device flash.old) (F.device flash.new)
+        (lost_in result) }
     ensures area { ring.new.area ≡ ring.old.area }
-    ensures ends { LogAppends (F.device flash.old) (F.device flash.new) ring.old ring.new body.now result }
+    ensures ends { LogAppends (F.device flash.old) (F.device flash.new) ring.old ring.new body.now
+        result }
     ensures filled { let area = ring.old.area in
         IsFilled (F.device flash.old) area → IsFilled (F.device flash.new) area }
 {
@@ -89,9 +93,11 @@ impl EventLog {
         steps: &mut Steps<L>,
     ) -> Result<u32, LogFault>
         requires { IsOpen (F.device flash.old) self.old.ring }
-        ensures touches { Touches (self.old.ring.area ∷ []) (F.device flash.old) (F.device flash.new) (lost_in result) }
+        ensures touches { Touches (self.old.ring.area ∷ []) (F.device flash.old)
+            (F.device flash.new) (lost_in result) }
         ensures area { self.new.ring.area ≡ self.old.ring.area }
-        ensures ends { LogAppends (F.device flash.old) (F.device flash.new) self.old.ring self.new.ring body.now result }
+        ensures ends { LogAppends (F.device flash.old) (F.device flash.new) self.old.ring
+            self.new.ring body.now result }
         ensures filled { let area = self.old.ring.area in
             IsFilled (F.device flash.old) area → IsFilled (F.device flash.new) area }
     {

@@ -39,12 +39,15 @@ pub(crate) fn drop_oldest<F: Flash, L: Ledger>(
     requires mounted { IsOpen (F.device flash.old) ring.old }
     requires left { is_scratch_left ring.old ≡ true }
 
-    ensures touches { Touches (ring.old.area ∷ []) (F.device flash.old) (F.device flash.new) (is_err result) }
+    ensures touches { Touches (ring.old.area ∷ []) (F.device flash.old) (F.device flash.new)
+        (is_err result) }
     ensures area { ring.new.area ≡ ring.old.area }
     ensures count { let d = F.device flash.old in
         IfOk result (λ count. count ≡ length (sector_list d ring.old.area ring.old.oldest)) }
-    ensures dropped { OnOk result (Dropped (F.device flash.old) (F.device flash.new) ring.old ring.new) }
-    ensures stopped { OnErr result (StopsDropping (F.device flash.old) (F.device flash.new) ring.old ring.new) }
+    ensures dropped { OnOk result
+        (Dropped (F.device flash.old) (F.device flash.new) ring.old ring.new) }
+    ensures stopped { OnErr result
+        (StopsDropping (F.device flash.old) (F.device flash.new) ring.old ring.new) }
 {
     let count = count_oldest(ring, flash, steps);
     ring.begin_collect(flash)?;

@@ -31,9 +31,11 @@ impl EventLog {
         steps: &mut Steps<L>,
     ) -> Result<EventLog, MountFault>
         requires { IsRingArea (F.device flash.old).banks area }
-        ensures touches { Touches (area ∷ []) (F.device flash.old) (F.device flash.new) (mount_lost result) }
+        ensures touches { Touches (area ∷ []) (F.device flash.old) (F.device flash.new)
+            (mount_lost result) }
         ensures ends { LogMounts (F.device flash.old) (F.device flash.new) area result }
-        ensures idle { erases_on (F.device flash.old) area ≡ 0 → F.device flash.new ≡ F.device flash.old }
+        ensures idle { erases_on (F.device flash.old) area ≡ 0
+            → F.device flash.new ≡ F.device flash.old }
         ensures filled { let d = F.device flash.old in
             ring_damage d area ≡ None → IsFilled d area → IsFilled (F.device flash.new) area }
         ensures keeps { let d = F.device flash.old in

@@ -35,9 +35,12 @@ impl Ring {
         requires ready { self.old.stage ≡ Stage.Ready }
         requires left { is_scratch_left self.old ≡ true }
 
-        ensures touches { Touches (self.old.area ∷ []) (F.device flash.old) (F.device flash.new) (is_err result) }
-        ensures begun { OnOk result (Begun (F.device flash.old) (F.device flash.new) self.old self.new) }
-        ensures stopped { OnErr result (StopsBeginning (F.device flash.old) (F.device flash.new) self.old self.new) }
+        ensures touches { Touches (self.old.area ∷ []) (F.device flash.old) (F.device flash.new)
+            (is_err result) }
+        ensures begun { OnOk result
+            (Begun (F.device flash.old) (F.device flash.new) self.old self.new) }
+        ensures stopped { OnErr result
+            (StopsBeginning (F.device flash.old) (F.device flash.new) self.old self.new) }
         ensures form { let e = F.device flash.new in
             OnErr result (IsRing (states_on e self.old.area) self.old.oldest self.old.used) }
     {
@@ -77,11 +80,15 @@ impl Ring {
         requires listed { IsListed (F.device flash.old) self.old.area r.now }
         requires of_oldest { r.now.sector ≡ self.old.oldest }
         requires short { cost_on (F.device flash.old) self.old.area r.now.len ≤ PROGRAM_LIMIT }
-        requires fits { let d = F.device flash.old in self.old.end + cost_on d self.old.area r.now.len ≤ sector_size d self.old.area }
+        requires fits { let d = F.device flash.old in
+            self.old.end + cost_on d self.old.area r.now.len ≤ sector_size d self.old.area }
 
-        ensures touches { Touches (self.old.area ∷ []) (F.device flash.old) (F.device flash.new) (is_err result) }
-        ensures copied { OnOk result (CopiedRecord (F.device flash.old) (F.device flash.new) self.old self.new r.now) }
-        ensures stopped { OnErr result (StopsCopyingRecord (F.device flash.old) (F.device flash.new) self.old self.new r.now) }
+        ensures touches { Touches (self.old.area ∷ []) (F.device flash.old) (F.device flash.new)
+            (is_err result) }
+        ensures copied { OnOk result
+            (CopiedRecord (F.device flash.old) (F.device flash.new) self.old self.new r.now) }
+        ensures stopped { OnErr result
+            (StopsCopyingRecord (F.device flash.old) (F.device flash.new) self.old self.new r.now) }
     {
         let body = self.body_of(flash, r, steps);
         self.put_record(flash, body.as_slice())?;
@@ -96,22 +103,29 @@ impl Ring {
         requires stands { StandsOn (F.device flash.old) self.old }
         requires collecting { self.old.stage ≡ Stage.Collecting }
 
-        ensures touches { Touches (self.old.area ∷ []) (F.device flash.old) (F.device flash.new) (is_err result) }
-        ensures others { OthersStay (F.device flash.old) (F.device flash.new) self.old.area self.old.oldest }
+        ensures touches { Touches (self.old.area ∷ []) (F.device flash.old) (F.device flash.new)
+            (is_err result) }
+        ensures others { OthersStay (F.device flash.old) (F.device flash.new) self.old.area
+            self.old.oldest }
         ensures area { self.new.area ≡ self.old.area }
         ensures reserve { self.new.reserve ≡ self.old.reserve }
 
         ensures stands { OnOk result (StandsOn (F.device flash.new) self.new) }
         ensures ready { OnOk result (self.new.stage ≡ Stage.Ready) }
         ensures end { OnOk result (self.new.end ≡ self.old.end) }
-        ensures ends { OnOk result (EndsCollection (F.device flash.old) (F.device flash.new) self.old self.new) }
+        ensures ends { OnOk result
+            (EndsCollection (F.device flash.old) (F.device flash.new) self.old self.new) }
         ensures units { OnOk result (Spends (F.device flash.old) (F.device flash.new) 1) }
 
-        ensures list { OnErr result (KeepsEntries (F.device flash.old) (F.device flash.new) self.old.area) }
+        ensures list { OnErr result
+            (KeepsEntries (F.device flash.old) (F.device flash.new) self.old.area) }
         ensures same { let area = self.old.area in
-            OnErr result (sectors_of (F.device flash.new) area ≡ sectors_of (F.device flash.old) area) }
+            OnErr result
+            (sectors_of (F.device flash.new) area ≡ sectors_of (F.device flash.old) area) }
         ensures down { OnErr result (is_up self.new.stage ≡ false) }
-        ensures lost { OnErr result ((F.device flash.old).is_on ≡ true → IsEraseLoss (F.device flash.new) self.old.area self.old.oldest) }
+        ensures lost { OnErr result
+            ((F.device flash.old).is_on ≡ true
+            → IsEraseLoss (F.device flash.new) self.old.area self.old.oldest) }
         ensures bound { OnErr result (SpendsAtMost (F.device flash.old) (F.device flash.new) 1) }
     {
         let oldest = self.oldest;

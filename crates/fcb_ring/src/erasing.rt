@@ -24,13 +24,19 @@ pub(crate) fn erase_torn<F: Flash, L: Ledger>(
 ) -> Result<(), PowerLost>
     requires { IsRingArea (F.device flash.old).banks area.now }
 
-    ensures touches { Touches (area.now ∷ []) (F.device flash.old) (F.device flash.new) (is_err result) }
-    ensures idle { torn_count (sectors_of (F.device flash.old) area.now) ≡ 0 → F.device flash.new ≡ F.device flash.old }
-    ensures mended { OnOk result (sectors_of (F.device flash.new) area.now ≡ map mended (sectors_of (F.device flash.old) area.now)) }
-    ensures units { let d = F.device flash.old in OnOk result (Spends d (F.device flash.new) (torn_count (sectors_of d area.now))) }
+    ensures touches { Touches (area.now ∷ []) (F.device flash.old) (F.device flash.new)
+        (is_err result) }
+    ensures idle { torn_count (sectors_of (F.device flash.old) area.now) ≡ 0
+        → F.device flash.new ≡ F.device flash.old }
+    ensures mended { OnOk result
+        (sectors_of (F.device flash.new) area.now
+        ≡ map mended (sectors_of (F.device flash.old) area.now)) }
+    ensures units { let d = F.device flash.old in
+        OnOk result (Spends d (F.device flash.new) (torn_count (sectors_of d area.now))) }
 
     ensures part { OnErr result (StopsMending (F.device flash.old) (F.device flash.new) area.now) }
-    ensures bound { let d = F.device flash.old in OnErr result (SpendsAtMost d (F.device flash.new) (torn_count (sectors_of d area.now))) }
+    ensures bound { let d = F.device flash.old in
+        OnErr result (SpendsAtMost d (F.device flash.new) (torn_count (sectors_of d area.now))) }
 {
     for sector in 0..area.sectors {
         let is_due = is_torn(sector_view(flash, area, sector, steps));
@@ -51,12 +57,22 @@ impl Ring {
     ) -> Result<(), PowerLost>
         requires { IsRingArea (F.device flash.old).banks area.now }
 
-        ensures touches { Touches (area.now ∷ []) (F.device flash.old) (F.device flash.new) (is_err result) }
-        ensures blank { OnOk result (sectors_of (F.device flash.new) area.now ≡ map blanked (sectors_of (F.device flash.old) area.now)) }
-        ensures units { let d = F.device flash.old in OnOk result (Spends d (F.device flash.new) (count_by is_written (sectors_of d area.now))) }
+        ensures touches { Touches (area.now ∷ []) (F.device flash.old) (F.device flash.new)
+            (is_err result) }
+        ensures blank { OnOk result
+            (sectors_of (F.device flash.new) area.now
+            ≡ map blanked (sectors_of (F.device flash.old) area.now)) }
+        ensures units { let d = F.device flash.old in
+            OnOk result
+            (Spends d (F.device flash.new) (count_by is_written (sectors_of d area.now))) }
 
-        ensures part { OnErr result ((n : ℕ) × (sectors_of (F.device flash.new) area.now ≡ blanked_up_to n (sectors_of (F.device flash.old) area.now))) }
-        ensures bound { let d = F.device flash.old in OnErr result (SpendsAtMost d (F.device flash.new) (count_by is_written (sectors_of d area.now))) }
+        ensures part { OnErr result
+            ((n : ℕ)
+            × (sectors_of (F.device flash.new) area.now
+            ≡ blanked_up_to n (sectors_of (F.device flash.old) area.now))) }
+        ensures bound { let d = F.device flash.old in
+            OnErr result
+            (SpendsAtMost d (F.device flash.new) (count_by is_written (sectors_of d area.now))) }
     {
         area_format(flash, area, steps)
     }

@@ -24,12 +24,17 @@ impl Ring {
         steps: &mut Steps<L>,
     ) -> Result<Ring, MountFault>
         requires { IsRingArea (F.device flash.old).banks area }
-        ensures touches { Touches (area ∷ []) (F.device flash.old) (F.device flash.new) (mount_lost result) }
+        ensures touches { Touches (area ∷ []) (F.device flash.old) (F.device flash.new)
+            (mount_lost result) }
         ensures ends { MountEnds (F.device flash.old) (F.device flash.new) area reserve result }
-        ensures idle { erases_on (F.device flash.old) area ≡ 0 → F.device flash.new ≡ F.device flash.old }
-        ensures erased { IfOk result (λ ring. sectors_of (F.device flash.new) area ≡ mounted_on (F.device flash.old) area) }
-        ensures part { mount_lost result ≡ true → StopsErasing (F.device flash.old) (F.device flash.new) area }
-        ensures list { let d = F.device flash.old in ring_damage d area ≡ None → KeepsEntries d (F.device flash.new) area }
+        ensures idle { erases_on (F.device flash.old) area ≡ 0
+            → F.device flash.new ≡ F.device flash.old }
+        ensures erased { IfOk result
+            (λ ring. sectors_of (F.device flash.new) area ≡ mounted_on (F.device flash.old) area) }
+        ensures part { mount_lost result ≡ true
+            → StopsErasing (F.device flash.old) (F.device flash.new) area }
+        ensures list { let d = F.device flash.old in
+            ring_damage d area ≡ None → KeepsEntries d (F.device flash.new) area }
     {
         match Ring::inspect(flash, area, reserve, steps) {
             Err(damaged) => Err(MountFault::Damaged(damaged)),

@@ -53,7 +53,8 @@ impl Ring {
     ) -> Option<RecordAt>
         requires stands { StandsOn (F.device flash.now) self.now }
         requires after { ForSome after (IsListed (F.device flash.now) self.now.area) }
-        ensures next { IsNextWith (entries_on (F.device flash.now) self.now.area) front.now after result }
+        ensures next { IsNextWith (entries_on (F.device flash.now) self.now.area) front.now after
+            result }
         ensures listed { ForSome result (IsListed (F.device flash.now) self.now.area) }
     {
         let unit = geometry(flash, &self.area).unit;
@@ -84,7 +85,9 @@ impl Ring {
         requires place { place < self.now.area.sectors }
         requires aligned { from % unit_of (F.device flash.now) self.now.area ≡ 0 }
         requires within { from ≤ sector_size (F.device flash.now) self.now.area }
-        ensures { let d = F.device flash.now in result ≡ find (begins_with d self.now.area front.now) (records_on d self.now.area place from) }
+        ensures { let d = F.device flash.now in
+            result
+            ≡ find (begins_with d self.now.area front.now) (records_on d self.now.area place from) }
     {
         let unit = geometry(flash, &self.area).unit;
         let sector = sector_view(flash, &self.area, place, steps);
@@ -112,7 +115,9 @@ impl Ring {
         requires further { further ≤ self.now.area.sectors }
         requires aligned { from % unit_of (F.device flash.now) self.now.area ≡ 0 }
         requires within { from ≤ sector_size (F.device flash.now) self.now.area }
-        ensures { let d = F.device flash.now in result ≡ find (begins_with d self.now.area front.now) (following_on d self.now further from) }
+        ensures { let d = F.device flash.now in
+            result
+            ≡ find (begins_with d self.now.area front.now) (following_on d self.now further from) }
     {
         let header = padded(geometry(flash, &self.area).unit, 8);
         let mut at = further;

@@ -86,7 +86,8 @@ fn record_with(sector: &[u8], unit: u32, at: u32, front: &[u8]) -> Option<Record
     requires short { length sector.now ≤ 32768 }
     requires room { at < length sector.now → at + unit ≤ length sector.now }
     requires at { at ≤ length sector.now }
-    ensures value { result ≡ option_map (with_front sector.now front.now) (record_at unit sector.now at) }
+    ensures value { result
+        ≡ option_map (with_front sector.now front.now) (record_at unit sector.now at) }
 {
     let start = at as usize;
     if !has_record(sector, start) {

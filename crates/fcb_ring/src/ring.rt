@@ -80,7 +80,8 @@ fn newest_state(states: &[SectorState], oldest: usize, used: usize) -> SectorSta
     requires oldest { oldest < length states.now }
     requires used { used ≤ length states.now }
     requires few { length states.now ≤ 64 }
-    ensures { 0 < used → result ≡ state_at states.now (turned (length states.now) oldest (used - 1)) }
+    ensures { 0 < used
+        → result ≡ state_at states.now (turned (length states.now) oldest (used - 1)) }
 {
     if used == 0 {
         SectorState::default()
@@ -104,8 +105,11 @@ impl Ring {
         requires { IsRingArea (F.device flash.now).banks area }
 
         ensures ok { IfOk result (λ ring. StandsOn (F.device flash.now) ring) }
-        ensures ring { IfOk result (λ ring. (ring.area ≡ area) × (ring.reserve ≡ reserve) × (is_up ring.stage ≡ true) × (is_finished ring.stage ≡ false)) }
-        ensures damaged { let is = ring_damage (F.device flash.now) area in MatchResult result (λ _. is ≡ None) (λ damaged. is ≡ Some damaged) }
+        ensures ring { IfOk result
+            (λ ring. (ring.area ≡ area) × (ring.reserve ≡ reserve) × (is_up ring.stage ≡ true)
+            × (is_finished ring.stage ≡ false)) }
+        ensures damaged { let is = ring_damage (F.device flash.now) area in
+            MatchResult result (λ _. is ≡ None) (λ damaged. is ≡ Some damaged) }
     {
         let found = read_states(flash, &area, steps);
         let states = found.as_slice();
@@ -174,20 +178,27 @@ impl Ring {
         requires stands { StandsOn (F.device flash.old) self.old }
         requires not_finished { is_finished self.old.stage ≡ false }
 
-        ensures touches { Touches (self.old.area ∷ []) (F.device flash.old) (F.device flash.new) (is_err result) }
+        ensures touches { Touches (self.old.area ∷ []) (F.device flash.old) (F.device flash.new)
+            (is_err result) }
         ensures list { KeepsEntries (F.device flash.old) (F.device flash.new) self.old.area }
-        ensures idle { erases_on (F.device flash.old) self.old.area ≡ 0 → F.device flash.new ≡ F.device flash.old }
+        ensures idle { erases_on (F.device flash.old) self.old.area ≡ 0
+            → F.device flash.new ≡ F.device flash.old }
         ensures area { self.new.area ≡ self.old.area }
         ensures reserve { self.new.reserve ≡ self.old.reserve }
 
         ensures stands { OnOk result (StandsOn (F.device flash.new) self.new) }
         ensures ready { OnOk result (self.new.stage ≡ Stage.Ready) }
-        ensures erased { OnOk result (sectors_of (F.device flash.new) self.old.area ≡ mounted_on (F.device flash.old) self.old.area) }
-        ensures units { let d = F.device flash.old in OnOk result (Spends d (F.device flash.new) (erases_on d self.old.area)) }
+        ensures erased { OnOk result
+            (sectors_of (F.device flash.new) self.old.area
+            ≡ mounted_on (F.device flash.old) self.old.area) }
+        ensures units { let d = F.device flash.old in
+            OnOk result (Spends d (F.device flash.new) (erases_on d self.old.area)) }
 
         ensures down { OnErr result (is_up self.new.stage ≡ false) }
-        ensures part { OnErr result (StopsErasing (F.device flash.old) (F.device flash.new) self.old.area) }
-        ensures bound { let d = F.device flash.old in OnErr result (SpendsAtMost d (F.device flash.new) (erases_on d self.old.area)) }
+        ensures part { OnErr result
+            (StopsErasing (F.device flash.old) (F.device flash.new) self.old.area) }
+        ensures bound { let d = F.device flash.old in
+            OnErr result (SpendsAtMost d (F.device flash.new) (erases_on d self.old.area)) }
     {
         let is_full = self.is_uncounted();
         self.stage = Stage::Down;

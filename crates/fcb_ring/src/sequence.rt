@@ -66,7 +66,8 @@ fn opens_run(states: &[SectorState], place: usize) -> bool
 // The first place from there on that does not continue the one before it.
 fn run_from(states: &[SectorState], from: usize) -> Option<usize>
     requires { from ≤ length states.now }
-    ensures value { result ≡ find (opens_run states.now) (range_with_len from (length states.now - from)) }
+    ensures value { result
+        ≡ find (opens_run states.now) (range_with_len from (length states.now - from)) }
     ensures within { IfSome result (λ place. place < length states.now) }
 {
     for place in from..states.len() {
@@ -169,8 +170,10 @@ pub(crate) fn used_from(states: &[SectorState], oldest: usize) -> usize
     requires oldest { oldest < length states.now }
     requires few { length states.now ≤ 64 }
     ensures at_most { result ≤ length states.now }
-    ensures used { (k : ℕ) → k < result → (state_at states.now (turned (length states.now) oldest k)).is_free ≡ false }
-    ensures free { result < length states.now → (state_at states.now (turned (length states.now) oldest result)).is_free ≡ true }
+    ensures used { (k : ℕ) → k < result
+        → (state_at states.now (turned (length states.now) oldest k)).is_free ≡ false }
+    ensures free { result < length states.now
+        → (state_at states.now (turned (length states.now) oldest result)).is_free ≡ true }
 {
     for used in 0..states.len() {
         if states[turned(states.len(), oldest, used)].is_free {

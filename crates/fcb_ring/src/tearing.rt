@@ -39,7 +39,8 @@ fn is_part(unit: u32, loss: &Loss) -> bool
 fn bytes_put(unit: u32, done: u32, want: &[u8]) -> ArrayVec<u8, PROGRAM_LIMIT>
     requires part { done * unit < length want.now }
     requires short { length want.now ≤ PROGRAM_LIMIT }
-    ensures { result.items ≡ take (done * unit) want.now ++ replicate (length want.now - done * unit) 0xFF }
+    ensures { result.items
+        ≡ take (done * unit) want.now ++ replicate (length want.now - done * unit) 0xFF }
 {
     let put = done as usize * unit as usize;
     let mut bytes = ArrayVec::new();
@@ -66,7 +67,9 @@ fn is_record(unit: u32, bytes: &[u8]) -> bool
 fn spells_other(unit: u32, loss: &Loss) -> bool
     requires unit { IsUnit unit }
     requires part { is_part unit loss.now ≡ true }
-    ensures { result ≡ (is_record unit (bytes_put unit loss.now) && not (bytes_eq (bytes_put unit loss.now) loss.now.want.items)) }
+    ensures { result
+        ≡ (is_record unit (bytes_put unit loss.now)
+        && not (bytes_eq (bytes_put unit loss.now) loss.now.want.items)) }
 {
     let want = loss.want.as_slice();
     let bytes = bytes_put(unit, loss.done, want);

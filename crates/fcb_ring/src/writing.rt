@@ -86,9 +86,11 @@ impl Ring {
         requires ready { self.old.stage ≡ Stage.Ready }
         requires fits { FitsOpened next (self.old.used + 1) self.old.area.sectors }
 
-        ensures touches { Touches (self.old.area ∷ []) (F.device flash.old) (F.device flash.new) (is_err result) }
+        ensures touches { Touches (self.old.area ∷ []) (F.device flash.old) (F.device flash.new)
+            (is_err result) }
         ensures list { KeepsEntries (F.device flash.old) (F.device flash.new) self.old.area }
-        ensures others { OthersStay (F.device flash.old) (F.device flash.new) self.old.area (next_place self.old) }
+        ensures others { OthersStay (F.device flash.old) (F.device flash.new) self.old.area
+            (next_place self.old) }
         ensures area { self.new.area ≡ self.old.area }
         ensures reserve { self.new.reserve ≡ self.old.reserve }
 
@@ -98,16 +100,21 @@ impl Ring {
         ensures id { OnOk result (self.new.id ≡ next_id self.old) }
         ensures end { OnOk result (self.new.end ≡ header_on (F.device flash.old) self.old.area) }
         ensures stage { OnOk result (self.new.stage ≡ next) }
-        ensures fresh { OnOk result (sector_list (F.device flash.new) self.old.area (newest_place self.new) ≡ []) }
-        ensures units { let d = F.device flash.old in OnOk result (Spends d (F.device flash.new) (header_units d self.old.area)) }
+        ensures fresh { OnOk result
+            (sector_list (F.device flash.new) self.old.area (newest_place self.new) ≡ []) }
+        ensures units { let d = F.device flash.old in
+            OnOk result (Spends d (F.device flash.new) (header_units d self.old.area)) }
         ensures empty { let at = next_place self.old in let area = self.old.area in
-            OnOk result (records_in (F.device flash.new) area at ≡ records_in (F.device flash.old) area at) }
+            OnOk result
+            (records_in (F.device flash.new) area at ≡ records_in (F.device flash.old) area at) }
 
         ensures down { OnErr result (is_up self.new.stage ≡ false) }
         ensures form { let e = F.device flash.new in
             OnErr result (IsRing (states_on e self.old.area) self.old.oldest self.old.used) }
-        ensures lost { OnErr result (LosesHeader (F.device flash.old) (F.device flash.new) self.old) }
-        ensures bound { let d = F.device flash.old in OnErr result (SpendsAtMost d (F.device flash.new) (header_units d self.old.area)) }
+        ensures lost { OnErr result
+            (LosesHeader (F.device flash.old) (F.device flash.new) self.old) }
+        ensures bound { let d = F.device flash.old in
+            OnErr result (SpendsAtMost d (F.device flash.new) (header_units d self.old.area)) }
     {
         let unit = geometry(flash, &self.area).unit;
         let place = self.place(self.used);
@@ -132,11 +139,15 @@ impl Ring {
         requires stands { StandsOn (F.device flash.old) self.old }
         requires writes { is_finished self.old.stage ≡ true }
         requires some { 0 < self.old.used }
-        requires short { cost_on (F.device flash.old) self.old.area (length body.now) ≤ PROGRAM_LIMIT }
-        requires fits { let d = F.device flash.old in self.old.end + cost_on d self.old.area (length body.now) ≤ sector_size d self.old.area }
+        requires short { cost_on (F.device flash.old) self.old.area (length body.now)
+            ≤ PROGRAM_LIMIT }
+        requires fits { let d = F.device flash.old in
+            self.old.end + cost_on d self.old.area (length body.now) ≤ sector_size d self.old.area }
 
-        ensures touches { Touches (self.old.area ∷ []) (F.device flash.old) (F.device flash.new) (is_err result) }
-        ensures others { OthersStay (F.device flash.old) (F.device flash.new) self.old.area (newest_place self.old) }
+        ensures touches { Touches (self.old.area ∷ []) (F.device flash.old) (F.device flash.new)
+            (is_err result) }
+        ensures others { OthersStay (F.device flash.old) (F.device flash.new) self.old.area
+            (newest_place self.old) }
         ensures area { self.new.area ≡ self.old.area }
         ensures reserve { self.new.reserve ≡ self.old.reserve }
 
@@ -144,23 +155,46 @@ impl Ring {
         ensures used { OnOk result (self.new.used ≡ self.old.used) }
         ensures oldest { OnOk result (self.new.oldest ≡ self.old.oldest) }
         ensures id { OnOk result (self.new.id ≡ self.old.id) }
-        ensures end { OnOk result (self.new.end ≡ self.old.end + cost_on (F.device flash.old) self.old.area (length body.now)) }
+        ensures end { OnOk result
+            (self.new.end
+            ≡ self.old.end + cost_on (F.device flash.old) self.old.area (length body.now)) }
         ensures stage { OnOk result (self.new.stage ≡ self.old.stage) }
-        ensures written { let d = F.device flash.old in OnOk result (Writes d (F.device flash.new) self.old.area (newest_place self.old) self.old.end (image_on d self.old.area body.now)) }
-        ensures ends_with { OnOk result (EndsWithRecord (F.device flash.new) self.new (newest_place self.old) body.now) }
-        ensures puts { OnOk result (PutsRecord (F.device flash.old) (F.device flash.new) self.old body.now) }
+        ensures written { let d = F.device flash.old in
+            OnOk result
+            (Writes d (F.device flash.new) self.old.area (newest_place self.old) self.old.end
+            (image_on d self.old.area body.now)) }
+        ensures ends_with { OnOk result
+            (EndsWithRecord (F.device flash.new) self.new (newest_place self.old) body.now) }
+        ensures puts { OnOk result
+            (PutsRecord (F.device flash.old) (F.device flash.new) self.old body.now) }
         ensures gains { let d = F.device flash.old in
-            OnOk result (GainsRecord d (F.device flash.new) self.old.area (newest_place self.old) body.now true) }
-        ensures units { let d = F.device flash.old in OnOk result (Spends d (F.device flash.new) (record_units d self.old.area (length body.now))) }
+            OnOk result
+            (GainsRecord d (F.device flash.new) self.old.area (newest_place self.old) body.now
+            true) }
+        ensures units { let d = F.device flash.old in
+            OnOk result
+            (Spends d (F.device flash.new) (record_units d self.old.area (length body.now))) }
 
         ensures down { OnErr result (is_up self.new.stage ≡ false) }
-        ensures counted { OnErr result (self.old.used < self.old.area.sectors → CutAppend (F.device flash.old) (F.device flash.new) self.old.area (newest_place self.old) body.now) }
-        ensures lost { OnErr result (LosesRecord (F.device flash.old) (F.device flash.new) self.old body.now) }
+        ensures counted { OnErr result
+            (self.old.used < self.old.area.sectors
+            → CutAppend (F.device flash.old) (F.device flash.new) self.old.area
+            (newest_place self.old) body.now) }
+        ensures lost { OnErr result
+            (LosesRecord (F.device flash.old) (F.device flash.new) self.old body.now) }
         ensures torn { let d = F.device flash.old in let place = newest_place self.old in
-            OnErr result (d.is_on ≡ true → CutInRecord d (F.device flash.new) self.old place self.old.used body.now) }
-        ensures full { OnErr result (self.old.used ≡ self.old.area.sectors → is_full (states_on (F.device flash.new) self.old.area) ≡ true) }
-        ensures uncounted { OnErr result (self.old.used ≡ self.old.area.sectors → KeepsEntries (F.device flash.old) (F.device flash.new) self.old.area) }
-        ensures bound { let d = F.device flash.old in OnErr result (SpendsAtMost d (F.device flash.new) (record_units d self.old.area (length body.now))) }
+            OnErr result
+            (d.is_on ≡ true
+            → CutInRecord d (F.device flash.new) self.old place self.old.used body.now) }
+        ensures full { OnErr result
+            (self.old.used ≡ self.old.area.sectors
+            → is_full (states_on (F.device flash.new) self.old.area) ≡ true) }
+        ensures uncounted { OnErr result
+            (self.old.used ≡ self.old.area.sectors
+            → KeepsEntries (F.device flash.old) (F.device flash.new) self.old.area) }
+        ensures bound { let d = F.device flash.old in
+            OnErr result
+            (SpendsAtMost d (F.device flash.new) (record_units d self.old.area (length body.now))) }
     {
         let unit = geometry(flash, &self.area).unit;
         let record = record_image(unit, body);
@@ -180,28 +214,45 @@ impl Ring {
         requires stands { StandsOn (F.device flash.old) self.old }
         requires ready { self.old.stage ≡ Stage.Ready }
         requires free { self.old.used + 1 < self.old.area.sectors }
-        requires short { cost_on (F.device flash.old) self.old.area (length body.now) ≤ PROGRAM_LIMIT }
-        requires fits { let d = F.device flash.old in header_on d self.old.area + cost_on d self.old.area (length body.now) ≤ sector_size d self.old.area }
+        requires short { cost_on (F.device flash.old) self.old.area (length body.now)
+            ≤ PROGRAM_LIMIT }
+        requires fits { let d = F.device flash.old in
+            header_on d self.old.area + cost_on d self.old.area (length body.now)
+            ≤ sector_size d self.old.area }
 
-        ensures touches { Touches (self.old.area ∷ []) (F.device flash.old) (F.device flash.new) (is_err result) }
+        ensures touches { Touches (self.old.area ∷ []) (F.device flash.old) (F.device flash.new)
+            (is_err result) }
         ensures area { self.new.area ≡ self.old.area }
         ensures reserve { self.new.reserve ≡ self.old.reserve }
 
-        ensures others { OthersStay (F.device flash.old) (F.device flash.new) self.old.area (next_place self.old) }
+        ensures others { OthersStay (F.device flash.old) (F.device flash.new) self.old.area
+            (next_place self.old) }
 
-        ensures adds { OnOk result (AddsRecord (F.device flash.old) (F.device flash.new) self.old.area (next_place self.old) body.now) }
+        ensures adds { OnOk result
+            (AddsRecord (F.device flash.old) (F.device flash.new) self.old.area
+            (next_place self.old) body.now) }
         ensures goes_on { OnOk result (GoesOn self.old self.new false) }
-        ensures end { let d = F.device flash.old in OnOk result (self.new.end ≡ header_on d self.old.area + cost_on d self.old.area (length body.now)) }
-        ensures ends_with { OnOk result (EndsWithRecord (F.device flash.new) self.new (next_place self.old) body.now) }
-        ensures ready { let d = F.device flash.old in OnOk result (IsReady d (F.device flash.new) self.new (opening_units d self.old.area body.now)) }
+        ensures end { let d = F.device flash.old in
+            OnOk result
+            (self.new.end ≡ header_on d self.old.area + cost_on d self.old.area (length body.now)) }
+        ensures ends_with { OnOk result
+            (EndsWithRecord (F.device flash.new) self.new (next_place self.old) body.now) }
+        ensures ready { let d = F.device flash.old in
+            OnOk result
+            (IsReady d (F.device flash.new) self.new (opening_units d self.old.area body.now)) }
 
         ensures gains { let d = F.device flash.old in
-            OnOk result (GainsRecord d (F.device flash.new) self.old.area (next_place self.old) body.now true) }
+            OnOk result
+            (GainsRecord d (F.device flash.new) self.old.area (next_place self.old) body.now true) }
 
-        ensures cut { OnErr result (CutAppend (F.device flash.old) (F.device flash.new) self.old.area (next_place self.old) body.now) }
+        ensures cut { OnErr result
+            (CutAppend (F.device flash.old) (F.device flash.new) self.old.area (next_place self.old)
+            body.now) }
         ensures torn { let d = F.device flash.old in
             OnErr result (d.is_on ≡ true → CutRing false d (F.device flash.new) self.old body.now) }
-        ensures down { let d = F.device flash.old in OnErr result (IsDown d (F.device flash.new) self.new (opening_units d self.old.area body.now)) }
+        ensures down { let d = F.device flash.old in
+            OnErr result
+            (IsDown d (F.device flash.new) self.new (opening_units d self.old.area body.now)) }
     {
         self.open_next(flash, Stage::Ready)?;
         self.put_record(flash, body)?;
@@ -225,21 +276,32 @@ impl Ring {
     ) -> Result<(), AppendFault>
         requires stands { StandsOn (F.device flash.old) self.old }
         requires ready { self.old.stage ≡ Stage.Ready }
-        requires short { cost_on (F.device flash.old) self.old.area (length body.now) ≤ PROGRAM_LIMIT }
+        requires short { cost_on (F.device flash.old) self.old.area (length body.now)
+            ≤ PROGRAM_LIMIT }
 
-        ensures touches { Touches (self.old.area ∷ []) (F.device flash.old) (F.device flash.new) (append_lost result) }
+        ensures touches { Touches (self.old.area ∷ []) (F.device flash.old) (F.device flash.new)
+            (append_lost result) }
         ensures area { self.new.area ≡ self.old.area }
         ensures reserve { self.new.reserve ≡ self.old.reserve }
-        ensures others { let d = F.device flash.old in OthersStay d (F.device flash.new) self.old.area (place_for d self.old body.now (kept_room self.old into_reserve)) }
-        ensures written { OnOk result (EndsWithRecord (F.device flash.new) self.new (place_for (F.device flash.old) self.old body.now (kept_room self.old into_reserve)) body.now) }
-        ensures end { OnOk result (self.new.end ≡ end_for (F.device flash.old) self.old body.now (kept_room self.old into_reserve)) }
-        ensures ends { AppendEnds (F.device flash.old) (F.device flash.new) self.old self.new body.now (kept_room self.old into_reserve) result }
+        ensures others { let d = F.device flash.old in
+            OthersStay d (F.device flash.new) self.old.area
+            (place_for d self.old body.now (kept_room self.old into_reserve)) }
+        ensures written { OnOk result
+            (EndsWithRecord (F.device flash.new) self.new
+            (place_for (F.device flash.old) self.old body.now (kept_room self.old into_reserve))
+            body.now) }
+        ensures end { OnOk result
+            (self.new.end
+            ≡ end_for (F.device flash.old) self.old body.now (kept_room self.old into_reserve)) }
+        ensures ends { AppendEnds (F.device flash.old) (F.device flash.new) self.old self.new
+            body.now (kept_room self.old into_reserve) result }
         ensures gains { let d = F.device flash.old in let kept = kept_room self.old into_reserve in
             let place = place_for d self.old body.now kept in
             OnOk result (GainsRecord d (F.device flash.new) self.old.area place body.now true) }
         ensures torn { let d = F.device flash.old in let kept = kept_room self.old into_reserve in
             append_lost result ≡ true → d.is_on ≡ true
-            → CutRing (stays_for d self.old body.now kept) d (F.device flash.new) self.old body.now }
+            → CutRing (stays_for d self.old body.now kept) d (F.device flash.new) self.old
+            body.now }
     {
         let geometry = geometry(flash, &self.area);
         let kept = self.kept_room(into_reserve);
@@ -271,11 +333,14 @@ impl Ring {
         requires stands { StandsOn (F.device flash.old) self.old }
         requires ready { self.old.stage ≡ Stage.Ready }
 
-        ensures touches { Touches (self.old.area ∷ []) (F.device flash.old) (F.device flash.new) (append_lost result) }
+        ensures touches { Touches (self.old.area ∷ []) (F.device flash.old) (F.device flash.new)
+            (append_lost result) }
         ensures area { self.new.area ≡ self.old.area }
         ensures reserve { self.new.reserve ≡ self.old.reserve }
-        ensures others { OthersStay (F.device flash.old) (F.device flash.new) self.old.area (next_place self.old) }
-        ensures ends { RotateEnds (F.device flash.old) (F.device flash.new) self.old self.new result }
+        ensures others { OthersStay (F.device flash.old) (F.device flash.new) self.old.area
+            (next_place self.old) }
+        ensures ends { RotateEnds (F.device flash.old) (F.device flash.new) self.old self.new
+            result }
     {
         if self.is_scratch_left() {
             return Err(AppendFault::Full);

@@ -34,7 +34,8 @@ fn piece_of<F: Flash, L: Ledger>(
     requires has_sector { from.sector < area.now.sectors }
     requires short { from.len ≤ COPY_PIECE }
     requires inside { from.offset + from.len ≤ sector_size (F.device flash.now) area.now }
-    ensures { let d = F.device flash.now in result ≡ source d area.now from ++ replicate (32 - from.len) 0xFF }
+    ensures { let d = F.device flash.now in
+        result ≡ source d area.now from ++ replicate (32 - from.len) 0xFF }
 {
     let mut piece = [0xFF; 32];
     let seen = area_view(flash, area, from.sector, from.offset, from.len, steps);
@@ -61,17 +62,29 @@ pub fn copy_padded<F: Flash, L: Ledger>(
     requires inside { from.offset + from.len ≤ sector_size (F.device flash.old) area.now }
     requires other { from.sector ≡ sector → ⊥ }
     requires short { from.len < 2 ^ 30 }
-    requires can { let d = F.device flash.old in CanProgramAll d area.now sector offset (padded_bytes (unit_of d area.now) (source d area.now from)) }
+    requires can { let d = F.device flash.old in
+        CanProgramAll d area.now sector offset
+        (padded_bytes (unit_of d area.now) (source d area.now from)) }
 
-    ensures touches { Touches (area.now ∷ []) (F.device flash.old) (F.device flash.new) (is_err result) }
-    ensures ok { let d = F.device flash.old in OnOk result (Writes d (F.device flash.new) area.now sector offset (padded_bytes (unit_of d area.now) (source d area.now from))) }
+    ensures touches { Touches (area.now ∷ []) (F.device flash.old) (F.device flash.new)
+        (is_err result) }
+    ensures ok { let d = F.device flash.old in
+        OnOk result
+        (Writes d (F.device flash.new) area.now sector offset
+        (padded_bytes (unit_of d area.now) (source d area.now from))) }
     ensures spent { let unit = unit_of (F.device flash.old) area.now in
-        OnOk result (Spends (F.device flash.old) (F.device flash.new) (padded unit from.len / unit)) }
+        OnOk result
+        (Spends (F.device flash.old) (F.device flash.new) (padded unit from.len / unit)) }
 
-    ensures lost { let d = F.device flash.old in OnErr result (WritesPart d (F.device flash.new) area.now sector offset (padded_bytes (unit_of d area.now) (source d area.now from))) }
-    ensures in_pieces { OnErr result (LosesWithin COPY_PIECE (F.device flash.old) (F.device flash.new)) }
+    ensures lost { let d = F.device flash.old in
+        OnErr result
+        (WritesPart d (F.device flash.new) area.now sector offset
+        (padded_bytes (unit_of d area.now) (source d area.now from))) }
+    ensures in_pieces { OnErr result
+        (LosesWithin COPY_PIECE (F.device flash.old) (F.device flash.new)) }
     ensures spent_at_most { let unit = unit_of (F.device flash.old) area.now in
-        OnErr result (SpendsAtMost (F.device flash.old) (F.device flash.new) (padded unit from.len / unit)) }
+        OnErr result
+        (SpendsAtMost (F.device flash.old) (F.device flash.new) (padded unit from.len / unit)) }
 {
     let all = padded(geometry(flash, area).unit, from.len);
     let mut done = 0;

@@ -24,14 +24,23 @@ pub fn erase_if<F: Flash>(
     requires lawful { IsLawfulArea (F.device flash.old).banks area.now }
     requires has_sector { sector < area.now.sectors }
 
-    ensures touches { Touches (area.now ∷ []) (F.device flash.old) (F.device flash.new) (is_err result) }
+    ensures touches { Touches (area.now ∷ []) (F.device flash.old) (F.device flash.new)
+        (is_err result) }
     ensures idle { is_due ≡ false → F.device flash.new ≡ F.device flash.old }
-    ensures erased { OnOk result (sectors_of (F.device flash.new) area.now ≡ (if is_due then slice_set (sectors_of (F.device flash.old) area.now) sector (replicate (sector_size (F.device flash.old) area.now) 0xFF) else sectors_of (F.device flash.old) area.now)) }
-    ensures units { OnOk result (Spends (F.device flash.old) (F.device flash.new) (if is_due then 1 else 0)) }
+    ensures erased { OnOk result
+        (sectors_of (F.device flash.new) area.now
+        ≡ (if is_due then slice_set (sectors_of (F.device flash.old) area.now) sector
+        (replicate (sector_size (F.device flash.old) area.now) 0xFF) else sectors_of
+        (F.device flash.old) area.now)) }
+    ensures units { OnOk result
+        (Spends (F.device flash.old) (F.device flash.new) (if is_due then 1 else 0)) }
 
     ensures due { OnErr result (is_due ≡ true) }
-    ensures lost { OnErr result (FailsToErase (F.device flash.old) (F.device flash.new) area.now.bank (area.now.first + sector)) }
-    ensures same { OnErr result (sectors_of (F.device flash.new) area.now ≡ sectors_of (F.device flash.old) area.now) }
+    ensures lost { OnErr result
+        (FailsToErase (F.device flash.old) (F.device flash.new) area.now.bank
+        (area.now.first + sector)) }
+    ensures same { OnErr result
+        (sectors_of (F.device flash.new) area.now ≡ sectors_of (F.device flash.old) area.now) }
     ensures bound { OnErr result (SpendsAtMost (F.device flash.old) (F.device flash.new) 0) }
 {
     if is_due {
@@ -52,12 +61,22 @@ pub fn area_format<F: Flash, L: Ledger>(
 ) -> Result<(), PowerLost>
     requires { IsLawfulArea (F.device flash.old).banks area.now }
 
-    ensures touches { Touches (area.now ∷ []) (F.device flash.old) (F.device flash.new) (is_err result) }
-    ensures blank { OnOk result (sectors_of (F.device flash.new) area.now ≡ map blanked (sectors_of (F.device flash.old) area.now)) }
-    ensures units { OnOk result (Spends (F.device flash.old) (F.device flash.new) (count_by is_written (sectors_of (F.device flash.old) area.now))) }
+    ensures touches { Touches (area.now ∷ []) (F.device flash.old) (F.device flash.new)
+        (is_err result) }
+    ensures blank { OnOk result
+        (sectors_of (F.device flash.new) area.now
+        ≡ map blanked (sectors_of (F.device flash.old) area.now)) }
+    ensures units { OnOk result
+        (Spends (F.device flash.old) (F.device flash.new)
+        (count_by is_written (sectors_of (F.device flash.old) area.now))) }
 
-    ensures part { OnErr result ((n : ℕ) × (sectors_of (F.device flash.new) area.now ≡ blanked_up_to n (sectors_of (F.device flash.old) area.now))) }
-    ensures bound { OnErr result (SpendsAtMost (F.device flash.old) (F.device flash.new) (count_by is_written (sectors_of (F.device flash.old) area.now))) }
+    ensures part { OnErr result
+        ((n : ℕ)
+        × (sectors_of (F.device flash.new) area.now
+        ≡ blanked_up_to n (sectors_of (F.device flash.old) area.now))) }
+    ensures bound { OnErr result
+        (SpendsAtMost (F.device flash.old) (F.device flash.new)
+        (count_by is_written (sectors_of (F.device flash.old) area.now))) }
 {
     for sector in 0..area.sectors {
         let is_used = !is_erased(sector_view(flash, area, sector, steps));

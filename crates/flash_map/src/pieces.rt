@@ -31,13 +31,20 @@ pub fn program_all<F: Flash>(
     requires lawful { IsLawfulArea (F.device flash.old).banks area.now }
     requires can { CanProgramAll (F.device flash.old) area.now sector offset bytes.now }
 
-    ensures touches { Touches (area.now ∷ []) (F.device flash.old) (F.device flash.new) (is_err result) }
-    ensures ok { OnOk result (Writes (F.device flash.old) (F.device flash.new) area.now sector offset bytes.now) }
-    ensures spent { OnOk result (Spends (F.device flash.old) (F.device flash.new) (length bytes.now / unit_of (F.device flash.old) area.now)) }
+    ensures touches { Touches (area.now ∷ []) (F.device flash.old) (F.device flash.new)
+        (is_err result) }
+    ensures ok { OnOk result
+        (Writes (F.device flash.old) (F.device flash.new) area.now sector offset bytes.now) }
+    ensures spent { OnOk result
+        (Spends (F.device flash.old) (F.device flash.new)
+        (length bytes.now / unit_of (F.device flash.old) area.now)) }
 
-    ensures lost { OnErr result (WritesPart (F.device flash.old) (F.device flash.new) area.now sector offset bytes.now) }
+    ensures lost { OnErr result
+        (WritesPart (F.device flash.old) (F.device flash.new) area.now sector offset bytes.now) }
     ensures in_pieces { OnErr result (LosesWithin PIECE (F.device flash.old) (F.device flash.new)) }
-    ensures spent_at_most { OnErr result (SpendsAtMost (F.device flash.old) (F.device flash.new) (length bytes.now / unit_of (F.device flash.old) area.now)) }
+    ensures spent_at_most { OnErr result
+        (SpendsAtMost (F.device flash.old) (F.device flash.new)
+        (length bytes.now / unit_of (F.device flash.old) area.now)) }
 {
     let mut done = 0;
     while done < bytes.len() {
@@ -70,17 +77,26 @@ pub fn program_padded<F: Flash>(
     bytes: &[u8],
 ) -> Result<(), PowerLost>
     requires lawful { IsLawfulArea (F.device flash.old).banks area.now }
-    requires can { CanProgramAll (F.device flash.old) area.now sector offset (padded_bytes (unit_of (F.device flash.old) area.now) bytes.now) }
+    requires can { CanProgramAll (F.device flash.old) area.now sector offset
+        (padded_bytes (unit_of (F.device flash.old) area.now) bytes.now) }
 
-    ensures touches { Touches (area.now ∷ []) (F.device flash.old) (F.device flash.new) (is_err result) }
-    ensures ok { OnOk result (Writes (F.device flash.old) (F.device flash.new) area.now sector offset (padded_bytes (unit_of (F.device flash.old) area.now) bytes.now)) }
+    ensures touches { Touches (area.now ∷ []) (F.device flash.old) (F.device flash.new)
+        (is_err result) }
+    ensures ok { OnOk result
+        (Writes (F.device flash.old) (F.device flash.new) area.now sector offset
+        (padded_bytes (unit_of (F.device flash.old) area.now) bytes.now)) }
     ensures spent { let unit = unit_of (F.device flash.old) area.now in
-        OnOk result (Spends (F.device flash.old) (F.device flash.new) (padded unit (length bytes.now) / unit)) }
+        OnOk result
+        (Spends (F.device flash.old) (F.device flash.new) (padded unit (length bytes.now) / unit)) }
 
-    ensures lost { OnErr result (WritesPart (F.device flash.old) (F.device flash.new) area.now sector offset (padded_bytes (unit_of (F.device flash.old) area.now) bytes.now)) }
+    ensures lost { OnErr result
+        (WritesPart (F.device flash.old) (F.device flash.new) area.now sector offset
+        (padded_bytes (unit_of (F.device flash.old) area.now) bytes.now)) }
     ensures in_pieces { OnErr result (LosesWithin PIECE (F.device flash.old) (F.device flash.new)) }
     ensures spent_at_most { let unit = unit_of (F.device flash.old) area.now in
-        OnErr result (SpendsAtMost (F.device flash.old) (F.device flash.new) (padded unit (length bytes.now) / unit)) }
+        OnErr result
+        (SpendsAtMost (F.device flash.old) (F.device flash.new)
+        (padded unit (length bytes.now) / unit)) }
 {
     let unit = geometry(flash, area).unit as usize;
     let whole = bytes.len() / unit * unit;

@@ -24,7 +24,9 @@ impl Sectors {
     fn place_of(&self, offset: usize) -> usize
         requires { offset < length (bytes_in self.now) }
         ensures room { result + self.now.size ≤ vec_len self.now.buffer + offset % self.now.size }
-        ensures reads { (len : ℕ) → offset % self.now.size + len ≤ self.now.size → slice_range self.now.buffer.items result (result + len) ≡ slice_range (bytes_in self.now) offset (offset + len) }
+        ensures reads { (len : ℕ) → offset % self.now.size + len ≤ self.now.size
+            → slice_range self.now.buffer.items result (result + len)
+            ≡ slice_range (bytes_in self.now) offset (offset + len) }
     {
         self.starts[offset / self.size] + offset % self.size
     }
@@ -73,7 +75,9 @@ impl Sectors {
     /// Makes a sector show the bytes that all erased sectors share.
     pub(crate) fn erase(&mut self, sector: usize)
         requires { (sector + 1) * self.old.size ≤ length (bytes_in self.old) }
-        ensures bytes { bytes_in self.new ≡ overwritten (bytes_in self.old) (sector * self.old.size) (replicate self.old.size 255) }
+        ensures bytes { bytes_in self.new
+            ≡ overwritten (bytes_in self.old) (sector * self.old.size)
+            (replicate self.old.size 255) }
         ensures size { self.new.size ≡ self.old.size }
     {
         self.starts[sector] = 0;
@@ -119,7 +123,8 @@ impl Sectors {
 // Where a sector starts whose place holds these bytes: nowhere else, or at the shared sector where they are all FF.
 fn start_in(buffer: &[u8], place: usize, size: usize) -> usize
     requires { place + size ≤ length buffer.now }
-    ensures shared { result ≡ 0 → (place ≡ 0 → ⊥) → take size (drop place buffer.now) ≡ replicate size 255 }
+    ensures shared { result ≡ 0 → (place ≡ 0 → ⊥)
+        → take size (drop place buffer.now) ≡ replicate size 255 }
     ensures own { (result ≡ 0 → ⊥) → result ≡ place }
 {
     if buffer[place..place + size].iter().all(|byte| *byte == 255) {

@@ -34,7 +34,9 @@ impl SparseSim {
 
     /// A flash with no bank, and with power on.
     pub fn new(alloc: Global) -> SparseSim
-        ensures { device_of result ≡ record { banks = []; bytes = []; is_on = true; losses = 0; spent = 0; loads = 0; last_loss = None; plan = Never } }
+        ensures { device_of result
+            ≡ record
+            { banks = []; bytes = []; is_on = true; losses = 0; spent = 0; loads = 0; last_loss = None; plan = Never } }
     {
         SparseSim {
             banks: Vec::new(alloc),
@@ -51,7 +53,9 @@ impl SparseSim {
     // Power is lost at this call, after so many of its units.
     fn lose(&mut self, at: At, want: &[u8], done: u32)
         requires { length want.now ≤ PROGRAM_LIMIT }
-        ensures { device_of self.new ≡ cut (device_of self.old) (record { at = at; want = record { items = want.now }; done = done }) }
+        ensures { device_of self.new
+            ≡ cut (device_of self.old)
+            (record { at = at; want = record { items = want.now }; done = done }) }
     {
         self.is_on = false;
         self.losses = self.losses.saturating_add(1);
@@ -68,8 +72,11 @@ impl SparseSim {
 fn write(all: &mut Vec<Sectors>, bank: usize, offset: usize, bytes: &[u8])
     requires bank { bank < vec_len all.old }
     requires has_sector { offset < length (slice_index_or (all_bytes all.old.items) bank []) }
-    requires one_sector { let size = slice_index (sizes all.old.items) bank in offset % size + length bytes.now ≤ size }
-    ensures bytes { all_bytes all.new.items ≡ slice_set (all_bytes all.old.items) bank (overwritten (slice_index_or (all_bytes all.old.items) bank []) offset bytes.now) }
+    requires one_sector { let size = slice_index (sizes all.old.items) bank in
+        offset % size + length bytes.now ≤ size }
+    ensures bytes { all_bytes all.new.items
+        ≡ slice_set (all_bytes all.old.items) bank
+        (overwritten (slice_index_or (all_bytes all.old.items) bank []) offset bytes.now) }
     ensures sizes { sizes all.new.items ≡ sizes all.old.items }
 {
     let sectors = &mut all[bank];
@@ -79,9 +86,13 @@ fn write(all: &mut Vec<Sectors>, bank: usize, offset: usize, bytes: &[u8])
 // Erases a sector of one bank.
 fn erase(all: &mut Vec<Sectors>, bank: usize, sector: usize)
     requires bank { bank < vec_len all.old }
-    requires has_sector { (sector + 1) * slice_index (sizes all.old.items) bank ≤ length (slice_index_or (all_bytes all.old.items) bank []) }
+    requires has_sector { (sector + 1) * slice_index (sizes all.old.items) bank
+        ≤ length (slice_index_or (all_bytes all.old.items) bank []) }
     ensures bytes { let size = slice_index (sizes all.old.items) bank in
-        all_bytes all.new.items ≡ slice_set (all_bytes all.old.items) bank (overwritten (slice_index_or (all_bytes all.old.items) bank []) (sector * size) (replicate size 255)) }
+        all_bytes all.new.items
+        ≡ slice_set (all_bytes all.old.items) bank
+        (overwritten (slice_index_or (all_bytes all.old.items) bank []) (sector * size)
+        (replicate size 255)) }
     ensures sizes { sizes all.new.items ≡ sizes all.old.items }
 {
     let sectors = &mut all[bank];
@@ -91,7 +102,8 @@ fn erase(all: &mut Vec<Sectors>, bank: usize, sector: usize)
 // Places for the sectors of these banks, which have these bytes.
 fn sectors_of(alloc: Global, banks: &[Bank], bytes: &[Vec<u8>]) -> Result<Vec<Sectors>, AllocError>
     requires { IsLawful banks.now (contents bytes.now) }
-    ensures { IfOk result (λ all. (all_bytes all.items ≡ contents bytes.now) × HaveSizes banks.now all.items) }
+    ensures { IfOk result
+        (λ all. (all_bytes all.items ≡ contents bytes.now) × HaveSizes banks.now all.items) }
 {
     let mut all = Vec::new(alloc);
     for (i, bank) in banks.iter().enumerate() {

@@ -66,7 +66,8 @@ pub trait Handler: Drop {
         ensures { SetEnds (state self.old) (state self.new) rest.now value.entry.bytes.now result };
 
     fn get(&self, rest: &[u8]) -> Option<&[u8]>
-        ensures { option_map (λ value. value.now) result ≡ finite.get (state self.now).held rest.now };
+        ensures { option_map (λ value. value.now) result
+            ≡ finite.get (state self.now).held rest.now };
 
     fn commit(&mut self)
         ensures { state self.new ≡ committed (state self.old) };

@@ -8,12 +8,16 @@ ghost use Rattle.handlers.specs.Registry.{Registered, subtrees, with_state};
 /// Of distinct subtrees the best one for a name is the longest that matches it, there is at most one such, and there is
 /// none only where none matches.
 pub fn longest_is_best()
-    ensures longest { (subtrees : List (List ℕ)) (name : List ℕ) (place : ℕ) → AreDistinct subtrees → best subtrees name ≡ Some place → IsLongest subtrees name place }
-    ensures one { (subtrees : List (List ℕ)) (name : List ℕ) (place other : ℕ) → IsLongest subtrees name place → IsLongest subtrees name other → place ≡ other }
-    ensures none { (subtrees : List (List ℕ)) (name : List ℕ) (k : ℕ) → best subtrees name ≡ None → k < length subtrees → matched_rest name (get_or subtrees k []) ≡ None }
+    ensures longest { (subtrees : List (List ℕ)) (name : List ℕ) (place : ℕ) → AreDistinct subtrees
+        → best subtrees name ≡ Some place → IsLongest subtrees name place }
+    ensures one { (subtrees : List (List ℕ)) (name : List ℕ) (place other : ℕ)
+        → IsLongest subtrees name place → IsLongest subtrees name other → place ≡ other }
+    ensures none { (subtrees : List (List ℕ)) (name : List ℕ) (k : ℕ) → best subtrees name ≡ None
+        → k < length subtrees → matched_rest name (get_or subtrees k []) ≡ None }
 {}
 
 /// A handler that comes into another state keeps its subtree, and so do all others.
 pub fn subtrees_stay()
-    ensures { (handlers : List Registered) (place : ℕ) (state : HandlerState) → subtrees (with_state handlers place state) ≡ subtrees handlers }
+    ensures { (handlers : List Registered) (place : ℕ) (state : HandlerState)
+        → subtrees (with_state handlers place state) ≡ subtrees handlers }
 {}

@@ -26,14 +26,16 @@ pub(crate) struct Row<B> {
 
 impl Row<Box<dyn Handler>> {
     fn handler(&self) -> &dyn Handler
-        ensures { (Handler-dyn result.now).state result.now.1 ≡ (Handler-box self.now.handler).state self.now.handler.value }
+        ensures { (Handler-dyn result.now).state result.now.1
+            ≡ (Handler-box self.now.handler).state self.now.handler.value }
     {
         &*self.handler
     }
 
     fn set(&mut self, alloc: Global, rest: &[u8], value: ValueView<'_>) -> Result<(), SetRefusal>
         ensures subtree { self.new.subtree ≡ self.old.subtree }
-        ensures ends { SetEnds (state self.old.handler) (state self.new.handler) rest.now value.entry.bytes.now result }
+        ensures ends { SetEnds (state self.old.handler) (state self.new.handler) rest.now
+            value.entry.bytes.now result }
     {
         self.handler.set(alloc, rest, value)
     }
@@ -72,7 +74,8 @@ impl<B: Drop> RegistryOf<B> {
     /// comes back. So distinct subtrees stay distinct.
     pub fn register(&mut self, subtree: Name, handler: B) -> Result<(), (RegisterFault, B)>
         ensures ends { RegisterEnds self.old.rows.items self.new.rows.items subtree handler result }
-        ensures distinct { AreDistinct (map (λ row. row.subtree) self.old.rows.items) → AreDistinct (map (λ row. row.subtree) self.new.rows.items) }
+        ensures distinct { AreDistinct (map (λ row. row.subtree) self.old.rows.items)
+            → AreDistinct (map (λ row. row.subtree) self.new.rows.items) }
     {
         if any_has(&self.rows, &subtree) {
             return Err((RegisterFault::Exists, handler));
@@ -99,13 +102,16 @@ impl RegistryOf<Box<dyn Handler>> {
     }
 
     pub fn subtree(&self, i: usize) -> Option<&Name>
-        ensures { option_map (λ name. name.now) result ≡ option_map (λ h. h.subtree) (slice_get (registered state self.now) i) }
+        ensures { option_map (λ name. name.now) result
+            ≡ option_map (λ h. h.subtree) (slice_get (registered state self.now) i) }
     {
         Some(&self.rows.get(i)?.subtree)
     }
 
     pub fn handler(&self, i: usize) -> Option<&dyn Handler>
-        ensures { option_map (λ h. (Handler-dyn h.now).state h.now.1) result ≡ option_map (λ h. h.state) (slice_get (registered (λ b. (Handler-box b).state b.value) self.now) i) }
+        ensures { option_map (λ h. (Handler-dyn h.now).state h.now.1) result
+            ≡ option_map (λ h. h.state)
+            (slice_get (registered (λ b. (Handler-box b).state b.value) self.now) i) }
     {
         match self.rows.get(i) {
             Some(row) => Some(row.handler()),
@@ -125,7 +131,8 @@ impl RegistryOf<Box<dyn Handler>> {
         value: ValueView<'_>,
     ) -> Result<(), SetRefusal>
         requires { i < length (registered state self.old) }
-        ensures { SetsAt (registered state self.old) (registered state self.new) i rest.now value.entry.bytes.now result }
+        ensures { SetsAt (registered state self.old) (registered state self.new) i rest.now
+            value.entry.bytes.now result }
     {
         self.rows[i].set(alloc, rest, value)
     }

@@ -21,8 +21,11 @@ use flash_sim::{Bank, Kind};
 /// `Bad`, with `Short` at the file's end, only where the file ends inside the field.
 pub fn field(bytes: &[u8], at: usize, size: usize) -> Result<&[u8], ImageFault>
     requires { at ≤ length bytes.now }
-    ensures { Reads (λ text. (at + size ≤ length bytes.now) × (text.now ≡ field_at bytes.now at size) × (length text.now ≡ size))
-        (λ place why. (length bytes.now < at + size) × (place ≡ length bytes.now) × (why ≡ Short)) result }
+    ensures { Reads
+        (λ text. (at + size ≤ length bytes.now) × (text.now ≡ field_at bytes.now at size)
+        × (length text.now ≡ size))
+        (λ place why. (length bytes.now < at + size) × (place ≡ length bytes.now) × (why ≡ Short))
+        result }
 {
     let (_, rest) = bytes.split_at(at);
     if rest.len() < size {
@@ -51,7 +54,8 @@ fn u32_at(text: &[u8], at: usize) -> u32
 }
 
 fn kind_of(byte: u8) -> Option<Kind>
-    ensures { MatchOption result (1 < byte) (λ kind. (kind ≡ kind_said byte) × (kind_byte kind ≡ byte)) }
+    ensures { MatchOption result (1 < byte)
+        (λ kind. (kind ≡ kind_said byte) × (kind_byte kind ≡ byte)) }
 {
     match byte {
         0 => Some(Kind::Erasing),
@@ -61,7 +65,8 @@ fn kind_of(byte: u8) -> Option<Kind>
 }
 
 fn role_of(byte: u8) -> Option<Role>
-    ensures { MatchOption result (role_byte (role_said byte) ≡ byte → ⊥) (λ role. (role ≡ role_said byte) × (role_byte role ≡ byte)) }
+    ensures { MatchOption result (role_byte (role_said byte) ≡ byte → ⊥)
+        (λ role. (role ≡ role_said byte) × (role_byte role ≡ byte)) }
 {
     match byte {
         1 => Some(Role::Nvs),
@@ -76,7 +81,8 @@ fn role_of(byte: u8) -> Option<Role>
 #[tactic(auto, unfolding(crate::specs::Said::bank_said))]
 pub fn bank_of(version: u8, text: &[u8]) -> Option<Bank>
     requires { length text.now ≡ 12 }
-    ensures { MatchOption result (IsBankText version text.now → ⊥) (λ bank. (bank ≡ bank_said text.now) × IsBankText version text.now) }
+    ensures { MatchOption result (IsBankText version text.now → ⊥)
+        (λ bank. (bank ≡ bank_said text.now) × IsBankText version text.now) }
 {
     let kind = kind_of(text[0])?;
     let bank = Bank {
@@ -96,7 +102,8 @@ pub fn bank_of(version: u8, text: &[u8]) -> Option<Bank>
 #[tactic(auto, unfolding(crate::specs::Said::area_said))]
 pub fn area_of(version: u8, text: &[u8]) -> Option<Area>
     requires { length text.now ≡ 16 }
-    ensures { MatchOption result (IsSpelled version text.now → ⊥) (λ area. (plain_area area ≡ area_said version text.now) × IsSpelled version text.now) }
+    ensures { MatchOption result (IsSpelled version text.now → ⊥)
+        (λ area. (plain_area area ≡ area_said version text.now) × IsSpelled version text.now) }
 {
     let role = role_of(text[0])?;
     if text[7] != 0 {
@@ -118,7 +125,8 @@ pub fn area_of(version: u8, text: &[u8]) -> Option<Area>
 // The label of this length in eight bytes, with zeros behind it.
 fn label_of(len: u8, text: &[u8]) -> Option<ArrayString<8>>
     requires { length text.now ≡ 8 }
-    ensures { MatchOption result (IsLabelText len text.now → ⊥) (λ label. (label.bytes ≡ take len text.now) × IsLabelText len text.now) }
+    ensures { MatchOption result (IsLabelText len text.now → ⊥)
+        (λ label. (label.bytes ≡ take len text.now) × IsLabelText len text.now) }
 {
     let len = usize::from(len);
     if len > text.len() {
@@ -142,7 +150,8 @@ fn all_zero(bytes: &[u8]) -> bool
 
 /// The label that these bytes are; none where they are no lawful one.
 pub fn label_from(label: &[u8]) -> Option<ArrayString<8>>
-    ensures { MatchOption result (IsLabel label.now → ⊥) (λ text. (text.bytes ≡ label.now) × IsLabel label.now) }
+    ensures { MatchOption result (IsLabel label.now → ⊥)
+        (λ text. (text.bytes ≡ label.now) × IsLabel label.now) }
 {
     if !is_label(label) {
         return None;

@@ -6,7 +6,8 @@ use text_parts::{cut_at, one_part};
 
 // The next word between slashes, and what follows it.
 fn next_word(rest: Option<&[u8]>) -> Option<(&[u8], Option<&[u8]>)>
-    ensures { MatchOption result (parts_of 47 rest.entry ≡ []) (λ cut. parts_of 47 rest.entry ≡ cut.0.now ∷ parts_of 47 cut.1) }
+    ensures { MatchOption result (parts_of 47 rest.entry ≡ [])
+        (λ cut. parts_of 47 rest.entry ≡ cut.0.now ∷ parts_of 47 cut.1) }
 {
     match rest {
         Some(text) => Some(cut_at(text, b'/')),
@@ -16,7 +17,8 @@ fn next_word(rest: Option<&[u8]>) -> Option<(&[u8], Option<&[u8]>)>
 
 /// The four words of an item; none where it has more or fewer.
 pub fn four_words(item: &[u8]) -> Option<(&[u8], &[u8], &[u8], &[u8])>
-    ensures { MatchOption result (length (parts 47 item.now) ≢ 4) (λ words. parts 47 item.now ≡ words.0.now ∷ words.1.now ∷ words.2.now ∷ words.3.now ∷ []) }
+    ensures { MatchOption result (length (parts 47 item.now) ≢ 4)
+        (λ words. parts 47 item.now ≡ words.0.now ∷ words.1.now ∷ words.2.now ∷ words.3.now ∷ []) }
 {
     let (first, rest) = cut_at(item, b'/');
     match three_words(rest) {
@@ -27,7 +29,9 @@ pub fn four_words(item: &[u8]) -> Option<(&[u8], &[u8], &[u8], &[u8])>
 
 /// The five words of an item; none where it has more or fewer.
 pub fn five_words(item: &[u8]) -> Option<(&[u8], &[u8], &[u8], &[u8], &[u8])>
-    ensures { MatchOption result (length (parts 47 item.now) ≢ 5) (λ words. parts 47 item.now ≡ words.0.now ∷ words.1.now ∷ words.2.now ∷ words.3.now ∷ words.4.now ∷ []) }
+    ensures { MatchOption result (length (parts 47 item.now) ≢ 5)
+        (λ words. parts 47 item.now
+        ≡ words.0.now ∷ words.1.now ∷ words.2.now ∷ words.3.now ∷ words.4.now ∷ []) }
 {
     let (first, rest) = cut_at(item, b'/');
     let Some((second, rest)) = next_word(rest) else {
@@ -41,7 +45,8 @@ pub fn five_words(item: &[u8]) -> Option<(&[u8], &[u8], &[u8], &[u8], &[u8])>
 
 // The three words that are left.
 fn three_words(rest: Option<&[u8]>) -> Option<(&[u8], &[u8], &[u8])>
-    ensures { MatchOption result (length (parts_of 47 rest.entry) ≢ 3) (λ words. parts_of 47 rest.entry ≡ words.0.now ∷ words.1.now ∷ words.2.now ∷ []) }
+    ensures { MatchOption result (length (parts_of 47 rest.entry) ≢ 3)
+        (λ words. parts_of 47 rest.entry ≡ words.0.now ∷ words.1.now ∷ words.2.now ∷ []) }
 {
     let Some((first, rest)) = next_word(rest) else {
         return None;

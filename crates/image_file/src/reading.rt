@@ -35,7 +35,8 @@ fn bad(at: usize, why: ImageWhy) -> ImageFault
 fn byte_at(bytes: &[u8], at: usize) -> Result<u8, ImageFault>
     requires { at ≤ length bytes.now }
     ensures { Reads (λ byte. (at + 1 ≤ length bytes.now) × (byte ≡ slice_index bytes.now at))
-        (λ place why. (length bytes.now < at + 1) × (place ≡ length bytes.now) × (why ≡ Short)) result }
+        (λ place why. (length bytes.now < at + 1) × (place ≡ length bytes.now) × (why ≡ Short))
+        result }
 {
     match field(bytes, at, 1) {
         Ok(text) => Ok(text[0]),
@@ -45,7 +46,9 @@ fn byte_at(bytes: &[u8], at: usize) -> Result<u8, ImageFault>
 
 // The first eight bytes.
 fn read_header(bytes: &[u8]) -> Result<Counts, ImageFault>
-    ensures { Reads (λ counts. AllHold bytes.now header_rows × (counts.version ≡ version_said bytes.now) × (counts.banks ≡ bank_count bytes.now) × (counts.areas ≡ area_count bytes.now))
+    ensures { Reads
+        (λ counts. AllHold bytes.now header_rows × (counts.version ≡ version_said bytes.now)
+        × (counts.banks ≡ bank_count bytes.now) × (counts.areas ≡ area_count bytes.now))
         (FirstFault bytes.now header_rows) result }
 {
     if field(bytes, 0, 4)? != b"ZSIM".as_slice() {
@@ -78,8 +81,9 @@ fn read_bank(bytes: &[u8], version: u8, i: usize) -> Result<Bank, ImageFault>
     requires version { version ≡ version_said bytes.now }
     requires few { i < MOST_BANKS }
     requires there { bank_place i ≤ length bytes.now }
-    ensures { Reads (λ bank. (bank ≡ bank_said (field_at bytes.now (bank_place i) 12)) × Holds bytes.now (BankAt i))
-        (Departs bytes.now (BankAt i)) result }
+    ensures { Reads
+        (λ bank. (bank ≡ bank_said (field_at bytes.now (bank_place i) 12))
+        × Holds bytes.now (BankAt i)) (Departs bytes.now (BankAt i)) result }
 {
     let at = 8 + 12 * i;
     let text = field(bytes, at, 12)?;
@@ -98,8 +102,10 @@ fn read_banks(
     requires version { version ≡ version_said bytes.now }
     requires few { count ≤ MOST_BANKS }
     requires there { 8 ≤ length bytes.now }
-    ensures { Reads (λ banks. (banks.items ≡ banks_said bytes.now count) × AllHold bytes.now (rows_of BankAt count))
-        (FirstFault bytes.now (rows_of BankAt count)) result }
+    ensures { Reads
+        (λ banks. (banks.items ≡ banks_said bytes.now count)
+        × AllHold bytes.now (rows_of BankAt count)) (FirstFault bytes.now (rows_of BankAt count))
+        result }
 {
     let mut banks = Vec::new(alloc);
     for i in 0..count {
@@ -123,8 +129,9 @@ fn read_area(
     requires banks { banks.now ≡ all_banks bytes.now }
     requires areas { map plain_area areas.old ≡ areas_said bytes.now i }
     requires there { area_place bytes.now i ≤ length bytes.now }
-    ensures { Reads (λ _. (map plain_area areas.new ≡ areas_said bytes.now (i + 1)) × Holds bytes.now (AreaAt i))
-        (Departs bytes.now (AreaAt i)) result }
+    ensures { Reads
+        (λ _. (map plain_area areas.new ≡ areas_said bytes.now (i + 1))
+        × Holds bytes.now (AreaAt i)) (Departs bytes.now (AreaAt i)) result }
 {
     let at = 8 + 12 * banks.len() + 16 * i;
     let text = field(bytes, at, 16)?;
@@ -155,8 +162,10 @@ fn read_areas(
     requires few_banks { bank_count bytes.now ≤ MOST_BANKS }
     requires banks { banks.now ≡ all_banks bytes.now }
     requires there { area_place bytes.now 0 ≤ length bytes.now }
-    ensures { Reads (λ areas. (map plain_area areas ≡ areas_said bytes.now count) × AllHold bytes.now (rows_of AreaAt count))
-        (FirstFault bytes.now (rows_of AreaAt count)) result }
+    ensures { Reads
+        (λ areas. (map plain_area areas ≡ areas_said bytes.now count)
+        × AllHold bytes.now (rows_of AreaAt count)) (FirstFault bytes.now (rows_of AreaAt count))
+        result }
 {
     let mut areas = FlashMap::new(alloc);
     for i in 0..count {
@@ -173,10 +182,13 @@ fn read_contents(
     start: usize,
 ) -> Result<Vec<Vec<u8>>, ImageFault>
     requires banks { banks.now ≡ all_banks bytes.now }
-    requires lawful { (i : ℕ) → i < length banks.now → IsImageBank (version_said bytes.now) (bank_at banks.now i) }
+    requires lawful { (i : ℕ) → i < length banks.now
+        → IsImageBank (version_said bytes.now) (bank_at banks.now i) }
     requires start { start ≡ contents_place bytes.now 0 }
     requires there { start ≤ length bytes.now }
-    ensures { Reads (λ copies. (contents copies.items ≡ contents_said bytes.now (bank_count bytes.now)) × AllHold bytes.now (contents_rows bytes.now))
+    ensures { Reads
+        (λ copies. (contents copies.items ≡ contents_said bytes.now (bank_count bytes.now))
+        × AllHold bytes.now (contents_rows bytes.now))
         (FirstFault bytes.now (contents_rows bytes.now)) result }
 {
     let mut copies = Vec::new(alloc);

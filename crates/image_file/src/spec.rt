@@ -55,7 +55,8 @@ fn take_bank(
 
 // Whether the area is no second selector.
 fn is_alone(areas: &FlashMap, role: Role) -> bool
-    ensures { IsTrue result ↔ (is_sel role ≡ true → count_by is_selector (map plain_area areas.now) ≡ 0) }
+    ensures { IsTrue result
+        ↔ (is_sel role ≡ true → count_by is_selector (map plain_area areas.now) ≡ 0) }
 {
     match role {
         Role::Sel => count_selectors(areas) == 0,
@@ -88,7 +89,8 @@ fn take_found(
 ) -> Result<bool, NoMemory>
     requires label { IfSome area (λ a. IsLabel a.label.bytes) }
     requires version { IfSome area (λ a. All (HasVersion a.version) areas.old) }
-    ensures { TakesFound version banks.old.items banks.new.items areas.old areas.new bank area result }
+    ensures { TakesFound version banks.old.items banks.new.items areas.old areas.new bank area
+        result }
 {
     match bank {
         Some(bank) => take_bank(version, banks, areas, bank),
@@ -107,7 +109,8 @@ fn is_version(item: &[u8]) -> bool
 
 // Takes the second version, if nothing was added yet, and says whether it was.
 fn take_version(version: &mut u8, banks: &[Bank], areas: &FlashMap) -> bool
-    ensures { TakesVersion (listed version.old banks.now areas.now) (listed version.new banks.now areas.now) result }
+    ensures { TakesVersion (listed version.old banks.now areas.now)
+        (listed version.new banks.now areas.now) result }
 {
     if *version == 1 && banks.is_empty() && areas.len() == 0 {
         *version = 2;
@@ -125,7 +128,8 @@ fn take_item(
     areas: &mut FlashMap,
 ) -> Result<bool, SpecFault>
     requires { IsListed (listed version.old banks.old.items areas.old) }
-    ensures { TakesItem item.now (listed version.old banks.old.items areas.old) (listed version.new banks.new.items areas.new) result }
+    ensures { TakesItem item.now (listed version.old banks.old.items areas.old)
+        (listed version.new banks.new.items areas.new) result }
 {
     if is_version(item) {
         return Ok(take_version(version, banks, areas));
@@ -168,8 +172,10 @@ fn blank_bytes(alloc: Global, len: usize) -> Result<Vec<u8>, AllocError>
 }
 
 fn blank_banks(alloc: Global, banks: &[Bank]) -> Result<Vec<Vec<u8>>, AllocError>
-    requires { (version : ℕ) × ((i : ℕ) → i < length banks.now → IsImageBank version (bank_at banks.now i)) }
-    ensures { IfOk result (λ copies. contents copies.items ≡ map (λ bank. replicate (capacity bank) 255) banks.now) }
+    requires { (version : ℕ)
+        × ((i : ℕ) → i < length banks.now → IsImageBank version (bank_at banks.now i)) }
+    ensures { IfOk result
+        (λ copies. contents copies.items ≡ map (λ bank. replicate (capacity bank) 255) banks.now) }
 {
     let mut copies = Vec::new(alloc);
     for bank in banks {

@@ -50,7 +50,8 @@ fn put_number(file: &mut Vec<u8>, number: u32) -> Result<(), AllocError>
 }
 
 fn put_banks(file: &mut Vec<u8>, banks: &[Bank]) -> Result<(), AllocError>
-    requires { (version : ℕ) × ((i : ℕ) → i < length banks.now → IsImageBank version (bank_at banks.now i)) }
+    requires { (version : ℕ)
+        × ((i : ℕ) → i < length banks.now → IsImageBank version (bank_at banks.now i)) }
     ensures { OnOk result (file.new.items ≡ file.old.items ++ flat_map bank_text banks.now) }
 {
     for bank in banks {
@@ -129,7 +130,8 @@ fn put_image(
     bytes: &[Vec<u8>],
 ) -> Result<(), AllocError>
     requires { IsImage (plain_of banks.now areas.now bytes.now) }
-    ensures { OnOk result (file.new.items ≡ file.old.items ++ file_of (plain_of banks.now areas.now bytes.now)) }
+    ensures { OnOk result
+        (file.new.items ≡ file.old.items ++ file_of (plain_of banks.now areas.now bytes.now)) }
 {
     let bank_count = banks.len() as u8;
     let area_count = areas.len() as u8;

@@ -37,7 +37,8 @@ fn log_area(areas: &FlashMap) -> Option<Area>
 
 // Refuses an image that is not exactly one area, for FCB.
 fn with_log<'a>(image: Image) -> Result<LogImage, Stop<'a>>
-    ensures { MakesOr (λ opened. (opened.image ≡ image) × IsLogArea image.map opened.area) (FindsNoLog (plain image)) result }
+    ensures { MakesOr (λ opened. (opened.image ≡ image) × IsLogArea image.map opened.area)
+        (FindsNoLog (plain image)) result }
 {
     match log_area(&image.map) {
         Some(area) => Ok(LogImage { image, area }),
@@ -52,8 +53,11 @@ pub(crate) fn open_log<'a, H: Host>(
     host: &mut H,
 ) -> Result<LogImage, Stop<'a>>
     ensures image { let h = H.outside host.old in
-        ReadsOr (λ opened. HasImage h name.now (plain opened.image) × IsLogArea opened.image.map opened.area)
-        (λ refusal. LacksImage h name.now refusal ⊎ LacksLog h name.now refusal) h (H.outside host.new) result }
+        ReadsOr
+        (λ opened. HasImage h name.now (plain opened.image)
+        × IsLogArea opened.image.map opened.area)
+        (λ refusal. LacksImage h name.now refusal ⊎ LacksLog h name.now refusal) h
+        (H.outside host.new) result }
     ensures lawful { IfOk result (λ opened. IsImage (plain opened.image)) }
 {
     match read_image_file(alloc, name, host) {
@@ -70,7 +74,8 @@ pub(crate) fn read_log_lines<'a, H: Host>(
     host: &mut H,
 ) -> Result<Vec<Line>, Stop<'a>>
     ensures lines { let h = H.outside host.old in
-        ReadsOr (λ lines. HasLines limit h name.now lines.items) (LacksLines limit h name.now) h (H.outside host.new) result }
+        ReadsOr (λ lines. HasLines limit h name.now lines.items) (LacksLines limit h name.now) h
+        (H.outside host.new) result }
     ensures served { IfOk result (λ lines. All (IsServed limit) lines.items) }
 {
     let text = match read_script_text(alloc, name, host) {

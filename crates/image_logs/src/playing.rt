@@ -51,7 +51,8 @@ fn run<B: Bench, L: Ledger>(
     requires name { blank.name ≡ L.name }
     requires parts { blank.parts ≡ L.parts }
     requires some { 0 < L.parts }
-    ensures ends { RunEnds area.now (Mount ∷ lines.now) (B.device bench.old) (B.device bench.new) result }
+    ensures ends { RunEnds area.now (Mount ∷ lines.now) (B.device bench.old) (B.device bench.new)
+        result }
     ensures undamaged { ring_damage (B.device bench.old) area.now ≡ None
         → ring_damage (B.device bench.new) area.now ≡ None }
     ensures rests { OnOk result ((B.device bench.new).is_on ≡ true
@@ -72,9 +73,11 @@ fn play_lines<'a, B: Bench>(
     requires image { IsImage (plain opened.image) }
     requires area { IsLogArea opened.image.map opened.area }
     requires lines { All (IsServed (value_limit opened.area)) lines.now }
-    ensures { (outside : Outside) (name script : List ℕ) → HasImage outside name (plain opened.image)
+    ensures { (outside : Outside) (name script : List ℕ)
+        → HasImage outside name (plain opened.image)
         → HasLines (value_limit opened.area) outside script lines.now
-        → LogPlayEnds name script out.now outside outside (B.device bench.old) (B.device bench.new) result }
+        → LogPlayEnds name script out.now outside outside (B.device bench.old) (B.device bench.new)
+        result }
 {
     let LogImage { image, area } = opened;
     let Image { banks, map, bytes } = image;

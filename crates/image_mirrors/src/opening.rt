@@ -82,7 +82,8 @@ fn are_mirrored(areas: &FlashMap) -> bool
 
 // Refuses an image without a mirror.
 fn with_mirror<'a>(image: Image) -> Result<Image, Stop<'a>>
-    ensures { MakesOr (λ opened. (opened ≡ image) × AreMirrored image.map) (FindsNoMirror (plain image)) result }
+    ensures { MakesOr (λ opened. (opened ≡ image) × AreMirrored image.map)
+        (FindsNoMirror (plain image)) result }
 {
     if !are_mirrored(&image.map) {
         return Err(Stop::Refused(Refusal::NoMirror));
@@ -116,7 +117,8 @@ pub(crate) fn read_mirror_lines<'a, H: Host>(
     host: &mut H,
 ) -> Result<Vec<Line>, Stop<'a>>
     ensures lines { let h = H.outside host.old in
-        ReadsOr (λ lines. HasLines limit h name.now lines.items) (LacksLines limit h name.now) h (H.outside host.new) result }
+        ReadsOr (λ lines. HasLines limit h name.now lines.items) (LacksLines limit h name.now) h
+        (H.outside host.new) result }
     ensures served { IfOk result (λ lines. All (IsServed limit) lines.items) }
 {
     let text = match read_script_text(alloc, name, host) {

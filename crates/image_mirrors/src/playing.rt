@@ -59,7 +59,8 @@ fn run<B: Bench, L: Ledger>(
     requires parts { blank.parts ≡ L.parts }
     requires some { 0 < L.parts }
     ensures { let old = moment (B.device bench.old) false in
-        RunEnds any_rests any_meanings areas.now (Mount ∷ lines.now) old (B.device bench.new) result }
+        RunEnds any_rests any_meanings areas.now (Mount ∷ lines.now) old (B.device bench.new)
+        result }
 {
     let mut steps = Steps::<L>::new(blank);
     run_lines::<MirrorStore, B, L>(alloc, lines, bench, areas, &mut steps)
@@ -78,7 +79,8 @@ fn play_lines<'a, B: Bench>(
     requires lines { All (IsServed (limit_of image.map)) lines.now }
     ensures { (outside : Outside) (name script : List ℕ) → HasImage outside name (plain image)
         → HasLines (limit_of image.map) outside script lines.now
-        → MirrorPlayEnds name script out.now outside outside (B.device bench.old) (B.device bench.new) result }
+        → MirrorPlayEnds name script out.now outside outside (B.device bench.old)
+        (B.device bench.new) result }
 {
     let Image { banks, map, bytes } = image;
     bench.load(alloc, banks, bytes)?;

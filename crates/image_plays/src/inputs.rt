@@ -54,7 +54,8 @@ pub fn open_start<'a, H: Host>(
     host: &mut H,
 ) -> Result<Image, Stop<'a>>
     ensures image { let h = H.outside host.old in
-        ReadsOr (λ image. BeginsWith start.now h (plain image)) (LacksStart start.now h) h (H.outside host.new) result }
+        ReadsOr (λ image. BeginsWith start.now h (plain image)) (LacksStart start.now h) h
+        (H.outside host.new) result }
     ensures lawful { IfOk result (λ image. IsImage (plain image)) }
 {
     match *start {
@@ -99,7 +100,8 @@ pub fn read_source<'a, H: Host>(
     host: &mut H,
 ) -> Result<Vec<Line>, Stop<'a>>
     ensures lines { let h = H.outside host.old in
-        ReadsOr (λ lines. PlaysLines source.now limit h lines.items) (LacksSource source.now limit h) h (H.outside host.new) result }
+        ReadsOr (λ lines. PlaysLines source.now limit h lines.items)
+        (LacksSource source.now limit h) h (H.outside host.new) result }
     ensures served { VALUE_LIMIT ≤ limit → IfOk result (λ lines. All (IsServed limit) lines.items) }
 {
     match *source {

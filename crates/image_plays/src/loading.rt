@@ -18,7 +18,8 @@ use std::alloc::Global;
 /// The most bytes of a value in an image of these areas.
 pub fn longest_value(areas: &FlashMap) -> usize
     requires some { is_store_at areas.now (first_store areas.now) ≡ true }
-    requires versions { (i j : ℕ) (a b : area) → slice_get areas.now i ≡ Some a → slice_get areas.now j ≡ Some b → a.version ≡ b.version }
+    requires versions { (i j : ℕ) (a b : area) → slice_get areas.now i ≡ Some a
+        → slice_get areas.now j ≡ Some b → a.version ≡ b.version }
     ensures { result ≡ limit_of areas.now }
 {
     match areas.at(0) {
@@ -38,7 +39,9 @@ pub fn file_left<'a, B: Bench>(
     bench: &B,
 ) -> Result<Option<OutFile<'a>>, NoMemory>
     requires { IsImage (held areas.now (B.device bench.now)) }
-    ensures { IfOk result (λ file. WritesLeft (out_of output.now) (held areas.now (B.device bench.now)) (file_of file)) }
+    ensures { IfOk result
+        (λ file. WritesLeft (out_of output.now) (held areas.now (B.device bench.now))
+        (file_of file)) }
 {
     match *output {
         Output::Nowhere => Ok(None),

@@ -76,10 +76,14 @@ fn run<K: Backend, B: Bench, L: Ledger>(
     requires some { 0 < L.parts }
     ensures ends { let d = B.device bench.old in let e = B.device bench.new in
         RunEnds (meanings K.contents K.room K.chance K.tears) K.damage areas.now (Mount ∷ lines.now)
-        (moment d (registered state registry.old) (kinds state pool.items)) e (registered state registry.new) result }
-    ensures undamaged { damage_in K.damage areas.now (B.device bench.old) ≡ None → damage_in K.damage areas.now (B.device bench.new) ≡ None }
-    ensures serves { damage_in K.damage areas.now (B.device bench.old) ≡ None → IfErr result (λ fault. fault ≡ WantsMemory) }
-    ensures rests { OnOk result ((B.device bench.new).is_on ≡ true → IsAtRest K.rests areas.now (B.device bench.new)) }
+        (moment d (registered state registry.old) (kinds state pool.items)) e
+        (registered state registry.new) result }
+    ensures undamaged { damage_in K.damage areas.now (B.device bench.old) ≡ None
+        → damage_in K.damage areas.now (B.device bench.new) ≡ None }
+    ensures serves { damage_in K.damage areas.now (B.device bench.old) ≡ None
+        → IfErr result (λ fault. fault ≡ WantsMemory) }
+    ensures rests { OnOk result
+        ((B.device bench.new).is_on ≡ true → IsAtRest K.rests areas.now (B.device bench.new)) }
 {
     let mut steps = Steps::<L>::new(blank);
     run_lines::<K, B, L>(alloc, lines, bench, areas, pool, registry, &mut steps)
@@ -95,15 +99,18 @@ fn play_lines<'a, K: Backend, B: Bench>(
     pool: Vec<Box<dyn Handler>>,
     registry: &mut Registry,
 ) -> Result<Outcome<'a>, Stop<'a>>
-    requires serves { (areas : List area) (d : Device) → IsImage (held areas d) → IsServedMap K.serves areas d }
+    requires serves { (areas : List area) (d : Device) → IsImage (held areas d)
+        → IsServedMap K.serves areas d }
     requires image { IsImage (plain image) }
     requires lines { All (IsServed (limit_of image.map)) lines.now }
     requires pool { All (IsFresh state) pool.items }
     requires registry { registered state registry.old ≡ [] }
-    ensures { (outside : Outside) → BeginsWith play.now.start outside (plain image) → PlaysLines play.now.source (limit_of image.map) outside lines.now
+    ensures { (outside : Outside) → BeginsWith play.now.start outside (plain image)
+        → PlaysLines play.now.source (limit_of image.map) outside lines.now
         → let k = stores K.contents K.room K.chance K.tears K.damage K.rests in
         PlayEnds k (kinds state pool.items) play.now outside outside
-        (stage (B.device bench.old) (registered state registry.old)) (stage (B.device bench.new) (registered state registry.new)) result }
+        (stage (B.device bench.old) (registered state registry.old))
+        (stage (B.device bench.new) (registered state registry.new)) result }
 {
     let Image { banks, map, bytes } = image;
     bench.load(alloc, banks, bytes)?;
@@ -138,12 +145,14 @@ pub fn play<'a, K: Backend, H: Host, B: Bench>(
     pool: Vec<Box<dyn Handler>>,
     registry: &mut Registry,
 ) -> Result<Outcome<'a>, Stop<'a>>
-    requires serves { (areas : List area) (d : Device) → IsImage (held areas d) → IsServedMap K.serves areas d }
+    requires serves { (areas : List area) (d : Device) → IsImage (held areas d)
+        → IsServedMap K.serves areas d }
     requires pool { All (IsFresh state) pool.items }
     requires registry { registered state registry.old ≡ [] }
     ensures { let k = stores K.contents K.room K.chance K.tears K.damage K.rests in
         PlayEnds k (kinds state pool.items) play.now (H.outside host.old) (H.outside host.new)
-        (stage (B.device bench.old) (registered state registry.old)) (stage (B.device bench.new) (registered state registry.new)) result }
+        (stage (B.device bench.old) (registered state registry.old))
+        (stage (B.device bench.new) (registered state registry.new)) result }
 {
     let image = match open_start(alloc, &play.start, host) {
         Ok(image) => image,

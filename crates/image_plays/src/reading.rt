@@ -39,7 +39,8 @@ pub fn read_image_file<'a, H: Host>(
     host: &mut H,
 ) -> Result<Image, Stop<'a>>
     ensures { let h = H.outside host.old in
-        ReadsOr (λ image. HasImage h name.now (plain image)) (LacksImage h name.now) h (H.outside host.new) result }
+        ReadsOr (λ image. HasImage h name.now (plain image)) (LacksImage h name.now) h
+        (H.outside host.new) result }
 {
     let bytes = match host.read_whole(alloc, name, MOST_IMAGE) {
         Ok(bytes) => bytes,
@@ -65,7 +66,8 @@ pub fn read_script_text<'a, H: Host>(
     host: &mut H,
 ) -> Result<Vec<u8>, Stop<'a>>
     ensures { let h = H.outside host.old in
-        ReadsOr (λ text. HasShortFile h name.now most_script text.items) (LacksText h name.now) h (H.outside host.new) result }
+        ReadsOr (λ text. HasShortFile h name.now most_script text.items) (LacksText h name.now) h
+        (H.outside host.new) result }
 {
     match host.read_whole(alloc, name, MOST_SCRIPT) {
         Ok(text) => Ok(text),
@@ -87,7 +89,8 @@ pub fn read_lines<'a, H: Host>(
     host: &mut H,
 ) -> Result<Vec<Line>, Stop<'a>>
     ensures { let h = H.outside host.old in
-        ReadsOr (λ lines. HasScript limit h name.now lines.items) (LacksScript limit h name.now) h (H.outside host.new) result }
+        ReadsOr (λ lines. HasScript limit h name.now lines.items) (LacksScript limit h name.now) h
+        (H.outside host.new) result }
 {
     let text = match read_script_text(alloc, name, host) {
         Ok(text) => text,

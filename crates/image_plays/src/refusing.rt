@@ -53,7 +53,9 @@ fn script_why(why: LineWhy) -> &'static str
 }
 
 fn file_line(alloc: Global, at: u64, why: &str) -> Result<String, AllocError>
-    ensures { IfOk result (λ text. string_bytes text ≡ codes "bad image: at " ++ decimal at ++ codes ": " ++ why.now ++ 10 ∷ []) }
+    ensures { IfOk result
+        (λ text. string_bytes text
+        ≡ codes "bad image: at " ++ decimal at ++ codes ": " ++ why.now ++ 10 ∷ []) }
 {
     let mut text = format!(in alloc; "bad image: at {at}: ")?;
     text.push_str(why)?;
@@ -62,7 +64,9 @@ fn file_line(alloc: Global, at: u64, why: &str) -> Result<String, AllocError>
 }
 
 fn script_line(alloc: Global, line: u64, why: &str) -> Result<String, AllocError>
-    ensures { IfOk result (λ text. string_bytes text ≡ codes "bad script: line " ++ decimal line ++ codes ": " ++ why.now ++ 10 ∷ []) }
+    ensures { IfOk result
+        (λ text. string_bytes text
+        ≡ codes "bad script: line " ++ decimal line ++ codes ": " ++ why.now ++ 10 ∷ []) }
 {
     let mut text = format!(in alloc; "bad script: line {line}: ")?;
     text.push_str(why)?;
@@ -71,7 +75,10 @@ fn script_line(alloc: Global, line: u64, why: &str) -> Result<String, AllocError
 }
 
 fn area_line(alloc: Global, label: &str, sector: u32, why: &str) -> Result<String, AllocError>
-    ensures { IfOk result (λ text. string_bytes text ≡ codes "bad image: area " ++ label.now ++ codes " sector " ++ decimal sector ++ codes ": " ++ why.now ++ 10 ∷ []) }
+    ensures { IfOk result
+        (λ text. string_bytes text
+        ≡ codes "bad image: area " ++ label.now ++ codes " sector " ++ decimal sector ++ codes ": "
+        ++ why.now ++ 10 ∷ []) }
 {
     let mut text = format!(in alloc; "bad image: area {label} sector ")?;
     let place = format!(in alloc; "{sector}: ")?;
@@ -82,8 +89,10 @@ fn area_line(alloc: Global, label: &str, sector: u32, why: &str) -> Result<Strin
 }
 
 fn bad_area(alloc: Global, label: &ArrayString<8>, damage: &Damaged) -> Result<String, AllocError>
-    ensures { IfOk result (λ text. string_bytes text ≡
-        codes "bad image: area " ++ label.now.bytes ++ codes " sector " ++ decimal damage.now.sector ++ codes ": " ++ area_why damage.now.why ++ codes "\n") }
+    ensures { IfOk result
+        (λ text. string_bytes text
+        ≡ codes "bad image: area " ++ label.now.bytes ++ codes " sector "
+        ++ decimal damage.now.sector ++ codes ": " ++ area_why damage.now.why ++ codes "\n") }
 {
     let why = area_why(damage.why);
     area_line(alloc, label.as_str(), damage.sector, why)

@@ -113,7 +113,8 @@ fn refused(answers: &[Answer]) -> usize
 
 // Appends a word and a number.
 fn add_count(alloc: Global, text: &mut String, word: &str, count: u64) -> Result<(), AllocError>
-    ensures { OnOk result (string_bytes text.new ≡ string_bytes text.old ++ counted word.now count) }
+    ensures { OnOk result
+        (string_bytes text.new ≡ string_bytes text.old ++ counted word.now count) }
 {
     let more = format!(in alloc; " {word} {count}")?;
     text.push_str(more.as_str())
@@ -157,7 +158,8 @@ fn summary(
     lines: &[Line],
     answers: &[Answer],
 ) -> Result<Vec<u8>, NoMemory>
-    ensures { IfOk result (λ text. text.items ≡ summary (store_word store) n lines.now answers.now) }
+    ensures { IfOk result
+        (λ text. text.items ≡ summary (store_word store) n lines.now answers.now) }
 {
     let word = store_word(store);
     let pairs = last_pairs(answers);

@@ -12,8 +12,10 @@ use zs_host::{Host, HostFault};
 
 /// Prints the text, and then writes the file, if there is one.
 pub fn deliver<H: Host>(alloc: Global, host: &mut H, outcome: &Outcome<'_>) -> Status
-    ensures delivers { Delivers (H.outside host.old) (H.outside host.new) outcome.now.text.items (file_of outcome.now.file) result }
-    ensures files { DeliversOnly (file_of outcome.now.file) (H.outside host.old) (H.outside host.new) }
+    ensures delivers { Delivers (H.outside host.old) (H.outside host.new) outcome.now.text.items
+        (file_of outcome.now.file) result }
+    ensures files { DeliversOnly (file_of outcome.now.file) (H.outside host.old)
+        (H.outside host.new) }
 {
     match host.print(alloc, outcome.text.as_slice()) {
         Ok(()) => {}
@@ -63,7 +65,8 @@ fn status_of(refusal: &Refusal<'_>) -> Status
 
 /// Prints the line of the refusal.
 pub fn refuse<H: Host>(alloc: Global, host: &mut H, refusal: &Refusal<'_>) -> Status
-    ensures reports { Reports (H.outside host.old) (H.outside host.new) (line_of refusal.now) (status_of refusal.now) result }
+    ensures reports { Reports (H.outside host.old) (H.outside host.new) (line_of refusal.now)
+        (status_of refusal.now) result }
     ensures files { (H.outside host.new).files ≡ (H.outside host.old).files }
 {
     match refusal_line(alloc, refusal) {

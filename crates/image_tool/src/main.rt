@@ -58,7 +58,8 @@ fn add(
     requires pool { All (IsFresh state) pool.old.items }
     requires handler { state handler ≡ fresh _kind }
     ensures fresh { OnOk result (All (IsFresh state) pool.new.items) }
-    ensures behind { OnOk result (kinds state pool.new.items ≡ kinds state pool.old.items ++ _kind ∷ []) }
+    ensures behind { OnOk result
+        (kinds state pool.new.items ≡ kinds state pool.old.items ++ _kind ∷ []) }
 {
     match pool.push(handler) {
         Ok(()) => Ok(()),
@@ -78,15 +79,18 @@ fn exit_after<H: Host, B: Bench>(
     requires pool { All (IsFresh state) pool.items }
     requires registry { registered state registry.old ≡ [] }
     ensures { (ends : status) × (result ≡ exit_code ends)
-        × ToolEnds any_stores (kinds state pool.items) (map string_bytes words.now) (H.outside host.old) (H.outside host.new)
-        (stage (B.device bench.old) (registered state registry.old)) (stage (B.device bench.new) (registered state registry.new)) ends }
+        × ToolEnds any_stores (kinds state pool.items) (map string_bytes words.now)
+        (H.outside host.old) (H.outside host.new)
+        (stage (B.device bench.old) (registered state registry.old))
+        (stage (B.device bench.new) (registered state registry.new)) ends }
 {
     tool(alloc, words, host, bench, pool, registry).code()
 }
 
 // What the process ends with where the words are no text.
 fn exit_without_words<H: Host>(alloc: Global, host: &mut H) -> u8
-    ensures { (ends : status) × (result ≡ exit_code ends) × NoCommandEnds (H.outside host.old) (H.outside host.new) ends }
+    ensures { (ends : status) × (result ≡ exit_code ends)
+        × NoCommandEnds (H.outside host.old) (H.outside host.new) ends }
 {
     no_words(alloc, host).code()
 }

@@ -37,12 +37,14 @@ fn prepare<'a, K: Backend, H: Host, B: Bench>(
     pool: Vec<Box<dyn Handler>>,
     registry: &mut Registry,
 ) -> Result<Outcome<'a>, Stop<'a>>
-    requires serves { (areas : List area) (d : Device) → IsImage (held areas d) → IsServedMap K.serves areas d }
+    requires serves { (areas : List area) (d : Device) → IsImage (held areas d)
+        → IsServedMap K.serves areas d }
     requires pool { All (IsFresh state) pool.items }
     requires registry { registered state registry.old ≡ [] }
     ensures { let k = stores K.contents K.room K.chance K.tears K.damage K.rests in
         Prepares k (kinds state pool.items) task.now (H.outside host.old) (H.outside host.new)
-        (stage (B.device bench.old) (registered state registry.old)) (stage (B.device bench.new) (registered state registry.new)) result }
+        (stage (B.device bench.old) (registered state registry.old))
+        (stage (B.device bench.new) (registered state registry.new)) result }
 {
     match task {
         Task::Build { out, spec } => build(alloc, out, spec),
@@ -64,12 +66,14 @@ fn carry_out<K: Backend, H: Host, B: Bench>(
     pool: Vec<Box<dyn Handler>>,
     registry: &mut Registry,
 ) -> Status
-    requires serves { (areas : List area) (d : Device) → IsImage (held areas d) → IsServedMap K.serves areas d }
+    requires serves { (areas : List area) (d : Device) → IsImage (held areas d)
+        → IsServedMap K.serves areas d }
     requires pool { All (IsFresh state) pool.items }
     requires registry { registered state registry.old ≡ [] }
     ensures ends { let k = stores K.contents K.room K.chance K.tears K.damage K.rests in
         TaskEnds k (kinds state pool.items) task.now (H.outside host.old) (H.outside host.new)
-        (stage (B.device bench.old) (registered state registry.old)) (stage (B.device bench.new) (registered state registry.new)) result }
+        (stage (B.device bench.old) (registered state registry.old))
+        (stage (B.device bench.new) (registered state registry.new)) result }
     ensures files { OnlyFile (out_file task.now) (H.outside host.old) (H.outside host.new) }
 {
     match prepare::<K, H, B>(alloc, task, host, bench, pool, registry) {
@@ -97,13 +101,16 @@ fn serve<K: Backend, H: Host, B: Bench>(
     pool: Vec<Box<dyn Handler>>,
     registry: &mut Registry,
 ) -> Status
-    requires serves { (areas : List area) (d : Device) → IsImage (held areas d) → IsServedMap K.serves areas d }
+    requires serves { (areas : List area) (d : Device) → IsImage (held areas d)
+        → IsServedMap K.serves areas d }
     requires pool { All (IsFresh state) pool.items }
     requires registry { registered state registry.old ≡ [] }
     ensures ends { let k = stores K.contents K.room K.chance K.tears K.damage K.rests in
-        ToolEnds k (kinds state pool.items) (map string_bytes words.now) (H.outside host.old) (H.outside host.new)
-        (stage (B.device bench.old) (registered state registry.old)) (stage (B.device bench.new) (registered state registry.new)) result }
-    ensures files { (c : command) → IsCommand (map string_bytes words.now) c → MayWrite c (H.outside host.old) (H.outside host.new) }
+        ToolEnds k (kinds state pool.items) (map string_bytes words.now) (H.outside host.old)
+        (H.outside host.new) (stage (B.device bench.old) (registered state registry.old))
+        (stage (B.device bench.new) (registered state registry.new)) result }
+    ensures files { (c : command) → IsCommand (map string_bytes words.now) c
+        → MayWrite c (H.outside host.old) (H.outside host.new) }
 {
     match read_words(alloc, words) {
         Ok(Some(command)) => {
@@ -136,10 +143,13 @@ pub fn tool<H: Host, B: Bench>(
 ) -> Status
     requires pool { All (IsFresh state) pool.items }
     requires registry { registered state registry.old ≡ [] }
-    ensures ends { ToolEnds any_stores (kinds state pool.items) (map string_bytes words.now) (H.outside host.old) (H.outside host.new)
-        (stage (B.device bench.old) (registered state registry.old)) (stage (B.device bench.new) (registered state registry.new)) result }
+    ensures ends { ToolEnds any_stores (kinds state pool.items) (map string_bytes words.now)
+        (H.outside host.old) (H.outside host.new)
+        (stage (B.device bench.old) (registered state registry.old))
+        (stage (B.device bench.new) (registered state registry.new)) result }
     // Whatever the end, no other file changed.
-    ensures files { (c : command) → IsCommand (map string_bytes words.now) c → MayWrite c (H.outside host.old) (H.outside host.new) }
+    ensures files { (c : command) → IsCommand (map string_bytes words.now) c
+        → MayWrite c (H.outside host.old) (H.outside host.new) }
 {
     serve::<AnyBackend, H, B>(alloc, words, host, bench, pool, registry)
 }

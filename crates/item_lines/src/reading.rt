@@ -89,7 +89,8 @@ fn id_and_bytes(
 
 fn id_and_number(alloc: Global, rest: Option<&[u8]>, ids: u64) -> Result<(u32, u32), LineFault>
     requires { ids ≤ 2 ^ 32 }
-    ensures { (limit : ℕ) → ReadsTwo limit (below ids) (below versions_end) number number rest.entry result }
+    ensures { (limit : ℕ)
+        → ReadsTwo limit (below ids) (below versions_end) number number rest.entry result }
 {
     let (first, second) = two_words(rest)?;
     let id = read_small(alloc, first, ids)?;

@@ -39,7 +39,8 @@ impl<I: IdsEnd> ScriptLine for LineBelow<I> {
 
 // The lines alone.
 fn lines_of<I>(alloc: Global, told: Vec<LineBelow<I>>) -> Result<Vec<Line>, NoMemory>
-    ensures { IfOk result (λ lines. map row_of lines.items ≡ map (λ below. row_of below.line) told.items) }
+    ensures { IfOk result
+        (λ lines. map row_of lines.items ≡ map (λ below. row_of below.line) told.items) }
 {
     let mut lines = Vec::new(alloc);
     for below in told {

@@ -37,7 +37,8 @@ pub(crate) fn mount<T: SlotSectors, B: Bench, L: Ledger>(
         IsMounted T.role T.kind T.kept (B.device bench.new) area.now mounted.store) }
     ensures before { OnOk result (damage_on T.kind (B.device bench.old) area.now ≡ None) }
     ensures undamaged { OnOk result (damage_on T.kind (B.device bench.new) area.now ≡ None) }
-    ensures stops { IfErr result (MountStops T.kind area.now (B.device bench.old) (B.device bench.new)) }
+    ensures stops { IfErr result
+        (MountStops T.kind area.now (B.device bench.old) (B.device bench.new)) }
 {
     bench.restore();
     let before = bench.spent();

@@ -45,10 +45,12 @@ impl<T: SlotSectors> ItemSession<T> {
 
         ensures done { IfOk result (λ opened.
             LineDone T.kind area.now Mount opened.1 (B.device bench.old) (B.device bench.new)) }
-        ensures ready { IfOk result (λ opened. IsReady T.role T.kind T.kept (B.device bench.new) opened.0) }
+        ensures ready { IfOk result
+            (λ opened. IsReady T.role T.kind T.kept (B.device bench.new) opened.0) }
         ensures area { IfOk result (λ opened. opened.0.area ≡ area.now) }
         ensures before { OnOk result (damage_on T.kind (B.device bench.old) area.now ≡ None) }
-        ensures stops { IfErr result (MountStops T.kind area.now (B.device bench.old) (B.device bench.new)) }
+        ensures stops { IfErr result
+            (MountStops T.kind area.now (B.device bench.old) (B.device bench.new)) }
     {
         match mount::<T, B, L>(alloc, bench, area, steps) {
             Ok(mounted) => {
@@ -79,8 +81,9 @@ impl<T: SlotSectors> ItemSession<T> {
         requires ready { IsReady T.role T.kind T.kept (B.device bench.old) self.old }
         requires line { IsServedOn T.kind (B.device bench.old) self.old.area line.now }
 
-        ensures done { IfOk result (λ answer.
-            LineDone T.kind self.old.area line.now answer (B.device bench.old) (B.device bench.new)) }
+        ensures done { IfOk result
+            (λ answer. LineDone T.kind self.old.area line.now answer (B.device bench.old)
+            (B.device bench.new)) }
         ensures ready { OnOk result (IsReady T.role T.kind T.kept (B.device bench.new) self.new) }
         ensures area { self.new.area ≡ self.old.area }
         ensures undamaged { damage_on T.kind (B.device bench.new) self.old.area ≡ None }
@@ -105,7 +108,8 @@ fn mount_again<T: SlotSectors, B: Bench, L: Ledger>(
     ensures done { IfOk result (λ answer.
         LineDone T.kind area.now Mount answer (B.device bench.old) (B.device bench.new)) }
     ensures sound { IsSound T.role T.kind (B.device bench.new) area.now }
-    ensures mounted { OnOk result (IsMounted T.role T.kind T.kept (B.device bench.new) area.now store.new) }
+    ensures mounted { OnOk result
+        (IsMounted T.role T.kind T.kept (B.device bench.new) area.now store.new) }
     ensures wants { OnErr result (WantsMemory T.kind area.now Mount
         (B.device bench.old) (B.device bench.new)) }
 {
@@ -135,7 +139,8 @@ fn run_line<T: SlotSectors, B: Bench, L: Ledger>(
     ensures done { IfOk result (λ answer.
         LineDone T.kind area.now line.now answer (B.device bench.old) (B.device bench.new)) }
     ensures sound { IsSound T.role T.kind (B.device bench.new) area.now }
-    ensures mounted { OnOk result (IsMounted T.role T.kind T.kept (B.device bench.new) area.now store.new) }
+    ensures mounted { OnOk result
+        (IsMounted T.role T.kind T.kept (B.device bench.new) area.now store.new) }
     ensures wants { OnErr result (WantsMemory T.kind area.now line.now
         (B.device bench.old) (B.device bench.new)) }
 {

@@ -62,8 +62,9 @@ pub(crate) fn tell_older<T: SlotSectors, B: Bench, L: Ledger>(
     requires on { (B.device bench.now).is_on ≡ true }
     requires area { store.now.area ≡ area.now }
     requires mounted { StandsOn T.role T.kind T.kept (B.device bench.now) store.now }
-    ensures done { IfOk result (λ answer.
-        LineDone T.kind area.now (OlderLine id n) answer (B.device bench.now) (B.device bench.now)) }
+    ensures done { IfOk result
+        (λ answer. LineDone T.kind area.now (OlderLine id n) answer (B.device bench.now)
+        (B.device bench.now)) }
     ensures wants { OnErr result (WantsMemory T.kind area.now (OlderLine id n)
         (B.device bench.now) (B.device bench.now)) }
 {

@@ -58,7 +58,8 @@ pub(crate) fn delete_item<T: SlotSectors, B: Bench, L: Ledger>(
     requires mounted { StandsOn T.role T.kind T.kept (B.device bench.old) store.old }
     requires line { IsServedOn T.kind (B.device bench.old) area.now (Delete id) }
 
-    ensures done { LineDone T.kind area.now (Delete id) result (B.device bench.old) (B.device bench.new) }
+    ensures done { LineDone T.kind area.now (Delete id) result (B.device bench.old)
+        (B.device bench.new) }
     ensures undamaged { damage_on T.kind (B.device bench.new) area.now ≡ None }
     ensures area { store.new.area ≡ area.now }
     ensures mounted { (B.device bench.new).is_on ≡ true

@@ -78,15 +78,22 @@ pub trait ItemStore: Drop {
         requires lawful { IsLawfulFor (F.device flash.old).banks area }
         requires serves { serves area (geometry_of (F.device flash.old) area) }
 
-        ensures touches { Touches (area ∷ []) (F.device flash.old) (F.device flash.new) (mount_lost result) }
-        ensures ends { MountEnds (on damage (F.device flash.old) area) (F.device flash.old) (F.device flash.new) result }
-        ensures sound { on damage (F.device flash.old) area ≡ None → on damage (F.device flash.new) area ≡ None }
-        ensures keeps { on damage (F.device flash.old) area ≡ None → on contents (F.device flash.new) area ≡ on contents (F.device flash.old) area }
-        ensures rests { HoldsOn rests (F.device flash.old) area → F.device flash.new ≡ F.device flash.old }
+        ensures touches { Touches (area ∷ []) (F.device flash.old) (F.device flash.new)
+            (mount_lost result) }
+        ensures ends { MountEnds (on damage (F.device flash.old) area) (F.device flash.old)
+            (F.device flash.new) result }
+        ensures sound { on damage (F.device flash.old) area ≡ None
+            → on damage (F.device flash.new) area ≡ None }
+        ensures keeps { on damage (F.device flash.old) area ≡ None
+            → on contents (F.device flash.new) area ≡ on contents (F.device flash.old) area }
+        ensures rests { HoldsOn rests (F.device flash.old) area
+            → F.device flash.new ≡ F.device flash.old }
         ensures written { StaysWritten (F.device flash.old) (F.device flash.new) area }
-        ensures at_most { let d = F.device flash.old in SpendsAtMost d (F.device flash.new) (most_units (geometry_of d area)) }
+        ensures at_most { let d = F.device flash.old in
+            SpendsAtMost d (F.device flash.new) (most_units (geometry_of d area)) }
         ensures on { IfOk result (λ store. mounted_on store ≡ area) }
-        ensures stands { IfOk result (λ store. StandsOn mounted_on stands (F.device flash.new) store) };
+        ensures stands { IfOk result
+            (λ store. StandsOn mounted_on stands (F.device flash.new) store) };
 
     /// The bytes of an item: none where the id has no item.
     fn get<'a, F: Flash, L: Ledger>(
@@ -98,12 +105,14 @@ pub trait ItemStore: Drop {
         requires lawful { IsLawfulFor (F.device flash.now).banks (mounted_on self.now) }
         requires stands { StandsOn mounted_on stands (F.device flash.now) self.now }
         requires known { is_id id }
-        ensures { option_map (λ bytes. bytes.now) result ≡ finite.get (on contents (F.device flash.now) (mounted_on self.now)) id };
+        ensures { option_map (λ bytes. bytes.now) result
+            ≡ finite.get (on contents (F.device flash.now) (mounted_on self.now)) id };
 
     /// Whether an item may be there: where it answers `false`, the id has none. It takes no view of the flash.
     fn may_hold(&self, id: u32) -> bool
         requires known { is_id id }
-        ensures { (d : Device) → IsLawful d.banks d.bytes → IsLawfulFor d.banks (mounted_on self.now) → StandsOn mounted_on stands d self.now
+        ensures { (d : Device) → IsLawful d.banks d.bytes
+            → IsLawfulFor d.banks (mounted_on self.now) → StandsOn mounted_on stands d self.now
             → result ≡ false → finite.get (on contents d (mounted_on self.now)) id ≡ None };
 
     /// An index for `tell` to fill.
@@ -127,7 +136,8 @@ pub trait ItemStore: Drop {
         requires stands { StandsOn mounted_on stands (F.device flash.now) self.now }
         requires tells { HoldsOn (tells index.now) (F.device flash.now) (mounted_on self.now) }
         requires known { is_id id }
-        ensures { option_map (λ bytes. bytes.now) result ≡ finite.get (on contents (F.device flash.now) (mounted_on self.now)) id };
+        ensures { option_map (λ bytes. bytes.now) result
+            ≡ finite.get (on contents (F.device flash.now) (mounted_on self.now)) id };
 
     /// The id of an item that has these bytes, of the ids from `least` to `most`, no more than 0x1_0020. It is one walk over the
     /// store's entries at most, and makes no index.
@@ -144,7 +154,8 @@ pub trait ItemStore: Drop {
         requires least { is_id least }
         requires most { is_id most }
         requires range { most < least + 0x1_0020 }
-        ensures { IsIdOf least most (on contents (F.device flash.now) (mounted_on self.now)) bytes.now result };
+        ensures { IsIdOf least most (on contents (F.device flash.now) (mounted_on self.now))
+            bytes.now result };
 
     /// The least bytes of an item that are greater than `after`, or the least of all, of the ids from `least` to `most`, no more
     /// than 0x1_0020. It is one walk over the store's entries, and makes no index.
@@ -162,7 +173,8 @@ pub trait ItemStore: Drop {
         requires most { is_id most }
         requires range { most < least + 0x1_0020 }
         ensures { IsNextOf least most (on contents (F.device flash.now) (mounted_on self.now))
-            (option_map (λ other. other.now) after.entry) (option_map (λ bytes. bytes.now) result) };
+            (option_map (λ other. other.now) after.entry)
+            (option_map (λ bytes. bytes.now) result) };
 
     /// Sets an item. Bytes that the item has already are not programmed again.
     ///
@@ -182,13 +194,18 @@ pub trait ItemStore: Drop {
         requires known { is_id id }
         requires some { 0 < length bytes.now }
 
-        ensures touches { Touches (mounted_on self.old ∷ []) (F.device flash.old) (F.device flash.new) (write_lost result) }
+        ensures touches { Touches (mounted_on self.old ∷ []) (F.device flash.old)
+            (F.device flash.new) (write_lost result) }
         ensures area { mounted_on self.new ≡ mounted_on self.old }
-        ensures ends { let area = mounted_on self.old in let d = F.device flash.old in let e = F.device flash.new in
-            WriteEnds (price (geometry_of d area)) (cap (geometry_of d area)) area.sectors d e (on contents d area) (on contents e area) id bytes.now result }
-        ensures at_most { let d = F.device flash.old in SpendsAtMost d (F.device flash.new) (most_units (geometry_of d (mounted_on self.old))) }
+        ensures ends { let area = mounted_on self.old in let d = F.device flash.old in
+            let e = F.device flash.new in
+            WriteEnds (price (geometry_of d area)) (cap (geometry_of d area)) area.sectors d e
+            (on contents d area) (on contents e area) id bytes.now result }
+        ensures at_most { let d = F.device flash.old in
+            SpendsAtMost d (F.device flash.new) (most_units (geometry_of d (mounted_on self.old))) }
         ensures sound { on damage (F.device flash.new) (mounted_on self.old) ≡ None }
-        ensures stands { write_lost result ≡ false → StandsOn mounted_on stands (F.device flash.new) self.new }
+        ensures stands { write_lost result ≡ false
+            → StandsOn mounted_on stands (F.device flash.new) self.new }
         ensures down { write_lost result ≡ true → runs self.new ≡ false };
 
     /// Deletes an item. Where the id has none, nothing is programmed. It always finds room, and spends at most the units and erases
@@ -206,15 +223,22 @@ pub trait ItemStore: Drop {
         requires stands { StandsOn mounted_on stands (F.device flash.old) self.old }
         requires known { is_id id }
 
-        ensures touches { Touches (mounted_on self.old ∷ []) (F.device flash.old) (F.device flash.new) (is_err result) }
+        ensures touches { Touches (mounted_on self.old ∷ []) (F.device flash.old)
+            (F.device flash.new) (is_err result) }
         ensures area { mounted_on self.new ≡ mounted_on self.old }
-        ensures ends { let area = mounted_on self.old in let d = F.device flash.old in let e = F.device flash.new in
+        ensures ends { let area = mounted_on self.old in let d = F.device flash.old in
+            let e = F.device flash.new in
             DeleteEnds d e (on contents d area) (on contents e area) id result }
-        ensures at_most { let d = F.device flash.old in SpendsAtMost d (F.device flash.new) (most_units (geometry_of d (mounted_on self.old))) }
-        ensures written { StaysWritten (F.device flash.old) (F.device flash.new) (mounted_on self.old) }
-        ensures removal { let d = F.device flash.old in SpendsAtMost d (F.device flash.new) (removal_units (geometry_of d (mounted_on self.old))) }
+        ensures at_most { let d = F.device flash.old in
+            SpendsAtMost d (F.device flash.new) (most_units (geometry_of d (mounted_on self.old))) }
+        ensures written { StaysWritten (F.device flash.old) (F.device flash.new)
+            (mounted_on self.old) }
+        ensures removal { let d = F.device flash.old in
+            SpendsAtMost d (F.device flash.new)
+            (removal_units (geometry_of d (mounted_on self.old))) }
         ensures sound { on damage (F.device flash.new) (mounted_on self.old) ≡ None }
-        ensures stands { is_err result ≡ false → StandsOn mounted_on stands (F.device flash.new) self.new }
+        ensures stands { is_err result ≡ false
+            → StandsOn mounted_on stands (F.device flash.new) self.new }
         ensures down { is_err result ≡ true → runs self.new ≡ false };
 
     /// The least id behind this one that has a value, or the least of all.
@@ -226,7 +250,8 @@ pub trait ItemStore: Drop {
     ) -> Option<u32>
         requires lawful { IsLawfulFor (F.device flash.now).banks (mounted_on self.now) }
         requires stands { StandsOn mounted_on stands (F.device flash.now) self.now }
-        ensures next { IsNextId (on contents (F.device flash.now) (mounted_on self.now)) after result }
+        ensures next { IsNextId (on contents (F.device flash.now) (mounted_on self.now)) after
+            result }
         ensures known { IfSome result is_id };
 
     /// The least id behind this one that has a value, or the least of all, as `next_id` gives it, by what the index tells.
@@ -240,21 +265,24 @@ pub trait ItemStore: Drop {
         requires lawful { IsLawfulFor (F.device flash.now).banks (mounted_on self.now) }
         requires stands { StandsOn mounted_on stands (F.device flash.now) self.now }
         requires tells { HoldsOn (tells index.now) (F.device flash.now) (mounted_on self.now) }
-        ensures next { IsNextId (on contents (F.device flash.now) (mounted_on self.now)) after result }
+        ensures next { IsNextId (on contents (F.device flash.now) (mounted_on self.now)) after
+            result }
         ensures known { IfSome result is_id };
 
     /// What all items cost, in bytes: the data of each, padded, and its entry.
     fn live_cost<F: Flash, L: Ledger>(&self, flash: &F, steps: &mut Steps<L>) -> u64
         requires lawful { IsLawfulFor (F.device flash.now).banks (mounted_on self.now) }
         requires stands { StandsOn mounted_on stands (F.device flash.now) self.now }
-        ensures { let d = F.device flash.now in let area = mounted_on self.now in result ≡ items_cost (price (geometry_of d area)) (on contents d area) };
+        ensures { let d = F.device flash.now in let area = mounted_on self.now in
+            result ≡ items_cost (price (geometry_of d area)) (on contents d area) };
 
     /// What bytes of this length and their entry cost, in bytes.
     fn price_of<F: Flash>(&self, flash: &F, length: u32) -> u64
         requires lawful { IsLawfulFor (F.device flash.now).banks (mounted_on self.now) }
         requires stands { StandsOn mounted_on stands (F.device flash.now) self.now }
         requires short { length ≤ value_limit (mounted_on self.now) }
-        ensures value { result ≡ price (geometry_of (F.device flash.now) (mounted_on self.now)) length }
+        ensures value { result
+            ≡ price (geometry_of (F.device flash.now) (mounted_on self.now)) length }
         ensures small { result < 2 ^ 32 };
 
     /// The area that the store stands on.

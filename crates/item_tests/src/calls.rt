@@ -29,7 +29,8 @@ pub fn mounted<T: SlotSectors, B: Bench, L: Ledger, R: Abort>(
     steps: &mut Steps<L>,
 ) -> Result<Store<T>, Fail>
     requires { IsStoreArea T.role (B.device bench.old).banks area }
-    ensures stands { IfOk result (λ store. StandsOn T.role T.kind T.kept (B.device bench.new) store) }
+    ensures stands { IfOk result
+        (λ store. StandsOn T.role T.kind T.kept (B.device bench.new) store) }
     ensures area { IfOk result (λ store. store.area ≡ area) }
     ensures banks { OnOk result ((B.device bench.new).banks ≡ (B.device bench.old).banks) }
 {

@@ -40,7 +40,8 @@ fn digits_or_dash(digits: &[u8]) -> &[u8]
 }
 
 fn add_record(alloc: Global, text: &mut Vec<u8>, body: &Bytes) -> Result<(), AllocError>
-    ensures { OnOk result (text.new.items ≡ text.old.items ++ lines_text (record_line body.now ∷ [])) }
+    ensures { OnOk result
+        (text.new.items ≡ text.old.items ++ lines_text (record_line body.now ∷ [])) }
 {
     let digits = hex::encode(alloc, body.as_slice())?;
     add(text, b"record ")?;

@@ -40,7 +40,8 @@ pub(crate) fn put_record<B: Bench, L: Ledger>(
     requires mounted { IsOpen (B.device bench.old) log.old.ring }
     requires line { IsServed (value_limit area.now) (Put body.now) }
 
-    ensures done { LineDone area.now (Put body.now) result (B.device bench.old) (B.device bench.new) }
+    ensures done { LineDone area.now (Put body.now) result (B.device bench.old)
+        (B.device bench.new) }
     ensures undamaged { ring_damage (B.device bench.new) area.now ≡ None }
     ensures area { log.new.ring.area ≡ area.now }
     ensures mounted { (B.device bench.new).is_on ≡ true → IsOpen (B.device bench.new) log.new.ring }

@@ -10,7 +10,8 @@ use log_lines::Answer;
 // Plans a loss of power.
 pub(crate) fn plan_loss<B: Bench>(bench: &mut B, area: &Area, units: u64) -> Answer
     ensures done { LineDone area.now (Cut units) result (B.device bench.old) (B.device bench.new) }
-    ensures same { B.device bench.new ≡ record (B.device bench.old) { plan = (B.device bench.new).plan } }
+    ensures same { B.device bench.new
+        ≡ record (B.device bench.old) { plan = (B.device bench.new).plan } }
 {
     bench.arm(units);
     Answer::Done { units: 0 }
@@ -19,7 +20,8 @@ pub(crate) fn plan_loss<B: Bench>(bench: &mut B, area: &Area, units: u64) -> Ans
 // Drops that plan.
 pub(crate) fn drop_plan<B: Bench>(bench: &mut B, area: &Area) -> Answer
     ensures done { LineDone area.now Uncut result (B.device bench.old) (B.device bench.new) }
-    ensures same { B.device bench.new ≡ record (B.device bench.old) { plan = (B.device bench.new).plan } }
+    ensures same { B.device bench.new
+        ≡ record (B.device bench.old) { plan = (B.device bench.new).plan } }
 {
     bench.disarm();
     Answer::Done { units: 0 }

@@ -32,7 +32,8 @@ pub fn run_lines<B: Bench, L: Ledger>(
     requires area { IsRingArea (B.device bench.old).banks area.now }
     requires lines { All (IsServed (value_limit area.now)) lines.now }
 
-    ensures ends { RunEnds area.now (Mount ∷ lines.now) (B.device bench.old) (B.device bench.new) result }
+    ensures ends { RunEnds area.now (Mount ∷ lines.now) (B.device bench.old) (B.device bench.new)
+        result }
     ensures undamaged { ring_damage (B.device bench.old) area.now ≡ None
         → ring_damage (B.device bench.new) area.now ≡ None }
     ensures rests { OnOk result ((B.device bench.new).is_on ≡ true

@@ -53,7 +53,8 @@ pub(crate) fn tell_records<B: Bench, L: Ledger>(
     requires on { (B.device bench.now).is_on ≡ true }
     requires area { log.now.ring.area ≡ area.now }
     requires mounted { IsOpen (B.device bench.now) log.now.ring }
-    ensures { IfOk result (λ answer. LineDone area.now Records answer (B.device bench.now) (B.device bench.now)) }
+    ensures { IfOk result
+        (λ answer. LineDone area.now Records answer (B.device bench.now) (B.device bench.now)) }
 {
     let bodies = bodies_of(alloc, bench, log, steps)?;
     Ok(Answer::Log { bodies })

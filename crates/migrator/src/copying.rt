@@ -77,7 +77,8 @@ fn copy_one<F: Flash, K: Backend, L: Ledger>(
     requires stored { let settings = on K.contents (F.device flash.old) (K.mounted_on from.now) in
         finite.contains_key settings name.now ≡ true }
 
-    ensures touches { Touches (K.mounted_on to.old ∷ []) (F.device flash.old) (F.device flash.new) (set_lost result) }
+    ensures touches { Touches (K.mounted_on to.old ∷ []) (F.device flash.old) (F.device flash.new)
+        (set_lost result) }
     ensures area { K.mounted_on to.new ≡ K.mounted_on to.old }
     ensures source { let area = K.mounted_on from.now in
         sectors_of (F.device flash.new) area ≡ sectors_of (F.device flash.old) area }
@@ -86,7 +87,8 @@ fn copy_one<F: Flash, K: Backend, L: Ledger>(
         → SetEndsOn K.room K.contents d e (K.mounted_on to.old) name.now value result }
     ensures at_most { let d = F.device flash.old in
         SpendsAtMost d (F.device flash.new) (most_units (geometry_of d (K.mounted_on to.old))) }
-    ensures stands { set_lost result ≡ false → StandsOn K.mounted_on K.stands (F.device flash.new) to.new }
+    ensures stands { set_lost result ≡ false
+        → StandsOn K.mounted_on K.stands (F.device flash.new) to.new }
 {
     let value = value_of(from, flash, name, steps);
     to.set(flash, name, value.as_slice(), steps)
@@ -108,17 +110,20 @@ pub(crate) fn copy_all<F: Flash, K: Backend, L: Ledger>(
     requires version { (K.mounted_on to.old).version ≡ (K.mounted_on from.now).version }
     requires empty { on K.contents (F.device flash.old) (K.mounted_on to.old) ≡ finite.empty }
 
-    ensures touches { Touches (K.mounted_on to.old ∷ []) (F.device flash.old) (F.device flash.new) (set_lost result) }
+    ensures touches { Touches (K.mounted_on to.old ∷ []) (F.device flash.old) (F.device flash.new)
+        (set_lost result) }
     ensures area { K.mounted_on to.new ≡ K.mounted_on to.old }
     ensures source { let area = K.mounted_on from.now in
         sectors_of (F.device flash.new) area ≡ sectors_of (F.device flash.old) area }
-    ensures ends { let area = K.mounted_on to.old in let d = F.device flash.old in let e = F.device flash.new in
-        let settings = on K.contents d (K.mounted_on from.now) in
+    ensures ends { let area = K.mounted_on to.old in let d = F.device flash.old in
+        let e = F.device flash.new in let settings = on K.contents d (K.mounted_on from.now) in
         CopyEnds (room_on K.room d area) area.sectors settings (on K.contents e area) result }
     ensures at_most { let area = K.mounted_on to.old in let d = F.device flash.old in
         let settings = on K.contents d (K.mounted_on from.now) in
-        SpendsAtMost d (F.device flash.new) (finite.len settings * most_units (geometry_of d area)) }
-    ensures stands { set_lost result ≡ false → StandsOn K.mounted_on K.stands (F.device flash.new) to.new }
+        SpendsAtMost d (F.device flash.new)
+        (finite.len settings * most_units (geometry_of d area)) }
+    ensures stands { set_lost result ≡ false
+        → StandsOn K.mounted_on K.stands (F.device flash.new) to.new }
 {
     let mut at = from.next_name(flash, None, steps);
     while let Some(name) = at {

@@ -46,13 +46,15 @@ fn erase<F: Flash, K: Backend, L: Ledger>(
     requires lawful { IsLawfulFor (F.device flash.old).banks area.now }
     requires serves { K.serves area.now (geometry_of (F.device flash.old) area.now) }
 
-    ensures touches { Touches (area.now ∷ []) (F.device flash.old) (F.device flash.new) (is_err result) }
+    ensures touches { Touches (area.now ∷ []) (F.device flash.old) (F.device flash.new)
+        (is_err result) }
     ensures sound { OnOk result (on K.damage (F.device flash.new) area.now ≡ None) }
     ensures empty { OnOk result (on K.contents (F.device flash.new) area.now ≡ finite.empty) }
     ensures units { let d = F.device flash.old in
         OnOk result (Spends d (F.device flash.new) (count_by is_written (sectors_of d area.now))) }
     ensures units_lost { let d = F.device flash.old in
-        OnErr result (SpendsAtMost d (F.device flash.new) (count_by is_written (sectors_of d area.now))) }
+        OnErr result
+        (SpendsAtMost d (F.device flash.new) (count_by is_written (sectors_of d area.now))) }
 {
     K::format(flash, area, steps)
 }
@@ -67,10 +69,12 @@ fn open_blank<F: Flash, K: Backend, L: Ledger>(
     requires lawful { IsLawfulFor (F.device flash.old).banks area }
     requires serves { K.serves area (geometry_of (F.device flash.old) area) }
 
-    ensures touches { Touches (area ∷ []) (F.device flash.old) (F.device flash.new) (migrate_lost result) }
+    ensures touches { Touches (area ∷ []) (F.device flash.old) (F.device flash.new)
+        (migrate_lost result) }
     ensures ends { OpenEnds (on K.contents (F.device flash.new) area) result }
     ensures on { IfOk result (λ state. K.mounted_on state ≡ area) }
-    ensures stands { IfOk result (λ state. StandsOn K.mounted_on K.stands (F.device flash.new) state) }
+    ensures stands { IfOk result
+        (λ state. StandsOn K.mounted_on K.stands (F.device flash.new) state) }
     ensures at_most { let d = F.device flash.old in
         SpendsAtMost d (F.device flash.new) (area.sectors + mount_units (geometry_of d area)) }
 {
@@ -134,15 +138,21 @@ pub fn fill<F: Flash, K: Backend, L: Ledger>(
     requires apart { AreApart area (K.mounted_on from.now) }
     requires version { area.version ≡ (K.mounted_on from.now).version }
 
-    ensures touches { Touches (area ∷ []) (F.device flash.old) (F.device flash.new) (migrate_lost result) }
+    ensures touches { Touches (area ∷ []) (F.device flash.old) (F.device flash.new)
+        (migrate_lost result) }
     ensures source { let area = K.mounted_on from.now in
         sectors_of (F.device flash.new) area ≡ sectors_of (F.device flash.old) area }
-    ensures ends { let d = F.device flash.old in let settings = on K.contents d (K.mounted_on from.now) in
-        FillEnds (room_on K.room d area) area.sectors settings (on K.contents (F.device flash.new) area) result }
+    ensures ends { let d = F.device flash.old in
+        let settings = on K.contents d (K.mounted_on from.now) in
+        FillEnds (room_on K.room d area) area.sectors settings
+        (on K.contents (F.device flash.new) area) result }
     ensures on { IfOk result (λ state. K.mounted_on state ≡ area) }
-    ensures stands { IfOk result (λ state. StandsOn K.mounted_on K.stands (F.device flash.new) state) }
-    ensures at_most { let d = F.device flash.old in let settings = on K.contents d (K.mounted_on from.now) in
-        SpendsAtMost d (F.device flash.new) (fill_units (geometry_of d area) (finite.len settings)) }
+    ensures stands { IfOk result
+        (λ state. StandsOn K.mounted_on K.stands (F.device flash.new) state) }
+    ensures at_most { let d = F.device flash.old in
+        let settings = on K.contents d (K.mounted_on from.now) in
+        SpendsAtMost d (F.device flash.new)
+        (fill_units (geometry_of d area) (finite.len settings)) }
 {
     let opened: Result<K, MigrateFault> = open_blank(alloc, flash, area, steps);
     let mut to = match opened {
@@ -182,13 +192,16 @@ fn move_to<F: Flash, K: Backend, L: Ledger>(
         sectors_of (F.device flash.new) area ≡ sectors_of (F.device flash.old) area }
     ensures area { selector.new.ring.area ≡ selector.old.ring.area }
     ensures sound { ring_damage (F.device flash.new) selector.old.ring.area ≡ None }
-    ensures open_ring { migrate_lost result ≡ false → IsOpen (F.device flash.new) selector.new.ring }
+    ensures open_ring { migrate_lost result ≡ false
+        → IsOpen (F.device flash.new) selector.new.ring }
     ensures lost { let e = F.device flash.new in migrate_lost result ≡ true
         → (is_up selector.new.ring.stage ≡ false) ⊎ IsOpen e selector.new.ring }
-    ensures ends { let d = F.device flash.old in let settings = on K.contents d (K.mounted_on from.now) in
-        MoveEnds K.mounted_on K.damage K.contents (room_on K.room d area) map.now selector.old.ring.area area index
-        settings d (F.device flash.new) result }
-    ensures stands { IfOk result (λ moved. StandsOn K.mounted_on K.stands (F.device flash.new) moved.0) }
+    ensures ends { let d = F.device flash.old in
+        let settings = on K.contents d (K.mounted_on from.now) in
+        MoveEnds K.mounted_on K.damage K.contents (room_on K.room d area) map.now
+        selector.old.ring.area area index settings d (F.device flash.new) result }
+    ensures stands { IfOk result
+        (λ moved. StandsOn K.mounted_on K.stands (F.device flash.new) moved.0) }
     ensures at_most { let d = F.device flash.old in let e = F.device flash.new in
         let names = finite.len (on K.contents d (K.mounted_on from.now)) in
         SpendsAtMost d e (move_units d selector.old.ring.area area names) }
@@ -230,7 +243,8 @@ pub fn migrate<F: Flash, K: Backend, L: Ledger>(
     ensures area { selector.new.ring.area ≡ selector.old.ring.area }
     ensures map { let settings = on K.contents (F.device flash.old) (K.mounted_on from.now) in
         ReadsAs K.damage K.contents map.now (F.device flash.new) settings }
-    ensures ends { let d = F.device flash.old in let settings = on K.contents d (K.mounted_on from.now) in
+    ensures ends { let d = F.device flash.old in
+        let settings = on K.contents d (K.mounted_on from.now) in
         MigrateEnds K.mounted_on K.damage K.contents K.room map.now selector.old.ring.area active
         settings d (F.device flash.new) result }
     ensures goes_on { let e = F.device flash.new in IfOk result (λ moved.

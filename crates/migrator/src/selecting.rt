@@ -93,23 +93,30 @@ fn copy_last<F: Flash, L: Ledger>(
     requires collecting { ring.old.stage ≡ Stage.Collecting }
     requires listed { ForSome last (IsListed (F.device flash.old) ring.old.area) }
     requires short { ForSome last (λ r. r.len ≡ 2) }
-    requires no_copies { sector_list (F.device flash.old) ring.old.area (newest_place ring.old) ≡ [] }
+    requires no_copies { sector_list (F.device flash.old) ring.old.area (newest_place ring.old)
+        ≡ [] }
     requires end { ring.old.end ≡ header_on (F.device flash.old) ring.old.area }
 
-    ensures touches { Touches (ring.old.area ∷ []) (F.device flash.old) (F.device flash.new) (is_err result) }
+    ensures touches { Touches (ring.old.area ∷ []) (F.device flash.old) (F.device flash.new)
+        (is_err result) }
     ensures list { KeepsEntries (F.device flash.old) (F.device flash.new) ring.old.area }
-    ensures others { OthersStay (F.device flash.old) (F.device flash.new) ring.old.area (newest_place ring.old) }
+    ensures others { OthersStay (F.device flash.old) (F.device flash.new) ring.old.area
+        (newest_place ring.old) }
     ensures area { ring.new.area ≡ ring.old.area }
     ensures reserve { ring.new.reserve ≡ ring.old.reserve }
 
     ensures stands { OnOk result (RingStandsOn (F.device flash.new) ring.new) }
     ensures collecting { OnOk result (ring.new.stage ≡ Stage.Collecting) }
-    ensures copied { OnOk result (Copied (F.device flash.old) (F.device flash.new) ring.old ring.new last) }
+    ensures copied { OnOk result
+        (Copied (F.device flash.old) (F.device flash.new) ring.old ring.new last) }
     ensures units { let d = F.device flash.old in let e = F.device flash.new in
-        OnOk result (Spends d e (copy_units d ring.old.area (sector_list e ring.old.area (newest_place ring.old)))) }
+        OnOk result
+        (Spends d e
+        (copy_units d ring.old.area (sector_list e ring.old.area (newest_place ring.old)))) }
 
     ensures down { OnErr result (is_up ring.new.stage ≡ false) }
-    ensures at_most { let d = F.device flash.old in SpendsAtMost d (F.device flash.new) (record_units d ring.old.area 2) }
+    ensures at_most { let d = F.device flash.old in
+        SpendsAtMost d (F.device flash.new) (record_units d ring.old.area 2) }
 {
     let oldest = ring.oldest();
     match last {
@@ -129,16 +136,20 @@ fn collect<F: Flash, L: Ledger>(
     requires mounted { IsOpen (F.device flash.old) ring.old }
     requires left { is_scratch_left ring.old ≡ true }
 
-    ensures touches { Touches (ring.old.area ∷ []) (F.device flash.old) (F.device flash.new) (is_err result) }
+    ensures touches { Touches (ring.old.area ∷ []) (F.device flash.old) (F.device flash.new)
+        (is_err result) }
     ensures area { ring.new.area ≡ ring.old.area }
-    ensures collected { OnOk result (Collected map.now (F.device flash.old) (F.device flash.new) ring.old ring.new) }
+    ensures collected { OnOk result
+        (Collected map.now (F.device flash.old) (F.device flash.new) ring.old ring.new) }
 
     ensures active { let d = F.device flash.old in
-        OnErr result (active_in map.now (F.device flash.new) ring.old.area ≡ active_in map.now d ring.old.area) }
+        OnErr result
+        (active_in map.now (F.device flash.new) ring.old.area ≡ active_in map.now d ring.old.area) }
     ensures undamaged { OnErr result (ring_damage (F.device flash.new) ring.old.area ≡ None) }
     ensures down { OnErr result (is_up ring.new.stage ≡ false) }
     ensures at_most { let d = F.device flash.old in
-        SpendsAtMost d (F.device flash.new) (header_units d ring.old.area + record_units d ring.old.area 2 + 1) }
+        SpendsAtMost d (F.device flash.new)
+        (header_units d ring.old.area + record_units d ring.old.area 2 + 1) }
 {
     let last = last_record(ring, flash, map, steps);
     ring.begin_collect(flash)?;
@@ -158,12 +169,14 @@ fn choice_of(index: u8) -> [u8; 2]
 fn put_choice<F: Flash>(ring: &mut Ring, flash: &mut F, index: u8) -> Result<(), AppendFault>
     requires mounted { IsOpen (F.device flash.old) ring.old }
 
-    ensures touches { Touches (ring.old.area ∷ []) (F.device flash.old) (F.device flash.new) (append_lost result) }
+    ensures touches { Touches (ring.old.area ∷ []) (F.device flash.old) (F.device flash.new)
+        (append_lost result) }
     ensures area { ring.new.area ≡ ring.old.area }
     ensures ends { (areas : List area_type) → is_store_at areas index ≡ true
         → PutEnds areas (F.device flash.old) (F.device flash.new) ring.old ring.new index result }
     ensures at_most { let d = F.device flash.old in
-        SpendsAtMost d (F.device flash.new) (header_units d ring.old.area + record_units d ring.old.area 2) }
+        SpendsAtMost d (F.device flash.new)
+        (header_units d ring.old.area + record_units d ring.old.area 2) }
 {
     let body = choice_of(index);
     ring.append(flash, &body, false)
@@ -182,11 +195,15 @@ fn collect_and_put<F: Flash, L: Ledger>(
     requires left { is_scratch_left ring.old ≡ true }
     requires store { is_store_at map.now index ≡ true }
 
-    ensures touches { Touches (ring.old.area ∷ []) (F.device flash.old) (F.device flash.new) (is_err result) }
+    ensures touches { Touches (ring.old.area ∷ []) (F.device flash.old) (F.device flash.new)
+        (is_err result) }
     ensures area { ring.new.area ≡ ring.old.area }
-    ensures ends { ChooseEnds map.now (F.device flash.old) (F.device flash.new) ring.old ring.new index result }
-    ensures chosen { OnOk result (CollectsAndAdds map.now (F.device flash.old) (F.device flash.new) ring.old index) }
-    ensures at_most { let d = F.device flash.old in SpendsAtMost d (F.device flash.new) (choice_units d ring.old.area) }
+    ensures ends { ChooseEnds map.now (F.device flash.old) (F.device flash.new) ring.old ring.new
+        index result }
+    ensures chosen { OnOk result
+        (CollectsAndAdds map.now (F.device flash.old) (F.device flash.new) ring.old index) }
+    ensures at_most { let d = F.device flash.old in
+        SpendsAtMost d (F.device flash.new) (choice_units d ring.old.area) }
 {
     collect(ring, flash, map, steps)?;
     match put_choice(ring, flash, index) {
@@ -208,16 +225,22 @@ impl Selector {
         steps: &mut Steps<L>,
     ) -> Result<Selector, MountFault>
         requires { IsRingArea (F.device flash.old).banks area }
-        ensures touches { Touches (area ∷ []) (F.device flash.old) (F.device flash.new) (mount_lost result) }
+        ensures touches { Touches (area ∷ []) (F.device flash.old) (F.device flash.new)
+            (mount_lost result) }
         ensures ends { SelectorMounts (F.device flash.old) (F.device flash.new) area result }
         ensures sound { ring_damage (F.device flash.old) area ≡ None
             → ring_damage (F.device flash.new) area ≡ None }
-        ensures active { let d = F.device flash.old in ring_damage d area ≡ None
-            → (areas : List area_type) → active_in areas (F.device flash.new) area ≡ active_in areas d area }
-        ensures idle { erases_on (F.device flash.old) area ≡ 0 → F.device flash.new ≡ F.device flash.old }
-        ensures erased { OnOk result (sectors_of (F.device flash.new) area ≡ mounted_on (F.device flash.old) area) }
-        ensures part { mount_lost result ≡ true → StopsErasing (F.device flash.old) (F.device flash.new) area }
-        ensures list { let d = F.device flash.old in ring_damage d area ≡ None → KeepsEntries d (F.device flash.new) area }
+        ensures active { let d = F.device flash.old in
+            ring_damage d area ≡ None → (areas : List area_type)
+            → active_in areas (F.device flash.new) area ≡ active_in areas d area }
+        ensures idle { erases_on (F.device flash.old) area ≡ 0
+            → F.device flash.new ≡ F.device flash.old }
+        ensures erased { OnOk result
+            (sectors_of (F.device flash.new) area ≡ mounted_on (F.device flash.old) area) }
+        ensures part { mount_lost result ≡ true
+            → StopsErasing (F.device flash.old) (F.device flash.new) area }
+        ensures list { let d = F.device flash.old in
+            ring_damage d area ≡ None → KeepsEntries d (F.device flash.new) area }
         ensures units { let d = F.device flash.old in
             OnOk result (Spends d (F.device flash.new) (erases_on d area)) }
         ensures bound { let d = F.device flash.old in
@@ -269,10 +292,13 @@ impl Selector {
         requires mounted { IsOpen (F.device flash.old) self.old.ring }
         requires store { is_store_at map.now index ≡ true }
 
-        ensures touches { Touches (self.old.ring.area ∷ []) (F.device flash.old) (F.device flash.new) (is_err result) }
+        ensures touches { Touches (self.old.ring.area ∷ []) (F.device flash.old)
+            (F.device flash.new) (is_err result) }
         ensures area { self.new.ring.area ≡ self.old.ring.area }
-        ensures ends { ChooseEnds map.now (F.device flash.old) (F.device flash.new) self.old.ring self.new.ring index result }
-        ensures chosen { OnOk result (Chooses map.now (F.device flash.old) (F.device flash.new) self.old.ring index) }
+        ensures ends { ChooseEnds map.now (F.device flash.old) (F.device flash.new) self.old.ring
+            self.new.ring index result }
+        ensures chosen { OnOk result
+            (Chooses map.now (F.device flash.old) (F.device flash.new) self.old.ring index) }
         ensures at_most { let d = F.device flash.old in
             SpendsAtMost d (F.device flash.new) (choice_units d self.old.ring.area) }
     {

@@ -27,8 +27,10 @@ fn has_same<K: Priced, F: Flash, L: Ledger>(
     requires lawful_other { IsLawfulFor (F.device flash.now).banks (K.mounted_on other.now) }
     requires stands_other { StandsOn K.mounted_on K.stands (F.device flash.now) other.now }
     ensures { let d = F.device flash.now in
-        let settings = on K.contents d (K.mounted_on store.now) in let others = on K.contents d (K.mounted_on other.now) in
-        MatchBool result ((value : List ℕ) → IsStored settings name.now value → IsStored others name.now value)
+        let settings = on K.contents d (K.mounted_on store.now) in
+        let others = on K.contents d (K.mounted_on other.now) in
+        MatchBool result
+        ((value : List ℕ) → IsStored settings name.now value → IsStored others name.now value)
         (¬ ((value : List ℕ) → IsStored settings name.now value → IsStored others name.now value)) }
 {
     match store.get(flash, name, steps) {
@@ -49,7 +51,8 @@ fn is_within<K: Priced, F: Flash, L: Ledger>(
     requires lawful_other { IsLawfulFor (F.device flash.now).banks (K.mounted_on other.now) }
     requires stands_other { StandsOn K.mounted_on K.stands (F.device flash.now) other.now }
     ensures { let d = F.device flash.now in
-        let settings = on K.contents d (K.mounted_on store.now) in let others = on K.contents d (K.mounted_on other.now) in
+        let settings = on K.contents d (K.mounted_on store.now) in
+        let others = on K.contents d (K.mounted_on other.now) in
         MatchBool result (IsWithin settings others) (¬ IsWithin settings others) }
 {
     let mut at = store.next_name(flash, None, steps);
@@ -74,9 +77,11 @@ pub(crate) fn hold_one_map<K: Priced, F: Flash, L: Ledger>(
     requires lawful_other { IsLawfulFor (F.device flash.now).banks (K.mounted_on other.now) }
     requires stands_other { StandsOn K.mounted_on K.stands (F.device flash.now) other.now }
     ensures same { let d = F.device flash.now in
-        result ≡ true → on K.contents d (K.mounted_on other.now) ≡ on K.contents d (K.mounted_on store.now) }
+        result ≡ true
+        → on K.contents d (K.mounted_on other.now) ≡ on K.contents d (K.mounted_on store.now) }
     ensures differ { let d = F.device flash.now in
-        result ≡ false → ¬ (on K.contents d (K.mounted_on other.now) ≡ on K.contents d (K.mounted_on store.now)) }
+        result ≡ false
+        → ¬ (on K.contents d (K.mounted_on other.now) ≡ on K.contents d (K.mounted_on store.now)) }
 {
     is_within(store, other, flash, steps) && is_within(other, store, flash, steps)
 }

@@ -68,8 +68,10 @@ pub(crate) fn fits<K: Priced, F: Flash, L: Ledger>(
     requires stands { StandsOn K.mounted_on K.stands (F.device flash.now) store.now }
     requires area { IsLawfulFor (F.device flash.now).banks area.now }
     requires role { IsMirrored area.now }
-    ensures { IfOk result (λ fits. let d = F.device flash.now in let settings = on K.contents d (K.mounted_on store.now) in
-        MatchBool fits (FitsOn K.room K.prices d area.now settings) (¬ FitsOn K.room K.prices d area.now settings)) }
+    ensures { IfOk result
+        (λ fits. let d = F.device flash.now in let settings = on K.contents d
+        (K.mounted_on store.now) in MatchBool fits (FitsOn K.room K.prices d area.now settings)
+        (¬ FitsOn K.room K.prices d area.now settings)) }
 {
     if map_cost(store, flash, area, steps) > mirror_room::<K, F>(flash, area) {
         return Ok(false);
@@ -91,7 +93,8 @@ pub(crate) fn has_value<K: Priced, F: Flash, L: Ledger>(
     requires lawful { IsLawfulFor (F.device flash.now).banks (K.mounted_on store.now) }
     requires stands { StandsOn K.mounted_on K.stands (F.device flash.now) store.now }
     ensures { let settings = on K.contents (F.device flash.now) (K.mounted_on store.now) in
-        MatchBool result (IsStored settings name.now value.now) (¬ IsStored settings name.now value.now) }
+        MatchBool result (IsStored settings name.now value.now)
+        (¬ IsStored settings name.now value.now) }
 {
     match store.get(flash, name, steps) {
         Some(bytes) => bytes == value,
@@ -126,7 +129,8 @@ pub(crate) fn is_too_many<K: Priced, F: Flash, L: Ledger>(
     requires stands { StandsOn K.mounted_on K.stands (F.device flash.now) store.now }
     requires area { IsLawfulFor (F.device flash.now).banks area.now }
     requires role { IsMirrored area.now }
-    ensures { let d = F.device flash.now in let settings = on K.contents d (K.mounted_on store.now) in
+    ensures { let d = F.device flash.now in
+        let settings = on K.contents d (K.mounted_on store.now) in
         result ≡ too_many_on K.room d area.now settings name.now }
 {
     if !is_new(store, flash, name, steps) {
@@ -149,7 +153,8 @@ fn need<K: Priced, F: Flash, L: Ledger>(
     requires area { IsLawfulFor (F.device flash.now).banks area.now }
     requires role { IsMirrored area.now }
     requires short { length value.now ≤ value_limit area.now }
-    ensures need { let d = F.device flash.now in let settings = on K.contents d (K.mounted_on store.now) in
+    ensures need { let d = F.device flash.now in
+        let settings = on K.contents d (K.mounted_on store.now) in
         result ≡ (room_on K.room d area.now).need settings name.now value.now }
     ensures small { result < 2 ^ 17 }
     ensures name { IsName name.now }
@@ -177,7 +182,8 @@ pub(crate) fn look_for_room<K: Priced, F: Flash, L: Ledger>(
     requires area { IsLawfulFor (F.device flash.now).banks area.now }
     requires role { IsMirrored area.now }
     requires short { length value.now ≤ value_limit area.now }
-    ensures ends { let d = F.device flash.now in let settings = on K.contents d (K.mounted_on store.now) in
+    ensures ends { let d = F.device flash.now in
+        let settings = on K.contents d (K.mounted_on store.now) in
         LooksForRoom K.room d area.now settings name.now value.now result }
     ensures name { IsName name.now }
 {

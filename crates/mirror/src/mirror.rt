@@ -61,9 +61,13 @@ impl<K: Priced> Mirror<K> {
     // Whether the name would be one too many in one of the areas.
     fn is_too_many<F: Flash, L: Ledger>(&self, flash: &F, name: &Name, steps: &mut Steps<L>) -> bool
         requires mirrors { let d = F.device flash.now in
-            IsMirror K.mounted_on K.stands K.contents K.room K.prices d self.now.trusted self.now.other }
-        ensures { let d = F.device flash.now in let trusted = self.now.trusted.area in let settings = on K.contents d trusted in
-            result ≡ (too_many_on K.room d trusted settings name.now || too_many_on K.room d self.now.other.area settings name.now) }
+            IsMirror K.mounted_on K.stands K.contents K.room K.prices d self.now.trusted
+            self.now.other }
+        ensures { let d = F.device flash.now in let trusted = self.now.trusted.area in
+            let settings = on K.contents d trusted in
+            result
+            ≡ (too_many_on K.room d trusted settings name.now
+            || too_many_on K.room d self.now.other.area settings name.now) }
     {
         let store = &self.trusted.store;
         is_too_many(store, flash, &self.trusted.area, name, steps)
@@ -79,10 +83,13 @@ impl<K: Priced> Mirror<K> {
         steps: &mut Steps<L>,
     ) -> Result<(), SetFault>
         requires mirrors { let d = F.device flash.now in
-            IsMirror K.mounted_on K.stands K.contents K.room K.prices d self.now.trusted self.now.other }
+            IsMirror K.mounted_on K.stands K.contents K.room K.prices d self.now.trusted
+            self.now.other }
         requires short { length value.now ≤ value_limit self.now.trusted.area }
-        ensures ends { let d = F.device flash.now in let settings = on K.contents d self.now.trusted.area in
-            LooksForBoth K.room d self.now.trusted self.now.other settings name.now value.now result }
+        ensures ends { let d = F.device flash.now in
+            let settings = on K.contents d self.now.trusted.area in
+            LooksForBoth K.room d self.now.trusted self.now.other settings name.now value.now
+            result }
         ensures name { let settings = on K.contents (F.device flash.now) self.now.trusted.area in
             OnOk result (¬ IsStored settings name.now value.now → IsName name.now) }
     {
@@ -106,10 +113,12 @@ impl<K: Priced> Mirror<K> {
         steps: &mut Steps<L>,
     ) -> Result<(), SetFault>
         requires mirrors { let d = F.device flash.old in
-            IsMirror K.mounted_on K.stands K.contents K.room K.prices d self.old.trusted self.old.other }
+            IsMirror K.mounted_on K.stands K.contents K.room K.prices d self.old.trusted
+            self.old.other }
         requires some { 0 < length value.now }
         requires short { length value.now ≤ value_limit self.old.trusted.area }
-        requires room { let d = F.device flash.old in let settings = on K.contents d self.old.trusted.area in
+        requires room { let d = F.device flash.old in
+            let settings = on K.contents d self.old.trusted.area in
             HasRoom K.room d self.old.trusted.area self.old.other.area settings name.now value.now }
         requires name { let settings = on K.contents (F.device flash.old) self.old.trusted.area in
             ¬ IsStored settings name.now value.now → IsName name.now }
@@ -119,12 +128,18 @@ impl<K: Priced> Mirror<K> {
         ensures trusted { SameSide self.old.trusted self.new.trusted }
         ensures other { SameSide self.old.other self.new.other }
         ensures ends { let d = F.device flash.old in let e = F.device flash.new in
-            MirrorSets K.damage K.contents K.room K.prices d e self.old.trusted self.old.other name.now value.now result }
-        ensures at_most { let d = F.device flash.old in SpendsAtMost d (F.device flash.new)
-            (most_units (geometry_of d self.old.trusted.area) + most_units (geometry_of d self.old.other.area)) }
-        ensures mirrors { let e = F.device flash.new in set_lost result ≡ false
-            → IsMirror K.mounted_on K.stands K.contents K.room K.prices e self.new.trusted self.new.other }
-        ensures down { set_lost result ≡ true → (K.runs self.new.trusted.store && K.runs self.new.other.store) ≡ false }
+            MirrorSets K.damage K.contents K.room K.prices d e self.old.trusted self.old.other
+            name.now value.now result }
+        ensures at_most { let d = F.device flash.old in
+            SpendsAtMost d (F.device flash.new)
+            (most_units (geometry_of d self.old.trusted.area)
+            + most_units (geometry_of d self.old.other.area)) }
+        ensures mirrors { let e = F.device flash.new in
+            set_lost result ≡ false
+            → IsMirror K.mounted_on K.stands K.contents K.room K.prices e self.new.trusted
+            self.new.other }
+        ensures down { set_lost result ≡ true
+            → (K.runs self.new.trusted.store && K.runs self.new.other.store) ≡ false }
     {
         match put(&mut self.trusted, flash, name, value, steps) {
             Ok(()) => {}
@@ -158,7 +173,8 @@ impl<K: Priced> Mirror<K> {
         steps: &mut Steps<L>,
     ) -> Option<&'a [u8]>
         requires mirrors { let d = F.device flash.now in
-            IsMirror K.mounted_on K.stands K.contents K.room K.prices d self.now.trusted self.now.other }
+            IsMirror K.mounted_on K.stands K.contents K.room K.prices d self.now.trusted
+            self.now.other }
         ensures { let settings = on K.contents (F.device flash.now) self.now.trusted.area in
             option_map (λ bytes. bytes.now) result ≡ finite.get settings name.now }
     {
@@ -173,7 +189,8 @@ impl<K: Priced> Mirror<K> {
         steps: &mut Steps<L>,
     ) -> Option<Name>
         requires mirrors { let d = F.device flash.now in
-            IsMirror K.mounted_on K.stands K.contents K.room K.prices d self.now.trusted self.now.other }
+            IsMirror K.mounted_on K.stands K.contents K.room K.prices d self.now.trusted
+            self.now.other }
         ensures { let settings = on K.contents (F.device flash.now) self.now.trusted.area in
             result ≡ next_name settings (option_map (λ name. name.now) after.entry) }
     {
@@ -197,7 +214,8 @@ impl<K: Priced> Mirror<K> {
         steps: &mut Steps<L>,
     ) -> Result<(), SetFault>
         requires mirrors { let d = F.device flash.old in
-            IsMirror K.mounted_on K.stands K.contents K.room K.prices d self.old.trusted self.old.other }
+            IsMirror K.mounted_on K.stands K.contents K.room K.prices d self.old.trusted
+            self.old.other }
         requires some { 0 < length value.now }
         requires short { length value.now ≤ value_limit self.old.trusted.area }
 
@@ -206,12 +224,18 @@ impl<K: Priced> Mirror<K> {
         ensures trusted { SameSide self.old.trusted self.new.trusted }
         ensures other { SameSide self.old.other self.new.other }
         ensures ends { let d = F.device flash.old in let e = F.device flash.new in
-            MirrorSets K.damage K.contents K.room K.prices d e self.old.trusted self.old.other name.now value.now result }
-        ensures at_most { let d = F.device flash.old in SpendsAtMost d (F.device flash.new)
-            (most_units (geometry_of d self.old.trusted.area) + most_units (geometry_of d self.old.other.area)) }
-        ensures mirrors { let e = F.device flash.new in set_lost result ≡ false
-            → IsMirror K.mounted_on K.stands K.contents K.room K.prices e self.new.trusted self.new.other }
-        ensures down { set_lost result ≡ true → (K.runs self.new.trusted.store && K.runs self.new.other.store) ≡ false }
+            MirrorSets K.damage K.contents K.room K.prices d e self.old.trusted self.old.other
+            name.now value.now result }
+        ensures at_most { let d = F.device flash.old in
+            SpendsAtMost d (F.device flash.new)
+            (most_units (geometry_of d self.old.trusted.area)
+            + most_units (geometry_of d self.old.other.area)) }
+        ensures mirrors { let e = F.device flash.new in
+            set_lost result ≡ false
+            → IsMirror K.mounted_on K.stands K.contents K.room K.prices e self.new.trusted
+            self.new.other }
+        ensures down { set_lost result ≡ true
+            → (K.runs self.new.trusted.store && K.runs self.new.other.store) ≡ false }
     {
         match self.look_for_room(flash, name, value, steps) {
             Ok(()) => self.put_both(flash, name, value, steps),
@@ -232,19 +256,26 @@ impl<K: Priced> Mirror<K> {
         steps: &mut Steps<L>,
     ) -> Result<(), PowerLost>
         requires mirrors { let d = F.device flash.old in
-            IsMirror K.mounted_on K.stands K.contents K.room K.prices d self.old.trusted self.old.other }
+            IsMirror K.mounted_on K.stands K.contents K.room K.prices d self.old.trusted
+            self.old.other }
 
         ensures touches { let areas = self.old.trusted.area ∷ self.old.other.area ∷ [] in
             Touches areas (F.device flash.old) (F.device flash.new) (is_err result) }
         ensures trusted { SameSide self.old.trusted self.new.trusted }
         ensures other { SameSide self.old.other self.new.other }
         ensures ends { let d = F.device flash.old in let e = F.device flash.new in
-            MirrorDeletes K.damage K.contents K.room K.prices d e self.old.trusted self.old.other name.now result }
-        ensures at_most { let d = F.device flash.old in SpendsAtMost d (F.device flash.new)
-            (most_units (geometry_of d self.old.trusted.area) + most_units (geometry_of d self.old.other.area)) }
-        ensures mirrors { let e = F.device flash.new in is_err result ≡ false
-            → IsMirror K.mounted_on K.stands K.contents K.room K.prices e self.new.trusted self.new.other }
-        ensures down { is_err result ≡ true → (K.runs self.new.trusted.store && K.runs self.new.other.store) ≡ false }
+            MirrorDeletes K.damage K.contents K.room K.prices d e self.old.trusted self.old.other
+            name.now result }
+        ensures at_most { let d = F.device flash.old in
+            SpendsAtMost d (F.device flash.new)
+            (most_units (geometry_of d self.old.trusted.area)
+            + most_units (geometry_of d self.old.other.area)) }
+        ensures mirrors { let e = F.device flash.new in
+            is_err result ≡ false
+            → IsMirror K.mounted_on K.stands K.contents K.room K.prices e self.new.trusted
+            self.new.other }
+        ensures down { is_err result ≡ true
+            → (K.runs self.new.trusted.store && K.runs self.new.other.store) ≡ false }
     {
         match take(&mut self.trusted, flash, name, steps) {
             Ok(()) => {}

@@ -70,16 +70,19 @@ fn mount_side<K: Priced, F: Flash, L: Ledger>(
     requires role { IsMirrored area }
     requires serves { K.serves area (geometry_of (F.device flash.old) area) }
 
-    ensures touches { Touches (area ∷ []) (F.device flash.old) (F.device flash.new) (mount_lost result) }
+    ensures touches { Touches (area ∷ []) (F.device flash.old) (F.device flash.new)
+        (mount_lost result) }
     ensures ends { let d = F.device flash.old in let e = F.device flash.new in
         SideEnds K.mounted_on K.stands K.damage d e area place result }
     ensures keeps { let d = F.device flash.old in let e = F.device flash.new in
         on K.damage d area ≡ None → on K.contents e area ≡ on K.contents d area }
     ensures sound { let d = F.device flash.old in let e = F.device flash.new in
         on K.damage d area ≡ None → on K.damage e area ≡ None }
-    ensures rests { HoldsOn K.rests (F.device flash.old) area → F.device flash.new ≡ F.device flash.old }
+    ensures rests { HoldsOn K.rests (F.device flash.old) area
+        → F.device flash.new ≡ F.device flash.old }
     ensures written { StaysWritten (F.device flash.old) (F.device flash.new) area }
-    ensures at_most { let d = F.device flash.old in SpendsAtMost d (F.device flash.new) (mount_units (geometry_of d area)) }
+    ensures at_most { let d = F.device flash.old in
+        SpendsAtMost d (F.device flash.new) (mount_units (geometry_of d area)) }
 {
     let own = area.copy();
     match K::mount(alloc, flash, area, steps) {
@@ -128,7 +131,8 @@ fn look_for_both<K: Priced, F: Flash, L: Ledger>(
     requires store { is_store_at map.now trusted.now.place ≡ true }
     requires other { is_store_at map.now other ≡ true }
     ensures { let d = F.device flash.now in
-        BothFitEnds K.room K.prices map.now d trusted.now.place other (on K.contents d trusted.now.area) result }
+        BothFitEnds K.room K.prices map.now d trusted.now.place other
+        (on K.contents d trusted.now.area) result }
 {
     let low = trusted.place.min(other);
     let high = trusted.place.max(other);
@@ -148,7 +152,8 @@ fn if_same<K: Priced, F: Flash, L: Ledger>(
     requires lawful_other { IsLawfulFor (F.device flash.now).banks (K.mounted_on store) }
     requires stands_other { StandsOn K.mounted_on K.stands (F.device flash.now) store }
     ensures { let d = F.device flash.now in
-        IsKeptIf result store (on K.contents d (K.mounted_on store) ≡ on K.contents d (K.mounted_on trusted.now)) }
+        IsKeptIf result store
+        (on K.contents d (K.mounted_on store) ≡ on K.contents d (K.mounted_on trusted.now)) }
 {
     if hold_one_map(trusted, &store, flash, steps) {
         Some(store)
@@ -171,15 +176,20 @@ fn mount_other<K: Priced, F: Flash, L: Ledger>(
     requires serves { K.serves area (geometry_of (F.device flash.old) area) }
     requires apart { AreApart area (K.mounted_on trusted.now) }
 
-    ensures touches { Touches (area ∷ []) (F.device flash.old) (F.device flash.new) (mount_lost result) }
+    ensures touches { Touches (area ∷ []) (F.device flash.old) (F.device flash.new)
+        (mount_lost result) }
     ensures trusted { let area = K.mounted_on trusted.now in
         sectors_of (F.device flash.new) area ≡ sectors_of (F.device flash.old) area }
     ensures ends { let d = F.device flash.old in let e = F.device flash.new in
-        HoldEnds K.mounted_on K.stands K.damage K.contents d e area (on K.contents d (K.mounted_on trusted.now)) result }
+        HoldEnds K.mounted_on K.stands K.damage K.contents d e area
+        (on K.contents d (K.mounted_on trusted.now)) result }
     ensures held { let d = F.device flash.old in let e = F.device flash.new in
-        (settings : map_type) → HoldsMap K.damage K.contents d area settings → HoldsMap K.damage K.contents e area settings }
-    ensures rests { HoldsOn K.rests (F.device flash.old) area → F.device flash.new ≡ F.device flash.old }
-    ensures at_most { let d = F.device flash.old in SpendsAtMost d (F.device flash.new) (mount_units (geometry_of d area)) }
+        (settings : map_type) → HoldsMap K.damage K.contents d area settings
+        → HoldsMap K.damage K.contents e area settings }
+    ensures rests { HoldsOn K.rests (F.device flash.old) area
+        → F.device flash.new ≡ F.device flash.old }
+    ensures at_most { let d = F.device flash.old in
+        SpendsAtMost d (F.device flash.new) (mount_units (geometry_of d area)) }
 {
     match K::mount(alloc, flash, area, steps) {
         Ok(store) => Ok(if_same(trusted, store, flash, steps)),
@@ -219,15 +229,20 @@ fn repair<K: Priced, F: Flash, L: Ledger>(
     requires serves { K.serves area (geometry_of (F.device flash.old) area) }
     requires apart { AreApart area (K.mounted_on trusted.now) }
     requires version { area.version ≡ (K.mounted_on trusted.now).version }
-    requires fits { let d = F.device flash.old in FitsOn K.room K.prices d area (on K.contents d (K.mounted_on trusted.now)) }
+    requires fits { let d = F.device flash.old in
+        FitsOn K.room K.prices d area (on K.contents d (K.mounted_on trusted.now)) }
 
-    ensures touches { Touches (area ∷ []) (F.device flash.old) (F.device flash.new) (mount_lost result) }
+    ensures touches { Touches (area ∷ []) (F.device flash.old) (F.device flash.new)
+        (mount_lost result) }
     ensures trusted { let area = K.mounted_on trusted.now in
         sectors_of (F.device flash.new) area ≡ sectors_of (F.device flash.old) area }
     ensures ends { let d = F.device flash.old in let e = F.device flash.new in
-        OtherEnds K.mounted_on K.stands e area (on K.contents e area ≡ on K.contents d (K.mounted_on trusted.now)) result }
-    ensures at_most { let d = F.device flash.old in let settings = on K.contents d (K.mounted_on trusted.now) in
-        SpendsAtMost d (F.device flash.new) (fill_units (geometry_of d area) (finite.len settings)) }
+        OtherEnds K.mounted_on K.stands e area
+        (on K.contents e area ≡ on K.contents d (K.mounted_on trusted.now)) result }
+    ensures at_most { let d = F.device flash.old in
+        let settings = on K.contents d (K.mounted_on trusted.now) in
+        SpendsAtMost d (F.device flash.new)
+        (fill_units (geometry_of d area) (finite.len settings)) }
 {
     let filled: Result<K, MigrateFault> = fill(alloc, trusted, flash, area, steps);
     repaired_as(filled)
@@ -248,19 +263,28 @@ fn open_other<K: Priced, F: Flash, L: Ledger>(
     requires serves { K.serves area (geometry_of (F.device flash.old) area) }
     requires apart { AreApart area (K.mounted_on trusted.now) }
     requires version { area.version ≡ (K.mounted_on trusted.now).version }
-    requires fits { let d = F.device flash.old in FitsOn K.room K.prices d area (on K.contents d (K.mounted_on trusted.now)) }
+    requires fits { let d = F.device flash.old in
+        FitsOn K.room K.prices d area (on K.contents d (K.mounted_on trusted.now)) }
 
-    ensures touches { Touches (area ∷ []) (F.device flash.old) (F.device flash.new) (mount_lost result) }
+    ensures touches { Touches (area ∷ []) (F.device flash.old) (F.device flash.new)
+        (mount_lost result) }
     ensures trusted { let area = K.mounted_on trusted.now in
         sectors_of (F.device flash.new) area ≡ sectors_of (F.device flash.old) area }
     ensures ends { let d = F.device flash.old in let e = F.device flash.new in
-        OtherEnds K.mounted_on K.stands e area (on K.contents e area ≡ on K.contents d (K.mounted_on trusted.now)) result }
-    ensures held { let d = F.device flash.old in let settings = on K.contents d (K.mounted_on trusted.now) in
-        HoldsMap K.damage K.contents d area settings → HoldsMap K.damage K.contents (F.device flash.new) area settings }
-    ensures idle { let d = F.device flash.old in let settings = on K.contents d (K.mounted_on trusted.now) in
-        HoldsMap K.damage K.contents d area settings → HoldsOn K.rests d area → F.device flash.new ≡ d }
-    ensures at_most { let d = F.device flash.old in let settings = on K.contents d (K.mounted_on trusted.now) in
-        SpendsAtMost d (F.device flash.new) (other_units (geometry_of d area) (finite.len settings)) }
+        OtherEnds K.mounted_on K.stands e area
+        (on K.contents e area ≡ on K.contents d (K.mounted_on trusted.now)) result }
+    ensures held { let d = F.device flash.old in
+        let settings = on K.contents d (K.mounted_on trusted.now) in
+        HoldsMap K.damage K.contents d area settings
+        → HoldsMap K.damage K.contents (F.device flash.new) area settings }
+    ensures idle { let d = F.device flash.old in
+        let settings = on K.contents d (K.mounted_on trusted.now) in
+        HoldsMap K.damage K.contents d area settings → HoldsOn K.rests d area
+        → F.device flash.new ≡ d }
+    ensures at_most { let d = F.device flash.old in
+        let settings = on K.contents d (K.mounted_on trusted.now) in
+        SpendsAtMost d (F.device flash.new)
+        (other_units (geometry_of d area) (finite.len settings)) }
 {
     let own = area.copy();
     let mounted: Result<Option<K>, MirrorMount> = mount_other(alloc, trusted, flash, own, steps);
@@ -291,23 +315,30 @@ fn mount_both<K: Priced, F: Flash, L: Ledger>(
     requires store { is_store_at map.now place ≡ true }
 
     ensures touches { let d = F.device flash.old in let e = F.device flash.new in
-        (trusted other : area_type) → slice_get map.now place ≡ Some trusted → slice_get map.now (other_place map.now place) ≡ Some other
+        (trusted other : area_type) → slice_get map.now place ≡ Some trusted
+        → slice_get map.now (other_place map.now place) ≡ Some other
         → Touches (trusted ∷ other ∷ []) d e (mount_lost result) }
     ensures ends { let d = F.device flash.old in let e = F.device flash.new in
-        (trusted other : area_type) → slice_get map.now place ≡ Some trusted → slice_get map.now (other_place map.now place) ≡ Some other
-        → BothEnds K.mounted_on K.stands K.damage K.contents K.room K.prices map.now d e trusted other place result }
+        (trusted other : area_type) → slice_get map.now place ≡ Some trusted
+        → slice_get map.now (other_place map.now place) ≡ Some other
+        → BothEnds K.mounted_on K.stands K.damage K.contents K.room K.prices map.now d e trusted
+        other place result }
     ensures selector { (selector : area_type) → selector_of map.now ≡ Some selector
         → sectors_of (F.device flash.new) selector ≡ sectors_of (F.device flash.old) selector }
     ensures spares { let d = F.device flash.old in let e = F.device flash.new in
-        (trusted other : area_type) → slice_get map.now place ≡ Some trusted → slice_get map.now (other_place map.now place) ≡ Some other
+        (trusted other : area_type) → slice_get map.now place ≡ Some trusted
+        → slice_get map.now (other_place map.now place) ≡ Some other
         → SparesBoth K.damage K.contents d e trusted other }
     ensures idle { let d = F.device flash.old in
-        (trusted other : area_type) → slice_get map.now place ≡ Some trusted → slice_get map.now (other_place map.now place) ≡ Some other
-        → HoldsOn K.rests d trusted → HoldsOn K.rests d other
-        → HoldsMap K.damage K.contents d other (on K.contents d trusted) → F.device flash.new ≡ d }
+        (trusted other : area_type) → slice_get map.now place ≡ Some trusted
+        → slice_get map.now (other_place map.now place) ≡ Some other → HoldsOn K.rests d trusted
+        → HoldsOn K.rests d other → HoldsMap K.damage K.contents d other (on K.contents d trusted)
+        → F.device flash.new ≡ d }
     ensures at_most { let d = F.device flash.old in
-        (trusted other : area_type) → slice_get map.now place ≡ Some trusted → slice_get map.now (other_place map.now place) ≡ Some other
-        → SpendsAtMost d (F.device flash.new) (both_units d trusted other (finite.len (on K.contents d trusted))) }
+        (trusted other : area_type) → slice_get map.now place ≡ Some trusted
+        → slice_get map.now (other_place map.now place) ≡ Some other
+        → SpendsAtMost d (F.device flash.new)
+        (both_units d trusted other (finite.len (on K.contents d trusted))) }
 {
     let side: Result<Side<K>, MirrorMount> = mount_side(
         alloc,
@@ -372,12 +403,15 @@ impl<K: Priced> Mirror<K> {
             → Touches (worked_on selector trusted other) d e (mount_lost result) }
         ensures ends { let d = F.device flash.old in let e = F.device flash.new in
             (selector : area_type) → selector_of map.now ≡ Some selector
-            → MirrorMounts K.mounted_on K.stands K.damage K.contents K.room K.prices map.now selector d e result }
+            → MirrorMounts K.mounted_on K.stands K.damage K.contents K.room K.prices map.now
+            selector d e result }
         ensures keeps { let d = F.device flash.old in let e = F.device flash.new in
             (settings : map_type) → MirrorReads K.damage K.contents map.now d settings
             → MirrorReads K.damage K.contents map.now e settings }
-        ensures trusted { trusted_on map.now (F.device flash.new) ≡ trusted_on map.now (F.device flash.old) }
-        ensures rests { OnOk result (IsAtRest K.damage K.contents K.rests map.now (F.device flash.new)) }
+        ensures trusted { trusted_on map.now (F.device flash.new)
+            ≡ trusted_on map.now (F.device flash.old) }
+        ensures rests { OnOk result
+            (IsAtRest K.damage K.contents K.rests map.now (F.device flash.new)) }
         ensures idle { let d = F.device flash.old in
             IsAtRest K.damage K.contents K.rests map.now d → F.device flash.new ≡ d }
         ensures at_most { let d = F.device flash.old in
@@ -385,7 +419,8 @@ impl<K: Priced> Mirror<K> {
             → slice_get map.now (trusted_on map.now d) ≡ Some trusted
             → slice_get map.now (other_place map.now (trusted_on map.now d)) ≡ Some other
             → SpendsAtMost d (F.device flash.new)
-            (trust_units d selector + both_units d trusted other (finite.len (on K.contents d trusted))) }
+            (trust_units d selector
+            + both_units d trusted other (finite.len (on K.contents d trusted))) }
     {
         let place = match trust::<K, F, L>(flash, map, steps) {
             Ok(place) => place,

@@ -29,14 +29,16 @@ pub trait Priced: Backend {
         requires lawful { IsLawfulFor (F.device flash.now).banks area.now }
         requires role { IsMirrored area.now }
         requires short { length ≤ LONG_VALUE_LIMIT }
-        ensures value { result ≡ (prices area.now (geometry_of (F.device flash.now) area.now)).price length }
+        ensures value { result
+            ≡ (prices area.now (geometry_of (F.device flash.now) area.now)).price length }
         ensures small { result < 2 ^ 16 };
 
     /// What a count of names costs, in bytes; 0 where there is none.
     fn counted<F: Flash>(flash: &F, area: &Area) -> u64
         requires lawful { IsLawfulFor (F.device flash.now).banks area.now }
         requires role { IsMirrored area.now }
-        ensures value { result ≡ (prices area.now (geometry_of (F.device flash.now) area.now)).counted }
+        ensures value { result
+            ≡ (prices area.now (geometry_of (F.device flash.now) area.now)).counted }
         ensures small { result < 2 ^ 16 };
 
     /// What a sector has for names and values, in bytes.
@@ -50,7 +52,8 @@ pub trait Priced: Backend {
     fn class<F: Flash>(flash: &F, area: &Area, name: &Name) -> u32
         requires lawful { IsLawfulFor (F.device flash.now).banks area.now }
         requires role { IsMirrored area.now }
-        ensures { result ≡ (prices area.now (geometry_of (F.device flash.now) area.now)).class name.now };
+        ensures { result
+            ≡ (prices area.now (geometry_of (F.device flash.now) area.now)).class name.now };
 
     /// How many names of one class an area may have.
     fn most<F: Flash>(flash: &F, area: &Area) -> u32

@@ -42,9 +42,11 @@ pub(crate) fn put<K: Priced, F: Flash, L: Ledger>(
         too_many_on K.room d side.old.area settings name.now ≡ false }
     requires room { let d = F.device flash.old in let settings = on K.contents d side.old.area in
         ¬ IsStored settings name.now value.now
-        → ¬ HasNoRoom (room_on K.room d side.old.area) side.old.area.sectors settings name.now value.now }
+        → ¬ HasNoRoom (room_on K.room d side.old.area) side.old.area.sectors settings name.now
+        value.now }
 
-    ensures touches { Touches (side.old.area ∷ []) (F.device flash.old) (F.device flash.new) (is_err result) }
+    ensures touches { Touches (side.old.area ∷ []) (F.device flash.old) (F.device flash.new)
+        (is_err result) }
     ensures same { SameSide side.old side.new }
     ensures ends { let d = F.device flash.old in let settings = on K.contents d side.old.area in
         SideCommand K.contents d (F.device flash.new) side.old.area
@@ -52,7 +54,8 @@ pub(crate) fn put<K: Priced, F: Flash, L: Ledger>(
     ensures at_most { let d = F.device flash.old in
         SpendsAtMost d (F.device flash.new) (most_units (geometry_of d side.old.area)) }
     ensures sound { on K.damage (F.device flash.new) side.old.area ≡ None }
-    ensures stands { is_err result ≡ false → SideStands K.mounted_on K.stands (F.device flash.new) side.new }
+    ensures stands { is_err result ≡ false
+        → SideStands K.mounted_on K.stands (F.device flash.new) side.new }
     ensures down { is_err result ≡ true → K.runs side.new.store ≡ false }
 {
     match side.store.set(flash, name, value, steps) {
@@ -72,7 +75,8 @@ pub(crate) fn take<K: Priced, F: Flash, L: Ledger>(
 ) -> Result<(), PowerLost>
     requires stands { SideStands K.mounted_on K.stands (F.device flash.old) side.old }
 
-    ensures touches { Touches (side.old.area ∷ []) (F.device flash.old) (F.device flash.new) (is_err result) }
+    ensures touches { Touches (side.old.area ∷ []) (F.device flash.old) (F.device flash.new)
+        (is_err result) }
     ensures same { SameSide side.old side.new }
     ensures ends { let d = F.device flash.old in let settings = on K.contents d side.old.area in
         SideCommand K.contents d (F.device flash.new) side.old.area
@@ -80,7 +84,8 @@ pub(crate) fn take<K: Priced, F: Flash, L: Ledger>(
     ensures at_most { let d = F.device flash.old in
         SpendsAtMost d (F.device flash.new) (most_units (geometry_of d side.old.area)) }
     ensures sound { on K.damage (F.device flash.new) side.old.area ≡ None }
-    ensures stands { is_err result ≡ false → SideStands K.mounted_on K.stands (F.device flash.new) side.new }
+    ensures stands { is_err result ≡ false
+        → SideStands K.mounted_on K.stands (F.device flash.new) side.new }
     ensures down { is_err result ≡ true → K.runs side.new.store ≡ false }
 {
     side.store.delete(flash, name, steps)

@@ -40,7 +40,8 @@ fn trusted_with<F: Flash, L: Ledger>(
 ) -> usize
     requires lawful { IsLawfulMap (F.device flash.now).banks map.now }
     requires store { is_store_at map.now active ≡ true }
-    ensures trusted { result ≡ trusted_with map.now (F.device flash.now) active (target map.now active) }
+    ensures trusted { result
+        ≡ trusted_with map.now (F.device flash.now) active (target map.now active) }
     ensures store { is_store_at map.now result ≡ true }
 {
     let other = match target(map, active) {
@@ -68,8 +69,10 @@ fn name_trusted<F: Flash, L: Ledger>(
     requires store { is_store_at map.now trusted ≡ true }
     requires active { active ≡ active_in map.now (F.device flash.old) selector.old.ring.area }
 
-    ensures touches { let area = selector.old.ring.area in Touches (area ∷ []) (F.device flash.old) (F.device flash.new) (is_err result) }
-    ensures ends { NameEnds map.now (F.device flash.old) (F.device flash.new) selector.old.ring.area trusted result }
+    ensures touches { let area = selector.old.ring.area in
+        Touches (area ∷ []) (F.device flash.old) (F.device flash.new) (is_err result) }
+    ensures ends { NameEnds map.now (F.device flash.old) (F.device flash.new) selector.old.ring.area
+        trusted result }
     ensures opened { OnOk result (IsOpen (F.device flash.new) selector.new.ring) }
     ensures area { selector.new.ring.area ≡ selector.old.ring.area }
     ensures idle { active ≡ trusted → F.device flash.new ≡ F.device flash.old }
@@ -94,7 +97,8 @@ pub(crate) fn trust<K: Priced, F: Flash, L: Ledger>(
         → Touches (selector ∷ []) (F.device flash.old) (F.device flash.new) (mount_lost result) }
     ensures ends { TrustEnds map.now (F.device flash.old) (F.device flash.new) result }
     ensures idle { let d = F.device flash.old in
-        SelectorRests map.now d → active_on map.now d ≡ trusted_on map.now d → F.device flash.new ≡ d }
+        SelectorRests map.now d → active_on map.now d ≡ trusted_on map.now d
+        → F.device flash.new ≡ d }
     ensures at_most { let d = F.device flash.old in
         (selector : area_type) → selector_of map.now ≡ Some selector
         → SpendsAtMost d (F.device flash.new) (trust_units d selector) }

@@ -47,7 +47,8 @@ fn pair_price<K: Priced, F: Flash, L: Ledger>(
     requires stands { StandsOn K.mounted_on K.stands (F.device flash.now) store.now }
     requires area { IsLawfulFor (F.device flash.now).banks area.now }
     requires role { IsMirrored area.now }
-    ensures price { let d = F.device flash.now in let price = (prices_on K.prices d area.now).price in
+    ensures price { let d = F.device flash.now in
+        let price = (prices_on K.prices d area.now).price in
         (value : List ℕ) → IsStored (on K.contents d (K.mounted_on store.now)) name.now value
         → result ≡ price (length name.now) + price (length value) }
     ensures small { result < 2 ^ 17 }
@@ -67,7 +68,8 @@ pub(crate) fn map_cost<K: Priced, F: Flash, L: Ledger>(
     requires stands { StandsOn K.mounted_on K.stands (F.device flash.now) store.now }
     requires area { IsLawfulFor (F.device flash.now).banks area.now }
     requires role { IsMirrored area.now }
-    ensures cost { let d = F.device flash.now in let settings = on K.contents d (K.mounted_on store.now) in
+    ensures cost { let d = F.device flash.now in
+        let settings = on K.contents d (K.mounted_on store.now) in
         result ≡ (room_by (prices_on K.prices d area.now)).cost settings }
     ensures small { result < 2 ^ 50 }
 {
@@ -98,7 +100,8 @@ pub(crate) fn alike<K: Priced, F: Flash, L: Ledger>(
     requires stands { StandsOn K.mounted_on K.stands (F.device flash.now) store.now }
     requires area { IsLawfulFor (F.device flash.now).banks area.now }
     requires role { IsMirrored area.now }
-    ensures { let d = F.device flash.now in let settings = on K.contents d (K.mounted_on store.now) in
+    ensures { let d = F.device flash.now in
+        let settings = on K.contents d (K.mounted_on store.now) in
         result ≡ alike (prices_on K.prices d area.now) settings name.now }
 {
     let class = K::class(flash, area, name);
@@ -123,8 +126,10 @@ pub(crate) fn classes<K: Priced, F: Flash, L: Ledger>(
     requires stands { StandsOn K.mounted_on K.stands (F.device flash.now) store.now }
     requires area { IsLawfulFor (F.device flash.now).banks area.now }
     requires role { IsMirrored area.now }
-    ensures { IfOk result (λ found. let d = F.device flash.now in
-        found.items ≡ map (prices_on K.prices d area.now).class (finite.keys (on K.contents d (K.mounted_on store.now)))) }
+    ensures { IfOk result
+        (λ found. let d = F.device flash.now in found.items
+        ≡ map (prices_on K.prices d area.now).class
+        (finite.keys (on K.contents d (K.mounted_on store.now)))) }
 {
     let mut found = Vec::new(alloc);
     let mut at = store.next_name(flash, None, steps);

@@ -22,7 +22,8 @@ fn erase_in(banks: &mut Vec<Vec<u8>>, bank: usize, from: usize, len: usize)
     requires bank { bank < vec_len banks.old }
     requires range { from + len ≤ length (slice_index_or (contents banks.old.items) bank []) }
     ensures { let old = slice_index_or (contents banks.old.items) bank [] in
-        contents banks.new.items ≡ slice_set (contents banks.old.items) bank (overwritten old from (replicate len 0xFF)) }
+        contents banks.new.items
+        ≡ slice_set (contents banks.old.items) bank (overwritten old from (replicate len 0xFF)) }
 {
     let items = &mut banks[bank];
     erase_range(items, from, len);

@@ -47,11 +47,16 @@ impl<K: Priced> MirrorSession<K> {
 
         ensures done { let m = meanings K.damage K.contents K.room K.prices in
             let d = B.device bench.old in let e = B.device bench.new in
-            IfOk result (λ opened. LineDone m map.now Mount opened.1 (moment d false) (moment e (is_some opened.0.mirror))) }
+            IfOk result
+            (λ opened. LineDone m map.now Mount opened.1 (moment d false)
+            (moment e (is_some opened.0.mirror))) }
         ensures ready { let m = meanings K.damage K.contents K.room K.prices in
-            IfOk result (λ opened. IsReady K.mounted_on K.stands m map.now (B.device bench.new) opened.0.mirror) }
+            IfOk result
+            (λ opened. IsReady K.mounted_on K.stands m map.now (B.device bench.new)
+            opened.0.mirror) }
         ensures stops { let m = meanings K.damage K.contents K.room K.prices in
-            IfErr result (λ fault. LineStops m map.now Mount (B.device bench.old) (B.device bench.new) fault) }
+            IfErr result
+            (λ fault. LineStops m map.now Mount (B.device bench.old) (B.device bench.new) fault) }
         ensures banks { (B.device bench.new).banks ≡ (B.device bench.old).banks }
     {
         match mount(alloc, bench, map, steps) {
@@ -86,11 +91,16 @@ impl<K: Priced> MirrorSession<K> {
 
         ensures done { let m = meanings K.damage K.contents K.room K.prices in
             let d = B.device bench.old in let e = B.device bench.new in
-            IfOk result (λ answer. LineDone m map.now line.now answer (moment d (is_some self.old.mirror)) (moment e (is_some self.new.mirror))) }
+            IfOk result
+            (λ answer. LineDone m map.now line.now answer (moment d (is_some self.old.mirror))
+            (moment e (is_some self.new.mirror))) }
         ensures ready { let m = meanings K.damage K.contents K.room K.prices in
-            OnOk result (IsReady K.mounted_on K.stands m map.now (B.device bench.new) self.new.mirror) }
+            OnOk result
+            (IsReady K.mounted_on K.stands m map.now (B.device bench.new) self.new.mirror) }
         ensures stops { let m = meanings K.damage K.contents K.room K.prices in
-            IfErr result (λ fault. LineStops m map.now line.now (B.device bench.old) (B.device bench.new) fault) }
+            IfErr result
+            (λ fault. LineStops m map.now line.now (B.device bench.old) (B.device bench.new)
+            fault) }
         ensures banks { (B.device bench.new).banks ≡ (B.device bench.old).banks }
     {
         match line {
@@ -120,11 +130,15 @@ impl<K: Priced> MirrorSession<K> {
 
         ensures done { let m = meanings K.damage K.contents K.room K.prices in
             let d = B.device bench.old in let e = B.device bench.new in
-            IfOk result (λ answer. LineDone m map.now Mount answer (moment d (is_some self.old.mirror)) (moment e (is_some self.new.mirror))) }
+            IfOk result
+            (λ answer. LineDone m map.now Mount answer (moment d (is_some self.old.mirror))
+            (moment e (is_some self.new.mirror))) }
         ensures ready { let m = meanings K.damage K.contents K.room K.prices in
-            OnOk result (IsReady K.mounted_on K.stands m map.now (B.device bench.new) self.new.mirror) }
+            OnOk result
+            (IsReady K.mounted_on K.stands m map.now (B.device bench.new) self.new.mirror) }
         ensures stops { let m = meanings K.damage K.contents K.room K.prices in
-            IfErr result (λ fault. LineStops m map.now Mount (B.device bench.old) (B.device bench.new) fault) }
+            IfErr result
+            (λ fault. LineStops m map.now Mount (B.device bench.old) (B.device bench.new) fault) }
         ensures banks { (B.device bench.new).banks ≡ (B.device bench.old).banks }
     {
         match mount(alloc, bench, map, steps) {
@@ -151,9 +165,12 @@ impl<K: Priced> MirrorSession<K> {
 
         ensures done { let m = meanings K.damage K.contents K.room K.prices in
             let d = B.device bench.old in let e = B.device bench.new in
-            IfOk result (λ answer. LineDone m map.now (Blank label.now) answer (moment d (is_some self.old.mirror)) (moment e (is_some self.new.mirror))) }
+            IfOk result
+            (λ answer. LineDone m map.now (Blank label.now) answer
+            (moment d (is_some self.old.mirror)) (moment e (is_some self.new.mirror))) }
         ensures ready { let m = meanings K.damage K.contents K.room K.prices in
-            OnOk result (IsReady K.mounted_on K.stands m map.now (B.device bench.new) self.new.mirror) }
+            OnOk result
+            (IsReady K.mounted_on K.stands m map.now (B.device bench.new) self.new.mirror) }
         ensures same { OnErr result (B.device bench.new ≡ B.device bench.old) }
         ensures banks { (B.device bench.new).banks ≡ (B.device bench.old).banks }
     {
@@ -190,9 +207,12 @@ impl<K: Priced> MirrorSession<K> {
 
         ensures done { let m = meanings K.damage K.contents K.room K.prices in
             let d = B.device bench.old in let e = B.device bench.new in
-            IfOk result (λ answer. LineDone m map.now line.now answer (moment d (is_some self.old.mirror)) (moment e (is_some self.new.mirror))) }
+            IfOk result
+            (λ answer. LineDone m map.now line.now answer (moment d (is_some self.old.mirror))
+            (moment e (is_some self.new.mirror))) }
         ensures ready { let m = meanings K.damage K.contents K.room K.prices in
-            OnOk result (IsReady K.mounted_on K.stands m map.now (B.device bench.new) self.new.mirror) }
+            OnOk result
+            (IsReady K.mounted_on K.stands m map.now (B.device bench.new) self.new.mirror) }
         ensures same { OnErr result (B.device bench.new ≡ B.device bench.old) }
         ensures takes { OnErr result (takes_memory line.now ≡ true) }
         ensures banks { (B.device bench.new).banks ≡ (B.device bench.old).banks }

@@ -43,7 +43,8 @@ pub(crate) fn get_setting<K: Priced, B: Bench, L: Ledger>(
     requires held { let m = meanings K.damage K.contents K.room K.prices in
         IsHeld K.mounted_on K.stands m map.now (B.device bench.now) mirror.now }
     ensures { let m = meanings K.damage K.contents K.room K.prices in let d = B.device bench.now in
-        IfOk result (λ answer. LineDone m map.now (Get name.now) answer (moment d true) (moment d true)) }
+        IfOk result
+        (λ answer. LineDone m map.now (Get name.now) answer (moment d true) (moment d true)) }
 {
     match mirror.get(bench, name, steps) {
         Some(bytes) => {
@@ -67,7 +68,8 @@ fn pair_of<K: Priced, B: Bench, L: Ledger>(
     steps: &mut Steps<L>,
 ) -> Result<Pair, NoMemory>
     requires mirrors { let d = B.device bench.now in
-        IsMirror K.mounted_on K.stands K.contents K.room K.prices d mirror.now.trusted mirror.now.other }
+        IsMirror K.mounted_on K.stands K.contents K.room K.prices d mirror.now.trusted
+        mirror.now.other }
     ensures { let settings = on K.contents (B.device bench.now) mirror.now.trusted.area in
         IfOk result (λ pair. pair ≡ as_pair (name.now, unwrap_or (get settings name.now) [])) }
 {
@@ -89,7 +91,8 @@ fn all_settings<K: Priced, B: Bench, L: Ledger>(
     steps: &mut Steps<L>,
 ) -> Result<Pairs, NoMemory>
     requires mirrors { let d = B.device bench.now in
-        IsMirror K.mounted_on K.stands K.contents K.room K.prices d mirror.now.trusted mirror.now.other }
+        IsMirror K.mounted_on K.stands K.contents K.room K.prices d mirror.now.trusted
+        mirror.now.other }
     ensures { let settings = on K.contents (B.device bench.now) mirror.now.trusted.area in
         IfOk result (λ pairs. pairs ≡ map as_pair (entries settings)) }
 {

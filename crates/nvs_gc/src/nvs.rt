@@ -146,7 +146,8 @@ impl Nvs {
         ensures none { let d = F.device flash.now in
             latest_on kind d self.now.store.area id ≡ None → steps.new ≡ steps.old }
         ensures few { let d = F.device flash.now in
-            IfSome (latest_on kind d self.now.store.area id) (λ p. p.id ≡ id → steps.new ≤ steps.old + 2) }
+            IfSome (latest_on kind d self.now.store.area id)
+            (λ p. p.id ≡ id → steps.new ≤ steps.old + 2) }
     {
         self.store.get(flash, id as u32, steps)
     }
@@ -156,8 +157,8 @@ impl Nvs {
     pub fn may_hold(&self, id: u16) -> bool
         ensures exactly { (d : Device) → StandsOn d self.now
             → result ≡ is_some (latest_on kind d self.now.store.area id) }
-        ensures none { (d : Device) → IsLawful d.banks d.bytes → StandsOn d self.now → result ≡ false
-            → map.get (items_on d self.now.store.area) id ≡ None }
+        ensures none { (d : Device) → IsLawful d.banks d.bytes → StandsOn d self.now
+            → result ≡ false → map.get (items_on d self.now.store.area) id ≡ None }
     {
         self.store.may_hold(id as u32)
     }
@@ -242,7 +243,8 @@ impl Nvs {
         ensures older { let d = F.device flash.now in
             IsNextOlder (entries_on kind d self.now.store.area) after result }
         ensures before { let d = F.device flash.now in let area = self.now.store.area in
-            IfSome after (λ place. result ≡ newest_before (kind_on d area) (sectors_of d area) place) }
+            IfSome after
+            (λ place. result ≡ newest_before (kind_on d area) (sectors_of d area) place) }
         ensures placed { let d = F.device flash.now in let store = self.now.store in
             IfSome result (IsPlacedOn kind d store.area store.current) }
     {
@@ -260,7 +262,8 @@ impl Nvs {
         steps: &mut Steps<L>,
     ) -> Option<u16>
         requires { StandsOn (F.device flash.now) self.now }
-        ensures { IsIdOf least most (items_on (F.device flash.now) self.now.store.area) bytes.now result }
+        ensures { IsIdOf least most (items_on (F.device flash.now) self.now.store.area) bytes.now
+            result }
     {
         narrowed(
             self.store

@@ -42,13 +42,17 @@ pub fn append<F: Flash>(
     requires ordinary { id < 0xFFFF }
     requires fits { FitsOn (F.device flash.old) area.now scan.old (length bytes.now) }
 
-    ensures touches { Touches (area.now ∷ []) (F.device flash.old) (F.device flash.new) (is_err result) }
+    ensures touches { Touches (area.now ∷ []) (F.device flash.old) (F.device flash.new)
+        (is_err result) }
     ensures ok { let d = F.device flash.old in
         OnOk result (AddsPairOn d (F.device flash.new) area.now scan.old.current id bytes.now) }
     ensures image { let d = F.device flash.old in
-        OnOk result (sector_bytes (F.device flash.new) area.now scan.old.current
-        ≡ after_append (unit_of d area.now) (sector_bytes d area.now scan.old.current) id bytes.now) }
-    ensures list { OnOk result (AppendsOn (F.device flash.old) (F.device flash.new) area.now id bytes.now) }
+        OnOk result
+        (sector_bytes (F.device flash.new) area.now scan.old.current
+        ≡ after_append (unit_of d area.now) (sector_bytes d area.now scan.old.current) id
+        bytes.now) }
+    ensures list { OnOk result
+        (AppendsOn (F.device flash.old) (F.device flash.new) area.now id bytes.now) }
     ensures scan { OnOk result (scan.new ≡ scan_on (F.device flash.new) area.now) }
     ensures spent { let d = F.device flash.old in
         OnOk result (Spends d (F.device flash.new) (entry_units d area.now (length bytes.now))) }
@@ -56,11 +60,15 @@ pub fn append<F: Flash>(
     ensures lost { let d = F.device flash.old in
         OnErr result (StopsAddingOn d (F.device flash.new) area.now scan.old.current id bytes.now) }
     ensures list_lost { let d = F.device flash.old in
-        OnErr result (KeepsListOn d (F.device flash.new) area.now ⊎ AppendsOn d (F.device flash.new) area.now id bytes.now) }
+        OnErr result
+        (KeepsListOn d (F.device flash.new) area.now
+        ⊎ AppendsOn d (F.device flash.new) area.now id bytes.now) }
     ensures in_pieces { OnErr result (LosesWithin PIECE (F.device flash.old) (F.device flash.new)) }
     ensures spent_at_most { let d = F.device flash.old in
-        OnErr result (SpendsAtMost d (F.device flash.new) (entry_units d area.now (length bytes.now))) }
-    ensures sound { StaysSoundOn (F.device flash.old) (F.device flash.new) area.now scan.old.current }
+        OnErr result
+        (SpendsAtMost d (F.device flash.new) (entry_units d area.now (length bytes.now))) }
+    ensures sound { StaysSoundOn (F.device flash.old) (F.device flash.new) area.now
+        scan.old.current }
     ensures undamaged { StaysUndamaged (F.device flash.old) (F.device flash.new) area.now }
 {
     let unit = geometry(flash, area).unit;
@@ -98,25 +106,35 @@ pub fn copy_entry<F: Flash, L: Ledger>(
     requires has_source { from.now.sector < area.now.sectors }
     requires other { from.now.sector ≡ scan.old.current → ⊥ }
     requires ordinary { from.now.entry.id < 0xFFFF }
-    requires inside { from.now.entry.offset + from.now.entry.len ≤ sector_size (F.device flash.old) area.now }
+    requires inside { from.now.entry.offset + from.now.entry.len
+        ≤ sector_size (F.device flash.old) area.now }
     requires free { let unit = unit_of (F.device flash.old) area.now in
         cost unit from.now.entry.len + 3 * slot_size unit ≤ free scan.old }
 
-    ensures touches { Touches (area.now ∷ []) (F.device flash.old) (F.device flash.new) (is_err result) }
+    ensures touches { Touches (area.now ∷ []) (F.device flash.old) (F.device flash.new)
+        (is_err result) }
     ensures ok { let d = F.device flash.old in
-        OnOk result (AddsPairOn d (F.device flash.new) area.now scan.old.current from.now.entry.id (bytes_on d area.now from.now)) }
-    ensures image { let d = F.device flash.old in let bytes = sector_bytes d area.now scan.old.current in
-        OnOk result (sector_bytes (F.device flash.new) area.now scan.old.current
-        ≡ after_append (unit_of d area.now) bytes from.now.entry.id (bytes_on d area.now from.now)) }
+        OnOk result
+        (AddsPairOn d (F.device flash.new) area.now scan.old.current from.now.entry.id
+        (bytes_on d area.now from.now)) }
+    ensures image { let d = F.device flash.old in
+        let bytes = sector_bytes d area.now scan.old.current in
+        OnOk result
+        (sector_bytes (F.device flash.new) area.now scan.old.current
+        ≡ after_append (unit_of d area.now) bytes from.now.entry.id
+        (bytes_on d area.now from.now)) }
     ensures scan { OnOk result (scan.new ≡ scan_on (F.device flash.new) area.now) }
     ensures spent { let d = F.device flash.old in
         OnOk result (Spends d (F.device flash.new) (entry_units d area.now from.now.entry.len)) }
 
     ensures lost { let d = F.device flash.old in
-        OnErr result (StopsAddingOn d (F.device flash.new) area.now scan.old.current from.now.entry.id (bytes_on d area.now from.now)) }
+        OnErr result
+        (StopsAddingOn d (F.device flash.new) area.now scan.old.current from.now.entry.id
+        (bytes_on d area.now from.now)) }
     ensures in_pieces { OnErr result (LosesWithin PIECE (F.device flash.old) (F.device flash.new)) }
     ensures spent_at_most { let d = F.device flash.old in
-        OnErr result (SpendsAtMost d (F.device flash.new) (entry_units d area.now from.now.entry.len)) }
+        OnErr result
+        (SpendsAtMost d (F.device flash.new) (entry_units d area.now from.now.entry.len)) }
 {
     let unit = geometry(flash, area).unit;
     let entry = Entry {
@@ -164,21 +182,26 @@ pub fn put_done<F: Flash>(flash: &mut F, area: &Area, scan: &mut Scan) -> Result
     requires scan { scan.old ≡ scan_on (F.device flash.old) area.now }
     requires free { 2 * slot_size (unit_of (F.device flash.old) area.now) ≤ free scan.old }
 
-    ensures touches { Touches (area.now ∷ []) (F.device flash.old) (F.device flash.new) (is_err result) }
+    ensures touches { Touches (area.now ∷ []) (F.device flash.old) (F.device flash.new)
+        (is_err result) }
     ensures ok { let d = F.device flash.old in
         OnOk result (MarksDoneOn d (F.device flash.new) area.now scan.old.current) }
     ensures image { let d = F.device flash.old in
         OnOk result (sector_bytes (F.device flash.new) area.now scan.old.current
         ≡ after_gc_done (unit_of d area.now) (sector_bytes d area.now scan.old.current)) }
     ensures scan { OnOk result (scan.new ≡ scan_on (F.device flash.new) area.now) }
-    ensures spent { let d = F.device flash.old in OnOk result (Spends d (F.device flash.new) (slot_units d area.now)) }
+    ensures spent { let d = F.device flash.old in
+        OnOk result (Spends d (F.device flash.new) (slot_units d area.now)) }
     ensures sound { let d = F.device flash.old in let unit = unit_of d area.now in
-        OnOk result (pairs_cost unit (pairs unit (sector_bytes d area.now scan.old.current)) ≤ capacity_on d area.now
+        OnOk result
+        (pairs_cost unit (pairs unit (sector_bytes d area.now scan.old.current))
+        ≤ capacity_on d area.now
         → is_sound unit (sector_bytes (F.device flash.new) area.now scan.old.current) ≡ true) }
 
     ensures lost { let d = F.device flash.old in
         OnErr result (StopsMarkingOn d (F.device flash.new) area.now scan.old.current) }
-    ensures spent_at_most { let d = F.device flash.old in OnErr result (SpendsAtMost d (F.device flash.new) (slot_units d area.now)) }
+    ensures spent_at_most { let d = F.device flash.old in
+        OnErr result (SpendsAtMost d (F.device flash.new) (slot_units d area.now)) }
 {
     let unit = geometry(flash, area).unit;
     let slot = scan.low - slot_size(unit);
@@ -201,18 +224,21 @@ pub fn put_close<F: Flash>(flash: &mut F, area: &Area, scan: &Scan) -> Result<()
     requires scan { scan.now ≡ scan_on (F.device flash.old) area.now }
     requires not_closed { is_closed_on (F.device flash.old) area.now scan.now.current ≡ false }
 
-    ensures touches { Touches (area.now ∷ []) (F.device flash.old) (F.device flash.new) (is_err result) }
+    ensures touches { Touches (area.now ∷ []) (F.device flash.old) (F.device flash.new)
+        (is_err result) }
     ensures ok { let d = F.device flash.old in
         OnOk result (ClosesOn d (F.device flash.new) area.now scan.now.current) }
     ensures image { let d = F.device flash.old in
         OnOk result (sector_bytes (F.device flash.new) area.now scan.now.current
         ≡ after_close (unit_of d area.now) (sector_bytes d area.now scan.now.current)) }
-    ensures spent { let d = F.device flash.old in OnOk result (Spends d (F.device flash.new) (slot_units d area.now)) }
+    ensures spent { let d = F.device flash.old in
+        OnOk result (Spends d (F.device flash.new) (slot_units d area.now)) }
 
     ensures lost { let d = F.device flash.old in
         OnErr result ((sectors_of (F.device flash.new) area.now ≡ sectors_of d area.now)
         ⊎ ClosesOn d (F.device flash.new) area.now scan.now.current) }
-    ensures spent_at_most { let d = F.device flash.old in OnErr result (SpendsAtMost d (F.device flash.new) (slot_units d area.now)) }
+    ensures spent_at_most { let d = F.device flash.old in
+        OnErr result (SpendsAtMost d (F.device flash.new) (slot_units d area.now)) }
 {
     let g = geometry(flash, area);
     let top = g.sector - slot_size(g.unit);

@@ -34,9 +34,13 @@ fn find_at<F: Flash, L: Ledger>(
     requires scan { scan.now ≡ scan_on (F.device flash.now) area.now }
     requires current { scan.now.current < area.now.sectors }
     requires inside { place < area.now.sectors }
-    ensures within { let d = F.device flash.now in result ≡ last_wanted wanted (counted_within (unit_of d area.now) (sectors_of d area.now) scan.now.current place slots) }
+    ensures within { let d = F.device flash.now in
+        result
+        ≡ last_wanted wanted
+        (counted_within (unit_of d area.now) (sectors_of d area.now) scan.now.current place slots) }
     ensures whole { let d = F.device flash.now in
-        2 ^ 15 ≤ slots → result ≡ last_wanted wanted (counted_on d area.now scan.now.current place) }
+        2 ^ 15 ≤ slots
+        → result ≡ last_wanted wanted (counted_on d area.now scan.now.current place) }
 {
     if is_hidden(area, scan, place) {
         None
@@ -64,7 +68,9 @@ fn find_among<F: Flash, L: Ledger>(
     requires order { first ≤ end }
     requires inside { end ≤ area.now.sectors }
     ensures { let d = F.device flash.now in
-        result ≡ last_wanted wanted (flat_map (counted_on d area.now scan.now.current) (range_with_len first (end - first))) }
+        result
+        ≡ last_wanted wanted
+        (flat_map (counted_on d area.now scan.now.current) (range_with_len first (end - first))) }
 {
     let mut place = end;
     while place > first {
@@ -92,8 +98,10 @@ pub fn find<F: Flash, L: Ledger>(
     ensures placed { result ≡ last_placed_on (F.device flash.now) area.now id }
     // the bytes that it names decide for the id
     ensures value { let d = F.device flash.now in
-        last (list_on d area.now) id ≡ option_and_then (λ f. value_of (bytes_on d area.now f)) result }
-    ensures in_area { IfSome result (IsInArea area.now.sectors (sector_size (F.device flash.now) area.now)) }
+        last (list_on d area.now) id
+        ≡ option_and_then (λ f. value_of (bytes_on d area.now f)) result }
+    ensures in_area { IfSome result
+        (IsInArea area.now.sectors (sector_size (F.device flash.now) area.now)) }
 {
     let current = scan.current;
     let newest = find_among(flash, area, scan, 0, current + 1, Some(id), steps);
@@ -125,7 +133,10 @@ fn newest_before<F: Flash, L: Ledger>(
     requires current { scan.now.current < area.now.sectors }
     requires inside { place < area.now.sectors }
     ensures { let d = F.device flash.now in
-        result ≡ last_wanted None (flat_map (counted_on d area.now scan.now.current) (places_before (length (sectors_of d area.now)) scan.now.current place)) }
+        result
+        ≡ last_wanted None
+        (flat_map (counted_on d area.now scan.now.current)
+        (places_before (length (sectors_of d area.now)) scan.now.current place)) }
 {
     let current = scan.current;
     if current < place {
@@ -153,7 +164,9 @@ fn newest_up_to<F: Flash, L: Ledger>(
     requires current { scan.now.current < area.now.sectors }
     requires inside { place < area.now.sectors }
     ensures { let d = F.device flash.now in
-        result ≡ last_wanted None (placed_up_to (unit_of d area.now) (sectors_of d area.now) scan.now.current place slots) }
+        result
+        ≡ last_wanted None
+        (placed_up_to (unit_of d area.now) (sectors_of d area.now) scan.now.current place slots) }
 {
     let newest = find_at(flash, area, scan, place, None, slots, steps);
     if newest.is_some() {
@@ -177,7 +190,8 @@ pub fn walk<F: Flash, L: Ledger>(
     requires inside { IfSome after (λ place. place.0 < area.now.sectors) }
 
     ensures older { IsNextOlder (placed_on (F.device flash.now) area.now) after result }
-    ensures in_area { IfSome result (IsInArea area.now.sectors (sector_size (F.device flash.now) area.now)) }
+    ensures in_area { IfSome result
+        (IsInArea area.now.sectors (sector_size (F.device flash.now) area.now)) }
 {
     match after {
         Some((sector, slot)) => {

@@ -33,7 +33,8 @@ fn open_sector<F: Flash, L: Ledger>(flash: &F, area: &Area, steps: &mut Steps<L>
 fn second_opening<F: Flash, L: Ledger>(flash: &F, area: &Area, steps: &mut Steps<L>) -> Option<u32>
     requires lawful { IsLawfulFor (F.device flash.now).banks area.now }
     requires role { area.now.role ≡ Nvs }
-    ensures { let d = F.device flash.now in result ≡ slice_get (openings (reading (unit_of d area.now)) (sectors_of d area.now)) 1 }
+    ensures { let d = F.device flash.now in
+        result ≡ slice_get (openings (reading (unit_of d area.now)) (sectors_of d area.now)) 1 }
 {
     let opening = first(flash, area, Sought::Opening, 0, steps)?;
     first(flash, area, Sought::Opening, opening + 1, steps)

@@ -68,7 +68,8 @@ pub fn has_gc_done<F: Flash, L: Ledger>(
     requires lawful { IsLawfulFor (F.device flash.now).banks area.now }
     requires role { area.now.role ≡ Nvs }
     requires inside { place < area.now.sectors }
-    ensures { let d = F.device flash.now in result ≡ has_gc_done (unit_of d area.now) (sector_bytes d area.now place) }
+    ensures { let d = F.device flash.now in
+        result ≡ has_gc_done (unit_of d area.now) (sector_bytes d area.now place) }
 {
     let unit = geometry(flash, area).unit;
     sector::scan_sector(sector_view(flash, area, place, steps), unit, place).gc_done
@@ -112,7 +113,8 @@ fn is_sought<F: Flash, L: Ledger>(
     requires role { area.now.role ≡ Nvs }
     requires named { IfSome (named sought) (λ current. current < area.now.sectors) }
     requires inside { place < area.now.sectors }
-    ensures { let d = F.device flash.now in result ≡ is_sought sought (unit_of d area.now) (sectors_of d area.now) place }
+    ensures { let d = F.device flash.now in
+        result ≡ is_sought sought (unit_of d area.now) (sectors_of d area.now) place }
 {
     let unit = geometry(flash, area).unit;
     let bytes = sector_view(flash, area, place, steps);
@@ -150,7 +152,9 @@ pub fn first<F: Flash, L: Ledger>(
     requires role { area.now.role ≡ Nvs }
     requires named { IfSome (named sought) (λ current. current < area.now.sectors) }
     ensures value { let d = F.device flash.now in
-        result ≡ find (is_sought sought (unit_of d area.now) (sectors_of d area.now)) (range_with_len from (area.now.sectors - from)) }
+        result
+        ≡ find (is_sought sought (unit_of d area.now) (sectors_of d area.now))
+        (range_with_len from (area.now.sectors - from)) }
     ensures within { IfSome result (λ place. place < area.now.sectors) }
 {
     for place in from..area.sectors {

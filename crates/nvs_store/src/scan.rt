@@ -73,7 +73,9 @@ pub struct Scan {
 /// Whether a sector counts for nothing: while a collection is not done, one sector does.
 pub fn is_hidden(area: &Area, scan: &Scan, place: u32) -> bool
     requires { scan.now.current < area.now.sectors }
-    ensures { (unit : ℕ) (sectors : List (List ℕ)) → length sectors ≡ area.now.sectors → scan.now ≡ scan_of unit sectors → counts_at (reading unit) sectors scan.now.current place ≡ not result }
+    ensures { (unit : ℕ) (sectors : List (List ℕ)) → length sectors ≡ area.now.sectors
+        → scan.now ≡ scan_of unit sectors
+        → counts_at (reading unit) sectors scan.now.current place ≡ not result }
 {
     match scan.redo {
         Redo::Nothing => false,

@@ -59,7 +59,8 @@ fn data_cost(found: &Option<SlotEntry>, unit: u32) -> u64
 
 /// Whether an entry's data ends above this place.
 fn ends_above(found: &Option<SlotEntry>, place: u32) -> bool
-    ensures { result ≡ option_map_or (λ f. nat_lt place (f.entry.offset + f.entry.len)) found.now false }
+    ensures { result
+        ≡ option_map_or (λ f. nat_lt place (f.entry.offset + f.entry.len)) found.now false }
 {
     match found {
         Some(found) => { place < u32::from(found.entry.offset) + u32::from(found.entry.len) }
@@ -140,7 +141,8 @@ pub fn find_in(
     requires unit { IsUnit unit }
     requires long { 16 ≤ length bytes.now }
     requires short { length bytes.now ≤ 2 ^ 15 }
-    ensures { result ≡ option_map (placed_at place) (last_found wanted (entries_within unit bytes.now slots)) }
+    ensures { result
+        ≡ option_map (placed_at place) (last_found wanted (entries_within unit bytes.now slots)) }
 {
     let mut index = used_count(bytes, unit).min(slots);
     while index > 0 {

@@ -19,7 +19,8 @@ use std::sync::ledger::Ledger;
 /// Whether the item is this name, which is lawful.
 pub fn is_named(found: Option<&[u8]>, name: &Name) -> bool
     ensures yes_it { result ≡ true → option_map (λ bytes. bytes.now) found.entry ≡ Some name.now }
-    ensures not_it { result ≡ false → option_map (λ bytes. bytes.now) found.entry ≡ Some name.now → ⊥ }
+    ensures not_it { result ≡ false → option_map (λ bytes. bytes.now) found.entry ≡ Some name.now
+        → ⊥ }
     ensures name { IsName name.now }
 {
     let own = name.bytes();
@@ -54,8 +55,14 @@ pub fn is_at<S: ItemStore, F: Flash, L: Ledger>(
     requires tells { HoldsOn (S.tells index.now) (F.device flash.now) (S.mounted_on store.now) }
     requires first { S.is_id first }
     requires second { S.is_id second }
-    ensures yes_it { let area = S.mounted_on store.now in result ≡ true → StandsHere (value_limit area) (on S.contents (F.device flash.now) area) first second name.now }
-    ensures not_it { let area = S.mounted_on store.now in result ≡ false → ¬ StandsHere (value_limit area) (on S.contents (F.device flash.now) area) first second name.now }
+    ensures yes_it { let area = S.mounted_on store.now in
+        result ≡ true
+        → StandsHere (value_limit area) (on S.contents (F.device flash.now) area) first second
+        name.now }
+    ensures not_it { let area = S.mounted_on store.now in
+        result ≡ false
+        → ¬ StandsHere (value_limit area) (on S.contents (F.device flash.now) area) first second
+        name.now }
     ensures name { IsName name.now }
 {
     let longest = store.area().value_limit();
@@ -79,7 +86,8 @@ pub fn is_free<S: ItemStore, F: Flash, L: Ledger>(
     requires tells { HoldsOn (S.tells index.now) (F.device flash.now) (S.mounted_on store.now) }
     requires first { S.is_id first }
     requires second { S.is_id second }
-    ensures { let items = on S.contents (F.device flash.now) (S.mounted_on store.now) in MatchBool result (IsFree items first second) (¬ IsFree items first second) }
+    ensures { let items = on S.contents (F.device flash.now) (S.mounted_on store.now) in
+        MatchBool result (IsFree items first second) (¬ IsFree items first second) }
 {
     if store.get_by(flash, index, first, steps).is_some() {
         return false;
@@ -98,8 +106,10 @@ pub fn standing_place<N: Numbers, S: ItemStore, F: Flash, L: Ledger>(
     requires ids { HasIds N.top S.is_id }
     requires lawful { IsLawfulFor (F.device flash.now).banks (S.mounted_on store.now) }
     requires stands { StandsOn S.mounted_on S.stands (F.device flash.now) store.now }
-    requires clean { let area = S.mounted_on store.now in HasNoStrays (N.numbers area) (on S.contents (F.device flash.now) area) }
-    ensures { let area = S.mounted_on store.now in IsPlaceOf (N.numbers area) (on S.contents (F.device flash.now) area) name.now result }
+    requires clean { let area = S.mounted_on store.now in
+        HasNoStrays (N.numbers area) (on S.contents (F.device flash.now) area) }
+    ensures { let area = S.mounted_on store.now in
+        IsPlaceOf (N.numbers area) (on S.contents (F.device flash.now) area) name.now result }
 {
     let ids = N::homes_of(name);
     store.id_of(flash, ids.least, ids.most, name.bytes(), steps)
@@ -116,8 +126,12 @@ pub fn standing_value<'a, N: Numbers, S: ItemStore, F: Flash, L: Ledger>(
     requires ids { HasIds N.top S.is_id }
     requires lawful { IsLawfulFor (F.device flash.now).banks (S.mounted_on store.now) }
     requires stands { StandsOn S.mounted_on S.stands (F.device flash.now) store.now }
-    requires clean { let area = S.mounted_on store.now in HasNoStrays (N.numbers area) (on S.contents (F.device flash.now) area) }
-    ensures { let area = S.mounted_on store.now in option_map (λ bytes. bytes.now) result ≡ finite.get (settings_in (N.numbers area) (on S.contents (F.device flash.now) area)) name.now }
+    requires clean { let area = S.mounted_on store.now in
+        HasNoStrays (N.numbers area) (on S.contents (F.device flash.now) area) }
+    ensures { let area = S.mounted_on store.now in
+        option_map (λ bytes. bytes.now) result
+        ≡ finite.get (settings_in (N.numbers area) (on S.contents (F.device flash.now) area))
+        name.now }
 {
     if !N::may_have(store, flash, name, steps) {
         return None;
@@ -141,9 +155,11 @@ fn counts_at<N: Numbers, S: ItemStore, F: Flash, L: Ledger>(
     requires tells { HoldsOn (S.tells index.now) (F.device flash.now) (S.mounted_on store.now) }
     requires known { place < N.top }
     requires own { IsForName (N.numbers (S.mounted_on store.now)) place }
-    ensures yes_it { let area = S.mounted_on store.now in let items = on S.contents (F.device flash.now) area in
+    ensures yes_it { let area = S.mounted_on store.now in
+        let items = on S.contents (F.device flash.now) area in
         result ≡ true → IsAt (N.numbers area) items name.now place }
-    ensures not_it { let area = S.mounted_on store.now in let items = on S.contents (F.device flash.now) area in
+    ensures not_it { let area = S.mounted_on store.now in
+        let items = on S.contents (F.device flash.now) area in
         result ≡ false → ¬ IsAt (N.numbers area) items name.now place }
 {
     if !is_named(store.get_by(flash, index, place, steps), name) {
@@ -164,7 +180,8 @@ fn place_among<N: Numbers, S: ItemStore, F: Flash, L: Ledger>(
     requires lawful { IsLawfulFor (F.device flash.now).banks (S.mounted_on store.now) }
     requires stands { StandsOn S.mounted_on S.stands (F.device flash.now) store.now }
     requires tells { HoldsOn (S.tells index.now) (F.device flash.now) (S.mounted_on store.now) }
-    ensures { let area = S.mounted_on store.now in IsPlaceOf (N.numbers area) (on S.contents (F.device flash.now) area) name.now result }
+    ensures { let area = S.mounted_on store.now in
+        IsPlaceOf (N.numbers area) (on S.contents (F.device flash.now) area) name.now result }
 {
     let ids = N::homes_of(name);
     for place in ids.least..ids.most + 1 {
@@ -187,7 +204,10 @@ pub fn value_of<'a, N: Numbers, S: ItemStore, F: Flash, L: Ledger>(
     requires ids { HasIds N.top S.is_id }
     requires lawful { IsLawfulFor (F.device flash.now).banks (S.mounted_on store.now) }
     requires stands { StandsOn S.mounted_on S.stands (F.device flash.now) store.now }
-    ensures { let area = S.mounted_on store.now in option_map (λ bytes. bytes.now) result ≡ finite.get (settings_in (N.numbers area) (on S.contents (F.device flash.now) area)) name.now }
+    ensures { let area = S.mounted_on store.now in
+        option_map (λ bytes. bytes.now) result
+        ≡ finite.get (settings_in (N.numbers area) (on S.contents (F.device flash.now) area))
+        name.now }
 {
     if !N::may_have(store, flash, name, steps) {
         return None;

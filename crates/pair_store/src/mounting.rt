@@ -39,19 +39,32 @@ pub fn mount_store<N: Numbers, S: ItemStore, F: Flash, L: Ledger>(
     requires lawful { IsLawfulFor (F.device flash.old).banks area }
     requires serves { S.serves area (geometry_of (F.device flash.old) area) }
 
-    ensures touches { Touches (area ∷ []) (F.device flash.old) (F.device flash.new) (mount_lost result) }
-    ensures ends { MountEnds (on S.damage (F.device flash.old) area) (F.device flash.old) (F.device flash.new) result }
-    ensures sound { on S.damage (F.device flash.old) area ≡ None → on S.damage (F.device flash.new) area ≡ None }
-    ensures keeps { on S.damage (F.device flash.old) area ≡ None → settings_in (N.numbers area) (on S.contents (F.device flash.new) area) ≡ settings_in (N.numbers area) (on S.contents (F.device flash.old) area) }
-    ensures kept { on S.damage (F.device flash.old) area ≡ None → KeepsEach (N.numbers area) (on S.contents (F.device flash.old) area) (on S.contents (F.device flash.new) area) }
-    ensures gone { on S.damage (F.device flash.old) area ≡ None →
-        OnlyRemoves (on S.contents (F.device flash.old) area) (on S.contents (F.device flash.new) area) }
-    ensures rests { HoldsOn S.rests (F.device flash.old) area → HasNoStrays (N.numbers area) (on S.contents (F.device flash.old) area) → F.device flash.new ≡ F.device flash.old }
+    ensures touches { Touches (area ∷ []) (F.device flash.old) (F.device flash.new)
+        (mount_lost result) }
+    ensures ends { MountEnds (on S.damage (F.device flash.old) area) (F.device flash.old)
+        (F.device flash.new) result }
+    ensures sound { on S.damage (F.device flash.old) area ≡ None
+        → on S.damage (F.device flash.new) area ≡ None }
+    ensures keeps { on S.damage (F.device flash.old) area ≡ None
+        → settings_in (N.numbers area) (on S.contents (F.device flash.new) area)
+        ≡ settings_in (N.numbers area) (on S.contents (F.device flash.old) area) }
+    ensures kept { on S.damage (F.device flash.old) area ≡ None
+        → KeepsEach (N.numbers area) (on S.contents (F.device flash.old) area)
+        (on S.contents (F.device flash.new) area) }
+    ensures gone { on S.damage (F.device flash.old) area ≡ None
+        → OnlyRemoves (on S.contents (F.device flash.old) area)
+        (on S.contents (F.device flash.new) area) }
+    ensures rests { HoldsOn S.rests (F.device flash.old) area
+        → HasNoStrays (N.numbers area) (on S.contents (F.device flash.old) area)
+        → F.device flash.new ≡ F.device flash.old }
     ensures written { StaysWritten (F.device flash.old) (F.device flash.new) area }
-    ensures at_most { let d = F.device flash.old in SpendsAtMost d (F.device flash.new) (mount_units (geometry_of d area)) }
+    ensures at_most { let d = F.device flash.old in
+        SpendsAtMost d (F.device flash.new) (mount_units (geometry_of d area)) }
     ensures on { IfOk result (λ store. S.mounted_on store ≡ area) }
-    ensures stands { IfOk result (λ store. StandsOn S.mounted_on S.stands (F.device flash.new) store) }
-    ensures clean { IfOk result (λ store. HasNoStrays (N.numbers area) (on S.contents (F.device flash.new) area)) }
+    ensures stands { IfOk result
+        (λ store. StandsOn S.mounted_on S.stands (F.device flash.new) store) }
+    ensures clean { IfOk result
+        (λ store. HasNoStrays (N.numbers area) (on S.contents (F.device flash.new) area)) }
 {
     match S::mount(alloc, flash, area, steps) {
         Ok(mut store) => match remove_strays::<N, S, F, L>(&mut store, flash, steps) {

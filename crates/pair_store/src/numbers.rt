@@ -59,7 +59,9 @@ pub trait Numbers {
         requires ids { HasIds top S.is_id }
         requires lawful { IsLawfulFor (F.device flash.now).banks (S.mounted_on store.now) }
         requires stands { StandsOn S.mounted_on S.stands (F.device flash.now) store.now }
-        ensures { let area = S.mounted_on store.now in result ≡ false → IsPlaceOf (numbers area) (on S.contents (F.device flash.now) area) name.now None };
+        ensures { let area = S.mounted_on store.now in
+            result ≡ false
+            → IsPlaceOf (numbers area) (on S.contents (F.device flash.now) area) name.now None };
 
     /// Whether an item is a count, or a part of a setting that counts.
     fn is_kept<S: ItemStore, F: Flash, L: Ledger>(
@@ -74,8 +76,11 @@ pub trait Numbers {
         requires stands { StandsOn S.mounted_on S.stands (F.device flash.now) store.now }
         requires tells { HoldsOn (S.tells index.now) (F.device flash.now) (S.mounted_on store.now) }
         requires known { id < top }
-        ensures yes_it { let area = S.mounted_on store.now in result ≡ true → IsKept (numbers area) (on S.contents (F.device flash.now) area) id }
-        ensures not_it { let area = S.mounted_on store.now in result ≡ false → IsKept (numbers area) (on S.contents (F.device flash.now) area) id → ⊥ };
+        ensures yes_it { let area = S.mounted_on store.now in
+            result ≡ true → IsKept (numbers area) (on S.contents (F.device flash.now) area) id }
+        ensures not_it { let area = S.mounted_on store.now in
+            result ≡ false → IsKept (numbers area) (on S.contents (F.device flash.now) area) id
+            → ⊥ };
 
     /// What all settings cost by the numbers of room, in bytes.
     fn settings_cost<S: ItemStore, F: Flash, L: Ledger>(
@@ -86,9 +91,12 @@ pub trait Numbers {
         requires ids { HasIds top S.is_id }
         requires lawful { IsLawfulFor (F.device flash.now).banks (S.mounted_on store.now) }
         requires stands { StandsOn S.mounted_on S.stands (F.device flash.now) store.now }
-        requires clean { let area = S.mounted_on store.now in HasNoStrays (numbers area) (on S.contents (F.device flash.now) area) }
+        requires clean { let area = S.mounted_on store.now in
+            HasNoStrays (numbers area) (on S.contents (F.device flash.now) area) }
         ensures { let d = F.device flash.now in let area = S.mounted_on store.now in
-            result ≡ (room_in counted too_many S.price S.cap (geometry_of d area)).cost (settings_in (numbers area) (on S.contents d area)) };
+            result
+            ≡ (room_in counted too_many S.price S.cap (geometry_of d area)).cost
+            (settings_in (numbers area) (on S.contents d area)) };
 
     // The count, the names and the values have ids of their own, and all of them are ids of the store.
     ghost is_numbering: { (area : area_type) → IsNumbering (numbers area) };

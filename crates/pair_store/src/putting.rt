@@ -34,9 +34,14 @@ pub fn refused<N: Numbers, S: ItemStore, F: Flash, L: Ledger>(
     requires ids { HasIds N.top S.is_id }
     requires lawful { IsLawfulFor (F.device flash.now).banks (S.mounted_on store.now) }
     requires stands { StandsOn S.mounted_on S.stands (F.device flash.now) store.now }
-    requires clean { let area = S.mounted_on store.now in HasNoStrays (N.numbers area) (on S.contents (F.device flash.now) area) }
-    ensures { let d = F.device flash.now in let area = S.mounted_on store.now in let g = geometry_of d area in
-        result ≡ NoSpace need ((room_in N.counted N.too_many S.price S.cap g).cost (settings_in (N.numbers area) (on S.contents d area))) }
+    requires clean { let area = S.mounted_on store.now in
+        HasNoStrays (N.numbers area) (on S.contents (F.device flash.now) area) }
+    ensures { let d = F.device flash.now in let area = S.mounted_on store.now in
+        let g = geometry_of d area in
+        result
+        ≡ NoSpace need
+        ((room_in N.counted N.too_many S.price S.cap g).cost
+        (settings_in (N.numbers area) (on S.contents d area))) }
 {
     SetFault::NoSpace {
         need,
@@ -60,24 +65,42 @@ pub fn change_value<N: Numbers, S: ItemStore, F: Flash, L: Ledger>(
     requires ids { HasIds N.top S.is_id }
     requires lawful { IsLawfulFor (F.device flash.old).banks (S.mounted_on store.old) }
     requires stands { StandsOn S.mounted_on S.stands (F.device flash.old) store.old }
-    requires clean { let area = S.mounted_on store.old in HasNoStrays (N.numbers area) (on S.contents (F.device flash.old) area) }
-    requires fits { let g = geometry_of (F.device flash.old) (S.mounted_on store.old) in Fits (value_limit (S.mounted_on store.old)) (S.price g) (S.cap g) }
+    requires clean { let area = S.mounted_on store.old in
+        HasNoStrays (N.numbers area) (on S.contents (F.device flash.old) area) }
+    requires fits { let g = geometry_of (F.device flash.old) (S.mounted_on store.old) in
+        Fits (value_limit (S.mounted_on store.old)) (S.price g) (S.cap g) }
     requires some { 0 < length value.now }
     requires short { length value.now ≤ value_limit (S.mounted_on store.old) }
-    requires at { let area = S.mounted_on store.old in IsAt (N.numbers area) (on S.contents (F.device flash.old) area) name.now first }
+    requires at { let area = S.mounted_on store.old in
+        IsAt (N.numbers area) (on S.contents (F.device flash.old) area) name.now first }
     requires step { second ≡ first + (N.numbers (S.mounted_on store.old)).step }
     requires known { S.is_id second }
 
-    ensures touches { Touches (S.mounted_on store.old ∷ []) (F.device flash.old) (F.device flash.new) (set_lost result) }
+    ensures touches { Touches (S.mounted_on store.old ∷ []) (F.device flash.old)
+        (F.device flash.new) (set_lost result) }
     ensures area { S.mounted_on store.new ≡ S.mounted_on store.old }
-    ensures ends { let area = S.mounted_on store.old in let d = F.device flash.old in let e = F.device flash.new in let g = geometry_of d area in
-        SetEnds (room_in N.counted N.too_many S.price S.cap g) area.sectors d e (settings_in (N.numbers area) (on S.contents d area)) (settings_in (N.numbers area) (on S.contents e area)) name.now value.now result }
-    ensures others { let area = S.mounted_on store.old in AltersOnly (on S.contents (F.device flash.old) area) (on S.contents (F.device flash.new) area) second }
-    ensures at_most { let d = F.device flash.old in SpendsAtMost d (F.device flash.new) (items.most_units (geometry_of d (S.mounted_on store.old))) }
+    ensures ends { let area = S.mounted_on store.old in let d = F.device flash.old in
+        let e = F.device flash.new in let g = geometry_of d area in
+        SetEnds (room_in N.counted N.too_many S.price S.cap g) area.sectors d e
+        (settings_in (N.numbers area) (on S.contents d area))
+        (settings_in (N.numbers area) (on S.contents e area)) name.now value.now result }
+    ensures others { let area = S.mounted_on store.old in
+        AltersOnly (on S.contents (F.device flash.old) area)
+        (on S.contents (F.device flash.new) area) second }
+    ensures at_most { let d = F.device flash.old in
+        SpendsAtMost d (F.device flash.new)
+        (items.most_units (geometry_of d (S.mounted_on store.old))) }
     ensures sound { on S.damage (F.device flash.new) (S.mounted_on store.old) ≡ None }
-    ensures cut { let area = S.mounted_on store.old in set_lost result ≡ true → IsPut (settings_in (N.numbers area) (on S.contents (F.device flash.old) area)) (settings_in (N.numbers area) (on S.contents (F.device flash.new) area)) name.now value.now }
-    ensures stands { set_lost result ≡ false → StandsOn S.mounted_on S.stands (F.device flash.new) store.new }
-    ensures clean { let area = S.mounted_on store.old in set_lost result ≡ false → HasNoStrays (N.numbers area) (on S.contents (F.device flash.new) area) }
+    ensures cut { let area = S.mounted_on store.old in
+        set_lost result ≡ true
+        → IsPut (settings_in (N.numbers area) (on S.contents (F.device flash.old) area))
+        (settings_in (N.numbers area) (on S.contents (F.device flash.new) area)) name.now
+        value.now }
+    ensures stands { set_lost result ≡ false
+        → StandsOn S.mounted_on S.stands (F.device flash.new) store.new }
+    ensures clean { let area = S.mounted_on store.old in
+        set_lost result ≡ false
+        → HasNoStrays (N.numbers area) (on S.contents (F.device flash.new) area) }
     ensures down { set_lost result ≡ true → S.runs store.new ≡ false }
 {
     let len = value.len() as u32;
@@ -100,7 +123,8 @@ pub fn price_of_pair<S: ItemStore, F: Flash>(store: &S, flash: &F, name: &Name, 
     requires lawful { IsLawfulFor (F.device flash.now).banks (S.mounted_on store.now) }
     requires stands { StandsOn S.mounted_on S.stands (F.device flash.now) store.now }
     requires short { length value.now ≤ value_limit (S.mounted_on store.now) }
-    ensures value { let g = geometry_of (F.device flash.now) (S.mounted_on store.now) in result ≡ S.price g (length value.now) + S.price g (length name.now) }
+    ensures value { let g = geometry_of (F.device flash.now) (S.mounted_on store.now) in
+        result ≡ S.price g (length value.now) + S.price g (length name.now) }
     ensures name { IsName name.now }
 {
     let text = name.bytes();
@@ -125,31 +149,54 @@ pub fn put_new<N: Numbers, S: ItemStore, F: Flash, L: Ledger>(
     requires ids { HasIds N.top S.is_id }
     requires lawful { IsLawfulFor (F.device flash.old).banks (S.mounted_on store.old) }
     requires stands { StandsOn S.mounted_on S.stands (F.device flash.old) store.old }
-    requires clean { let area = S.mounted_on store.old in HasNoStrays (N.numbers area) (on S.contents (F.device flash.old) area) }
-    requires fits { let g = geometry_of (F.device flash.old) (S.mounted_on store.old) in Fits (value_limit (S.mounted_on store.old)) (S.price g) (S.cap g) }
+    requires clean { let area = S.mounted_on store.old in
+        HasNoStrays (N.numbers area) (on S.contents (F.device flash.old) area) }
+    requires fits { let g = geometry_of (F.device flash.old) (S.mounted_on store.old) in
+        Fits (value_limit (S.mounted_on store.old)) (S.price g) (S.cap g) }
     requires some { 0 < length value.now }
     requires short { length value.now ≤ value_limit (S.mounted_on store.old) }
     requires named { IsName name.now }
-    requires needs { let g = geometry_of (F.device flash.old) (S.mounted_on store.old) in need ≡ S.price g (length value.now) + S.price g (length name.now) }
-    requires absent { let area = S.mounted_on store.old in IsPlaceOf (N.numbers area) (on S.contents (F.device flash.old) area) name.now None }
-    requires inside { let area = S.mounted_on store.old in IsInside (N.numbers area) (on S.contents (F.device flash.old) area) first }
+    requires needs { let g = geometry_of (F.device flash.old) (S.mounted_on store.old) in
+        need ≡ S.price g (length value.now) + S.price g (length name.now) }
+    requires absent { let area = S.mounted_on store.old in
+        IsPlaceOf (N.numbers area) (on S.contents (F.device flash.old) area) name.now None }
+    requires inside { let area = S.mounted_on store.old in
+        IsInside (N.numbers area) (on S.contents (F.device flash.old) area) first }
     requires home { (N.numbers (S.mounted_on store.old)).is_home first name.now ≡ true }
     requires step { second ≡ first + (N.numbers (S.mounted_on store.old)).step }
     requires first { S.is_id first }
     requires second { S.is_id second }
-    requires few { let area = S.mounted_on store.old in N.too_many (settings_in (N.numbers area) (on S.contents (F.device flash.old) area)) name.now ≡ false }
-    requires free { IsFree (on S.contents (F.device flash.old) (S.mounted_on store.old)) first second }
+    requires few { let area = S.mounted_on store.old in
+        N.too_many (settings_in (N.numbers area) (on S.contents (F.device flash.old) area)) name.now
+        ≡ false }
+    requires free { IsFree (on S.contents (F.device flash.old) (S.mounted_on store.old)) first
+        second }
 
-    ensures touches { Touches (S.mounted_on store.old ∷ []) (F.device flash.old) (F.device flash.new) (set_lost result) }
+    ensures touches { Touches (S.mounted_on store.old ∷ []) (F.device flash.old)
+        (F.device flash.new) (set_lost result) }
     ensures area { S.mounted_on store.new ≡ S.mounted_on store.old }
-    ensures ends { let area = S.mounted_on store.old in let d = F.device flash.old in let e = F.device flash.new in let g = geometry_of d area in
-        SetEnds (room_in N.counted N.too_many S.price S.cap g) area.sectors d e (settings_in (N.numbers area) (on S.contents d area)) (settings_in (N.numbers area) (on S.contents e area)) name.now value.now result }
-    ensures others { let area = S.mounted_on store.old in AltersTwo (on S.contents (F.device flash.old) area) (on S.contents (F.device flash.new) area) first second }
-    ensures at_most { let d = F.device flash.old in SpendsAtMost d (F.device flash.new) (3 * items.most_units (geometry_of d (S.mounted_on store.old))) }
+    ensures ends { let area = S.mounted_on store.old in let d = F.device flash.old in
+        let e = F.device flash.new in let g = geometry_of d area in
+        SetEnds (room_in N.counted N.too_many S.price S.cap g) area.sectors d e
+        (settings_in (N.numbers area) (on S.contents d area))
+        (settings_in (N.numbers area) (on S.contents e area)) name.now value.now result }
+    ensures others { let area = S.mounted_on store.old in
+        AltersTwo (on S.contents (F.device flash.old) area)
+        (on S.contents (F.device flash.new) area) first second }
+    ensures at_most { let d = F.device flash.old in
+        SpendsAtMost d (F.device flash.new)
+        (3 * items.most_units (geometry_of d (S.mounted_on store.old))) }
     ensures sound { on S.damage (F.device flash.new) (S.mounted_on store.old) ≡ None }
-    ensures cut { let area = S.mounted_on store.old in set_lost result ≡ true → IsPut (settings_in (N.numbers area) (on S.contents (F.device flash.old) area)) (settings_in (N.numbers area) (on S.contents (F.device flash.new) area)) name.now value.now }
-    ensures stands { set_lost result ≡ false → StandsOn S.mounted_on S.stands (F.device flash.new) store.new }
-    ensures clean { let area = S.mounted_on store.old in set_lost result ≡ false → HasNoStrays (N.numbers area) (on S.contents (F.device flash.new) area) }
+    ensures cut { let area = S.mounted_on store.old in
+        set_lost result ≡ true
+        → IsPut (settings_in (N.numbers area) (on S.contents (F.device flash.old) area))
+        (settings_in (N.numbers area) (on S.contents (F.device flash.new) area)) name.now
+        value.now }
+    ensures stands { set_lost result ≡ false
+        → StandsOn S.mounted_on S.stands (F.device flash.new) store.new }
+    ensures clean { let area = S.mounted_on store.old in
+        set_lost result ≡ false
+        → HasNoStrays (N.numbers area) (on S.contents (F.device flash.new) area) }
     ensures down { set_lost result ≡ true → S.runs store.new ≡ false }
 {
     match put_pair(store, flash, first, second, name, value, steps) {

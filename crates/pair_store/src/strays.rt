@@ -37,27 +37,51 @@ pub fn remove_if_stray<N: Numbers, S: ItemStore, F: Flash, L: Ledger>(
     requires sound { on S.damage (F.device flash.old) (S.mounted_on store.old) ≡ None }
     requires known { id < N.top }
 
-    ensures touches { Touches (S.mounted_on store.old ∷ []) (F.device flash.old) (F.device flash.new) (is_err result) }
+    ensures touches { Touches (S.mounted_on store.old ∷ []) (F.device flash.old)
+        (F.device flash.new) (is_err result) }
     ensures area { S.mounted_on store.new ≡ S.mounted_on store.old }
     ensures sound { on S.damage (F.device flash.new) (S.mounted_on store.old) ≡ None }
-    ensures keeps { let area = S.mounted_on store.old in settings_in (N.numbers area) (on S.contents (F.device flash.new) area) ≡ settings_in (N.numbers area) (on S.contents (F.device flash.old) area) }
-    ensures kept { let area = S.mounted_on store.old in KeepsEach (N.numbers area) (on S.contents (F.device flash.old) area) (on S.contents (F.device flash.new) area) }
+    ensures keeps { let area = S.mounted_on store.old in
+        settings_in (N.numbers area) (on S.contents (F.device flash.new) area)
+        ≡ settings_in (N.numbers area) (on S.contents (F.device flash.old) area) }
+    ensures kept { let area = S.mounted_on store.old in
+        KeepsEach (N.numbers area) (on S.contents (F.device flash.old) area)
+        (on S.contents (F.device flash.new) area) }
     ensures still { let area = S.mounted_on store.old in
-        StaysKept (N.numbers area) (on S.contents (F.device flash.old) area) (on S.contents (F.device flash.new) area) }
+        StaysKept (N.numbers area) (on S.contents (F.device flash.old) area)
+        (on S.contents (F.device flash.new) area) }
     ensures others { let area = S.mounted_on store.old in
-        AltersOnly (on S.contents (F.device flash.old) area) (on S.contents (F.device flash.new) area) id }
+        AltersOnly (on S.contents (F.device flash.old) area)
+        (on S.contents (F.device flash.new) area) id }
     ensures gone { let area = S.mounted_on store.old in
-        OnlyRemoves (on S.contents (F.device flash.old) area) (on S.contents (F.device flash.new) area) }
-    ensures idle { let area = S.mounted_on store.old in IsKept (N.numbers area) (on S.contents (F.device flash.old) area) id → F.device flash.new ≡ F.device flash.old }
-    ensures per_item { let d = F.device flash.old in let e = F.device flash.new in let area = S.mounted_on store.old in
-        is_err result ≡ false → SpendsPerItem (removal_units (geometry_of d area)) d e (on S.contents d area) (on S.contents e area) }
-    ensures at_most { let d = F.device flash.old in SpendsAtMost d (F.device flash.new) (removal_units (geometry_of d (S.mounted_on store.old))) }
-    ensures present { is_err result ≡ true → ¬ (finite.get (on S.contents (F.device flash.old) (S.mounted_on store.old)) id ≡ None) }
-    ensures written { StaysWritten (F.device flash.old) (F.device flash.new) (S.mounted_on store.old) }
-    ensures rests { let area = S.mounted_on store.old in HasNoStrays (N.numbers area) (on S.contents (F.device flash.old) area) → F.device flash.new ≡ F.device flash.old }
-    ensures stands { is_err result ≡ false → StandsOn S.mounted_on S.stands (F.device flash.new) store.new }
-    ensures tells { is_err result ≡ false → HoldsOn (S.tells index.new) (F.device flash.new) (S.mounted_on store.new) }
-    ensures removes { let area = S.mounted_on store.old in is_err result ≡ false → Removes (N.numbers area) (on S.contents (F.device flash.old) area) (on S.contents (F.device flash.new) area) id }
+        OnlyRemoves (on S.contents (F.device flash.old) area)
+        (on S.contents (F.device flash.new) area) }
+    ensures idle { let area = S.mounted_on store.old in
+        IsKept (N.numbers area) (on S.contents (F.device flash.old) area) id
+        → F.device flash.new ≡ F.device flash.old }
+    ensures per_item { let d = F.device flash.old in let e = F.device flash.new in
+        let area = S.mounted_on store.old in
+        is_err result ≡ false
+        → SpendsPerItem (removal_units (geometry_of d area)) d e (on S.contents d area)
+        (on S.contents e area) }
+    ensures at_most { let d = F.device flash.old in
+        SpendsAtMost d (F.device flash.new)
+        (removal_units (geometry_of d (S.mounted_on store.old))) }
+    ensures present { is_err result ≡ true
+        → ¬ (finite.get (on S.contents (F.device flash.old) (S.mounted_on store.old)) id ≡ None) }
+    ensures written { StaysWritten (F.device flash.old) (F.device flash.new)
+        (S.mounted_on store.old) }
+    ensures rests { let area = S.mounted_on store.old in
+        HasNoStrays (N.numbers area) (on S.contents (F.device flash.old) area)
+        → F.device flash.new ≡ F.device flash.old }
+    ensures stands { is_err result ≡ false
+        → StandsOn S.mounted_on S.stands (F.device flash.new) store.new }
+    ensures tells { is_err result ≡ false
+        → HoldsOn (S.tells index.new) (F.device flash.new) (S.mounted_on store.new) }
+    ensures removes { let area = S.mounted_on store.old in
+        is_err result ≡ false
+        → Removes (N.numbers area) (on S.contents (F.device flash.old) area)
+        (on S.contents (F.device flash.new) area) id }
 {
     if N::is_kept(store, flash, index, id, steps) {
         return Ok(());
@@ -85,21 +109,36 @@ pub fn remove_strays<N: Numbers, S: ItemStore, F: Flash, L: Ledger>(
     requires stands { StandsOn S.mounted_on S.stands (F.device flash.old) store.old }
     requires sound { on S.damage (F.device flash.old) (S.mounted_on store.old) ≡ None }
 
-    ensures touches { Touches (S.mounted_on store.old ∷ []) (F.device flash.old) (F.device flash.new) (is_err result) }
+    ensures touches { Touches (S.mounted_on store.old ∷ []) (F.device flash.old)
+        (F.device flash.new) (is_err result) }
     ensures area { S.mounted_on store.new ≡ S.mounted_on store.old }
     ensures sound { on S.damage (F.device flash.new) (S.mounted_on store.old) ≡ None }
-    ensures keeps { let area = S.mounted_on store.old in settings_in (N.numbers area) (on S.contents (F.device flash.new) area) ≡ settings_in (N.numbers area) (on S.contents (F.device flash.old) area) }
-    ensures kept { let area = S.mounted_on store.old in KeepsEach (N.numbers area) (on S.contents (F.device flash.old) area) (on S.contents (F.device flash.new) area) }
+    ensures keeps { let area = S.mounted_on store.old in
+        settings_in (N.numbers area) (on S.contents (F.device flash.new) area)
+        ≡ settings_in (N.numbers area) (on S.contents (F.device flash.old) area) }
+    ensures kept { let area = S.mounted_on store.old in
+        KeepsEach (N.numbers area) (on S.contents (F.device flash.old) area)
+        (on S.contents (F.device flash.new) area) }
     ensures gone { let area = S.mounted_on store.old in
-        OnlyRemoves (on S.contents (F.device flash.old) area) (on S.contents (F.device flash.new) area) }
-    ensures order { let d = F.device flash.old in let e = F.device flash.new in let area = S.mounted_on store.old in
-        is_err result ≡ true → (id : ℕ) × StopsAt (N.numbers area) (on S.contents d area) (on S.contents e area) id }
+        OnlyRemoves (on S.contents (F.device flash.old) area)
+        (on S.contents (F.device flash.new) area) }
+    ensures order { let d = F.device flash.old in let e = F.device flash.new in
+        let area = S.mounted_on store.old in
+        is_err result ≡ true
+        → (id : ℕ) × StopsAt (N.numbers area) (on S.contents d area) (on S.contents e area) id }
     ensures at_most { let d = F.device flash.old in let area = S.mounted_on store.old in
-        SpendsAtMost d (F.device flash.new) (finite.len (on S.contents d area) * removal_units (geometry_of d area)) }
-    ensures written { StaysWritten (F.device flash.old) (F.device flash.new) (S.mounted_on store.old) }
-    ensures rests { let area = S.mounted_on store.old in HasNoStrays (N.numbers area) (on S.contents (F.device flash.old) area) → F.device flash.new ≡ F.device flash.old }
-    ensures stands { is_err result ≡ false → StandsOn S.mounted_on S.stands (F.device flash.new) store.new }
-    ensures clean { let area = S.mounted_on store.old in is_err result ≡ false → HasNoStrays (N.numbers area) (on S.contents (F.device flash.new) area) }
+        SpendsAtMost d (F.device flash.new)
+        (finite.len (on S.contents d area) * removal_units (geometry_of d area)) }
+    ensures written { StaysWritten (F.device flash.old) (F.device flash.new)
+        (S.mounted_on store.old) }
+    ensures rests { let area = S.mounted_on store.old in
+        HasNoStrays (N.numbers area) (on S.contents (F.device flash.old) area)
+        → F.device flash.new ≡ F.device flash.old }
+    ensures stands { is_err result ≡ false
+        → StandsOn S.mounted_on S.stands (F.device flash.new) store.new }
+    ensures clean { let area = S.mounted_on store.old in
+        is_err result ≡ false
+        → HasNoStrays (N.numbers area) (on S.contents (F.device flash.new) area) }
 {
     let mut index = S::new_index();
     store.tell(flash, &mut index, steps);

@@ -26,7 +26,8 @@ pub fn name_in<S: ItemStore, F: Flash, L: Ledger>(
     requires stands { StandsOn S.mounted_on S.stands (F.device flash.now) store.now }
     requires tells { HoldsOn (S.tells index.now) (F.device flash.now) (S.mounted_on store.now) }
     requires known { S.is_id id }
-    ensures { let items = on S.contents (F.device flash.now) (S.mounted_on store.now) in IsNameIn (finite.get items id) result }
+    ensures { let items = on S.contents (F.device flash.now) (S.mounted_on store.now) in
+        IsNameIn (finite.get items id) result }
 {
     match store.get_by(flash, index, id, steps) {
         Some(bytes) => match Name::read(bytes) {
@@ -48,9 +49,12 @@ pub fn next_name<N: Numbers, S: ItemStore, F: Flash, L: Ledger>(
     requires ids { HasIds N.top S.is_id }
     requires lawful { IsLawfulFor (F.device flash.now).banks (S.mounted_on store.now) }
     requires stands { StandsOn S.mounted_on S.stands (F.device flash.now) store.now }
-    requires clean { let area = S.mounted_on store.now in HasNoStrays (N.numbers area) (on S.contents (F.device flash.now) area) }
+    requires clean { let area = S.mounted_on store.now in
+        HasNoStrays (N.numbers area) (on S.contents (F.device flash.now) area) }
     ensures { let area = S.mounted_on store.now in
-        result ≡ next_name_of (settings_in (N.numbers area) (on S.contents (F.device flash.now) area)) (option_map (λ name. name.now) after.entry) }
+        result
+        ≡ next_name_of (settings_in (N.numbers area) (on S.contents (F.device flash.now) area))
+        (option_map (λ name. name.now) after.entry) }
 {
     let ids = N::all_homes();
     let after = after.map(|name| name.bytes());

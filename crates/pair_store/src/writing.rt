@@ -38,14 +38,20 @@ pub fn delete_pair<S: ItemStore, F: Flash, L: Ledger>(
     requires stands { StandsOn S.mounted_on S.stands (F.device flash.old) store.old }
     requires first { S.is_id first }
     requires second { S.is_id second }
-    requires named { let area = S.mounted_on store.old in finite.get (on S.contents (F.device flash.old) area) first ≡ None → ⊥ }
+    requires named { let area = S.mounted_on store.old in
+        finite.get (on S.contents (F.device flash.old) area) first ≡ None → ⊥ }
 
-    ensures touches { Touches (S.mounted_on store.old ∷ []) (F.device flash.old) (F.device flash.new) (is_err result) }
+    ensures touches { Touches (S.mounted_on store.old ∷ []) (F.device flash.old)
+        (F.device flash.new) (is_err result) }
     ensures area { S.mounted_on store.new ≡ S.mounted_on store.old }
-    ensures ends { let area = S.mounted_on store.old in DeletesPair (on S.contents (F.device flash.old) area) (on S.contents (F.device flash.new) area) first second result }
-    ensures at_most { let d = F.device flash.old in SpendsAtMost d (F.device flash.new) (most_units (geometry_of d (S.mounted_on store.old))) }
+    ensures ends { let area = S.mounted_on store.old in
+        DeletesPair (on S.contents (F.device flash.old) area)
+        (on S.contents (F.device flash.new) area) first second result }
+    ensures at_most { let d = F.device flash.old in
+        SpendsAtMost d (F.device flash.new) (most_units (geometry_of d (S.mounted_on store.old))) }
     ensures sound { on S.damage (F.device flash.new) (S.mounted_on store.old) ≡ None }
-    ensures stands { is_err result ≡ false → StandsOn S.mounted_on S.stands (F.device flash.new) store.new }
+    ensures stands { is_err result ≡ false
+        → StandsOn S.mounted_on S.stands (F.device flash.new) store.new }
     ensures down { is_err result ≡ true → S.runs store.new ≡ false }
 {
     store.delete(flash, first, steps)?;
@@ -65,20 +71,33 @@ pub fn delete_name<N: Numbers, S: ItemStore, F: Flash, L: Ledger>(
     requires ids { HasIds N.top S.is_id }
     requires lawful { IsLawfulFor (F.device flash.old).banks (S.mounted_on store.old) }
     requires stands { StandsOn S.mounted_on S.stands (F.device flash.old) store.old }
-    requires clean { let area = S.mounted_on store.old in HasNoStrays (N.numbers area) (on S.contents (F.device flash.old) area) }
+    requires clean { let area = S.mounted_on store.old in
+        HasNoStrays (N.numbers area) (on S.contents (F.device flash.old) area) }
 
-    ensures touches { Touches (S.mounted_on store.old ∷ []) (F.device flash.old) (F.device flash.new) (is_err result) }
+    ensures touches { Touches (S.mounted_on store.old ∷ []) (F.device flash.old)
+        (F.device flash.new) (is_err result) }
     ensures area { S.mounted_on store.new ≡ S.mounted_on store.old }
-    ensures ends { let area = S.mounted_on store.old in let d = F.device flash.old in let e = F.device flash.new in
-        DeleteEnds d e (settings_in (N.numbers area) (on S.contents d area)) (settings_in (N.numbers area) (on S.contents e area)) name.now result }
-    ensures others { let area = S.mounted_on store.old in let before = on S.contents (F.device flash.old) area in let after = on S.contents (F.device flash.new) area in
-        (place : ℕ) → IsAt (N.numbers area) before name.now place → AltersTwo before after place (place + (N.numbers area).step) }
-    ensures at_most { let d = F.device flash.old in SpendsAtMost d (F.device flash.new) (most_units (geometry_of d (S.mounted_on store.old))) }
+    ensures ends { let area = S.mounted_on store.old in let d = F.device flash.old in
+        let e = F.device flash.new in
+        DeleteEnds d e (settings_in (N.numbers area) (on S.contents d area))
+        (settings_in (N.numbers area) (on S.contents e area)) name.now result }
+    ensures others { let area = S.mounted_on store.old in
+        let before = on S.contents (F.device flash.old) area in
+        let after = on S.contents (F.device flash.new) area in
+        (place : ℕ) → IsAt (N.numbers area) before name.now place
+        → AltersTwo before after place (place + (N.numbers area).step) }
+    ensures at_most { let d = F.device flash.old in
+        SpendsAtMost d (F.device flash.new) (most_units (geometry_of d (S.mounted_on store.old))) }
     ensures sound { on S.damage (F.device flash.new) (S.mounted_on store.old) ≡ None }
-    ensures cut { let area = S.mounted_on store.old in let before = settings_in (N.numbers area) (on S.contents (F.device flash.old) area) in let after = settings_in (N.numbers area) (on S.contents (F.device flash.new) area) in
+    ensures cut { let area = S.mounted_on store.old in
+        let before = settings_in (N.numbers area) (on S.contents (F.device flash.old) area) in
+        let after = settings_in (N.numbers area) (on S.contents (F.device flash.new) area) in
         is_err result ≡ true → (after ≡ before) ⊎ (after ≡ finite.remove before name.now) }
-    ensures stands { is_err result ≡ false → StandsOn S.mounted_on S.stands (F.device flash.new) store.new }
-    ensures clean { let area = S.mounted_on store.old in is_err result ≡ false → HasNoStrays (N.numbers area) (on S.contents (F.device flash.new) area) }
+    ensures stands { is_err result ≡ false
+        → StandsOn S.mounted_on S.stands (F.device flash.new) store.new }
+    ensures clean { let area = S.mounted_on store.old in
+        is_err result ≡ false
+        → HasNoStrays (N.numbers area) (on S.contents (F.device flash.new) area) }
     ensures down { is_err result ≡ true → S.runs store.new ≡ false }
 {
     match standing_place::<N, S, F, L>(store, flash, name, steps) {
@@ -108,15 +127,22 @@ pub fn put_pair<S: ItemStore, F: Flash, L: Ledger>(
     requires first { S.is_id first }
     requires second { S.is_id second }
     requires some { 0 < length value.now }
-    requires free { let area = S.mounted_on store.old in finite.get (on S.contents (F.device flash.old) area) second ≡ None }
+    requires free { let area = S.mounted_on store.old in
+        finite.get (on S.contents (F.device flash.old) area) second ≡ None }
 
-    ensures touches { Touches (S.mounted_on store.old ∷ []) (F.device flash.old) (F.device flash.new) (write_lost result) }
+    ensures touches { Touches (S.mounted_on store.old ∷ []) (F.device flash.old)
+        (F.device flash.new) (write_lost result) }
     ensures area { S.mounted_on store.new ≡ S.mounted_on store.old }
-    ensures ends { let area = S.mounted_on store.old in let g = geometry_of (F.device flash.old) area in
-        PutsPair (S.price g) (S.cap g) area.sectors (on S.contents (F.device flash.old) area) (on S.contents (F.device flash.new) area) first second name.now value.now result }
-    ensures at_most { let d = F.device flash.old in SpendsAtMost d (F.device flash.new) (3 * items.most_units (geometry_of d (S.mounted_on store.old))) }
+    ensures ends { let area = S.mounted_on store.old in
+        let g = geometry_of (F.device flash.old) area in
+        PutsPair (S.price g) (S.cap g) area.sectors (on S.contents (F.device flash.old) area)
+        (on S.contents (F.device flash.new) area) first second name.now value.now result }
+    ensures at_most { let d = F.device flash.old in
+        SpendsAtMost d (F.device flash.new)
+        (3 * items.most_units (geometry_of d (S.mounted_on store.old))) }
     ensures sound { on S.damage (F.device flash.new) (S.mounted_on store.old) ≡ None }
-    ensures stands { write_lost result ≡ false → StandsOn S.mounted_on S.stands (F.device flash.new) store.new }
+    ensures stands { write_lost result ≡ false
+        → StandsOn S.mounted_on S.stands (F.device flash.new) store.new }
     ensures down { write_lost result ≡ true → S.runs store.new ≡ false }
 {
     match store.write(flash, second, value, steps) {

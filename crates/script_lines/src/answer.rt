@@ -133,7 +133,8 @@ fn taken_or_rejected(taken: bool) -> &'static [u8]
 }
 
 fn add_give(alloc: Global, text: &mut Vec<u8>, give: &Give) -> Result<(), AllocError>
-    ensures { OnOk result (text.new.items ≡ text.old.items ++ lines_text (give_line give.now ∷ [])) }
+    ensures { OnOk result
+        (text.new.items ≡ text.old.items ++ lines_text (give_line give.now ∷ [])) }
 {
     add_word(text, b"give")?;
     add_word(text, give.subtree.bytes())?;
@@ -144,7 +145,8 @@ fn add_give(alloc: Global, text: &mut Vec<u8>, give: &Give) -> Result<(), AllocE
 }
 
 fn add_have(alloc: Global, text: &mut Vec<u8>, pair: &Pair) -> Result<(), AllocError>
-    ensures { OnOk result (text.new.items ≡ text.old.items ++ lines_text (have_line pair.now ∷ [])) }
+    ensures { OnOk result
+        (text.new.items ≡ text.old.items ++ lines_text (have_line pair.now ∷ [])) }
 {
     add_word(text, b"have")?;
     add_word(text, pair.name.bytes())?;
@@ -186,7 +188,8 @@ fn names_of(alloc: Global, pairs: &[Pair]) -> Result<Map<String, Value>, AllocEr
 }
 
 fn object_text(alloc: Global, members: Map<String, Value>) -> Result<String, AllocError>
-    ensures { IfOk result (λ text. IsObjectText (members_view members.entries) (string_bytes text)) }
+    ensures { IfOk result
+        (λ text. IsObjectText (members_view members.entries) (string_bytes text)) }
 {
     let object = Value::Object(members);
     object.to_string(alloc)
@@ -232,7 +235,8 @@ fn loaded_text(
     rejected: u32,
     passed: u32,
 ) -> Result<Vec<u8>, AllocError>
-    ensures { IfOk result (λ text. text.items ≡ text_of (Answer.Loaded gives.now taken rejected passed)) }
+    ensures { IfOk result
+        (λ text. text.items ≡ text_of (Answer.Loaded gives.now taken rejected passed)) }
 {
     let mut text = give_lines(alloc, gives)?;
     let last = format!(in alloc; "loaded {taken} {rejected} {passed}\n")?;

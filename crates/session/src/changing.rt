@@ -23,7 +23,8 @@ pub(crate) fn spells_another<K: Backend, B: Bench, L: Ledger>(
 ) -> bool
     requires lawful { IsLawfulFor (B.device bench.now).banks area.now }
     requires serves { K.serves area.now (geometry_of (B.device bench.now) area.now) }
-    ensures { (loss : loss_type) → (B.device bench.now).last_loss ≡ Some loss → result ≡ on K.chance (B.device bench.now) area.now loss }
+    ensures { (loss : loss_type) → (B.device bench.now).last_loss ≡ Some loss
+        → result ≡ on K.chance (B.device bench.now) area.now loss }
 {
     match bench.last_loss() {
         Some(loss) => K::chance(bench, area, loss, steps),
@@ -52,7 +53,8 @@ pub(crate) fn set_setting<K: Backend, B: Bench, L: Ledger>(
     requires short { length value.now ≤ value_limit area.now }
 
     ensures done { let d = B.device bench.old in
-        DoneBeside (meanings K.contents K.room K.chance K.tears) map.now (Set name.now value.now) result d (B.device bench.new) }
+        DoneBeside (meanings K.contents K.room K.chance K.tears) map.now (Set name.now value.now)
+        result d (B.device bench.new) }
     ensures sound { on K.damage (B.device bench.new) area.now ≡ None }
     ensures area { K.mounted_on settings.new.backend ≡ area.now }
     ensures ready { (B.device bench.new).is_on ≡ true → K.runs settings.new.backend ≡ true }
@@ -93,7 +95,8 @@ pub(crate) fn delete_setting<K: Backend, B: Bench, L: Ledger>(
     requires stands { StandsOn K.mounted_on K.stands (B.device bench.old) settings.old.backend }
 
     ensures done { let d = B.device bench.old in
-        DoneBeside (meanings K.contents K.room K.chance K.tears) map.now (Del name.now) result d (B.device bench.new) }
+        DoneBeside (meanings K.contents K.room K.chance K.tears) map.now (Del name.now) result d
+        (B.device bench.new) }
     ensures sound { on K.damage (B.device bench.new) area.now ≡ None }
     ensures area { K.mounted_on settings.new.backend ≡ area.now }
     ensures ready { (B.device bench.new).is_on ≡ true → K.runs settings.new.backend ≡ true }

@@ -65,7 +65,8 @@ impl Report for Given {
 // Whether the handler at this place is registered for the subtree.
 fn is_own(registry: &Registry, i: usize, subtree: &Name) -> bool
     requires { i < length (registered state registry.now) }
-    ensures { result ≡ bytes_eq subtree.now (get_or (registered state registry.now) i nobody).subtree }
+    ensures { result
+        ≡ bytes_eq subtree.now (get_or (registered state registry.now) i nobody).subtree }
 {
     match registry.subtree(i) {
         Some(own) => *subtree == *own,
@@ -167,10 +168,14 @@ fn load_settings<K: Backend, B: Bench, L: Ledger>(
     requires up { K.runs settings.now.backend ≡ true }
     requires stands { StandsOn K.mounted_on K.stands (B.device bench.now) settings.now.backend }
 
-    ensures done { let stored = on K.contents (B.device bench.now) (K.mounted_on settings.now.backend) in
-        IfOk result (λ answer. (s : State) → s.settings ≡ stored → Loads subtree.now answer
-        (beside s (registered state registry.old) s.pool) (beside s (registered state registry.new) s.pool)) }
-    ensures lawful { let stored = on K.contents (B.device bench.now) (K.mounted_on settings.now.backend) in
+    ensures done { let stored =
+        on K.contents (B.device bench.now) (K.mounted_on settings.now.backend) in
+        IfOk result
+        (λ answer. (s : State) → s.settings ≡ stored
+        → Loads subtree.now answer (beside s (registered state registry.old) s.pool)
+        (beside s (registered state registry.new) s.pool)) }
+    ensures lawful { let stored =
+        on K.contents (B.device bench.now) (K.mounted_on settings.now.backend) in
         (limit : ℕ) → IsSettings limit stored → AreLawful limit (registered state registry.old)
         → AreLawful limit (registered state registry.new) }
 {
@@ -192,8 +197,9 @@ fn load_settings<K: Backend, B: Bench, L: Ledger>(
 
 // Commits all handlers.
 fn commit_handlers(registry: &mut Registry) -> Answer
-    ensures done { (s : State) → Commits result
-        (beside s (registered state registry.old) s.pool) (beside s (registered state registry.new) s.pool) }
+    ensures done { (s : State)
+        → Commits result (beside s (registered state registry.old) s.pool)
+        (beside s (registered state registry.new) s.pool) }
     ensures lawful { (limit : ℕ) → AreLawful limit (registered state registry.old)
         → AreLawful limit (registered state registry.new) }
 {
@@ -211,9 +217,12 @@ fn offer_value(
     value: &Bytes,
     registry: &mut Registry,
 ) -> Result<Answer, NoMemory>
-    ensures done { IfOk result (λ answer. (s : State) → Offers name.now value.now answer
-        (beside s (registered state registry.old) s.pool) (beside s (registered state registry.new) s.pool)) }
-    ensures lawful { (limit : ℕ) → IsValue limit value.now → AreLawful limit (registered state registry.old)
+    ensures done { IfOk result
+        (λ answer. (s : State)
+        → Offers name.now value.now answer (beside s (registered state registry.old) s.pool)
+        (beside s (registered state registry.new) s.pool)) }
+    ensures lawful { (limit : ℕ) → IsValue limit value.now
+        → AreLawful limit (registered state registry.old)
         → AreLawful limit (registered state registry.new) }
 {
     lawful_registry();
@@ -228,8 +237,10 @@ fn offer_value(
 
 // What the best handler for the name holds for it.
 fn ask_handler(alloc: Global, name: &Name, registry: &Registry) -> Result<Answer, NoMemory>
-    ensures { IfOk result (λ answer. (s : State) → Asks name.now answer
-        (beside s (registered state registry.now) s.pool) (beside s (registered state registry.now) s.pool)) }
+    ensures { IfOk result
+        (λ answer. (s : State)
+        → Asks name.now answer (beside s (registered state registry.now) s.pool)
+        (beside s (registered state registry.now) s.pool)) }
 {
     match runtime_get(registry, name) {
         Ok(Some(bytes)) => {
@@ -325,10 +336,13 @@ pub(crate) fn with_handlers<K: Backend, B: Bench, L: Ledger>(
     requires registry { AreLawful (limit_of map.now) (registered state registry.old) }
 
     ensures done { let m = meanings K.contents K.room K.chance K.tears in
-        IfOk result (λ answer. DoneWithin m map.now line.now answer
+        IfOk result
+        (λ answer. DoneWithin m map.now line.now answer
         (moment (B.device bench.old) (registered state registry.old) (kinds state pool.old.items))
-        (moment (B.device bench.new) (registered state registry.new) (kinds state pool.new.items))) }
-    ensures sound { on K.damage (B.device bench.old) area.now ≡ None → on K.damage (B.device bench.new) area.now ≡ None }
+        (moment (B.device bench.new) (registered state registry.new)
+        (kinds state pool.new.items))) }
+    ensures sound { on K.damage (B.device bench.old) area.now ≡ None
+        → on K.damage (B.device bench.new) area.now ≡ None }
     ensures none { OnErr result (B.device bench.new ≡ B.device bench.old) }
     ensures takes { OnErr result (takes_memory line.now ≡ true) }
     ensures area { K.mounted_on settings.new.backend ≡ area.now }

@@ -58,17 +58,19 @@ fn mount_selector<F: Flash, L: Ledger>(
 ) -> Result<Option<Selector>, MapFault>
     requires lawful { IsLawfulMap (F.device flash.old).banks map.now }
 
-    ensures touches { Touches (selectors map.now) (F.device flash.old) (F.device flash.new) (map_lost result) }
+    ensures touches { Touches (selectors map.now) (F.device flash.old) (F.device flash.new)
+        (map_lost result) }
     ensures ends { SelectorEnds map.now (F.device flash.old) (F.device flash.new) result }
     ensures sound { selector_damage_on map.now (F.device flash.old) ≡ None
         → selector_damage_on map.now (F.device flash.new) ≡ None }
     ensures active { selector_damage_on map.now (F.device flash.old) ≡ None
         → active_on map.now (F.device flash.new) ≡ active_on map.now (F.device flash.old) }
-    ensures idle { ((area : area_type) → selector_of map.now ≡ Some area → erases_on (F.device flash.old) area ≡ 0)
-        → F.device flash.new ≡ F.device flash.old }
+    ensures idle { ((area : area_type) → selector_of map.now ≡ Some area
+        → erases_on (F.device flash.old) area ≡ 0) → F.device flash.new ≡ F.device flash.old }
     ensures units { OnOk result ((area : area_type) → selector_of map.now ≡ Some area
         → Spends (F.device flash.old) (F.device flash.new) (erases_on (F.device flash.old) area)) }
-    ensures at_most { SpendsAtMost (F.device flash.old) (F.device flash.new) (selector_erases map.now (F.device flash.old)) }
+    ensures at_most { SpendsAtMost (F.device flash.old) (F.device flash.new)
+        (selector_erases map.now (F.device flash.old)) }
 {
     match selector_place(map) {
         Some(place) => {
@@ -128,14 +130,17 @@ pub(crate) fn mount_map<K: Backend, F: Flash, L: Ledger>(
     requires map { IsServedMap K.serves map.now (F.device flash.old) }
     requires on { (F.device flash.old).is_on ≡ true }
 
-    ensures touches { let areas = selectors map.now ++ active_area map.now (F.device flash.old) ∷ [] in
+    ensures touches { let areas =
+        selectors map.now ++ active_area map.now (F.device flash.old) ∷ [] in
         Touches areas (F.device flash.old) (F.device flash.new) (map_lost result) }
     ensures ends { let d = F.device flash.old in let e = F.device flash.new in
         MapEnds K.mounted_on K.stands K.runs K.damage K.contents map.now d e result }
     ensures sound { damage_in K.damage map.now (F.device flash.old) ≡ None
         → damage_in K.damage map.now (F.device flash.new) ≡ None }
-    ensures rests { IsAtRest K.rests map.now (F.device flash.old) → F.device flash.new ≡ F.device flash.old }
-    ensures at_most { SpendsAtMost (F.device flash.old) (F.device flash.new) (mount_bound map.now (F.device flash.old)) }
+    ensures rests { IsAtRest K.rests map.now (F.device flash.old)
+        → F.device flash.new ≡ F.device flash.old }
+    ensures at_most { SpendsAtMost (F.device flash.old) (F.device flash.new)
+        (mount_bound map.now (F.device flash.old)) }
 {
     let selector = match mount_selector(flash, map, steps) {
         Ok(selector) => selector,

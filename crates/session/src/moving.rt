@@ -26,14 +26,19 @@ pub(crate) fn move_settings<K: Backend, B: Bench, L: Ledger>(
     requires map { IsServedMap K.serves map.now (B.device bench.old) }
     requires on { (B.device bench.old).is_on ≡ true }
     requires ready { let d = B.device bench.old in
-        StandsOnMap K.mounted_on K.stands K.runs map.now d (Some selector.old) active.old settings.old }
+        StandsOnMap K.mounted_on K.stands K.runs map.now d (Some selector.old) active.old
+        settings.old }
 
-    ensures done { IfOk result (λ answer. let d = B.device bench.old in
-        DoneBeside (meanings K.contents K.room K.chance K.tears) map.now Migrate answer d (B.device bench.new)) }
+    ensures done { IfOk result
+        (λ answer. let d = B.device bench.old in DoneBeside
+        (meanings K.contents K.room K.chance K.tears) map.now Migrate answer d
+        (B.device bench.new)) }
     ensures sound { damage_in K.damage map.now (B.device bench.new) ≡ None }
     ensures stops { OnErr result (BeginsMove map.now (B.device bench.old) (B.device bench.new)) }
     ensures ready { let e = B.device bench.new in
-        OnOk result (IsReady K.mounted_on K.stands K.runs map.now e (Some selector.new) active.new (Some settings.new)) }
+        OnOk result
+        (IsReady K.mounted_on K.stands K.runs map.now e (Some selector.new) active.new
+        (Some settings.new)) }
 {
     let before = bench.spent();
     let end = migrate(

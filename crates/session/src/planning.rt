@@ -11,8 +11,10 @@ use script_lines::Answer;
 // Plans a loss of power.
 pub(crate) fn plan_loss<K: Backend, B: Bench>(bench: &mut B, map: &FlashMap, units: u64) -> Answer
     ensures done { let d = B.device bench.old in
-        DoneBeside (meanings K.contents K.room K.chance K.tears) map.now (Cut units) result d (B.device bench.new) }
-    ensures same { B.device bench.new ≡ record (B.device bench.old) { plan = (B.device bench.new).plan } }
+        DoneBeside (meanings K.contents K.room K.chance K.tears) map.now (Cut units) result d
+        (B.device bench.new) }
+    ensures same { B.device bench.new
+        ≡ record (B.device bench.old) { plan = (B.device bench.new).plan } }
 {
     bench.arm(units);
     Answer::Done { units: 0 }
@@ -21,8 +23,10 @@ pub(crate) fn plan_loss<K: Backend, B: Bench>(bench: &mut B, map: &FlashMap, uni
 // Drops that plan.
 pub(crate) fn drop_plan<K: Backend, B: Bench>(bench: &mut B, map: &FlashMap) -> Answer
     ensures done { let d = B.device bench.old in
-        DoneBeside (meanings K.contents K.room K.chance K.tears) map.now Uncut result d (B.device bench.new) }
-    ensures same { B.device bench.new ≡ record (B.device bench.old) { plan = (B.device bench.new).plan } }
+        DoneBeside (meanings K.contents K.room K.chance K.tears) map.now Uncut result d
+        (B.device bench.new) }
+    ensures same { B.device bench.new
+        ≡ record (B.device bench.old) { plan = (B.device bench.new).plan } }
 {
     bench.disarm();
     Answer::Done { units: 0 }

@@ -68,16 +68,18 @@ impl<K: Backend> Session<K> {
     ) -> Result<(Session<K>, Answer), SessionFault>
         requires map { IsServedMap K.serves map.now (B.device bench.old) }
 
-        ensures done { IfOk result (λ opened. let d = B.device bench.old in let e = B.device bench.new in
-            CarriedBeside (meanings K.contents K.room K.chance K.tears) K.damage map.now Mount opened.1 d e) }
+        ensures done { IfOk result
+            (λ opened. let d = B.device bench.old in let e = B.device bench.new in CarriedBeside
+            (meanings K.contents K.room K.chance K.tears) K.damage map.now Mount opened.1 d e) }
         ensures undamaged { let d = B.device bench.old in let e = B.device bench.new in
             damage_in K.damage map.now d ≡ None → damage_in K.damage map.now e ≡ None }
         ensures rests { let d = B.device bench.old in
             IsAtRest K.rests map.now d → IfOk result (λ opened. opened.1 ≡ Done 0) }
         ensures stops { let d = B.device bench.old in let e = B.device bench.new in
             IfErr result (λ fault. LineStops K.damage map.now Mount d e fault) }
-        ensures ready { IfOk result (λ opened. let e = B.device bench.new in
-            IsReady K.mounted_on K.stands K.runs map.now e opened.0.selector opened.0.active opened.0.settings) }
+        ensures ready { IfOk result
+            (λ opened. let e = B.device bench.new in IsReady K.mounted_on K.stands K.runs map.now e
+            opened.0.selector opened.0.active opened.0.settings) }
     {
         bench.restore();
         let before = bench.spent();
@@ -107,23 +109,30 @@ impl<K: Backend> Session<K> {
     ) -> Result<Answer, SessionFault>
         requires map { IsServedMap K.serves map.now (B.device bench.old) }
         requires ready { let d = B.device bench.old in
-            IsReady K.mounted_on K.stands K.runs map.now d self.old.selector self.old.active self.old.settings }
+            IsReady K.mounted_on K.stands K.runs map.now d self.old.selector self.old.active
+            self.old.settings }
         requires line { IsServed (limit_of map.now) line.now }
         requires pool { All (IsFresh state) pool.old.items }
         requires registry { AreLawful (limit_of map.now) (registered state registry.old) }
 
-        ensures done { let m = meanings K.contents K.room K.chance K.tears in IfOk result (λ answer.
-            LineCarried m K.damage map.now line.now answer
-            (moment (B.device bench.old) (registered state registry.old) (kinds state pool.old.items))
-            (moment (B.device bench.new) (registered state registry.new) (kinds state pool.new.items))) }
+        ensures done { let m = meanings K.contents K.room K.chance K.tears in
+            IfOk result
+            (λ answer. LineCarried m K.damage map.now line.now answer
+            (moment (B.device bench.old) (registered state registry.old)
+            (kinds state pool.old.items))
+            (moment (B.device bench.new) (registered state registry.new)
+            (kinds state pool.new.items))) }
         ensures undamaged { let d = B.device bench.old in let e = B.device bench.new in
             damage_in K.damage map.now d ≡ None → damage_in K.damage map.now e ≡ None }
         ensures rests { let d = B.device bench.old in
-            line.now ≡ Mount → IsAtRest K.rests map.now d → IfOk result (λ answer. answer ≡ Done 0) }
+            line.now ≡ Mount → IsAtRest K.rests map.now d
+            → IfOk result (λ answer. answer ≡ Done 0) }
         ensures stops { let d = B.device bench.old in let e = B.device bench.new in
             IfErr result (λ fault. LineStops K.damage map.now line.now d e fault) }
         ensures ready { let e = B.device bench.new in
-            OnOk result (IsReady K.mounted_on K.stands K.runs map.now e self.new.selector self.new.active self.new.settings) }
+            OnOk result
+            (IsReady K.mounted_on K.stands K.runs map.now e self.new.selector self.new.active
+            self.new.settings) }
         ensures pool { All (IsFresh state) pool.new.items }
         ensures registry { AreLawful (limit_of map.now) (registered state registry.new) }
     {
@@ -151,19 +160,24 @@ impl<K: Backend> Session<K> {
     ) -> Result<Answer, SessionFault>
         requires map { IsServedMap K.serves map.now (B.device bench.old) }
         requires ready { let d = B.device bench.old in
-            IsReady K.mounted_on K.stands K.runs map.now d self.old.selector self.old.active self.old.settings }
+            IsReady K.mounted_on K.stands K.runs map.now d self.old.selector self.old.active
+            self.old.settings }
         requires needs { needs_power line.now ≡ false }
 
-        ensures done { IfOk result (λ answer. let d = B.device bench.old in let e = B.device bench.new in
-            CarriedBeside (meanings K.contents K.room K.chance K.tears) K.damage map.now line.now answer d e) }
+        ensures done { IfOk result
+            (λ answer. let d = B.device bench.old in let e = B.device bench.new in CarriedBeside
+            (meanings K.contents K.room K.chance K.tears) K.damage map.now line.now answer d e) }
         ensures undamaged { let d = B.device bench.old in let e = B.device bench.new in
             damage_in K.damage map.now d ≡ None → damage_in K.damage map.now e ≡ None }
         ensures rests { let d = B.device bench.old in
-            line.now ≡ Mount → IsAtRest K.rests map.now d → IfOk result (λ answer. answer ≡ Done 0) }
+            line.now ≡ Mount → IsAtRest K.rests map.now d
+            → IfOk result (λ answer. answer ≡ Done 0) }
         ensures stops { let d = B.device bench.old in let e = B.device bench.new in
             IfErr result (λ fault. LineStops K.damage map.now line.now d e fault) }
         ensures ready { let e = B.device bench.new in
-            OnOk result (IsReady K.mounted_on K.stands K.runs map.now e self.new.selector self.new.active self.new.settings) }
+            OnOk result
+            (IsReady K.mounted_on K.stands K.runs map.now e self.new.selector self.new.active
+            self.new.settings) }
     {
         match line {
             Line::Mount => self.mount(alloc, bench, map, steps),
@@ -183,8 +197,9 @@ impl<K: Backend> Session<K> {
     ) -> Result<Answer, SessionFault>
         requires map { IsServedMap K.serves map.now (B.device bench.old) }
 
-        ensures done { IfOk result (λ answer. let d = B.device bench.old in let e = B.device bench.new in
-            CarriedBeside (meanings K.contents K.room K.chance K.tears) K.damage map.now Mount answer d e) }
+        ensures done { IfOk result
+            (λ answer. let d = B.device bench.old in let e = B.device bench.new in CarriedBeside
+            (meanings K.contents K.room K.chance K.tears) K.damage map.now Mount answer d e) }
         ensures undamaged { let d = B.device bench.old in let e = B.device bench.new in
             damage_in K.damage map.now d ≡ None → damage_in K.damage map.now e ≡ None }
         ensures rests { let d = B.device bench.old in
@@ -192,7 +207,9 @@ impl<K: Backend> Session<K> {
         ensures stops { let d = B.device bench.old in let e = B.device bench.new in
             IfErr result (λ fault. LineStops K.damage map.now Mount d e fault) }
         ensures ready { let e = B.device bench.new in
-            OnOk result (IsReady K.mounted_on K.stands K.runs map.now e self.new.selector self.new.active self.new.settings) }
+            OnOk result
+            (IsReady K.mounted_on K.stands K.runs map.now e self.new.selector self.new.active
+            self.new.settings) }
     {
         match Session::open(alloc, bench, map, steps) {
             Ok((session, answer)) => {
@@ -214,16 +231,20 @@ impl<K: Backend> Session<K> {
         requires map { IsServedMap K.serves map.now (B.device bench.old) }
         requires on { (B.device bench.old).is_on ≡ true }
         requires ready { let d = B.device bench.old in
-            IsReady K.mounted_on K.stands K.runs map.now d self.old.selector self.old.active self.old.settings }
+            IsReady K.mounted_on K.stands K.runs map.now d self.old.selector self.old.active
+            self.old.settings }
 
-        ensures done { IfOk result (λ answer. let d = B.device bench.old in let e = B.device bench.new in
-            CarriedBeside (meanings K.contents K.room K.chance K.tears) K.damage map.now Migrate answer d e) }
+        ensures done { IfOk result
+            (λ answer. let d = B.device bench.old in let e = B.device bench.new in CarriedBeside
+            (meanings K.contents K.room K.chance K.tears) K.damage map.now Migrate answer d e) }
         ensures undamaged { let d = B.device bench.old in let e = B.device bench.new in
             damage_in K.damage map.now d ≡ None → damage_in K.damage map.now e ≡ None }
         ensures stops { let d = B.device bench.old in let e = B.device bench.new in
             IfErr result (λ fault. LineStops K.damage map.now Migrate d e fault) }
         ensures ready { let e = B.device bench.new in
-            OnOk result (IsReady K.mounted_on K.stands K.runs map.now e self.new.selector self.new.active self.new.settings) }
+            OnOk result
+            (IsReady K.mounted_on K.stands K.runs map.now e self.new.selector self.new.active
+            self.new.settings) }
     {
         match (&mut self.selector, &mut self.settings) {
             (Some(selector), Some(settings)) => {
@@ -253,22 +274,28 @@ impl<K: Backend> Session<K> {
         requires on { (B.device bench.old).is_on ≡ true }
         requires local { is_local line.now ≡ true }
         requires ready { let d = B.device bench.old in
-            IsReady K.mounted_on K.stands K.runs map.now d self.old.selector self.old.active self.old.settings }
+            IsReady K.mounted_on K.stands K.runs map.now d self.old.selector self.old.active
+            self.old.settings }
         requires line { IsServed (limit_of map.now) line.now }
         requires pool { All (IsFresh state) pool.old.items }
         requires registry { AreLawful (limit_of map.now) (registered state registry.old) }
 
-        ensures done { let m = meanings K.contents K.room K.chance K.tears in IfOk result (λ answer.
-            DoneWithin m map.now line.now answer
-            (moment (B.device bench.old) (registered state registry.old) (kinds state pool.old.items))
-            (moment (B.device bench.new) (registered state registry.new) (kinds state pool.new.items))) }
+        ensures done { let m = meanings K.contents K.room K.chance K.tears in
+            IfOk result
+            (λ answer. DoneWithin m map.now line.now answer
+            (moment (B.device bench.old) (registered state registry.old)
+            (kinds state pool.old.items))
+            (moment (B.device bench.new) (registered state registry.new)
+            (kinds state pool.new.items))) }
         ensures undamaged { let d = B.device bench.old in let e = B.device bench.new in
             damage_in K.damage map.now d ≡ None → damage_in K.damage map.now e ≡ None }
         ensures none { OnErr result (B.device bench.new ≡ B.device bench.old) }
         ensures takes { OnErr result (takes_memory line.now ≡ true) }
         ensures memory { IfErr result (λ fault. fault ≡ OutOfMemory) }
         ensures ready { let e = B.device bench.new in
-            OnOk result (IsReady K.mounted_on K.stands K.runs map.now e self.new.selector self.new.active self.new.settings) }
+            OnOk result
+            (IsReady K.mounted_on K.stands K.runs map.now e self.new.selector self.new.active
+            self.new.settings) }
         ensures pool { All (IsFresh state) pool.new.items }
         ensures registry { AreLawful (limit_of map.now) (registered state registry.new) }
     {
@@ -327,10 +354,12 @@ fn with_power<K: Backend, B: Bench, L: Ledger>(
     requires pool { All (IsFresh state) pool.old.items }
     requires registry { AreLawful (limit_of map.now) (registered state registry.old) }
 
-    ensures done { let m = meanings K.contents K.room K.chance K.tears in IfOk result (λ answer.
-        DoneWithin m map.now line.now answer
+    ensures done { let m = meanings K.contents K.room K.chance K.tears in
+        IfOk result
+        (λ answer. DoneWithin m map.now line.now answer
         (moment (B.device bench.old) (registered state registry.old) (kinds state pool.old.items))
-        (moment (B.device bench.new) (registered state registry.new) (kinds state pool.new.items))) }
+        (moment (B.device bench.new) (registered state registry.new)
+        (kinds state pool.new.items))) }
     ensures sound { let d = B.device bench.old in let e = B.device bench.new in
         on K.damage d area.now ≡ None → on K.damage e area.now ≡ None }
     ensures none { OnErr result (B.device bench.new ≡ B.device bench.old) }

@@ -64,8 +64,9 @@ pub(crate) fn get_setting<K: Backend, B: Bench, L: Ledger>(
     requires up { K.runs settings.now.backend ≡ true }
     requires stands { StandsOn K.mounted_on K.stands (B.device bench.now) settings.now.backend }
 
-    ensures { IfOk result (λ answer. let d = B.device bench.now in
-        DoneBeside (meanings K.contents K.room K.chance K.tears) map.now (Get name.now) answer d d) }
+    ensures { IfOk result
+        (λ answer. let d = B.device bench.now in DoneBeside
+        (meanings K.contents K.room K.chance K.tears) map.now (Get name.now) answer d d) }
 {
     match settings.get(bench, name, steps) {
         Ok(Some(bytes)) => {
@@ -91,7 +92,10 @@ fn settings_under<K: Backend, B: Bench, L: Ledger>(
     requires up { K.runs settings.now.backend ≡ true }
     requires stands { StandsOn K.mounted_on K.stands (B.device bench.now) settings.now.backend }
 
-    ensures { IfOk result (λ pairs. pairs ≡ pairs_under (option_map (λ name. name.now) subtree.entry) (on K.contents (B.device bench.now) area.now)) }
+    ensures { IfOk result
+        (λ pairs. pairs
+        ≡ pairs_under (option_map (λ name. name.now) subtree.entry)
+        (on K.contents (B.device bench.now) area.now)) }
 {
     let mut told = Told {
         pairs: Pairs::new(alloc),
@@ -119,8 +123,9 @@ pub(crate) fn tell_settings<K: Backend, B: Bench, L: Ledger>(
     requires up { K.runs settings.now.backend ≡ true }
     requires stands { StandsOn K.mounted_on K.stands (B.device bench.now) settings.now.backend }
 
-    ensures { IfOk result (λ answer. let d = B.device bench.now in
-        DoneBeside (meanings K.contents K.room K.chance K.tears) map.now (Direct subtree.now) answer d d) }
+    ensures { IfOk result
+        (λ answer. let d = B.device bench.now in DoneBeside
+        (meanings K.contents K.room K.chance K.tears) map.now (Direct subtree.now) answer d d) }
 {
     let pairs = settings_under(alloc, bench, settings, area, subtree.as_ref(), steps)?;
     Ok(Answer::Direct { pairs })

@@ -12,41 +12,58 @@ use backend_api::Backend;
 /// Where no power is lost and nothing is refused for want of room, the answers and the state after them are a function of
 /// the lines and the state before, but for units.
 pub fn units_are_open<K: Backend>()
-    ensures { (areas : List Area) (banks : List Bank) (last : ℕ) →
-        LeavesUnitsOpen (rules_of (record { contents = K.contents; room = K.room; chance = K.chance; tears = K.tears }) areas banks last) }
+    ensures { (areas : List Area) (banks : List Bank) (last : ℕ)
+        → LeavesUnitsOpen
+        (rules_of
+        (record { contents = K.contents; room = K.room; chance = K.chance; tears = K.tears }) areas
+        banks last) }
 {}
 
 /// Wherever power is lost, the settings are those after commands of the lines in their order: all of each line that was
 /// done, as many as a refused save tells, and the first so many of each line in which power was lost; but where units spelt
 /// another record by chance.
 pub fn acknowledged_commands_stand<K: Backend>()
-    ensures { (areas : List Area) (banks : List Bank) (last : ℕ) →
-        HoldsAcknowledged (rules_of (record { contents = K.contents; room = K.room; chance = K.chance; tears = K.tears }) areas banks last) }
+    ensures { (areas : List Area) (banks : List Bank) (last : ℕ)
+        → HoldsAcknowledged
+        (rules_of
+        (record { contents = K.contents; room = K.room; chance = K.chance; tears = K.tears }) areas
+        banks last) }
 {}
 
 /// Wherever power is lost, the settings are those after what became of the commands of the lines, in their order: all of
 /// each line that was done, as many as a refused save tells, and the first so many of each line in which power was lost; by
 /// chance the one behind these was torn.
 pub fn torn_commands_tell<K: Backend>()
-    ensures { (areas : List Area) (banks : List Bank) (last : ℕ) →
-        TellsDeeds (rules_of (record { contents = K.contents; room = K.room; chance = K.chance; tears = K.tears }) areas banks last) }
+    ensures { (areas : List Area) (banks : List Bank) (last : ℕ)
+        → TellsDeeds
+        (rules_of
+        (record { contents = K.contents; room = K.room; chance = K.chance; tears = K.tears }) areas
+        banks last) }
 {}
 
 /// Power is off from a line in which it was lost to the next mount that answers `ok`.
 pub fn power_follows_losses<K: Backend>()
-    ensures { (areas : List Area) (banks : List Bank) (last : ℕ) →
-        LosesPower (rules_of (record { contents = K.contents; room = K.room; chance = K.chance; tears = K.tears }) areas banks last) }
+    ensures { (areas : List Area) (banks : List Bank) (last : ℕ)
+        → LosesPower
+        (rules_of
+        (record { contents = K.contents; room = K.room; chance = K.chance; tears = K.tears }) areas
+        banks last) }
 {}
 
 /// Two runs in a row are one run of the lines of both.
 pub fn two_runs<K: Backend>()
-    ensures { (areas : List Area) (banks : List Bank) (last : ℕ) →
-        RunsInRow (rules_of (record { contents = K.contents; room = K.room; chance = K.chance; tears = K.tears }) areas banks last) }
+    ensures { (areas : List Area) (banks : List Bank) (last : ℕ)
+        → RunsInRow
+        (rules_of
+        (record { contents = K.contents; room = K.room; chance = K.chance; tears = K.tears }) areas
+        banks last) }
 {}
 
 /// Lines that are carried out one by one make a run: it follows the table, the counts and the plan are those that the answers
 /// say, and no byte changed outside the areas that the lines work on.
 pub fn line_by_line<K: Backend>()
-    ensures { (areas : List Area) →
-        LinesMakeRuns (record { contents = K.contents; room = K.room; chance = K.chance; tears = K.tears }) areas }
+    ensures { (areas : List Area)
+        → LinesMakeRuns
+        (record { contents = K.contents; room = K.room; chance = K.chance; tears = K.tears })
+        areas }
 {}

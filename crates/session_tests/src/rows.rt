@@ -68,7 +68,8 @@ fn answer_to<K: Backend, B: Bench, L: Ledger>(
     requires line { IsServed (limit_of map.now) line.now }
     ensures map { OnOk result (IsServedMap K.serves map.now (B.device bench.new)) }
     ensures ready { let e = B.device bench.new in let s = session.new in
-        OnOk result (IsReady K.mounted_on K.stands K.runs map.now e s.selector s.active s.settings) }
+        OnOk result
+        (IsReady K.mounted_on K.stands K.runs map.now e s.selector s.active s.settings) }
 {
     let mut pool: Vec<Box<dyn Handler>> = Vec::new(alloc);
     let mut registry = Registry::new(alloc);

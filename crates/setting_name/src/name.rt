@@ -149,7 +149,8 @@ fn append(text: &mut ArrayVec<u8, MAX_LEN>, bytes: &[u8]) -> Result<(), NameFaul
 
 // The subtree, a slash and the rest, where they fit.
 fn with_slash(subtree: &[u8], rest: &[u8]) -> Result<ArrayVec<u8, MAX_LEN>, NameFault>
-    ensures { MatchResult result (λ text. text.items ≡ subtree.now ++ 0x2F ∷ rest.now) (IsFault (subtree.now ++ 0x2F ∷ rest.now)) }
+    ensures { MatchResult result (λ text. text.items ≡ subtree.now ++ 0x2F ∷ rest.now)
+        (IsFault (subtree.now ++ 0x2F ∷ rest.now)) }
 {
     let mut text = ArrayVec::new();
     append(&mut text, subtree)?;
@@ -174,7 +175,8 @@ fn first_unlawful(text: &[u8]) -> Option<usize>
 
 // The first place where a part should begin and does not.
 fn first_lack(text: &[u8]) -> Option<usize>
-    ensures { MatchOption result (HasWholeParts text.now) (λ place. (place ≤ length text.now) × IsFirstLack text.now place) }
+    ensures { MatchOption result (HasWholeParts text.now)
+        (λ place. (place ≤ length text.now) × IsFirstLack text.now place) }
 {
     let mut due = true;
     for (place, byte) in text.iter().enumerate() {
@@ -189,7 +191,8 @@ fn first_lack(text: &[u8]) -> Option<usize>
 
 // What is left of a text that begins with the front.
 fn left_behind<'a>(text: &'a [u8], front: &[u8]) -> Option<&'a [u8]>
-    ensures { MatchOption result ((left : List ℕ) → text.now ≢ front.now ++ left) (λ left. text.now ≡ front.now ++ left.now) }
+    ensures { MatchOption result ((left : List ℕ) → text.now ≢ front.now ++ left)
+        (λ left. text.now ≡ front.now ++ left.now) }
 {
     text.strip_prefix(front)
 }

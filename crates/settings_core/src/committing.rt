@@ -8,7 +8,8 @@ use setting_name::Name;
 
 /// Commits, in the order of registration, each handler whose own subtree matches the given one; all without one.
 pub fn commit<H: PlacedHandlers>(registry: &mut H, subtree: Option<&Name>)
-    ensures { H.placed registry.new ≡ commit_all (option_map (λ name. name.now) subtree.entry) (H.placed registry.old) }
+    ensures { H.placed registry.new
+        ≡ commit_all (option_map (λ name. name.now) subtree.entry) (H.placed registry.old) }
 {
     let mut i = 0;
     while i < registry.len() {
@@ -26,7 +27,9 @@ pub(crate) fn is_place_under<H: PlacedHandlers>(
     subtree: Option<&Name>,
 ) -> bool
     requires { i < length (H.placed registry.now) }
-    ensures { result ≡ is_under (option_map (λ name. name.now) subtree.entry) (get_or (H.placed registry.now) i nobody).subtree }
+    ensures { result
+        ≡ is_under (option_map (λ name. name.now) subtree.entry)
+        (get_or (H.placed registry.now) i nobody).subtree }
 {
     match registry.subtree(i) {
         Some(own) => is_under(own, subtree),

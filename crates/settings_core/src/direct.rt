@@ -23,7 +23,8 @@ pub trait Each {
 
     /// A name has a value.
     fn have(&mut self, alloc: Global, name: &Name, value: ValueView<'_>) -> Result<(), NoMemory>
-        ensures ok { OnOk result (had self.new ≡ told_more (had self.old) ((name.now, value.entry.bytes.now) ∷ [])) }
+        ensures ok { OnOk result
+            (had self.new ≡ told_more (had self.old) ((name.now, value.entry.bytes.now) ∷ [])) }
         ensures err { OnErr result (had self.new ≡ had self.old) };
 }
 
@@ -41,9 +42,12 @@ impl<K: Backend> Settings<K> {
         steps: &mut Steps<L>,
     ) -> Result<u32, LoadFault>
         requires lawful { IsLawfulFor (F.device flash.now).banks (K.mounted_on self.now.backend) }
-        requires stands { K.runs self.now.backend ≡ true → StandsOn K.mounted_on K.stands (F.device flash.now) self.now.backend }
+        requires stands { K.runs self.now.backend ≡ true
+            → StandsOn K.mounted_on K.stands (F.device flash.now) self.now.backend }
         ensures { let area = K.mounted_on self.now.backend in let d = F.device flash.now in
-            DirectEnds (K.runs self.now.backend) (E.had each.old) (E.had each.new) (option_map (λ name. name.now) subtree.entry) (finite.entries (on K.contents d area)) result }
+            DirectEnds (K.runs self.now.backend) (E.had each.old) (E.had each.new)
+            (option_map (λ name. name.now) subtree.entry) (finite.entries (on K.contents d area))
+            result }
     {
         if !self.backend.is_up() {
             return Err(LoadFault::Off);
@@ -84,8 +88,13 @@ fn tell<K: Backend, F: Flash, L: Ledger, E: Each>(
     requires lawful { IsLawfulFor (F.device flash.now).banks (K.mounted_on backend.now) }
     requires stands { StandsOn K.mounted_on K.stands (F.device flash.now) backend.now }
     requires room { count.old < 2 ^ 32 - 1 }
-    ensures { TellEnds (E.had each.old) (E.had each.new) (option_map (λ name. name.now) subtree.entry)
-        (name.now, unwrap_or (finite.get (on K.contents (F.device flash.now) (K.mounted_on backend.now)) name.now) []) count.old count.new result }
+    ensures { TellEnds (E.had each.old) (E.had each.new)
+        (option_map (λ name. name.now) subtree.entry) (
+          name.now,
+          unwrap_or
+              (finite.get (on K.contents (F.device flash.now) (K.mounted_on backend.now)) name.now) [],
+        )
+        count.old count.new result }
 {
     if !is_under(name, subtree) {
         return Ok(());

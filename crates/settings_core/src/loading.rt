@@ -48,10 +48,13 @@ impl<K: Backend> Settings<K> {
         steps: &mut Steps<L>,
     ) -> Result<Loaded, LoadFault>
         requires lawful { IsLawfulFor (F.device flash.now).banks (K.mounted_on self.now.backend) }
-        requires stands { K.runs self.now.backend ≡ true → StandsOn K.mounted_on K.stands (F.device flash.now) self.now.backend }
+        requires stands { K.runs self.now.backend ≡ true
+            → StandsOn K.mounted_on K.stands (F.device flash.now) self.now.backend }
         ensures { let area = K.mounted_on self.now.backend in let d = F.device flash.now in
-            LoadEnds (K.runs self.now.backend) (registered state registry.old) (registered state registry.new) (R.gives report.old) (R.gives report.new) (option_map (λ name. name.now) subtree.entry)
-            (finite.entries (on K.contents d area)) result }
+            LoadEnds (K.runs self.now.backend) (registered state registry.old)
+            (registered state registry.new) (R.gives report.old) (R.gives report.new)
+            (option_map (λ name. name.now) subtree.entry) (finite.entries (on K.contents d area))
+            result }
     {
         if !self.backend.is_up() {
             return Err(LoadFault::Off);
@@ -100,8 +103,10 @@ fn load_name<K: Backend, F: Flash, L: Ledger, R: Report>(
     requires stands { StandsOn K.mounted_on K.stands (F.device flash.now) backend.now }
     requires room { loaded.old.taken + loaded.old.rejected + loaded.old.passed < 2 ^ 32 - 1 }
     ensures { let area = K.mounted_on backend.now in let d = F.device flash.now in
-        LoadNameEnds (registered state registry.old) (registered state registry.new) (R.gives report.old) (R.gives report.new) (option_map (λ name. name.now) subtree.entry)
-        (name.now, unwrap_or (finite.get (on K.contents d area) name.now) []) loaded.old loaded.new result }
+        LoadNameEnds (registered state registry.old) (registered state registry.new)
+        (R.gives report.old) (R.gives report.new) (option_map (λ name. name.now) subtree.entry)
+        (name.now, unwrap_or (finite.get (on K.contents d area) name.now) []) loaded.old loaded.new
+        result }
 {
     if is_under(name, subtree) {
         let value = stored(backend, flash, name, steps);
@@ -119,7 +124,8 @@ pub(crate) fn stored<'a, K: Backend, F: Flash, L: Ledger>(
 ) -> &'a [u8]
     requires lawful { IsLawfulFor (F.device flash.now).banks (K.mounted_on backend.now) }
     requires stands { StandsOn K.mounted_on K.stands (F.device flash.now) backend.now }
-    ensures { let area = K.mounted_on backend.now in let d = F.device flash.now in result.now ≡ unwrap_or (finite.get (on K.contents d area) name.now) [] }
+    ensures { let area = K.mounted_on backend.now in let d = F.device flash.now in
+        result.now ≡ unwrap_or (finite.get (on K.contents d area) name.now) [] }
 {
     match backend.get(flash, name, steps) {
         Some(value) => value,
@@ -136,7 +142,9 @@ fn load_one<R: Report>(
     value: &[u8],
 ) -> Result<(), NoMemory>
     requires room { loaded.old.taken + loaded.old.rejected + loaded.old.passed < 2 ^ 32 - 1 }
-    ensures { LoadOneEnds (registered state registry.old) (registered state registry.new) (R.gives report.old) (R.gives report.new) (name.now, value.now) loaded.old loaded.new result }
+    ensures { LoadOneEnds (registered state registry.old) (registered state registry.new)
+        (R.gives report.old) (R.gives report.new) (name.now, value.now) loaded.old loaded.new
+        result }
 {
     let offered = offer(alloc, registry, report, name, value)?;
     count(loaded, offered);

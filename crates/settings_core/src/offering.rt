@@ -29,7 +29,8 @@ pub(crate) fn offer<R: Report>(
     name: &Name,
     value: &[u8],
 ) -> Result<Offered, NoMemory>
-    ensures { OfferEnds (registered state registry.old) (registered state registry.new) (R.gives report.old) (R.gives report.new) (name.now, value.now) result }
+    ensures { OfferEnds (registered state registry.old) (registered state registry.new)
+        (R.gives report.old) (R.gives report.new) (name.now, value.now) result }
 {
     let Some(place) = registry.best(name) else {
         return Ok(Offered::Passed);
@@ -69,7 +70,8 @@ pub(crate) fn deliver_at<H: PlacedHandlers>(
     value: &[u8],
 ) -> Result<bool, NoMemory>
     requires { place < length (H.placed registry.old) }
-    ensures { DeliverEnds (H.placed registry.old) (H.placed registry.new) (record { place = place; rest = rest.now; value = value.now }) result }
+    ensures { DeliverEnds (H.placed registry.old) (H.placed registry.new)
+        (record { place = place; rest = rest.now; value = value.now }) result }
 {
     match registry.set_at(alloc, place, rest, ValueView::of(value)) {
         Ok(()) => Ok(true),

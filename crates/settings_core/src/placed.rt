@@ -22,7 +22,8 @@ pub trait PlacedHandlers {
 
     /// The subtree of the handler at a place.
     fn subtree(&self, i: usize) -> Option<&Name>
-        ensures { option_map (λ name. name.now) result ≡ option_map (λ h. h.subtree) (slice_get (placed self.now) i) };
+        ensures { option_map (λ name. name.now) result
+            ≡ option_map (λ h. h.subtree) (slice_get (placed self.now) i) };
 
     /// Gives the handler at a place a value.
     ///
@@ -36,7 +37,8 @@ pub trait PlacedHandlers {
         value: ValueView<'_>,
     ) -> Result<(), SetRefusal>
         requires { i < length (placed self.old) }
-        ensures { SetsAt (placed self.old) (placed self.new) i rest.now value.entry.bytes.now result };
+        ensures { SetsAt (placed self.old) (placed self.new) i rest.now value.entry.bytes.now
+            result };
 
     /// Commits the handler at a place.
     fn commit_at(&mut self, i: usize)
@@ -69,7 +71,8 @@ impl PlacedHandlers for Registry {
         value: ValueView<'_>,
     ) -> Result<(), SetRefusal>
         requires { i < length (registered state self.old) }
-        ensures { SetsAt (registered state self.old) (registered state self.new) i rest.now value.entry.bytes.now result }
+        ensures { SetsAt (registered state self.old) (registered state self.new) i rest.now
+            value.entry.bytes.now result }
     {
         self.set_at(alloc, i, rest, value)
     }

@@ -22,6 +22,11 @@ pub trait Report {
         value: ValueView<'_>,
         taken: bool,
     ) -> Result<(), NoMemory>
-        ensures ok { OnOk result (gives self.new ≡ told_more (gives self.old) (record { subtree = subtree.now; rest = rest.now; value = value.entry.bytes.now; taken = taken } ∷ [])) }
+        ensures ok { OnOk result
+            (gives self.new
+            ≡ told_more (gives self.old)
+            (record
+            { subtree = subtree.now; rest = rest.now; value = value.entry.bytes.now; taken = taken }
+            ∷ [])) }
         ensures err { OnErr result (gives self.new ≡ gives self.old) };
 }

@@ -35,7 +35,8 @@ pub fn runtime_set<H: PlacedHandlers>(
     name: &Name,
     value: &[u8],
 ) -> Result<(), RuntimeFault>
-    ensures { RuntimeSetEnds (H.placed registry.old) (H.placed registry.new) name.now value.now result }
+    ensures { RuntimeSetEnds (H.placed registry.old) (H.placed registry.new) name.now value.now
+        result }
 {
     let Some(place) = registry.best(name) else {
         return Err(RuntimeFault::NoHandler);

@@ -45,21 +45,32 @@ impl<K: Backend> Settings<K> {
         steps: &mut Steps<L>,
     ) -> Saved
         requires lawful { IsLawfulFor (F.device flash.old).banks (K.mounted_on self.old.backend) }
-        requires stands { K.runs self.old.backend ≡ true → StandsOn K.mounted_on K.stands (F.device flash.old) self.old.backend }
-        requires settings { AreLawful (value_limit (K.mounted_on self.old.backend)) (registered state registry.now) }
+        requires stands { K.runs self.old.backend ≡ true
+            → StandsOn K.mounted_on K.stands (F.device flash.old) self.old.backend }
+        requires settings { AreLawful (value_limit (K.mounted_on self.old.backend))
+            (registered state registry.now) }
 
-        ensures touches { Touches (K.mounted_on self.old.backend ∷ []) (F.device flash.old) (F.device flash.new) (save_lost result.end) }
+        ensures touches { Touches (K.mounted_on self.old.backend ∷ []) (F.device flash.old)
+            (F.device flash.new) (save_lost result.end) }
         ensures area { K.mounted_on self.new.backend ≡ K.mounted_on self.old.backend }
-        ensures ends { (count : ℕ) × CarryEndsOn K.room K.contents K.chance K.tears (K.runs self.old.backend) (K.mounted_on self.old.backend) (F.device flash.old) (F.device flash.new)
-            (puts_of (exported (option_map (λ name. name.now) subtree.entry) (registered state registry.now))) count result.end × (result.pairs ≡ more_pairs 0 count) }
+        ensures ends { (count : ℕ)
+            × CarryEndsOn K.room K.contents K.chance K.tears (K.runs self.old.backend)
+            (K.mounted_on self.old.backend) (F.device flash.old) (F.device flash.new)
+            (puts_of
+            (exported (option_map (λ name. name.now) subtree.entry)
+            (registered state registry.now))) count result.end
+            × (result.pairs ≡ more_pairs 0 count) }
         ensures at_most { let area = K.mounted_on self.old.backend in let d = F.device flash.old in
             let e = F.device flash.new in let under = option_map (λ name. name.now) subtree.entry in
             let puts = puts_of (exported under (registered state registry.now)) in
             SpendsAtMost d e (due_units (geometry_of d area) (on K.contents d area) puts) }
-        ensures sound { K.runs self.old.backend ≡ true → on K.damage (F.device flash.new) (K.mounted_on self.old.backend) ≡ None }
-        ensures stands { K.runs self.new.backend ≡ true → StandsOn K.mounted_on K.stands (F.device flash.new) self.new.backend }
+        ensures sound { K.runs self.old.backend ≡ true
+            → on K.damage (F.device flash.new) (K.mounted_on self.old.backend) ≡ None }
+        ensures stands { K.runs self.new.backend ≡ true
+            → StandsOn K.mounted_on K.stands (F.device flash.new) self.new.backend }
         ensures down { save_lost result.end ≡ true → K.runs self.new.backend ≡ false }
-        ensures up { save_lost result.end ≡ false → K.runs self.new.backend ≡ K.runs self.old.backend }
+        ensures up { save_lost result.end ≡ false
+            → K.runs self.new.backend ≡ K.runs self.old.backend }
     {
         if !self.backend.is_up() {
             return Saved {
@@ -91,9 +102,13 @@ fn save_all<K: Backend, F: Flash, L: Ledger>(
 ) -> Result<(), SaveFault>
     requires lawful { IsLawfulFor (F.device flash.old).banks (K.mounted_on backend.old) }
     requires stands { StandsOn K.mounted_on K.stands (F.device flash.old) backend.old }
-    requires settings { AreLawful (value_limit (K.mounted_on backend.old)) (registered state registry.now) }
-    ensures { CarriesOn K.mounted_on K.stands K.runs K.damage K.room K.contents K.chance K.tears (K.mounted_on backend.old) backend.new (F.device flash.old) (F.device flash.new)
-        (puts_of (exported (option_map (λ name. name.now) subtree.entry) (registered state registry.now))) pairs.old pairs.new result }
+    requires settings { AreLawful (value_limit (K.mounted_on backend.old))
+        (registered state registry.now) }
+    ensures { CarriesOn K.mounted_on K.stands K.runs K.damage K.room K.contents K.chance K.tears
+        (K.mounted_on backend.old) backend.new (F.device flash.old) (F.device flash.new)
+        (puts_of
+        (exported (option_map (λ name. name.now) subtree.entry) (registered state registry.now)))
+        pairs.old pairs.new result }
 {
     let mut i = 0;
     while i < registry.len() {
@@ -117,10 +132,14 @@ fn save_at<K: Backend, F: Flash, L: Ledger>(
 ) -> Result<(), SaveFault>
     requires lawful { IsLawfulFor (F.device flash.old).banks (K.mounted_on backend.old) }
     requires stands { StandsOn K.mounted_on K.stands (F.device flash.old) backend.old }
-    requires settings { AreLawful (value_limit (K.mounted_on backend.old)) (registered state registry.now) }
+    requires settings { AreLawful (value_limit (K.mounted_on backend.old))
+        (registered state registry.now) }
     requires within { i < length (registered state registry.now) }
-    ensures { CarriesOn K.mounted_on K.stands K.runs K.damage K.room K.contents K.chance K.tears (K.mounted_on backend.old) backend.new (F.device flash.old) (F.device flash.new)
-        (puts_of (exported_of (option_map (λ name. name.now) subtree.entry) (get_or (registered state registry.now) i nobody))) pairs.old pairs.new result }
+    ensures { CarriesOn K.mounted_on K.stands K.runs K.damage K.room K.contents K.chance K.tears
+        (K.mounted_on backend.old) backend.new (F.device flash.old) (F.device flash.new)
+        (puts_of
+        (exported_of (option_map (λ name. name.now) subtree.entry)
+        (get_or (registered state registry.now) i nobody))) pairs.old pairs.new result }
 {
     if !is_place_under(registry, i, subtree) {
         return Ok(());
@@ -132,7 +151,8 @@ fn save_at<K: Backend, F: Flash, L: Ledger>(
 
 pub(crate) fn handler_at(registry: &Registry, i: usize) -> &dyn Handler
     requires { i < length (registered (λ b. (Handler-box b).state b.value) registry.now) }
-    ensures { (Handler-dyn result.now).state result.now.1 ≡ (get_or (registered (λ b. (Handler-box b).state b.value) registry.now) i nobody).state }
+    ensures { (Handler-dyn result.now).state result.now.1
+        ≡ (get_or (registered (λ b. (Handler-box b).state b.value) registry.now) i nobody).state }
 {
     match registry.handler(i) {
         Some(handler) => handler,
@@ -151,8 +171,10 @@ fn save_handler<K: Backend, F: Flash, L: Ledger>(
 ) -> Result<(), SaveFault>
     requires lawful { IsLawfulFor (F.device flash.old).banks (K.mounted_on backend.old) }
     requires stands { StandsOn K.mounted_on K.stands (F.device flash.old) backend.old }
-    requires settings { AreSettings (value_limit (K.mounted_on backend.old)) (pairs_of subtree.now (state handler.now).held) }
-    ensures { CarriesOn K.mounted_on K.stands K.runs K.damage K.room K.contents K.chance K.tears (K.mounted_on backend.old) backend.new (F.device flash.old) (F.device flash.new)
+    requires settings { AreSettings (value_limit (K.mounted_on backend.old))
+        (pairs_of subtree.now (state handler.now).held) }
+    ensures { CarriesOn K.mounted_on K.stands K.runs K.damage K.room K.contents K.chance K.tears
+        (K.mounted_on backend.old) backend.new (F.device flash.old) (F.device flash.new)
         (puts_of (pairs_of subtree.now (state handler.now).held)) pairs.old pairs.new result }
 {
     let mut i = 0;
@@ -179,7 +201,8 @@ fn save_pair<K: Backend, F: Flash, L: Ledger>(
     requires stands { StandsOn K.mounted_on K.stands (F.device flash.old) backend.old }
     requires name { IsName (joined_text subtree.now rest.now) }
     requires value { IsValue (value_limit (K.mounted_on backend.old)) value.now }
-    ensures { CarriesOn K.mounted_on K.stands K.runs K.damage K.room K.contents K.chance K.tears (K.mounted_on backend.old) backend.new (F.device flash.old) (F.device flash.new)
+    ensures { CarriesOn K.mounted_on K.stands K.runs K.damage K.room K.contents K.chance K.tears
+        (K.mounted_on backend.old) backend.new (F.device flash.old) (F.device flash.new)
         (Put (joined_text subtree.now rest.now) value.now ∷ []) pairs.old pairs.new result }
 {
     let name = joined(subtree, rest);

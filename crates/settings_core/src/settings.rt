@@ -41,14 +41,21 @@ impl<K: Backend> Settings<K> {
         requires lawful { IsLawfulFor (F.device flash.old).banks area }
         requires serves { K.serves area (geometry_of (F.device flash.old) area) }
 
-        ensures touches { Touches (area ∷ []) (F.device flash.old) (F.device flash.new) (mount_lost result) }
-        ensures ends { MountEnds (on K.damage (F.device flash.old) area) (F.device flash.old) (F.device flash.new) result }
-        ensures sound { on K.damage (F.device flash.old) area ≡ None → on K.damage (F.device flash.new) area ≡ None }
-        ensures keeps { on K.damage (F.device flash.old) area ≡ None → on K.contents (F.device flash.new) area ≡ on K.contents (F.device flash.old) area }
-        ensures rests { HoldsOn K.rests (F.device flash.old) area → F.device flash.new ≡ F.device flash.old }
-        ensures at_most { let d = F.device flash.old in SpendsAtMost d (F.device flash.new) (mount_units (geometry_of d area)) }
+        ensures touches { Touches (area ∷ []) (F.device flash.old) (F.device flash.new)
+            (mount_lost result) }
+        ensures ends { MountEnds (on K.damage (F.device flash.old) area) (F.device flash.old)
+            (F.device flash.new) result }
+        ensures sound { on K.damage (F.device flash.old) area ≡ None
+            → on K.damage (F.device flash.new) area ≡ None }
+        ensures keeps { on K.damage (F.device flash.old) area ≡ None
+            → on K.contents (F.device flash.new) area ≡ on K.contents (F.device flash.old) area }
+        ensures rests { HoldsOn K.rests (F.device flash.old) area
+            → F.device flash.new ≡ F.device flash.old }
+        ensures at_most { let d = F.device flash.old in
+            SpendsAtMost d (F.device flash.new) (mount_units (geometry_of d area)) }
         ensures area { IfOk result (λ settings. K.mounted_on settings.backend ≡ area) }
-        ensures stands { IfOk result (λ settings. StandsOn K.mounted_on K.stands (F.device flash.new) settings.backend) }
+        ensures stands { IfOk result
+            (λ settings. StandsOn K.mounted_on K.stands (F.device flash.new) settings.backend) }
         ensures up { IfOk result (λ settings. K.runs settings.backend ≡ true) }
     {
         match K::mount(alloc, flash, area, steps) {
@@ -76,8 +83,10 @@ impl<K: Backend> Settings<K> {
         steps: &mut Steps<L>,
     ) -> Result<Option<&'a [u8]>, Off>
         requires lawful { IsLawfulFor (F.device flash.now).banks (K.mounted_on self.now.backend) }
-        requires stands { K.runs self.now.backend ≡ true → StandsOn K.mounted_on K.stands (F.device flash.now) self.now.backend }
-        ensures { GetEnds (K.runs self.now.backend) (on K.contents (F.device flash.now) (K.mounted_on self.now.backend)) name.now result }
+        requires stands { K.runs self.now.backend ≡ true
+            → StandsOn K.mounted_on K.stands (F.device flash.now) self.now.backend }
+        ensures { GetEnds (K.runs self.now.backend)
+            (on K.contents (F.device flash.now) (K.mounted_on self.now.backend)) name.now result }
     {
         if self.backend.is_up() {
             Ok(self.backend.get(flash, name, steps))

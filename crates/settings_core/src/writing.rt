@@ -50,15 +50,24 @@ impl<K: Backend> Settings<K> {
         steps: &mut Steps<L>,
     ) -> Result<(), SaveFault>
         requires lawful { IsLawfulFor (F.device flash.old).banks (K.mounted_on self.old.backend) }
-        requires stands { K.runs self.old.backend ≡ true → StandsOn K.mounted_on K.stands (F.device flash.old) self.old.backend }
+        requires stands { K.runs self.old.backend ≡ true
+            → StandsOn K.mounted_on K.stands (F.device flash.old) self.old.backend }
         requires short { length value.now ≤ value_limit (K.mounted_on self.old.backend) }
 
-        ensures touches { Touches (K.mounted_on self.old.backend ∷ []) (F.device flash.old) (F.device flash.new) (save_lost result) }
+        ensures touches { Touches (K.mounted_on self.old.backend ∷ []) (F.device flash.old)
+            (F.device flash.new) (save_lost result) }
         ensures area { K.mounted_on self.new.backend ≡ K.mounted_on self.old.backend }
-        ensures ends { (count : ℕ) × CarryEndsOn K.room K.contents K.chance K.tears (K.runs self.old.backend) (K.mounted_on self.old.backend) (F.device flash.old) (F.device flash.new) (command_of name.now value.now ∷ []) count result }
-        ensures at_most { let d = F.device flash.old in SpendsAtMost d (F.device flash.new) (most_units (geometry_of d (K.mounted_on self.old.backend))) }
-        ensures sound { K.runs self.old.backend ≡ true → on K.damage (F.device flash.new) (K.mounted_on self.old.backend) ≡ None }
-        ensures stands { K.runs self.new.backend ≡ true → StandsOn K.mounted_on K.stands (F.device flash.new) self.new.backend }
+        ensures ends { (count : ℕ)
+            × CarryEndsOn K.room K.contents K.chance K.tears (K.runs self.old.backend)
+            (K.mounted_on self.old.backend) (F.device flash.old) (F.device flash.new)
+            (command_of name.now value.now ∷ []) count result }
+        ensures at_most { let d = F.device flash.old in
+            SpendsAtMost d (F.device flash.new)
+            (most_units (geometry_of d (K.mounted_on self.old.backend))) }
+        ensures sound { K.runs self.old.backend ≡ true
+            → on K.damage (F.device flash.new) (K.mounted_on self.old.backend) ≡ None }
+        ensures stands { K.runs self.new.backend ≡ true
+            → StandsOn K.mounted_on K.stands (F.device flash.new) self.new.backend }
         ensures down { save_lost result ≡ true → K.runs self.new.backend ≡ false }
         ensures up { save_lost result ≡ false → K.runs self.new.backend ≡ K.runs self.old.backend }
     {
@@ -86,16 +95,26 @@ impl<K: Backend> Settings<K> {
         steps: &mut Steps<L>,
     ) -> Result<(), DeleteFault>
         requires lawful { IsLawfulFor (F.device flash.old).banks (K.mounted_on self.old.backend) }
-        requires stands { K.runs self.old.backend ≡ true → StandsOn K.mounted_on K.stands (F.device flash.old) self.old.backend }
+        requires stands { K.runs self.old.backend ≡ true
+            → StandsOn K.mounted_on K.stands (F.device flash.old) self.old.backend }
 
-        ensures touches { Touches (K.mounted_on self.old.backend ∷ []) (F.device flash.old) (F.device flash.new) (save_lost (as_save result)) }
+        ensures touches { Touches (K.mounted_on self.old.backend ∷ []) (F.device flash.old)
+            (F.device flash.new) (save_lost (as_save result)) }
         ensures area { K.mounted_on self.new.backend ≡ K.mounted_on self.old.backend }
-        ensures ends { (count : ℕ) × CarryEndsOn K.room K.contents K.chance K.tears (K.runs self.old.backend) (K.mounted_on self.old.backend) (F.device flash.old) (F.device flash.new) (Del name.now ∷ []) count (as_save result) }
-        ensures at_most { let d = F.device flash.old in SpendsAtMost d (F.device flash.new) (most_units (geometry_of d (K.mounted_on self.old.backend))) }
-        ensures sound { K.runs self.old.backend ≡ true → on K.damage (F.device flash.new) (K.mounted_on self.old.backend) ≡ None }
-        ensures stands { K.runs self.new.backend ≡ true → StandsOn K.mounted_on K.stands (F.device flash.new) self.new.backend }
+        ensures ends { (count : ℕ)
+            × CarryEndsOn K.room K.contents K.chance K.tears (K.runs self.old.backend)
+            (K.mounted_on self.old.backend) (F.device flash.old) (F.device flash.new)
+            (Del name.now ∷ []) count (as_save result) }
+        ensures at_most { let d = F.device flash.old in
+            SpendsAtMost d (F.device flash.new)
+            (most_units (geometry_of d (K.mounted_on self.old.backend))) }
+        ensures sound { K.runs self.old.backend ≡ true
+            → on K.damage (F.device flash.new) (K.mounted_on self.old.backend) ≡ None }
+        ensures stands { K.runs self.new.backend ≡ true
+            → StandsOn K.mounted_on K.stands (F.device flash.new) self.new.backend }
         ensures down { save_lost (as_save result) ≡ true → K.runs self.new.backend ≡ false }
-        ensures up { save_lost (as_save result) ≡ false → K.runs self.new.backend ≡ K.runs self.old.backend }
+        ensures up { save_lost (as_save result) ≡ false
+            → K.runs self.new.backend ≡ K.runs self.old.backend }
     {
         if !self.backend.is_up() {
             return Err(DeleteFault::Off);
@@ -121,12 +140,18 @@ fn store<K: Backend, F: Flash, L: Ledger>(
     requires some { 0 < length value.now }
     requires short { length value.now ≤ value_limit (K.mounted_on backend.old) }
 
-    ensures touches { Touches (K.mounted_on backend.old ∷ []) (F.device flash.old) (F.device flash.new) (save_lost result) }
+    ensures touches { Touches (K.mounted_on backend.old ∷ []) (F.device flash.old)
+        (F.device flash.new) (save_lost result) }
     ensures area { K.mounted_on backend.new ≡ K.mounted_on backend.old }
-    ensures ends { (count : ℕ) × CarryEndsOn K.room K.contents K.chance K.tears true (K.mounted_on backend.old) (F.device flash.old) (F.device flash.new) (Put name.now value.now ∷ []) count result }
-    ensures at_most { let d = F.device flash.old in SpendsAtMost d (F.device flash.new) (most_units (geometry_of d (K.mounted_on backend.old))) }
+    ensures ends { (count : ℕ)
+        × CarryEndsOn K.room K.contents K.chance K.tears true (K.mounted_on backend.old)
+        (F.device flash.old) (F.device flash.new) (Put name.now value.now ∷ []) count result }
+    ensures at_most { let d = F.device flash.old in
+        SpendsAtMost d (F.device flash.new)
+        (most_units (geometry_of d (K.mounted_on backend.old))) }
     ensures sound { on K.damage (F.device flash.new) (K.mounted_on backend.old) ≡ None }
-    ensures stands { save_lost result ≡ false → StandsOn K.mounted_on K.stands (F.device flash.new) backend.new }
+    ensures stands { save_lost result ≡ false
+        → StandsOn K.mounted_on K.stands (F.device flash.new) backend.new }
     ensures down { save_lost result ≡ true → K.runs backend.new ≡ false }
 {
     match backend.set(flash, name, value, steps) {
@@ -156,14 +181,19 @@ pub(crate) fn put<K: Backend, F: Flash, L: Ledger>(
     requires some { 0 < length value.now }
     requires short { length value.now ≤ value_limit (K.mounted_on backend.old) }
 
-    ensures touches { Touches (K.mounted_on backend.old ∷ []) (F.device flash.old) (F.device flash.new) (save_lost result) }
+    ensures touches { Touches (K.mounted_on backend.old ∷ []) (F.device flash.old)
+        (F.device flash.new) (save_lost result) }
     ensures area { K.mounted_on backend.new ≡ K.mounted_on backend.old }
-    ensures ends { CarryEndsOn K.room K.contents K.chance K.tears true (K.mounted_on backend.old) (F.device flash.old) (F.device flash.new) (Put name.now value.now ∷ []) (put_count result) result }
+    ensures ends { CarryEndsOn K.room K.contents K.chance K.tears true (K.mounted_on backend.old)
+        (F.device flash.old) (F.device flash.new) (Put name.now value.now ∷ []) (put_count result)
+        result }
     ensures at_most { let area = K.mounted_on backend.old in let d = F.device flash.old in
         let puts = Put name.now value.now ∷ [] in
-        SpendsAtMost d (F.device flash.new) (due_units (geometry_of d area) (on K.contents d area) puts) }
+        SpendsAtMost d (F.device flash.new)
+        (due_units (geometry_of d area) (on K.contents d area) puts) }
     ensures sound { on K.damage (F.device flash.new) (K.mounted_on backend.old) ≡ None }
-    ensures stands { save_lost result ≡ false → StandsOn K.mounted_on K.stands (F.device flash.new) backend.new }
+    ensures stands { save_lost result ≡ false
+        → StandsOn K.mounted_on K.stands (F.device flash.new) backend.new }
     ensures down { save_lost result ≡ true → K.runs backend.new ≡ false }
 {
     if is_stored(backend, flash, name, value, steps) {
@@ -185,7 +215,9 @@ fn is_stored<K: Backend, F: Flash, L: Ledger>(
 ) -> bool
     requires lawful { IsLawfulFor (F.device flash.now).banks (K.mounted_on backend.now) }
     requires stands { StandsOn K.mounted_on K.stands (F.device flash.now) backend.now }
-    ensures { result ≡ is_idle (on K.contents (F.device flash.now) (K.mounted_on backend.now)) (Put name.now value.now) }
+    ensures { result
+        ≡ is_idle (on K.contents (F.device flash.now) (K.mounted_on backend.now))
+        (Put name.now value.now) }
 {
     match backend.get(flash, name, steps) {
         Some(stored) => value == stored,
@@ -213,12 +245,18 @@ fn remove<K: Backend, F: Flash, L: Ledger>(
     requires lawful { IsLawfulFor (F.device flash.old).banks (K.mounted_on backend.old) }
     requires stands { StandsOn K.mounted_on K.stands (F.device flash.old) backend.old }
 
-    ensures touches { Touches (K.mounted_on backend.old ∷ []) (F.device flash.old) (F.device flash.new) (is_err result) }
+    ensures touches { Touches (K.mounted_on backend.old ∷ []) (F.device flash.old)
+        (F.device flash.new) (is_err result) }
     ensures area { K.mounted_on backend.new ≡ K.mounted_on backend.old }
-    ensures ends { (count : ℕ) × CarryEndsOn K.room K.contents K.chance K.tears true (K.mounted_on backend.old) (F.device flash.old) (F.device flash.new) (Del name.now ∷ []) count (lost_as_save result) }
-    ensures at_most { let d = F.device flash.old in SpendsAtMost d (F.device flash.new) (most_units (geometry_of d (K.mounted_on backend.old))) }
+    ensures ends { (count : ℕ)
+        × CarryEndsOn K.room K.contents K.chance K.tears true (K.mounted_on backend.old)
+        (F.device flash.old) (F.device flash.new) (Del name.now ∷ []) count (lost_as_save result) }
+    ensures at_most { let d = F.device flash.old in
+        SpendsAtMost d (F.device flash.new)
+        (most_units (geometry_of d (K.mounted_on backend.old))) }
     ensures sound { on K.damage (F.device flash.new) (K.mounted_on backend.old) ≡ None }
-    ensures stands { is_err result ≡ false → StandsOn K.mounted_on K.stands (F.device flash.new) backend.new }
+    ensures stands { is_err result ≡ false
+        → StandsOn K.mounted_on K.stands (F.device flash.new) backend.new }
     ensures down { is_err result ≡ true → K.runs backend.new ≡ false }
 {
     backend.delete(flash, name, steps)

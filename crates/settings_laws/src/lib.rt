@@ -18,14 +18,16 @@ pub const NAME_LIMIT: u32 = 64;
 /// contract is the law.
 pub fn collect_records()
     ensures { (limit : ℕ) (victim others : List (List ℕ))
-        → settings_of limit (others ++ live_bodies limit victim others) ≡ settings_of limit (victim ++ others) }
+        → settings_of limit (others ++ live_bodies limit victim others)
+        ≡ settings_of limit (victim ++ others) }
 {}
 
 /// A body of which only the first bytes were put, with FF behind them, says nothing, or gives the same name a value of the same
 /// length (`torn`); and so does a record, in units of this many bytes, that was cut and checks by chance (`spelled`). The
 /// function does nothing; its contract is the law.
 pub fn tear_record()
-    ensures torn { (limit : ℕ) (body : List ℕ) (put : ℕ) → IsTornOf (setting_of limit body) (setting_of limit (torn_body body put)) }
+    ensures torn { (limit : ℕ) (body : List ℕ) (put : ℕ)
+        → IsTornOf (setting_of limit body) (setting_of limit (torn_body body put)) }
     ensures spelled { (limit unit : ℕ) (body : List ℕ) (done : ℕ)
         → IsUnit unit → record_cost unit (length body) ≤ PROGRAM_LIMIT → IsChance unit body done
         → IsTornOf (setting_of limit body) (setting_of limit (spelled unit body done)) }

@@ -75,10 +75,14 @@ fn stores<K: Backend, B: Bench, L: Ledger>(
     steps: &mut Steps<L>,
 ) -> Result<(), Fail>
     requires lawful { IsLawfulFor (B.device bench.old).banks (K.mounted_on settings.old.backend) }
-    requires stands { K.runs settings.old.backend ≡ true → StandsOn K.mounted_on K.stands (B.device bench.old) settings.old.backend }
+    requires stands { K.runs settings.old.backend ≡ true
+        → StandsOn K.mounted_on K.stands (B.device bench.old) settings.old.backend }
     requires short { length value.now ≤ 4 }
-    ensures lawful { OnOk result (IsLawfulFor (B.device bench.new).banks (K.mounted_on settings.new.backend)) }
-    ensures stands { OnOk result (K.runs settings.new.backend ≡ true → StandsOn K.mounted_on K.stands (B.device bench.new) settings.new.backend) }
+    ensures lawful { OnOk result
+        (IsLawfulFor (B.device bench.new).banks (K.mounted_on settings.new.backend)) }
+    ensures stands { OnOk result
+        (K.runs settings.new.backend ≡ true
+        → StandsOn K.mounted_on K.stands (B.device bench.new) settings.new.backend) }
 {
     let name = Name::read(name)?;
     settings.save_one(bench, &name, value, steps)?;
@@ -92,9 +96,11 @@ fn deletes<K: Backend, B: Bench, L: Ledger>(
     steps: &mut Steps<L>,
 ) -> Result<(), DeleteFault>
     requires lawful { IsLawfulFor (B.device bench.old).banks (K.mounted_on settings.old.backend) }
-    requires stands { K.runs settings.old.backend ≡ true → StandsOn K.mounted_on K.stands (B.device bench.old) settings.old.backend }
+    requires stands { K.runs settings.old.backend ≡ true
+        → StandsOn K.mounted_on K.stands (B.device bench.old) settings.old.backend }
     ensures lawful { IsLawfulFor (B.device bench.new).banks (K.mounted_on settings.new.backend) }
-    ensures stands { K.runs settings.new.backend ≡ true → StandsOn K.mounted_on K.stands (B.device bench.new) settings.new.backend }
+    ensures stands { K.runs settings.new.backend ≡ true
+        → StandsOn K.mounted_on K.stands (B.device bench.new) settings.new.backend }
 {
     settings.delete(bench, name, steps)
 }
@@ -107,11 +113,15 @@ fn saves<K: Backend, B: Bench, L: Ledger>(
     steps: &mut Steps<L>,
 ) -> Saved
     requires lawful { IsLawfulFor (B.device bench.old).banks (K.mounted_on settings.old.backend) }
-    requires stands { K.runs settings.old.backend ≡ true → StandsOn K.mounted_on K.stands (B.device bench.old) settings.old.backend }
-    requires settings { AreLawful (value_limit (K.mounted_on settings.old.backend)) (registered state registry.now) }
+    requires stands { K.runs settings.old.backend ≡ true
+        → StandsOn K.mounted_on K.stands (B.device bench.old) settings.old.backend }
+    requires settings { AreLawful (value_limit (K.mounted_on settings.old.backend))
+        (registered state registry.now) }
     ensures lawful { IsLawfulFor (B.device bench.new).banks (K.mounted_on settings.new.backend) }
-    ensures stands { K.runs settings.new.backend ≡ true → StandsOn K.mounted_on K.stands (B.device bench.new) settings.new.backend }
-    ensures settings { AreLawful (value_limit (K.mounted_on settings.new.backend)) (registered state registry.now) }
+    ensures stands { K.runs settings.new.backend ≡ true
+        → StandsOn K.mounted_on K.stands (B.device bench.new) settings.new.backend }
+    ensures settings { AreLawful (value_limit (K.mounted_on settings.new.backend))
+        (registered state registry.now) }
 {
     settings.save(bench, registry, subtree, steps)
 }
@@ -126,9 +136,12 @@ fn loads<K: Backend, B: Bench, L: Ledger>(
     steps: &mut Steps<L>,
 ) -> Result<Loaded, LoadFault>
     requires lawful { IsLawfulFor (B.device bench.now).banks (K.mounted_on settings.now.backend) }
-    requires stands { K.runs settings.now.backend ≡ true → StandsOn K.mounted_on K.stands (B.device bench.now) settings.now.backend }
-    requires settings { AreLawful (value_limit (K.mounted_on settings.now.backend)) (registered state registry.old) }
-    ensures { AreLawful (value_limit (K.mounted_on settings.now.backend)) (registered state registry.new) }
+    requires stands { K.runs settings.now.backend ≡ true
+        → StandsOn K.mounted_on K.stands (B.device bench.now) settings.now.backend }
+    requires settings { AreLawful (value_limit (K.mounted_on settings.now.backend))
+        (registered state registry.old) }
+    ensures { AreLawful (value_limit (K.mounted_on settings.now.backend))
+        (registered state registry.new) }
 {
     let mut tally = Tally { left };
     settings.load(alloc, bench, registry, None, &mut tally, steps)
@@ -143,7 +156,8 @@ fn tells<K: Backend, B: Bench, L: Ledger>(
     steps: &mut Steps<L>,
 ) -> Result<(u32, usize), LoadFault>
     requires lawful { IsLawfulFor (B.device bench.now).banks (K.mounted_on settings.now.backend) }
-    requires stands { K.runs settings.now.backend ≡ true → StandsOn K.mounted_on K.stands (B.device bench.now) settings.now.backend }
+    requires stands { K.runs settings.now.backend ≡ true
+        → StandsOn K.mounted_on K.stands (B.device bench.now) settings.now.backend }
 {
     let mut bytes = Bytes { count: 0 };
     match settings.load_direct(alloc, bench, subtree, &mut bytes, steps) {
@@ -177,8 +191,10 @@ fn puts<K: Backend>(
 ) -> Result<(), RuntimeFault>
     requires some { 0 < length value.now }
     requires short { length value.now ≤ 4 }
-    requires settings { AreLawful (value_limit (K.mounted_on _settings.now.backend)) (registered state registry.old) }
-    ensures { AreLawful (value_limit (K.mounted_on _settings.now.backend)) (registered state registry.new) }
+    requires settings { AreLawful (value_limit (K.mounted_on _settings.now.backend))
+        (registered state registry.old) }
+    ensures { AreLawful (value_limit (K.mounted_on _settings.now.backend))
+        (registered state registry.new) }
 {
     let _name = name.bytes();
     runtime_set(alloc, registry, name, value)
@@ -194,9 +210,13 @@ fn fills<K: Backend, B: Bench, L: Ledger, R: Abort>(
     steps: &mut Steps<L>,
 ) -> Result<(), Fail>
     requires lawful { IsLawfulFor (B.device bench.old).banks (K.mounted_on settings.old.backend) }
-    requires stands { K.runs settings.old.backend ≡ true → StandsOn K.mounted_on K.stands (B.device bench.old) settings.old.backend }
-    ensures lawful { OnOk result (IsLawfulFor (B.device bench.new).banks (K.mounted_on settings.new.backend)) }
-    ensures stands { OnOk result (K.runs settings.new.backend ≡ true → StandsOn K.mounted_on K.stands (B.device bench.new) settings.new.backend) }
+    requires stands { K.runs settings.old.backend ≡ true
+        → StandsOn K.mounted_on K.stands (B.device bench.old) settings.old.backend }
+    ensures lawful { OnOk result
+        (IsLawfulFor (B.device bench.new).banks (K.mounted_on settings.new.backend)) }
+    ensures stands { OnOk result
+        (K.runs settings.new.backend ≡ true
+        → StandsOn K.mounted_on K.stands (B.device bench.new) settings.new.backend) }
 {
     let start = bench.spent();
     for (name, first, len) in [
@@ -223,9 +243,13 @@ fn fills_handlers<K: Backend, B: Bench, L: Ledger, R: Abort>(
     steps: &mut Steps<L>,
 ) -> Result<(), Fail>
     requires lawful { IsLawfulFor (B.device bench.now).banks (K.mounted_on settings.now.backend) }
-    requires stands { K.runs settings.now.backend ≡ true → StandsOn K.mounted_on K.stands (B.device bench.now) settings.now.backend }
-    requires settings { AreLawful (value_limit (K.mounted_on settings.now.backend)) (registered state registry.old) }
-    ensures { OnOk result (AreLawful (value_limit (K.mounted_on settings.now.backend)) (registered state registry.new)) }
+    requires stands { K.runs settings.now.backend ≡ true
+        → StandsOn K.mounted_on K.stands (B.device bench.now) settings.now.backend }
+    requires settings { AreLawful (value_limit (K.mounted_on settings.now.backend))
+        (registered state registry.old) }
+    ensures { OnOk result
+        (AreLawful (value_limit (K.mounted_on settings.now.backend))
+        (registered state registry.new)) }
 {
     let short = loads(alloc, settings, bench, registry, 2, steps);
     let none = commits_of(registry, 0);
@@ -249,8 +273,11 @@ fn runs<K: Backend, R: Abort>(
     settings: &Settings<K>,
     registry: &mut Registry,
 ) -> Result<(), Fail>
-    requires settings { AreLawful (value_limit (K.mounted_on settings.now.backend)) (registered state registry.old) }
-    ensures { OnOk result (AreLawful (value_limit (K.mounted_on settings.now.backend)) (registered state registry.new)) }
+    requires settings { AreLawful (value_limit (K.mounted_on settings.now.backend))
+        (registered state registry.old) }
+    ensures { OnOk result
+        (AreLawful (value_limit (K.mounted_on settings.now.backend))
+        (registered state registry.new)) }
 {
     let iv = Name::read(b"bt/mesh/iv")?;
     let x = Name::read(b"bt/x")?;
@@ -276,10 +303,15 @@ fn stores_what_is_new<K: Backend, B: Bench, L: Ledger, R: Abort>(
     steps: &mut Steps<L>,
 ) -> Result<(), Fail>
     requires lawful { IsLawfulFor (B.device bench.old).banks (K.mounted_on settings.old.backend) }
-    requires stands { K.runs settings.old.backend ≡ true → StandsOn K.mounted_on K.stands (B.device bench.old) settings.old.backend }
-    requires settings { AreLawful (value_limit (K.mounted_on settings.old.backend)) (registered state registry.now) }
-    ensures lawful { OnOk result (IsLawfulFor (B.device bench.new).banks (K.mounted_on settings.new.backend)) }
-    ensures stands { OnOk result (K.runs settings.new.backend ≡ true → StandsOn K.mounted_on K.stands (B.device bench.new) settings.new.backend) }
+    requires stands { K.runs settings.old.backend ≡ true
+        → StandsOn K.mounted_on K.stands (B.device bench.old) settings.old.backend }
+    requires settings { AreLawful (value_limit (K.mounted_on settings.old.backend))
+        (registered state registry.now) }
+    ensures lawful { OnOk result
+        (IsLawfulFor (B.device bench.new).banks (K.mounted_on settings.new.backend)) }
+    ensures stands { OnOk result
+        (K.runs settings.new.backend ≡ true
+        → StandsOn K.mounted_on K.stands (B.device bench.new) settings.new.backend) }
 {
     let mesh = Name::read(b"bt/mesh")?;
     let x = Name::read(b"bt/x")?;
@@ -310,10 +342,14 @@ fn rows<K: Backend, B: Bench, L: Ledger, R: Abort>(
     steps: &mut Steps<L>,
 ) -> Result<(), Fail>
     requires lawful { IsLawfulFor (B.device bench.old).banks (K.mounted_on settings.old.backend) }
-    requires stands { K.runs settings.old.backend ≡ true → StandsOn K.mounted_on K.stands (B.device bench.old) settings.old.backend }
+    requires stands { K.runs settings.old.backend ≡ true
+        → StandsOn K.mounted_on K.stands (B.device bench.old) settings.old.backend }
     requires settings { (limit : ℕ) → AreLawful limit (registered state registry.old) }
-    ensures lawful { OnOk result (IsLawfulFor (B.device bench.new).banks (K.mounted_on settings.new.backend)) }
-    ensures stands { OnOk result (K.runs settings.new.backend ≡ true → StandsOn K.mounted_on K.stands (B.device bench.new) settings.new.backend) }
+    ensures lawful { OnOk result
+        (IsLawfulFor (B.device bench.new).banks (K.mounted_on settings.new.backend)) }
+    ensures stands { OnOk result
+        (K.runs settings.new.backend ≡ true
+        → StandsOn K.mounted_on K.stands (B.device bench.new) settings.new.backend) }
 {
     let mesh = Name::read(b"bt/mesh")?;
     fills(rt, settings, bench, steps)?;
@@ -389,7 +425,9 @@ fn exercise<K: Backend, B: Bench, L: Ledger, R: Abort>(
 
 // Four sectors of 512 bytes at unit 4, with nothing in them.
 fn load<B: Bench>(alloc: Global, bench: &mut B) -> Result<(), Fail>
-    ensures { OnOk result ((B.device bench.new).banks ≡ (record { kind = Erasing; unit = 4; sector = 512; count = 4 }) ∷ []) }
+    ensures { OnOk result
+        ((B.device bench.new).banks
+        ≡ (record { kind = Erasing; unit = 4; sector = 512; count = 4 }) ∷ []) }
 {
     let bank = Bank {
         kind: Kind::Erasing,

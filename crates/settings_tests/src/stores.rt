@@ -48,7 +48,9 @@ fn load<B: Bench>(
 ) -> Result<(), Fail>
     requires unit { IsUnit unit }
     requires long { vec_len image ≡ 1024 }
-    ensures { OnOk result ((B.device bench.new).banks ≡ (record { kind = kind; unit = unit; sector = 512; count = 2 }) ∷ []) }
+    ensures { OnOk result
+        ((B.device bench.new).banks
+        ≡ (record { kind = kind; unit = unit; sector = 512; count = 2 }) ∷ []) }
 {
     let bank = Bank {
         kind,

@@ -32,7 +32,8 @@ pub fn cut_at(text: &[u8], separator: u8) -> (&[u8], Option<&[u8]>)
 
 /// The one part that is left; none where there is none or more than one.
 pub fn one_part(rest: Option<&[u8]>, separator: u8) -> Option<&[u8]>
-    ensures { MatchOption result (length (parts_of separator rest.entry) ≢ 1) (λ part. parts_of separator rest.entry ≡ part.now ∷ []) }
+    ensures { MatchOption result (length (parts_of separator rest.entry) ≢ 1)
+        (λ part. parts_of separator rest.entry ≡ part.now ∷ []) }
 {
     let Some(text) = rest else {
         return None;

@@ -11,7 +11,9 @@ use std::alloc::{AllocError, Global};
 /// # Errors
 /// Want of memory alone.
 pub fn read_number(alloc: Global, word: &[u8], limit: u64) -> Result<Option<u64>, AllocError>
-    ensures { IfOk result (λ found. MatchOption found (IsNoNumber limit word.now) (λ n. (word.now ≡ decimal n) × (n < limit))) }
+    ensures { IfOk result
+        (λ found. MatchOption found (IsNoNumber limit word.now)
+        (λ n. (word.now ≡ decimal n) × (n < limit))) }
 {
     let Ok(text) = str::from_utf8(word) else {
         return Ok(None);

@@ -44,7 +44,9 @@ pub fn long_tail(offset: u32) -> [u8; 8]
 
 // The tail of a value's entry.
 fn tail_of(bytes: &[u8], offset: u32) -> [u8; 8]
-    ensures { result ≡ (if nat_le (length bytes.now) 8 then bytes.now ++ replicate (8 - length bytes.now) 0 else to_le_bytes w32 offset ++ replicate 4 0) }
+    ensures { result
+        ≡ (if nat_le (length bytes.now) 8 then bytes.now
+        ++ replicate (8 - length bytes.now) 0 else to_le_bytes w32 offset ++ replicate 4 0) }
 {
     if bytes.len() <= TAIL as usize {
         short_tail(bytes)
@@ -77,16 +79,25 @@ pub fn put_bytes<F: Flash>(
     requires zms { IsZmsSector (F.device flash.old) area.now sector }
     requires fits { at + padded 16 (length bytes.now) ≤ sector_size (F.device flash.old) area.now }
     requires aligned { at % 16 ≡ 0 }
-    requires erased { CanPutAt (F.device flash.old) area.now sector at (padded 16 (length bytes.now)) }
+    requires erased { CanPutAt (F.device flash.old) area.now sector at
+        (padded 16 (length bytes.now)) }
 
-    ensures touches { Touches (area.now ∷ []) (F.device flash.old) (F.device flash.new) (is_err result) }
+    ensures touches { Touches (area.now ∷ []) (F.device flash.old) (F.device flash.new)
+        (is_err result) }
     ensures others { OthersStay (F.device flash.old) (F.device flash.new) area.now sector }
-    ensures ok { OnOk result (sector_bytes (F.device flash.new) area.now sector ≡ overwritten (sector_bytes (F.device flash.old) area.now sector) at (padded_bytes 16 bytes.now)) }
-    ensures lost { OnErr result (HasPart (sector_bytes (F.device flash.old) area.now sector) (sector_bytes (F.device flash.new) area.now sector) at (padded 16 (length bytes.now))) }
+    ensures ok { OnOk result
+        (sector_bytes (F.device flash.new) area.now sector
+        ≡ overwritten (sector_bytes (F.device flash.old) area.now sector) at
+        (padded_bytes 16 bytes.now)) }
+    ensures lost { OnErr result
+        (HasPart (sector_bytes (F.device flash.old) area.now sector)
+        (sector_bytes (F.device flash.new) area.now sector) at (padded 16 (length bytes.now))) }
     ensures spends { let units = padded 16 (length bytes.now) / 16 in
         OnOk result (SpendsBetween (F.device flash.old) (F.device flash.new) units units) }
     ensures in_pieces { OnErr result (LosesWithin PIECE (F.device flash.old) (F.device flash.new)) }
-    ensures spends_lost { OnErr result (SpendsBetween (F.device flash.old) (F.device flash.new) 0 (padded 16 (length bytes.now) / 16)) }
+    ensures spends_lost { OnErr result
+        (SpendsBetween (F.device flash.old) (F.device flash.new) 0
+        (padded 16 (length bytes.now) / 16)) }
 {
     program_padded(flash, area, sector, at, bytes)
 }
@@ -102,16 +113,24 @@ fn put_value<F: Flash>(
     requires zms { IsZmsSector (F.device flash.old) area.now sector }
     requires fits { at + data_len (length bytes.now) ≤ sector_size (F.device flash.old) area.now }
     requires aligned { at % 16 ≡ 0 }
-    requires erased { CanPutAt (F.device flash.old) area.now sector at (data_len (length bytes.now)) }
+    requires erased { CanPutAt (F.device flash.old) area.now sector at
+        (data_len (length bytes.now)) }
 
-    ensures touches { Touches (area.now ∷ []) (F.device flash.old) (F.device flash.new) (is_err result) }
+    ensures touches { Touches (area.now ∷ []) (F.device flash.old) (F.device flash.new)
+        (is_err result) }
     ensures others { OthersStay (F.device flash.old) (F.device flash.new) area.now sector }
-    ensures ok { OnOk result (sector_bytes (F.device flash.new) area.now sector ≡ with_value (sector_bytes (F.device flash.old) area.now sector) at bytes.now) }
-    ensures lost { OnErr result (HasPart (sector_bytes (F.device flash.old) area.now sector) (sector_bytes (F.device flash.new) area.now sector) at (data_len (length bytes.now))) }
+    ensures ok { OnOk result
+        (sector_bytes (F.device flash.new) area.now sector
+        ≡ with_value (sector_bytes (F.device flash.old) area.now sector) at bytes.now) }
+    ensures lost { OnErr result
+        (HasPart (sector_bytes (F.device flash.old) area.now sector)
+        (sector_bytes (F.device flash.new) area.now sector) at (data_len (length bytes.now))) }
     ensures spends { let units = data_len (length bytes.now) / 16 in
         OnOk result (SpendsBetween (F.device flash.old) (F.device flash.new) units units) }
     ensures in_pieces { OnErr result (LosesWithin PIECE (F.device flash.old) (F.device flash.new)) }
-    ensures spends_lost { OnErr result (SpendsBetween (F.device flash.old) (F.device flash.new) 0 (data_len (length bytes.now) / 16)) }
+    ensures spends_lost { OnErr result
+        (SpendsBetween (F.device flash.old) (F.device flash.new) 0
+        (data_len (length bytes.now) / 16)) }
 {
     if bytes.len() <= TAIL as usize {
         return Ok(());
@@ -140,16 +159,22 @@ pub fn put_entry_at<F: Flash, L: Ledger>(
     requires ordinary { id < 0xFFFFFFFF }
     requires room { FitsOn (F.device flash.old) area.now sector (length bytes.now) }
 
-    ensures touches { Touches (area.now ∷ []) (F.device flash.old) (F.device flash.new) (is_err result) }
+    ensures touches { Touches (area.now ∷ []) (F.device flash.old) (F.device flash.new)
+        (is_err result) }
     ensures others { OthersStay (F.device flash.old) (F.device flash.new) area.now sector }
-    ensures ok { OnOk result (Adds (F.device flash.old) (F.device flash.new) area.now sector id bytes.now) }
-    ensures lost { OnErr result (KeepsBut (length bytes.now) (F.device flash.old) (F.device flash.new) area.now sector) }
+    ensures ok { OnOk result
+        (Adds (F.device flash.old) (F.device flash.new) area.now sector id bytes.now) }
+    ensures lost { OnErr result
+        (KeepsBut (length bytes.now) (F.device flash.old) (F.device flash.new) area.now sector) }
     ensures spends { let units = entry_units (length bytes.now) in
         OnOk result (SpendsBetween (F.device flash.old) (F.device flash.new) units (units + 1)) }
-    ensures guards { let units = entry_units (length bytes.now) + next_guard (F.device flash.old) area.now sector in
+    ensures guards { let units =
+        entry_units (length bytes.now) + next_guard (F.device flash.old) area.now sector in
         OnOk result (SpendsBetween (F.device flash.old) (F.device flash.new) units units) }
     ensures in_pieces { OnErr result (LosesWithin PIECE (F.device flash.old) (F.device flash.new)) }
-    ensures spends_lost { OnErr result (SpendsBetween (F.device flash.old) (F.device flash.new) 0 (entry_units (length bytes.now))) }
+    ensures spends_lost { OnErr result
+        (SpendsBetween (F.device flash.old) (F.device flash.new) 0
+        (entry_units (length bytes.now))) }
 {
     let entry = value_entry(opened.cycle, id, bytes, opened.data_end);
     put_value(flash, area, sector, opened.data_end, bytes)?;
@@ -176,16 +201,22 @@ pub fn put_entry<F: Flash, L: Ledger>(
     requires ordinary { id < 0xFFFFFFFF }
     requires room { FitsOn (F.device flash.old) area.now sector (length bytes.now) }
 
-    ensures touches { Touches (area.now ∷ []) (F.device flash.old) (F.device flash.new) (is_err result) }
+    ensures touches { Touches (area.now ∷ []) (F.device flash.old) (F.device flash.new)
+        (is_err result) }
     ensures others { OthersStay (F.device flash.old) (F.device flash.new) area.now sector }
-    ensures ok { OnOk result (Adds (F.device flash.old) (F.device flash.new) area.now sector id bytes.now) }
-    ensures lost { OnErr result (KeepsBut (length bytes.now) (F.device flash.old) (F.device flash.new) area.now sector) }
+    ensures ok { OnOk result
+        (Adds (F.device flash.old) (F.device flash.new) area.now sector id bytes.now) }
+    ensures lost { OnErr result
+        (KeepsBut (length bytes.now) (F.device flash.old) (F.device flash.new) area.now sector) }
     ensures spends { let units = entry_units (length bytes.now) in
         OnOk result (SpendsBetween (F.device flash.old) (F.device flash.new) units (units + 1)) }
-    ensures guards { let units = entry_units (length bytes.now) + next_guard (F.device flash.old) area.now sector in
+    ensures guards { let units =
+        entry_units (length bytes.now) + next_guard (F.device flash.old) area.now sector in
         OnOk result (SpendsBetween (F.device flash.old) (F.device flash.new) units units) }
     ensures in_pieces { OnErr result (LosesWithin PIECE (F.device flash.old) (F.device flash.new)) }
-    ensures spends_lost { OnErr result (SpendsBetween (F.device flash.old) (F.device flash.new) 0 (entry_units (length bytes.now))) }
+    ensures spends_lost { OnErr result
+        (SpendsBetween (F.device flash.old) (F.device flash.new) 0
+        (entry_units (length bytes.now))) }
 {
     let opened = opened_sector(flash, area, sector, steps);
     put_entry_at(flash, area, sector, &opened, id, bytes, steps)
@@ -221,15 +252,19 @@ pub fn put_done_at<F: Flash, L: Ledger>(
     requires sound { IsSoundOn (F.device flash.old) area.now sector }
     requires room { 32 ≤ free_on (F.device flash.old) area.now sector }
 
-    ensures touches { Touches (area.now ∷ []) (F.device flash.old) (F.device flash.new) (is_err result) }
+    ensures touches { Touches (area.now ∷ []) (F.device flash.old) (F.device flash.new)
+        (is_err result) }
     ensures others { OthersStay (F.device flash.old) (F.device flash.new) area.now sector }
-    ensures ok { OnOk result (Makes MarksDone (F.device flash.old) (F.device flash.new) area.now sector) }
-    ensures lost { OnErr result (Keeps 0 (F.device flash.old) (F.device flash.new) area.now sector) }
+    ensures ok { OnOk result
+        (Makes MarksDone (F.device flash.old) (F.device flash.new) area.now sector) }
+    ensures lost { OnErr result
+        (Keeps 0 (F.device flash.old) (F.device flash.new) area.now sector) }
     ensures spends { OnOk result (SpendsBetween (F.device flash.old) (F.device flash.new) 1 2) }
     ensures guards { let units = 1 + next_guard (F.device flash.old) area.now sector in
         OnOk result (SpendsBetween (F.device flash.old) (F.device flash.new) units units) }
     ensures in_pieces { OnErr result (LosesWithin SLOT (F.device flash.old) (F.device flash.new)) }
-    ensures spends_lost { OnErr result (SpendsBetween (F.device flash.old) (F.device flash.new) 0 1) }
+    ensures spends_lost { OnErr result
+        (SpendsBetween (F.device flash.old) (F.device flash.new) 0 1) }
 {
     let entry = done_entry(opened.cycle, opened.data_end);
     put_slot(flash, area, sector, opened.slots + FIRST, &entry, steps)
@@ -251,15 +286,19 @@ pub fn put_done<F: Flash, L: Ledger>(
     requires sound { IsSoundOn (F.device flash.old) area.now sector }
     requires room { 32 ≤ free_on (F.device flash.old) area.now sector }
 
-    ensures touches { Touches (area.now ∷ []) (F.device flash.old) (F.device flash.new) (is_err result) }
+    ensures touches { Touches (area.now ∷ []) (F.device flash.old) (F.device flash.new)
+        (is_err result) }
     ensures others { OthersStay (F.device flash.old) (F.device flash.new) area.now sector }
-    ensures ok { OnOk result (Makes MarksDone (F.device flash.old) (F.device flash.new) area.now sector) }
-    ensures lost { OnErr result (Keeps 0 (F.device flash.old) (F.device flash.new) area.now sector) }
+    ensures ok { OnOk result
+        (Makes MarksDone (F.device flash.old) (F.device flash.new) area.now sector) }
+    ensures lost { OnErr result
+        (Keeps 0 (F.device flash.old) (F.device flash.new) area.now sector) }
     ensures spends { OnOk result (SpendsBetween (F.device flash.old) (F.device flash.new) 1 2) }
     ensures guards { let units = 1 + next_guard (F.device flash.old) area.now sector in
         OnOk result (SpendsBetween (F.device flash.old) (F.device flash.new) units units) }
     ensures in_pieces { OnErr result (LosesWithin SLOT (F.device flash.old) (F.device flash.new)) }
-    ensures spends_lost { OnErr result (SpendsBetween (F.device flash.old) (F.device flash.new) 0 1) }
+    ensures spends_lost { OnErr result
+        (SpendsBetween (F.device flash.old) (F.device flash.new) 0 1) }
 {
     let opened = opened_sector(flash, area, sector, steps);
     put_done_at(flash, area, sector, &opened, steps)

@@ -34,7 +34,8 @@ fn ordinary_entry<F: Flash, L: Ledger>(
     requires zms { IsZmsSector (F.device flash.now) area.now sector }
     requires slot { HasSlot (F.device flash.now) area.now slot }
     requires some { 0 < entry_len (sector_bytes (F.device flash.now) area.now sector) slot }
-    ensures { entry_in (slot_of (sector_bytes (F.device flash.now) area.now sector) slot) ≡ Some (record { slot = slot; entry = result }) }
+    ensures { entry_in (slot_of (sector_bytes (F.device flash.now) area.now sector) slot)
+        ≡ Some (record { slot = slot; entry = result }) }
 {
     let start = slot_start(flash, area, slot);
     match decode_zentry(area_view(flash, area, sector, start, SLOT, steps)) {
@@ -77,13 +78,23 @@ fn copy_bytes<F: Flash, L: Ledger>(
     requires aligned { to % 16 ≡ 0 }
     requires erased { CanPutAt (F.device flash.old) area.now sector to (padded 16 from.len) }
 
-    ensures touches { Touches (area.now ∷ []) (F.device flash.old) (F.device flash.new) (is_err result) }
+    ensures touches { Touches (area.now ∷ []) (F.device flash.old) (F.device flash.new)
+        (is_err result) }
     ensures others { OthersStay (F.device flash.old) (F.device flash.new) area.now sector }
-    ensures ok { OnOk result (sector_bytes (F.device flash.new) area.now sector ≡ overwritten (sector_bytes (F.device flash.old) area.now sector) to (padded_bytes 16 (source (F.device flash.old) area.now from))) }
-    ensures lost { OnErr result (HasPart (sector_bytes (F.device flash.old) area.now sector) (sector_bytes (F.device flash.new) area.now sector) to (padded 16 from.len)) }
-    ensures spends { OnOk result (SpendsBetween (F.device flash.old) (F.device flash.new) (padded 16 from.len / 16) (padded 16 from.len / 16)) }
-    ensures in_pieces { OnErr result (LosesWithin COPY_PIECE (F.device flash.old) (F.device flash.new)) }
-    ensures spends_lost { OnErr result (SpendsBetween (F.device flash.old) (F.device flash.new) 0 (padded 16 from.len / 16)) }
+    ensures ok { OnOk result
+        (sector_bytes (F.device flash.new) area.now sector
+        ≡ overwritten (sector_bytes (F.device flash.old) area.now sector) to
+        (padded_bytes 16 (source (F.device flash.old) area.now from))) }
+    ensures lost { OnErr result
+        (HasPart (sector_bytes (F.device flash.old) area.now sector)
+        (sector_bytes (F.device flash.new) area.now sector) to (padded 16 from.len)) }
+    ensures spends { OnOk result
+        (SpendsBetween (F.device flash.old) (F.device flash.new) (padded 16 from.len / 16)
+        (padded 16 from.len / 16)) }
+    ensures in_pieces { OnErr result
+        (LosesWithin COPY_PIECE (F.device flash.old) (F.device flash.new)) }
+    ensures spends_lost { OnErr result
+        (SpendsBetween (F.device flash.old) (F.device flash.new) 0 (padded 16 from.len / 16)) }
 {
     copy_padded(flash, area, from, sector, to, steps)
 }
@@ -101,18 +112,30 @@ fn copy_value<F: Flash, L: Ledger>(
     requires zms { IsZmsSector (F.device flash.old) area.now sector }
     requires from_zms { IsZmsSector (F.device flash.old) area.now from_sector }
     requires other { from_sector ≢ sector }
-    requires len { length (value_of (sector_bytes (F.device flash.old) area.now from_sector) from.now) ≡ from.now.len }
+    requires len { length
+        (value_of (sector_bytes (F.device flash.old) area.now from_sector) from.now)
+        ≡ from.now.len }
     requires fits { to + data_len from.now.len ≤ sector_size (F.device flash.old) area.now }
     requires aligned { to % 16 ≡ 0 }
     requires erased { CanPutAt (F.device flash.old) area.now sector to (data_len from.now.len) }
 
-    ensures touches { Touches (area.now ∷ []) (F.device flash.old) (F.device flash.new) (is_err result) }
+    ensures touches { Touches (area.now ∷ []) (F.device flash.old) (F.device flash.new)
+        (is_err result) }
     ensures others { OthersStay (F.device flash.old) (F.device flash.new) area.now sector }
-    ensures ok { OnOk result (sector_bytes (F.device flash.new) area.now sector ≡ with_value (sector_bytes (F.device flash.old) area.now sector) to (value_of (sector_bytes (F.device flash.old) area.now from_sector) from.now)) }
-    ensures lost { OnErr result (HasPart (sector_bytes (F.device flash.old) area.now sector) (sector_bytes (F.device flash.new) area.now sector) to (data_len from.now.len)) }
-    ensures spends { OnOk result (SpendsBetween (F.device flash.old) (F.device flash.new) (data_len from.now.len / 16) (data_len from.now.len / 16)) }
-    ensures in_pieces { OnErr result (LosesWithin COPY_PIECE (F.device flash.old) (F.device flash.new)) }
-    ensures spends_lost { OnErr result (SpendsBetween (F.device flash.old) (F.device flash.new) 0 (data_len from.now.len / 16)) }
+    ensures ok { OnOk result
+        (sector_bytes (F.device flash.new) area.now sector
+        ≡ with_value (sector_bytes (F.device flash.old) area.now sector) to
+        (value_of (sector_bytes (F.device flash.old) area.now from_sector) from.now)) }
+    ensures lost { OnErr result
+        (HasPart (sector_bytes (F.device flash.old) area.now sector)
+        (sector_bytes (F.device flash.new) area.now sector) to (data_len from.now.len)) }
+    ensures spends { OnOk result
+        (SpendsBetween (F.device flash.old) (F.device flash.new) (data_len from.now.len / 16)
+        (data_len from.now.len / 16)) }
+    ensures in_pieces { OnErr result
+        (LosesWithin COPY_PIECE (F.device flash.old) (F.device flash.new)) }
+    ensures spends_lost { OnErr result
+        (SpendsBetween (F.device flash.old) (F.device flash.new) 0 (data_len from.now.len / 16)) }
 {
     if from.len <= TAIL {
         return Ok(());
@@ -153,18 +176,27 @@ pub fn copy_entry_at<F: Flash, L: Ledger>(
     requires room { let d = F.device flash.old in
         cost (entry_len_on d area.now from_sector from_slot) + 48 ≤ free_on d area.now sector }
 
-    ensures touches { Touches (area.now ∷ []) (F.device flash.old) (F.device flash.new) (is_err result) }
+    ensures touches { Touches (area.now ∷ []) (F.device flash.old) (F.device flash.new)
+        (is_err result) }
     ensures others { OthersStay (F.device flash.old) (F.device flash.new) area.now sector }
-    ensures ok { OnOk result (Copies (F.device flash.old) (F.device flash.new) area.now sector from_sector from_slot) }
+    ensures ok { OnOk result
+        (Copies (F.device flash.old) (F.device flash.new) area.now sector from_sector from_slot) }
     ensures lost { let d = F.device flash.old in
-        OnErr result (KeepsBut (entry_len_on d area.now from_sector from_slot) d (F.device flash.new) area.now sector) }
-    ensures spends { let units = entry_units (entry_len_on (F.device flash.old) area.now from_sector from_slot) in
+        OnErr result
+        (KeepsBut (entry_len_on d area.now from_sector from_slot) d (F.device flash.new) area.now
+        sector) }
+    ensures spends { let units =
+        entry_units (entry_len_on (F.device flash.old) area.now from_sector from_slot) in
         OnOk result (SpendsBetween (F.device flash.old) (F.device flash.new) units (units + 1)) }
     ensures guards { let d = F.device flash.old in
-        let units = entry_units (entry_len_on d area.now from_sector from_slot) + next_guard d area.now sector in
+        let units =
+        entry_units (entry_len_on d area.now from_sector from_slot)
+        + next_guard d area.now sector in
         OnOk result (SpendsBetween (F.device flash.old) (F.device flash.new) units units) }
-    ensures in_pieces { OnErr result (LosesWithin COPY_PIECE (F.device flash.old) (F.device flash.new)) }
-    ensures spends_lost { let units = entry_units (entry_len_on (F.device flash.old) area.now from_sector from_slot) in
+    ensures in_pieces { OnErr result
+        (LosesWithin COPY_PIECE (F.device flash.old) (F.device flash.new)) }
+    ensures spends_lost { let units =
+        entry_units (entry_len_on (F.device flash.old) area.now from_sector from_slot) in
         OnErr result (SpendsBetween (F.device flash.old) (F.device flash.new) 0 units) }
 {
     let from = ordinary_entry(flash, area, from_sector, from_slot, steps);
@@ -207,18 +239,27 @@ pub fn copy_entry<F: Flash, L: Ledger>(
     requires room { let d = F.device flash.old in
         cost (entry_len_on d area.now from_sector from_slot) + 48 ≤ free_on d area.now sector }
 
-    ensures touches { Touches (area.now ∷ []) (F.device flash.old) (F.device flash.new) (is_err result) }
+    ensures touches { Touches (area.now ∷ []) (F.device flash.old) (F.device flash.new)
+        (is_err result) }
     ensures others { OthersStay (F.device flash.old) (F.device flash.new) area.now sector }
-    ensures ok { OnOk result (Copies (F.device flash.old) (F.device flash.new) area.now sector from_sector from_slot) }
+    ensures ok { OnOk result
+        (Copies (F.device flash.old) (F.device flash.new) area.now sector from_sector from_slot) }
     ensures lost { let d = F.device flash.old in
-        OnErr result (KeepsBut (entry_len_on d area.now from_sector from_slot) d (F.device flash.new) area.now sector) }
-    ensures spends { let units = entry_units (entry_len_on (F.device flash.old) area.now from_sector from_slot) in
+        OnErr result
+        (KeepsBut (entry_len_on d area.now from_sector from_slot) d (F.device flash.new) area.now
+        sector) }
+    ensures spends { let units =
+        entry_units (entry_len_on (F.device flash.old) area.now from_sector from_slot) in
         OnOk result (SpendsBetween (F.device flash.old) (F.device flash.new) units (units + 1)) }
     ensures guards { let d = F.device flash.old in
-        let units = entry_units (entry_len_on d area.now from_sector from_slot) + next_guard d area.now sector in
+        let units =
+        entry_units (entry_len_on d area.now from_sector from_slot)
+        + next_guard d area.now sector in
         OnOk result (SpendsBetween (F.device flash.old) (F.device flash.new) units units) }
-    ensures in_pieces { OnErr result (LosesWithin COPY_PIECE (F.device flash.old) (F.device flash.new)) }
-    ensures spends_lost { let units = entry_units (entry_len_on (F.device flash.old) area.now from_sector from_slot) in
+    ensures in_pieces { OnErr result
+        (LosesWithin COPY_PIECE (F.device flash.old) (F.device flash.new)) }
+    ensures spends_lost { let units =
+        entry_units (entry_len_on (F.device flash.old) area.now from_sector from_slot) in
         OnErr result (SpendsBetween (F.device flash.old) (F.device flash.new) 0 units) }
 {
     let opened = opened_sector(flash, area, sector, steps);

@@ -39,13 +39,18 @@ pub fn put_unit<F: Flash>(
     requires unit { length bytes.now ≡ 16 }
     requires erased { CanPut (F.device flash.old) area.now sector slot }
 
-    ensures touches { Touches (area.now ∷ []) (F.device flash.old) (F.device flash.new) (is_err result) }
+    ensures touches { Touches (area.now ∷ []) (F.device flash.old) (F.device flash.new)
+        (is_err result) }
     ensures others { OthersStay (F.device flash.old) (F.device flash.new) area.now sector }
-    ensures ok { OnOk result (sector_bytes (F.device flash.new) area.now sector ≡ with_slot (sector_bytes (F.device flash.old) area.now sector) slot bytes.now) }
-    ensures lost { OnErr result (sectors_of (F.device flash.new) area.now ≡ sectors_of (F.device flash.old) area.now) }
+    ensures ok { OnOk result
+        (sector_bytes (F.device flash.new) area.now sector
+        ≡ with_slot (sector_bytes (F.device flash.old) area.now sector) slot bytes.now) }
+    ensures lost { OnErr result
+        (sectors_of (F.device flash.new) area.now ≡ sectors_of (F.device flash.old) area.now) }
     ensures spends { OnOk result (SpendsBetween (F.device flash.old) (F.device flash.new) 1 1) }
     ensures in_pieces { OnErr result (LosesWithin SLOT (F.device flash.old) (F.device flash.new)) }
-    ensures spends_lost { OnErr result (SpendsBetween (F.device flash.old) (F.device flash.new) 0 0) }
+    ensures spends_lost { OnErr result
+        (SpendsBetween (F.device flash.old) (F.device flash.new) 0 0) }
 {
     let start = slot_start(flash, area, slot);
     area_program(flash, area, sector, start, bytes)
@@ -67,20 +72,29 @@ pub fn guard<F: Flash, L: Ledger>(
     requires zms { IsZmsSector (F.device flash.old) area.now sector }
     requires slot { HasSlot (F.device flash.old) area.now slot }
 
-    ensures touches { Touches (area.now ∷ []) (F.device flash.old) (F.device flash.new) (is_err result) }
+    ensures touches { Touches (area.now ∷ []) (F.device flash.old) (F.device flash.new)
+        (is_err result) }
     ensures others { OthersStay (F.device flash.old) (F.device flash.new) area.now sector }
     ensures ok { let d = F.device flash.old in
-        OnOk result (sector_bytes (F.device flash.new) area.now sector ≡ guarded (kind_on d area.now) cycle slot (sector_bytes d area.now sector)) }
+        OnOk result
+        (sector_bytes (F.device flash.new) area.now sector
+        ≡ guarded (kind_on d area.now) cycle slot (sector_bytes d area.now sector)) }
     ensures not_valid { kind_on (F.device flash.old) area.now ≡ Rewritable
-        → OnOk result (is_valid_under cycle (slot_of (sector_bytes (F.device flash.new) area.now sector) slot) ≡ false) }
-    ensures idle { kind_on (F.device flash.old) area.now ≡ Erasing → F.device flash.new ≡ F.device flash.old }
-    ensures lost { OnErr result (sectors_of (F.device flash.new) area.now ≡ sectors_of (F.device flash.old) area.now) }
+        → OnOk result
+        (is_valid_under cycle (slot_of (sector_bytes (F.device flash.new) area.now sector) slot)
+        ≡ false) }
+    ensures idle { kind_on (F.device flash.old) area.now ≡ Erasing
+        → F.device flash.new ≡ F.device flash.old }
+    ensures lost { OnErr result
+        (sectors_of (F.device flash.new) area.now ≡ sectors_of (F.device flash.old) area.now) }
     ensures rewritable_lost { OnErr result (kind_on (F.device flash.old) area.now ≡ Rewritable) }
     ensures spends { let d = F.device flash.old in
-        let units = guard_units (kind_on d area.now) (Some cycle) slot (sector_bytes d area.now sector) in
+        let units =
+        guard_units (kind_on d area.now) (Some cycle) slot (sector_bytes d area.now sector) in
         OnOk result (SpendsBetween d (F.device flash.new) units units) }
     ensures in_pieces { OnErr result (LosesWithin SLOT (F.device flash.old) (F.device flash.new)) }
-    ensures spends_lost { OnErr result (SpendsBetween (F.device flash.old) (F.device flash.new) 0 0) }
+    ensures spends_lost { OnErr result
+        (SpendsBetween (F.device flash.old) (F.device flash.new) 0 0) }
     ensures step { kind_on (F.device flash.old) area.now ≡ Rewritable → steps.new ≡ steps.old + 1 }
     ensures no_step { kind_on (F.device flash.old) area.now ≡ Erasing → steps.new ≡ steps.old }
 {
@@ -110,19 +124,31 @@ pub fn put_slot<F: Flash, L: Ledger>(
     requires slot { HasSlot (F.device flash.old) area.now (slot + 1) }
     requires erased { CanPut (F.device flash.old) area.now sector slot }
 
-    ensures touches { Touches (area.now ∷ []) (F.device flash.old) (F.device flash.new) (is_err result) }
+    ensures touches { Touches (area.now ∷ []) (F.device flash.old) (F.device flash.new)
+        (is_err result) }
     ensures others { OthersStay (F.device flash.old) (F.device flash.new) area.now sector }
     ensures ok { let d = F.device flash.old in
-        OnOk result (sector_bytes (F.device flash.new) area.now sector ≡ with_slot (guarded (kind_on d area.now) entry.now.cycle (slot + 1) (sector_bytes d area.now sector)) slot (encoded entry.now)) }
+        OnOk result
+        (sector_bytes (F.device flash.new) area.now sector
+        ≡ with_slot
+        (guarded (kind_on d area.now) entry.now.cycle (slot + 1) (sector_bytes d area.now sector))
+        slot (encoded entry.now)) }
     ensures lost { let d = F.device flash.old in
-        OnErr result ((sector_bytes (F.device flash.new) area.now sector ≡ sector_bytes d area.now sector)
-        ⊎ (sector_bytes (F.device flash.new) area.now sector ≡ guarded (kind_on d area.now) entry.now.cycle (slot + 1) (sector_bytes d area.now sector))) }
+        OnErr result
+        ((sector_bytes (F.device flash.new) area.now sector ≡ sector_bytes d area.now sector)
+        ⊎ (sector_bytes (F.device flash.new) area.now sector
+        ≡ guarded (kind_on d area.now) entry.now.cycle (slot + 1)
+        (sector_bytes d area.now sector))) }
     ensures spends { OnOk result (SpendsBetween (F.device flash.old) (F.device flash.new) 1 2) }
     ensures guards { let d = F.device flash.old in
-        let units = 1 + guard_units (kind_on d area.now) (Some entry.now.cycle) (slot + 1) (sector_bytes d area.now sector) in
+        let units =
+        1
+        + guard_units (kind_on d area.now) (Some entry.now.cycle) (slot + 1)
+        (sector_bytes d area.now sector) in
         OnOk result (SpendsBetween d (F.device flash.new) units units) }
     ensures in_pieces { OnErr result (LosesWithin SLOT (F.device flash.old) (F.device flash.new)) }
-    ensures spends_lost { OnErr result (SpendsBetween (F.device flash.old) (F.device flash.new) 0 1) }
+    ensures spends_lost { OnErr result
+        (SpendsBetween (F.device flash.old) (F.device flash.new) 0 1) }
 {
     guard(flash, area, sector, slot + 1, entry.cycle, steps)?;
     put_unit(flash, area, sector, slot, &encode_zentry(entry))

@@ -62,15 +62,20 @@ fn empty_by_guards<F: Flash, L: Ledger>(
 ) -> Result<(), PowerLost>
     requires zms { IsZmsSector (F.device flash.old) area.now sector }
     requires kind { kind_on (F.device flash.old) area.now ≡ Rewritable }
-    requires cycle { cycle ≡ next_cycle (cycle_of (sector_bytes (F.device flash.old) area.now sector)) }
+    requires cycle { cycle
+        ≡ next_cycle (cycle_of (sector_bytes (F.device flash.old) area.now sector)) }
 
-    ensures touches { Touches (area.now ∷ []) (F.device flash.old) (F.device flash.new) (is_err result) }
+    ensures touches { Touches (area.now ∷ []) (F.device flash.old) (F.device flash.new)
+        (is_err result) }
     ensures others { OthersStay (F.device flash.old) (F.device flash.new) area.now sector }
-    ensures ok { OnOk result (Makes Empties (F.device flash.old) (F.device flash.new) area.now sector) }
-    ensures lost { OnErr result (Makes (λ kind. StopsGuarding) (F.device flash.old) (F.device flash.new) area.now sector) }
+    ensures ok { OnOk result
+        (Makes Empties (F.device flash.old) (F.device flash.new) area.now sector) }
+    ensures lost { OnErr result
+        (Makes (λ kind. StopsGuarding) (F.device flash.old) (F.device flash.new) area.now sector) }
     ensures guards { let units = emptying_units (F.device flash.old) area.now sector in
         OnOk result (SpendsBetween (F.device flash.old) (F.device flash.new) units units) }
-    ensures spends_lost { OnErr result (SpendsBetween (F.device flash.old) (F.device flash.new) 0 2) }
+    ensures spends_lost { OnErr result
+        (SpendsBetween (F.device flash.old) (F.device flash.new) 0 2) }
 {
     guard(flash, area, sector, 1, cycle, steps)?;
     guard(flash, area, sector, 2, cycle, steps)?;
@@ -87,15 +92,20 @@ fn empty_by_erasing<F: Flash, L: Ledger>(
 ) -> Result<(), PowerLost>
     requires zms { IsZmsSector (F.device flash.old) area.now sector }
     requires kind { kind_on (F.device flash.old) area.now ≡ Erasing }
-    requires cycle { cycle ≡ next_cycle (cycle_of (sector_bytes (F.device flash.old) area.now sector)) }
+    requires cycle { cycle
+        ≡ next_cycle (cycle_of (sector_bytes (F.device flash.old) area.now sector)) }
 
-    ensures touches { Touches (area.now ∷ []) (F.device flash.old) (F.device flash.new) (is_err result) }
+    ensures touches { Touches (area.now ∷ []) (F.device flash.old) (F.device flash.new)
+        (is_err result) }
     ensures others { OthersStay (F.device flash.old) (F.device flash.new) area.now sector }
-    ensures ok { OnOk result (Makes Empties (F.device flash.old) (F.device flash.new) area.now sector) }
-    ensures lost { OnErr result (Makes StopsEmptying (F.device flash.old) (F.device flash.new) area.now sector) }
+    ensures ok { OnOk result
+        (Makes Empties (F.device flash.old) (F.device flash.new) area.now sector) }
+    ensures lost { OnErr result
+        (Makes StopsEmptying (F.device flash.old) (F.device flash.new) area.now sector) }
     ensures guards { let units = emptying_units (F.device flash.old) area.now sector in
         OnOk result (SpendsBetween (F.device flash.old) (F.device flash.new) units units) }
-    ensures spends_lost { OnErr result (SpendsBetween (F.device flash.old) (F.device flash.new) 0 1) }
+    ensures spends_lost { OnErr result
+        (SpendsBetween (F.device flash.old) (F.device flash.new) 0 1) }
 {
     let is_used = !is_erased(sector_view(flash, area, sector, steps));
     erase_if(flash, area, sector, is_used)?;
@@ -119,16 +129,20 @@ pub fn empty_sector<F: Flash, L: Ledger>(
 ) -> Result<(), PowerLost>
     requires { IsZmsSector (F.device flash.old) area.now sector }
 
-    ensures touches { Touches (area.now ∷ []) (F.device flash.old) (F.device flash.new) (is_err result) }
+    ensures touches { Touches (area.now ∷ []) (F.device flash.old) (F.device flash.new)
+        (is_err result) }
     ensures others { OthersStay (F.device flash.old) (F.device flash.new) area.now sector }
-    ensures ok { OnOk result (Makes Empties (F.device flash.old) (F.device flash.new) area.now sector) }
+    ensures ok { OnOk result
+        (Makes Empties (F.device flash.old) (F.device flash.new) area.now sector) }
     ensures next_guard { let units = first_guard_units (F.device flash.old) area.now sector in
         OnOk result (next_guard (F.device flash.new) area.now sector ≡ units) }
-    ensures lost { OnErr result (Makes StopsEmptying (F.device flash.old) (F.device flash.new) area.now sector) }
+    ensures lost { OnErr result
+        (Makes StopsEmptying (F.device flash.old) (F.device flash.new) area.now sector) }
     ensures spends { OnOk result (SpendsBetween (F.device flash.old) (F.device flash.new) 1 3) }
     ensures guards { let units = emptying_units (F.device flash.old) area.now sector in
         OnOk result (SpendsBetween (F.device flash.old) (F.device flash.new) units units) }
-    ensures spends_lost { OnErr result (SpendsBetween (F.device flash.old) (F.device flash.new) 0 2) }
+    ensures spends_lost { OnErr result
+        (SpendsBetween (F.device flash.old) (F.device flash.new) 0 2) }
 {
     let cycle = next_cycle(sector_cycle(flash, area, sector, steps));
     match geometry(flash, area).kind {
@@ -149,12 +163,17 @@ fn fill_slot<F: Flash, L: Ledger>(
     requires kind { kind_on (F.device flash.old) area.now ≡ Rewritable }
     requires slot { HasSlot (F.device flash.old) area.now slot }
 
-    ensures touches { Touches (area.now ∷ []) (F.device flash.old) (F.device flash.new) (is_err result) }
+    ensures touches { Touches (area.now ∷ []) (F.device flash.old) (F.device flash.new)
+        (is_err result) }
     ensures others { OthersStay (F.device flash.old) (F.device flash.new) area.now sector }
-    ensures ok { OnOk result (sector_bytes (F.device flash.new) area.now sector ≡ with_slot (sector_bytes (F.device flash.old) area.now sector) slot fill) }
-    ensures lost { OnErr result (sectors_of (F.device flash.new) area.now ≡ sectors_of (F.device flash.old) area.now) }
+    ensures ok { OnOk result
+        (sector_bytes (F.device flash.new) area.now sector
+        ≡ with_slot (sector_bytes (F.device flash.old) area.now sector) slot fill) }
+    ensures lost { OnErr result
+        (sectors_of (F.device flash.new) area.now ≡ sectors_of (F.device flash.old) area.now) }
     ensures spends { OnOk result (SpendsBetween (F.device flash.old) (F.device flash.new) 0 1) }
-    ensures spends_lost { OnErr result (SpendsBetween (F.device flash.old) (F.device flash.new) 0 0) }
+    ensures spends_lost { OnErr result
+        (SpendsBetween (F.device flash.old) (F.device flash.new) 0 0) }
 {
     let start = slot_start(flash, area, slot);
     let unit = fill_unit();
@@ -177,13 +196,19 @@ fn fill_slots<F: Flash, L: Ledger>(
     requires zms { IsZmsSector (F.device flash.old) area.now sector }
     requires kind { kind_on (F.device flash.old) area.now ≡ Rewritable }
     requires guarded { 16 ≤ low (sector_bytes (F.device flash.old) area.now sector) }
-    requires bottom { length (valid_slots (sector_bytes (F.device flash.old) area.now sector)) + 2 ≤ bottom }
-    requires top { 0 < top → data_end Rewritable (sector_bytes (F.device flash.old) area.now sector) + top * 16 ≤ sector_size (F.device flash.old) area.now }
+    requires bottom { length (valid_slots (sector_bytes (F.device flash.old) area.now sector)) + 2
+        ≤ bottom }
+    requires top { 0 < top
+        → data_end Rewritable (sector_bytes (F.device flash.old) area.now sector) + top * 16
+        ≤ sector_size (F.device flash.old) area.now }
 
-    ensures touches { Touches (area.now ∷ []) (F.device flash.old) (F.device flash.new) (is_err result) }
+    ensures touches { Touches (area.now ∷ []) (F.device flash.old) (F.device flash.new)
+        (is_err result) }
     ensures others { OthersStay (F.device flash.old) (F.device flash.new) area.now sector }
-    ensures keeps { Makes (λ kind. KeepsList Rewritable 0) (F.device flash.old) (F.device flash.new) area.now sector }
-    ensures filled { OnOk result (IsFilled (sector_bytes (F.device flash.new) area.now sector) bottom top) }
+    ensures keeps { Makes (λ kind. KeepsList Rewritable 0) (F.device flash.old) (F.device flash.new)
+        area.now sector }
+    ensures filled { OnOk result
+        (IsFilled (sector_bytes (F.device flash.new) area.now sector) bottom top) }
     ensures spends { SpendsBetween (F.device flash.old) (F.device flash.new) 0 (top - bottom) }
 {
     let mut slot = top;
@@ -207,14 +232,19 @@ fn fill_free<F: Flash, L: Ledger>(
     requires sound { IsSoundOn (F.device flash.old) area.now sector }
     requires opened { IsOpenedOn (F.device flash.old) area.now sector opened.now }
 
-    ensures touches { Touches (area.now ∷ []) (F.device flash.old) (F.device flash.new) (is_err result) }
+    ensures touches { Touches (area.now ∷ []) (F.device flash.old) (F.device flash.new)
+        (is_err result) }
     ensures others { OthersStay (F.device flash.old) (F.device flash.new) area.now sector }
     ensures keeps { Keeps 0 (F.device flash.old) (F.device flash.new) area.now sector }
     ensures filled { let b = sector_bytes (F.device flash.old) area.now sector in
         kind_on (F.device flash.old) area.now ≡ Rewritable
-        → OnOk result (IsFilled (sector_bytes (F.device flash.new) area.now sector) (length (valid_slots b) + 2) ((length b - data_end Rewritable b) / 16)) }
-    ensures idle { kind_on (F.device flash.old) area.now ≡ Erasing → F.device flash.new ≡ F.device flash.old }
-    ensures spends { SpendsBetween (F.device flash.old) (F.device flash.new) 0 (closing_units (F.device flash.old) area.now sector - 1) }
+        → OnOk result
+        (IsFilled (sector_bytes (F.device flash.new) area.now sector) (length (valid_slots b) + 2)
+        ((length b - data_end Rewritable b) / 16)) }
+    ensures idle { kind_on (F.device flash.old) area.now ≡ Erasing
+        → F.device flash.new ≡ F.device flash.old }
+    ensures spends { SpendsBetween (F.device flash.old) (F.device flash.new) 0
+        (closing_units (F.device flash.old) area.now sector - 1) }
 {
     let geometry = geometry(flash, area);
     match geometry.kind {
@@ -245,14 +275,23 @@ pub fn close_at<F: Flash, L: Ledger>(
     requires sound { IsSoundOn (F.device flash.old) area.now sector }
     requires closable { IsClosableOn (F.device flash.old) area.now sector }
 
-    ensures touches { Touches (area.now ∷ []) (F.device flash.old) (F.device flash.new) (is_err result) }
+    ensures touches { Touches (area.now ∷ []) (F.device flash.old) (F.device flash.new)
+        (is_err result) }
     ensures others { OthersStay (F.device flash.old) (F.device flash.new) area.now sector }
-    ensures ok { OnOk result (Makes Closes (F.device flash.old) (F.device flash.new) area.now sector) }
-    ensures lost { OnErr result (Keeps 0 (F.device flash.old) (F.device flash.new) area.now sector) }
-    ensures idle_lost { let d = F.device flash.old in kind_on d area.now ≡ Erasing
-        → OnErr result (sector_bytes (F.device flash.new) area.now sector ≡ sector_bytes d area.now sector) }
-    ensures spends { OnOk result (SpendsBetween (F.device flash.old) (F.device flash.new) 1 (closing_units (F.device flash.old) area.now sector)) }
-    ensures spends_lost { OnErr result (SpendsBetween (F.device flash.old) (F.device flash.new) 0 (closing_units (F.device flash.old) area.now sector)) }
+    ensures ok { OnOk result
+        (Makes Closes (F.device flash.old) (F.device flash.new) area.now sector) }
+    ensures lost { OnErr result
+        (Keeps 0 (F.device flash.old) (F.device flash.new) area.now sector) }
+    ensures idle_lost { let d = F.device flash.old in
+        kind_on d area.now ≡ Erasing
+        → OnErr result
+        (sector_bytes (F.device flash.new) area.now sector ≡ sector_bytes d area.now sector) }
+    ensures spends { OnOk result
+        (SpendsBetween (F.device flash.old) (F.device flash.new) 1
+        (closing_units (F.device flash.old) area.now sector)) }
+    ensures spends_lost { OnErr result
+        (SpendsBetween (F.device flash.old) (F.device flash.new) 0
+        (closing_units (F.device flash.old) area.now sector)) }
 {
     let low = geometry(flash, area).sector - (opened.slots + FIRST) * SLOT;
     fill_free(flash, area, sector, opened, steps)?;
@@ -281,14 +320,23 @@ pub fn close<F: Flash, L: Ledger>(
     requires sound { IsSoundOn (F.device flash.old) area.now sector }
     requires closable { IsClosableOn (F.device flash.old) area.now sector }
 
-    ensures touches { Touches (area.now ∷ []) (F.device flash.old) (F.device flash.new) (is_err result) }
+    ensures touches { Touches (area.now ∷ []) (F.device flash.old) (F.device flash.new)
+        (is_err result) }
     ensures others { OthersStay (F.device flash.old) (F.device flash.new) area.now sector }
-    ensures ok { OnOk result (Makes Closes (F.device flash.old) (F.device flash.new) area.now sector) }
-    ensures lost { OnErr result (Keeps 0 (F.device flash.old) (F.device flash.new) area.now sector) }
-    ensures idle_lost { let d = F.device flash.old in kind_on d area.now ≡ Erasing
-        → OnErr result (sector_bytes (F.device flash.new) area.now sector ≡ sector_bytes d area.now sector) }
-    ensures spends { OnOk result (SpendsBetween (F.device flash.old) (F.device flash.new) 1 (closing_units (F.device flash.old) area.now sector)) }
-    ensures spends_lost { OnErr result (SpendsBetween (F.device flash.old) (F.device flash.new) 0 (closing_units (F.device flash.old) area.now sector)) }
+    ensures ok { OnOk result
+        (Makes Closes (F.device flash.old) (F.device flash.new) area.now sector) }
+    ensures lost { OnErr result
+        (Keeps 0 (F.device flash.old) (F.device flash.new) area.now sector) }
+    ensures idle_lost { let d = F.device flash.old in
+        kind_on d area.now ≡ Erasing
+        → OnErr result
+        (sector_bytes (F.device flash.new) area.now sector ≡ sector_bytes d area.now sector) }
+    ensures spends { OnOk result
+        (SpendsBetween (F.device flash.old) (F.device flash.new) 1
+        (closing_units (F.device flash.old) area.now sector)) }
+    ensures spends_lost { OnErr result
+        (SpendsBetween (F.device flash.old) (F.device flash.new) 0
+        (closing_units (F.device flash.old) area.now sector)) }
 {
     let opened = opened_sector(flash, area, sector, steps);
     close_at(flash, area, sector, &opened, steps)

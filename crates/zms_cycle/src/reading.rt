@@ -135,7 +135,8 @@ fn is_valid(sector: &[u8], slot: u32, cycle: u8) -> bool
 // Whether slot 1 closes a sector of this cycle.
 pub(crate) fn is_closed(sector: &[u8], cycle: u8) -> bool
     requires { 32 ≤ length sector.now }
-    ensures { result ≡ (is_valid_under cycle (slot_of sector.now 1) && holds_close (slot_of sector.now 1)) }
+    ensures { result
+        ≡ (is_valid_under cycle (slot_of sector.now 1) && holds_close (slot_of sector.now 1)) }
 {
     match entry_at(sector, 1) {
         Some(entry) => entry.cycle == cycle && is_close(&entry),
@@ -169,7 +170,9 @@ pub(crate) fn valid_count(sector: &[u8], cycle: u8) -> u32
 
 // The entry of a slot, where it is no special one.
 fn ordinary(entry: Option<ZEntry>, slot: u32) -> Option<SlotEntry>
-    ensures { result ≡ option_and_then (λ e. if is_special e then None else Some (record { slot = slot; entry = e })) entry }
+    ensures { result
+        ≡ option_and_then
+        (λ e. if is_special e then None else Some (record { slot = slot; entry = e })) entry }
 {
     match entry {
         Some(entry) if entry.id != SPECIAL_ID => Some(SlotEntry { slot, entry }),

@@ -53,7 +53,9 @@ fn reach_of(sector: &[u8], cycle: u8, least: u32, most: u32) -> u32
     requires long { 48 ≤ length sector.now }
     requires short { length sector.now ≤ 2 ^ 15 }
     ensures fits { (result + 2) * 16 ≤ length sector.now }
-    ensures others { (k : ℕ) → result + 2 ≤ k → k < length (used_slots (is_valid (Some cycle)) 2 16 sector.now) + 2 → names least most (slot_of sector.now k) ≡ false }
+    ensures others { (k : ℕ) → result + 2 ≤ k
+        → k < length (used_slots (is_valid (Some cycle)) 2 16 sector.now) + 2
+        → names least most (slot_of sector.now k) ≡ false }
 {
     let count = sector.len() as u32 / SLOT;
     let mut reach = 0;
@@ -72,7 +74,8 @@ pub fn reach_in(sector: &[u8], least: u32, most: u32) -> u32
     requires long { 48 ≤ length sector.now }
     requires short { length sector.now ≤ 2 ^ 15 }
     ensures within { result ≤ length (valid_slots sector.now) }
-    ensures others { (k : ℕ) → result + 2 ≤ k → k < length (valid_slots sector.now) + 2 → names least most (slot_of sector.now k) ≡ false }
+    ensures others { (k : ℕ) → result + 2 ≤ k → k < length (valid_slots sector.now) + 2
+        → names least most (slot_of sector.now k) ≡ false }
 {
     match cycle_of(sector) {
         Some(cycle) => valid_within(sector, cycle, reach_of(sector, cycle, least, most)),
@@ -86,7 +89,8 @@ pub fn reach_within(sector: &[u8], slots: u32, least: u32, most: u32) -> u32
     requires short { length sector.now ≤ 2 ^ 15 }
     requires inside { (slots + 2) * 16 ≤ length sector.now }
     ensures few { result ≤ slots }
-    ensures others { (k : ℕ) → result + 2 ≤ k → k < slots + 2 → names least most (slot_of sector.now k) ≡ false }
+    ensures others { (k : ℕ) → result + 2 ≤ k → k < slots + 2
+        → names least most (slot_of sector.now k) ≡ false }
 {
     let mut reach = slots;
     while reach > 0 {

@@ -37,7 +37,8 @@ fn damage<F: Flash, L: Ledger>(
     requires role { area.now.role ≡ Zms }
     requires current { let d = F.device flash.now in current ≡ open_place (sectors_of d area.now) }
     requires within { current < area.now.sectors }
-    ensures { let d = F.device flash.now in result ≡ damage_of (kind_on d area.now) (sectors_of d area.now) }
+    ensures { let d = F.device flash.now in
+        result ≡ damage_of (kind_on d area.now) (sectors_of d area.now) }
 {
     let Some(_) = first(flash, area, Sought::NotClosed, 0, steps) else {
         return Some(Damaged {
@@ -73,10 +74,14 @@ pub fn scan<F: Flash, L: Ledger>(
     requires lawful { IsLawfulFor (F.device flash.now).banks area.now }
     requires role { area.now.role ≡ Zms }
 
-    ensures current { let d = F.device flash.now in IfOk result (λ current. current ≡ open_sector (reading (kind_on d area.now)) (sectors_of d area.now)) }
+    ensures current { let d = F.device flash.now in
+        IfOk result
+        (λ current. current ≡ open_sector (reading (kind_on d area.now)) (sectors_of d area.now)) }
     ensures within { IfOk result (λ current. current < area.now.sectors) }
-    ensures undamaged { let d = F.device flash.now in OnOk result (damage_of (kind_on d area.now) (sectors_of d area.now) ≡ None) }
-    ensures damaged { let d = F.device flash.now in IfErr result (λ e. damage_of (kind_on d area.now) (sectors_of d area.now) ≡ Some e) }
+    ensures undamaged { let d = F.device flash.now in
+        OnOk result (damage_of (kind_on d area.now) (sectors_of d area.now) ≡ None) }
+    ensures damaged { let d = F.device flash.now in
+        IfErr result (λ e. damage_of (kind_on d area.now) (sectors_of d area.now) ≡ Some e) }
 {
     let current = open_place(flash, area, steps);
     if let Some(damaged) = damage(flash, area, current, steps) {

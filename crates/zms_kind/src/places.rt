@@ -58,7 +58,8 @@ pub fn counts<F: Flash, L: Ledger>(
     requires lawful { IsLawfulFor (F.device flash.now).banks area.now }
     requires role { area.now.role ≡ Zms }
     requires current { current < area.now.sectors }
-    ensures { let d = F.device flash.now in result ≡ counts_at plain (sectors_of d area.now) current place }
+    ensures { let d = F.device flash.now in
+        result ≡ counts_at plain (sectors_of d area.now) current place }
 {
     let after = area.next(current);
     if marks_at(flash, area, after, steps).closed {
@@ -85,7 +86,8 @@ fn is_full<F: Flash, L: Ledger>(
     requires role { area.now.role ≡ Zms }
     requires current { current < area.now.sectors }
     requires inside { place < area.now.sectors }
-    ensures { let d = F.device flash.now in result ≡ is_overfull_at (sectors_of d area.now) current place }
+    ensures { let d = F.device flash.now in
+        result ≡ is_overfull_at (sectors_of d area.now) current place }
 {
     let kind = geometry(flash, area).kind;
     let bytes = sector_view(flash, area, place, steps);
@@ -131,7 +133,8 @@ fn is_opening<F: Flash, L: Ledger>(flash: &F, area: &Area, place: u32, steps: &m
     requires lawful { IsLawfulFor (F.device flash.now).banks area.now }
     requires role { area.now.role ≡ Zms }
     requires inside { place < area.now.sectors }
-    ensures { let d = F.device flash.now in result ≡ follows_closed plain (sectors_of d area.now) place }
+    ensures { let d = F.device flash.now in
+        result ≡ follows_closed plain (sectors_of d area.now) place }
 {
     if marks_at(flash, area, place, steps).closed {
         return false;
@@ -150,7 +153,8 @@ fn is_second<F: Flash, L: Ledger>(
     requires lawful { IsLawfulFor (F.device flash.now).banks area.now }
     requires role { area.now.role ≡ Zms }
     requires inside { place < area.now.sectors }
-    ensures { let d = F.device flash.now in result ≡ is_second_open (sectors_of d area.now) current place }
+    ensures { let d = F.device flash.now in
+        result ≡ is_second_open (sectors_of d area.now) current place }
 {
     let marks = marks_at(flash, area, place, steps);
     if marks.closed {
@@ -203,7 +207,9 @@ pub fn first<F: Flash, L: Ledger>(
     requires role { area.now.role ≡ Zms }
     requires current { NamesWithin sought area.now.sectors }
     ensures value { let d = F.device flash.now in
-        result ≡ find (is_sought sought (kind_on d area.now) (sectors_of d area.now)) (range_with_len from (area.now.sectors - from)) }
+        result
+        ≡ find (is_sought sought (kind_on d area.now) (sectors_of d area.now))
+        (range_with_len from (area.now.sectors - from)) }
     ensures within { IfSome result (λ place. place < area.now.sectors) }
 {
     for place in from..area.sectors {

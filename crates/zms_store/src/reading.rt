@@ -72,8 +72,8 @@ impl Zms {
     pub fn may_hold(&self, id: u32) -> bool
         ensures exactly { (d : Device) → StandsOn d self.now
             → result ≡ is_some (latest_on kind d self.now.store.area id) }
-        ensures none { (d : Device) → IsLawful d.banks d.bytes → StandsOn d self.now → result ≡ false
-            → map.get (items_on d self.now.store.area) id ≡ None }
+        ensures none { (d : Device) → IsLawful d.banks d.bytes → StandsOn d self.now
+            → result ≡ false → map.get (items_on d self.now.store.area) id ≡ None }
     {
         self.store.may_hold(id)
     }
@@ -159,7 +159,8 @@ impl Zms {
     ) -> Option<u32>
         requires stands { StandsOn (F.device flash.now) self.now }
         requires range { most < least + 0x1_0020 }
-        ensures { IsIdOf least most (items_on (F.device flash.now) self.now.store.area) bytes.now result }
+        ensures { IsIdOf least most (items_on (F.device flash.now) self.now.store.area) bytes.now
+            result }
     {
         self.store.id_of(flash, least, most, bytes, steps)
     }

@@ -34,8 +34,11 @@ pub fn read_to_end<F: Read>(alloc: Global, file: &mut F, limit: usize) -> Result
 
 /// Whether all the bytes were written; where not, a prefix of them was. A write that takes nothing ends it.
 pub fn write_all<W: Write>(writer: &mut W, bytes: &[u8]) -> bool
-    ensures all { OnTrue result (Appends (W.contents writer.old) (W.contents writer.new) bytes.now) }
-    ensures part { OnFalse result ((n : ℕ) × (n ≤ length bytes.now) × Appends (W.contents writer.old) (W.contents writer.new) (take n bytes.now)) }
+    ensures all { OnTrue result
+        (Appends (W.contents writer.old) (W.contents writer.new) bytes.now) }
+    ensures part { OnFalse result
+        ((n : ℕ) × (n ≤ length bytes.now)
+        × Appends (W.contents writer.old) (W.contents writer.new) (take n bytes.now)) }
 {
     let mut at = 0;
     while at < bytes.len() {

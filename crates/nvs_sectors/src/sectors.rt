@@ -59,10 +59,15 @@ fn read_again<F: Flash, L: Ledger>(
     requires area { IsStoreArea nvs_role (F.device flash.now).banks area.now }
     requires inside { at.now.sector < area.now.sectors }
     requires listed { let d = F.device flash.now in
-        (1 ≤ at.now.slot) × (at.now.slot < 1 + (kind (geometry_of d area.now)).count (sector_bytes d area.now at.now.sector)) }
+        (1 ≤ at.now.slot)
+        × (at.now.slot
+        < 1 + (kind (geometry_of d area.now)).count (sector_bytes d area.now at.now.sector)) }
     requires there { let d = F.device flash.now in
-        option_map (placed_at at.now.sector) ((kind (geometry_of d area.now)).in_slot (sector_bytes d area.now at.now.sector) at.now.slot) ≡ Some at.now }
-    ensures own { let d = F.device flash.now in ReadsAs (unit_of d area.now) (sectors_of d area.now) at.now result }
+        option_map (placed_at at.now.sector)
+        ((kind (geometry_of d area.now)).in_slot (sector_bytes d area.now at.now.sector)
+        at.now.slot) ≡ Some at.now }
+    ensures own { let d = F.device flash.now in
+        ReadsAs (unit_of d area.now) (sectors_of d area.now) at.now result }
     ensures in_area { IsInArea area.now.sectors (sector_size (F.device flash.now) area.now) result }
     ensures small { result.entry.id < 2 ^ 16 }
 {
@@ -78,7 +83,8 @@ fn last_of(bytes: &[u8], unit: u32, place: u32, id: u32) -> Option<Placed>
     requires unit { IsUnit unit }
     requires long { 16 ≤ length bytes.now }
     requires short { length bytes.now ≤ 2 ^ 15 }
-    ensures { let s = slots (kind_in unit) in result ≡ option_map (placed_at place) (last_in s place id (s.entries bytes.now)) }
+    ensures { let s = slots (kind_in unit) in
+        result ≡ option_map (placed_at place) (last_in s place id (s.entries bytes.now)) }
 {
     if id > 0xFFFF {
         return None;

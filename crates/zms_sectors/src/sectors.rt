@@ -68,7 +68,8 @@ fn value_in<'a>(bytes: &'a [u8], found: &SlotEntry) -> &'a [u8]
     requires short { length bytes.now ≤ 2 ^ 15 }
     requires inside { (found.now.slot + 1) * 16 ≤ length bytes.now }
     requires there { entry_in (slot_of bytes.now found.now.slot) ≡ Some found.now }
-    requires ends { 8 < found.now.entry.len → offset_of found.now.entry + found.now.entry.len ≤ length bytes.now }
+    requires ends { 8 < found.now.entry.len
+        → offset_of found.now.entry + found.now.entry.len ≤ length bytes.now }
     ensures { result.now ≡ value_of bytes.now found.now.entry }
 {
     let len = usize::from(found.entry.len);
@@ -92,7 +93,8 @@ fn id_of(slot: &[u8]) -> u32
 fn named_id(bytes: &[u8], slot: u32) -> u32
     requires short { length bytes.now ≤ 2 ^ 15 }
     requires inside { (slot + 1) * 16 ≤ length bytes.now }
-    ensures { IfSome (option_map entry_of (entry_in (slot_of bytes.now slot))) (λ e. e.id ≡ result) }
+    ensures { IfSome (option_map entry_of (entry_in (slot_of bytes.now slot)))
+        (λ e. e.id ≡ result) }
 {
     let start = bytes.len() - (slot + 1) as usize * SLOT as usize;
     id_of(&bytes[start..start + SLOT as usize])

@@ -24,10 +24,12 @@ pub fn mount<F: Flash, L: Ledger>(
     steps: &mut Steps<L>,
 ) -> Result<Store<ZmsOpen>, MountFault>
     requires { IsStoreArea zms_role (F.device flash.old).banks area }
-    ensures touches { Touches (area ∷ []) (F.device flash.old) (F.device flash.new) (mount_lost result) }
+    ensures touches { Touches (area ∷ []) (F.device flash.old) (F.device flash.new)
+        (mount_lost result) }
     ensures at_most { let d = F.device flash.old in
         SpendsBetween d (F.device flash.new) 0 (2 * (sector_size d area / 16)) }
-    ensures ends { MountEnds zms_role kind ⟦<ZmsOpen as SlotSectors>⟧.kept (F.device flash.old) (F.device flash.new) area result }
+    ensures ends { MountEnds zms_role kind ⟦<ZmsOpen as SlotSectors>⟧.kept (F.device flash.old)
+        (F.device flash.new) area result }
 {
     Store::mount(alloc, flash, area, steps)
 }

@@ -19,7 +19,8 @@ IsBlank d area = sectors_of d area ≡ blank_sectors (geometry_of d area)
 
 -- a blank area of any role but a selector's shows no damage
 abbrev pub BlankIsUndamaged : Type 0
-BlankIsUndamaged = (d : Device) (area : Area) → IsLawfulFor d.banks area → any_serves area (geometry_of d area)
+BlankIsUndamaged =
+    (d : Device) (area : Area) → IsLawfulFor d.banks area → any_serves area (geometry_of d area)
     → IsBlank d area → on any_damage d area ≡ None
 
 -- it reads as no settings

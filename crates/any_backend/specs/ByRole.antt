@@ -74,7 +74,8 @@ chance_as Sel area geometry sectors loss = false
 abbrev pub tears_as : Role → Area → Geometry → Command → ℕ → Map → Map → Type 0
 tears_as Nvs area geometry command done before after = ⊥
 tears_as Zms area geometry command done before after = ⊥
-tears_as Fcb area geometry command done before after = Tears (value_limit area) geometry.unit (body_for command) done before after
+tears_as Fcb area geometry command done before after =
+    Tears (value_limit area) geometry.unit (body_for command) done before after
 tears_as Sel area geometry command done before after = ⊥
 
 -- ---- by the role of the area

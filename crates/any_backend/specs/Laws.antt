@@ -15,7 +15,8 @@ use Rattle.backend_zms.specs.Standing.{reads_settings as zms-reads}
 use Rattle.backend_fcb.specs.Laws.{reads_settings as fcb-reads}
 use Rattle.any_backend.specs.ByRole.{serves_as, damage_as, contents_as, any_serves, any_damage, any_contents}
 
-reads-as : (role : Role) (d : Device) (area : Area) → area.role ≡ role → IsLawful d.banks d.bytes → IsLawfulFor d.banks area → serves_as role → on (damage_as role) d area ≡ None
+reads-as : (role : Role) (d : Device) (area : Area) → area.role ≡ role → IsLawful d.banks d.bytes
+    → IsLawfulFor d.banks area → serves_as role → on (damage_as role) d area ≡ None
     → IsSettings (value_limit area) (on (contents_as role) d area)
 reads-as Nvs d area role lawful for serves undamaged = nvs-reads d area lawful for role undamaged
 reads-as Zms d area role lawful for serves undamaged = zms-reads d area lawful for role undamaged
@@ -23,6 +24,7 @@ reads-as Fcb d area role lawful for serves undamaged = fcb-reads d area lawful f
 reads-as Sel d area role lawful for serves undamaged = absurd serves
 
 -- lawful names and values throughout, and fewer than 2^32
-pub reads_settings : (d : Device) (area : Area) → IsLawful d.banks d.bytes → IsLawfulFor d.banks area → any_serves area (geometry_of d area) → on any_damage d area ≡ None
+pub reads_settings : (d : Device) (area : Area) → IsLawful d.banks d.bytes → IsLawfulFor d.banks area
+    → any_serves area (geometry_of d area) → on any_damage d area ≡ None
     → IsSettings (value_limit area) (on any_contents d area)
 reads_settings d area lawful for serves undamaged = reads-as area.role d area refl lawful for serves undamaged

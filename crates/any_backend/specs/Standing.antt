@@ -1,4 +1,5 @@
--- When a backend stands on its area, by its store. Each says that the role of the area is the one that the store is for.
+-- When a backend stands on its area, by its store. Each says that the role of the area is the one that the
+-- store is for.
 use Rattle.std.specs.Prelude.{◌≡◌, ℕ, Bool, true, List, None}
 use Rattle.std.proofs.Common.{refl, sym, ap, subst}
 use Rattle.flash_sim.specs.Device.{Device}
@@ -41,22 +42,38 @@ pub record IsReady (d : Device) (backend : AnyBackend) : Type 0 where
 
 -- ---- laws
 
-pub stands-up : (state : AnyBackend) (geometry : Geometry) (sectors : List (List ℕ)) → Stands state geometry sectors → is_up state ≡ true
+pub stands-up : (state : AnyBackend) (geometry : Geometry) (sectors : List (List ℕ))
+    → Stands state geometry sectors → is_up state ≡ true
 stands-up (Nvs backend) geometry sectors stands = stands.store.up
 stands-up (Zms backend) geometry sectors stands = stands.store.up
 stands-up (Fcb backend) geometry sectors stands = ap is_up_stage stands.ready
 
-pub stands-serves : (state : AnyBackend) (geometry : Geometry) (sectors : List (List ℕ)) → Stands state geometry sectors → any_serves (area_of state) geometry
+pub stands-serves : (state : AnyBackend) (geometry : Geometry) (sectors : List (List ℕ))
+    → Stands state geometry sectors → any_serves (area_of state) geometry
 stands-serves (Nvs backend) geometry sectors stands = subst serves_as (sym stands.store.role) tt
 stands-serves (Zms backend) geometry sectors stands = subst serves_as (sym stands.store.role) tt
 stands-serves (Fcb backend) geometry sectors stands = subst serves_as (sym stands.role) tt
 
-pub stands-reads : (state : AnyBackend) (geometry : Geometry) (sectors : List (List ℕ)) → Stands state geometry sectors → any_damage (area_of state) geometry sectors ≡ None
-stands-reads (Nvs backend) geometry sectors stands = subst (λ (r : Role). damage_as r backend.store.store.area geometry sectors ≡ None) (sym stands.store.role) stands.store.undamaged
-stands-reads (Zms backend) geometry sectors stands = subst (λ (r : Role). damage_as r backend.store.store.area geometry sectors ≡ None) (sym stands.store.role) stands.store.undamaged
-stands-reads (Fcb backend) geometry sectors stands = subst (λ (r : Role). damage_as r backend.ring.area geometry sectors ≡ None) (sym stands.role) stands.undamaged
+pub stands-reads : (state : AnyBackend) (geometry : Geometry) (sectors : List (List ℕ))
+    → Stands state geometry sectors → any_damage (area_of state) geometry sectors ≡ None
+stands-reads (Nvs backend) geometry sectors stands =
+    subst (λ (r : Role). damage_as r backend.store.store.area geometry sectors ≡ None) (sym stands.store.role)
+    stands.store.undamaged
+stands-reads (Zms backend) geometry sectors stands =
+    subst (λ (r : Role). damage_as r backend.store.store.area geometry sectors ≡ None) (sym stands.store.role)
+    stands.store.undamaged
+stands-reads (Fcb backend) geometry sectors stands =
+    subst (λ (r : Role). damage_as r backend.ring.area geometry sectors ≡ None) (sym stands.role)
+    stands.undamaged
 
-pub stands-rests : (state : AnyBackend) (geometry : Geometry) (sectors : List (List ℕ)) → Stands state geometry sectors → any_rests (area_of state) geometry sectors
-stands-rests (Nvs backend) geometry sectors stands = subst (λ (r : Role). rests_as r backend.store.store.area geometry sectors) (sym stands.store.role) (nvs-rest backend geometry sectors stands)
-stands-rests (Zms backend) geometry sectors stands = subst (λ (r : Role). rests_as r backend.store.store.area geometry sectors) (sym stands.store.role) (zms-rest backend geometry sectors stands)
-stands-rests (Fcb backend) geometry sectors stands = subst (λ (r : Role). rests_as r backend.ring.area geometry sectors) (sym stands.role) (ready-rests geometry.unit sectors backend.ring stands.ring stands.ready)
+pub stands-rests : (state : AnyBackend) (geometry : Geometry) (sectors : List (List ℕ))
+    → Stands state geometry sectors → any_rests (area_of state) geometry sectors
+stands-rests (Nvs backend) geometry sectors stands =
+    subst (λ (r : Role). rests_as r backend.store.store.area geometry sectors) (sym stands.store.role)
+    (nvs-rest backend geometry sectors stands)
+stands-rests (Zms backend) geometry sectors stands =
+    subst (λ (r : Role). rests_as r backend.store.store.area geometry sectors) (sym stands.store.role)
+    (zms-rest backend geometry sectors stands)
+stands-rests (Fcb backend) geometry sectors stands =
+    subst (λ (r : Role). rests_as r backend.ring.area geometry sectors) (sym stands.role)
+    (ready-rests geometry.unit sectors backend.ring stands.ring stands.ready)

@@ -32,19 +32,24 @@ pub record IsPartApplied (before : Map) (commands : List Command) (after : Map) 
 abbrev pub puts_of : List (List ℕ × List ℕ) → List Command
 puts_of pairs = map (λ pair. Put pair.0 pair.1) pairs
 
--- The settings after a command that was cut: by chance what the units that were put spell; else those of before or the new ones.
+-- The settings after a command that was cut: by chance what the units that were put spell; else those of
+-- before or the new ones.
 abbrev pub CutMap : Bool → (Map → Map → Type 0) → Command → Map → Map → Type 0
 CutMap true tears command before after = tears before after
 CutMap false tears command before after = (after ≡ before) ⊎ (after ≡ applied before command)
 
--- Power was lost in the command. `chance` tells of the loss whether the units that were put spell another record, and `tears`
--- by how many they were which settings they leave.
-pub record StopsAt (chance : Loss → Bool) (tears : ℕ → Map → Map → Type 0) (command : Command) (new : Device) (before after : Map) : Type 0 where
+-- Power was lost in the command. `chance` tells of the loss whether the units that were put spell another
+-- record, and `tears` by how many they were which settings they leave.
+pub record StopsAt (chance : Loss → Bool) (tears : ℕ → Map → Map → Type 0) (command : Command) (new : Device)
+    (before after : Map) : Type 0 where
   pub loss : Loss
   pub last : new.last_loss ≡ Some loss
   pub settings : CutMap (chance loss) (tears loss.done) command before after
 
 -- power was lost in the command on this area
-abbrev pub StopsOn : (Area → Geometry → List (List ℕ) → Loss → Bool) → (Area → Geometry → Command → ℕ → Map → Map → Type 0) → (Area → Geometry → List (List ℕ) → Map)
+abbrev pub StopsOn : (Area → Geometry → List (List ℕ) → Loss → Bool)
+    → (Area → Geometry → Command → ℕ → Map → Map → Type 0) → (Area → Geometry → List (List ℕ) → Map)
     → Command → Device → Device → Area → Type 0
-StopsOn chance tears contents command old new area = StopsAt (on chance new area) (tears area (geometry_of old area) command) command new (on contents old area) (on contents new area)
+StopsOn chance tears contents command old new area =
+    StopsAt (on chance new area) (tears area (geometry_of old area) command) command new
+    (on contents old area) (on contents new area)

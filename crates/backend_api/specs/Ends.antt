@@ -22,7 +22,8 @@ SpendsSome old new = (units : ℕ) × (0 < units) × Spends old new units
 
 -- ---- mounting
 
--- The area shows the damage, and then nothing changed; or it shows none. Memory is taken before the first unit.
+-- The area shows the damage, and then nothing changed; or it shows none. Memory is taken before the first
+-- unit.
 abbrev pub MountEnds : {T : Type 0} → Option Damaged → Device → Device → Result T MountFault → Type 0
 MountEnds damage old new (Ok state) = damage ≡ None
 MountEnds damage old new (Err (HasDamage damaged)) = (damage ≡ Some damaged) × (new ≡ old)
@@ -45,7 +46,8 @@ pub record Sets (room : Room) (old new : Device) (before after : Map) (name valu
   pub spends : ¬ IsStored before name value → SpendsSome old new
 
 -- there is no room, and the settings stay
-pub record FindsNoSpace (room : Room) (sectors : ℕ) (before after : Map) (name value : List ℕ) (need live : ℕ) : Type 0 where
+pub record FindsNoSpace (room : Room) (sectors : ℕ) (before after : Map) (name value : List ℕ) (need live : ℕ)
+    : Type 0 where
   pub free : room.too_many before name ≡ false
   pub other : ¬ IsStored before name value
   pub full : HasNoRoom room sectors before name value
@@ -54,15 +56,22 @@ pub record FindsNoSpace (room : Room) (sectors : ℕ) (before after : Map) (name
   pub settings : after ≡ before
 
 -- how a set on an area of so many sectors ends
-abbrev pub SetEnds : {T : Type 0} → Room → ℕ → Device → Device → Map → Map → List ℕ → List ℕ → Result T SetFault → Type 0
+abbrev pub SetEnds : {T : Type 0} → Room → ℕ → Device → Device → Map → Map → List ℕ → List ℕ
+    → Result T SetFault → Type 0
 SetEnds room sectors old new before after name value (Ok x) = Sets room old new before after name value
-SetEnds room sectors old new before after name value (Err TooManyNames) = (room.too_many before name ≡ true) × (new ≡ old)
-SetEnds room sectors old new before after name value (Err (NoSpace need live)) = FindsNoSpace room sectors before after name value need live
-SetEnds room sectors old new before after name value (Err PowerLost) = (room.too_many before name ≡ false) × ¬ IsStored before name value
+SetEnds room sectors old new before after name value (Err TooManyNames) =
+    (room.too_many before name ≡ true) × (new ≡ old)
+SetEnds room sectors old new before after name value (Err (NoSpace need live)) =
+    FindsNoSpace room sectors before after name value need live
+SetEnds room sectors old new before after name value (Err PowerLost) =
+    (room.too_many before name ≡ false) × ¬ IsStored before name value
 
 -- by the room and the settings of an area
-abbrev pub SetEndsOn : {T : Type 0} → (Area → Geometry → Room) → (Area → Geometry → List (List ℕ) → Map) → Device → Device → Area → List ℕ → List ℕ → Result T SetFault → Type 0
-SetEndsOn room contents old new area name value result = SetEnds (room area (geometry_of old area)) area.sectors old new (on contents old area) (on contents new area) name value result
+abbrev pub SetEndsOn : {T : Type 0} → (Area → Geometry → Room) → (Area → Geometry → List (List ℕ) → Map)
+    → Device → Device → Area → List ℕ → List ℕ → Result T SetFault → Type 0
+SetEndsOn room contents old new area name value result =
+    SetEnds (room area (geometry_of old area)) area.sectors old new (on contents old area)
+    (on contents new area) name value result
 
 -- ---- deleting
 
@@ -76,5 +85,7 @@ abbrev pub DeleteEnds : {T : Type 0} → Device → Device → Map → Map → L
 DeleteEnds old new before after name (Ok x) = Deletes old new before after name
 DeleteEnds old new before after name (Err lost) = ¬ IsAbsent before name
 
-abbrev pub DeleteEndsOn : {T : Type 0} → (Area → Geometry → List (List ℕ) → Map) → Device → Device → Area → List ℕ → Result T Lost → Type 0
-DeleteEndsOn contents old new area name result = DeleteEnds old new (on contents old area) (on contents new area) name result
+abbrev pub DeleteEndsOn : {T : Type 0} → (Area → Geometry → List (List ℕ) → Map) → Device → Device → Area
+    → List ℕ → Result T Lost → Type 0
+DeleteEndsOn contents old new area name result =
+    DeleteEnds old new (on contents old area) (on contents new area) name result

@@ -12,4 +12,7 @@ is_before name (Some other) = is_lt (slice_cmp nat_cmp name other)
 -- Of the names that pass, this is the least behind the one given; or none is behind it.
 abbrev pub IsLeast : Option (List ℕ) → (List ℕ → Bool) → Option (List ℕ) → Type 0
 IsLeast after has None = (name : List ℕ) → has name ≡ true → is_behind after name ≡ false
-IsLeast after has (Some least) = (has least ≡ true) × (is_behind after least ≡ true) × ((name : List ℕ) → has name ≡ true → is_behind after name ≡ true → is_lt (slice_cmp nat_cmp name least) ≡ false)
+IsLeast after has (Some least) =
+    (has least ≡ true) × (is_behind after least ≡ true)
+    × ((name : List ℕ) → has name ≡ true → is_behind after name ≡ true
+    → is_lt (slice_cmp nat_cmp name least) ≡ false)

@@ -1,4 +1,5 @@
--- The numbers of room of a backend. They depend on the lengths of names and values and on the geometry of the area alone.
+-- The numbers of room of a backend. They depend on the lengths of names and values and on the geometry of the
+-- area alone.
 use Rattle.std.specs.Prelude.{ℕ, ◌+◌, ◌-◌, ◌*◌, ◌/◌, ◌<◌, Bool, List}
 use Rattle.flash_map.specs.declared.area.Geometry.{Geometry}
 use Rattle.backend_api.specs.Map.{Map}
@@ -18,7 +19,9 @@ pub record Room : Type 0 where
 
 -- One of the sectors is kept free. The others could be so full that the put finds no place in any of them.
 abbrev pub HasNoRoom : Room → ℕ → Map → List ℕ → List ℕ → Type 0
-HasNoRoom room sectors settings name value = (sectors - 1) * (room.cap - room.largest settings name value) < room.cost settings + room.need settings name value
+HasNoRoom room sectors settings name value =
+    (sectors - 1) * (room.cap - room.largest settings name value)
+    < room.cost settings + room.need settings name value
 
 -- the most units and erases of one command
 abbrev pub most_units : Geometry → ℕ
@@ -28,7 +31,7 @@ most_units geometry = 12 * geometry.sectors * (geometry.sector / geometry.unit +
 abbrev pub removal_units : Geometry → ℕ
 removal_units geometry = 6 * (geometry.sector / geometry.unit + 3)
 
--- The most units and erases of a mount: it finishes what a command that was cut left, and takes away the items that belong to no
--- setting, of which an area has at most one for every 8 bytes.
+-- The most units and erases of a mount: it finishes what a command that was cut left, and takes away the
+-- items that belong to no setting, of which an area has at most one for every 8 bytes.
 abbrev pub mount_units : Geometry → ℕ
 mount_units geometry = most_units geometry + geometry.sectors * (geometry.sector / 8) * removal_units geometry

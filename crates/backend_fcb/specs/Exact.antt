@@ -14,14 +14,17 @@ abbrev pub room_left : FcbBackend → Command → ℕ
 room_left backend (Put name value) = backend.ring.reserve
 room_left backend (Del name) = 0
 
--- Where it changes the settings, and its record fits behind those of the newest sector, just the units of that record were spent.
+-- Where it changes the settings, and its record fits behind those of the newest sector, just the units of
+-- that record were spent.
 abbrev pub SpendsCostOf : Device → Device → FcbBackend → Command → Type 0
 SpendsCostOf old new backend command =
-    ¬ (applied (settings_on old backend.ring.area) command ≡ settings_on old backend.ring.area) → SpendsCost old new backend.ring (body_for command) (room_left backend command)
+    ¬ (applied (settings_on old backend.ring.area) command ≡ settings_on old backend.ring.area)
+    → SpendsCost old new backend.ring (body_for command) (room_left backend command)
 
 -- Where its record fits there, no more than the units of that record were spent.
 abbrev pub SpendsUpToCostOf : Device → Device → FcbBackend → Command → Type 0
-SpendsUpToCostOf old new backend command = SpendsUpToCost old new backend.ring (body_for command) (room_left backend command)
+SpendsUpToCostOf old new backend command =
+    SpendsUpToCost old new backend.ring (body_for command) (room_left backend command)
 
 -- No more was spent than so many collections and one append take.
 abbrev pub SpendsRounds : Device → Device → FcbBackend → ℕ → Type 0

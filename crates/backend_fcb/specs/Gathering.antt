@@ -1,5 +1,5 @@
--- Gathering the live records of a part of a list, some at a time: those that are the last of their name in the whole list,
--- and have a value.
+-- Gathering the live records of a part of a list, some at a time: those that are the last of their name in
+-- the whole list, and have a value.
 use Rattle.std.specs.Prelude.{◌≡◌, ℕ, ◌+◌, ◌*◌, ◌%◌, ◌≤◌, Bool, true, List, [], ◌∷◌, ◌++◌, length, map, fold, Option, Some, None, ◌==◌, if◌then◌else◌, All}
 use Rattle.std.specs.List.{slice_get, AllPass}
 use Rattle.std.specs.List as lists
@@ -35,7 +35,8 @@ AreKeptWithin part table = AllPass (λ kept. is_within part kept.at) table
 -- A record of the area is kept with the mark of its name.
 pub record IsKept (d : Device) (area : Area) (kept : Kept) : Type 0 where
   pub listed : IsListed d area kept.at
-  pub mark : (name value : List ℕ) → setting_of (value_limit area) (body_at d area kept.at) ≡ Some (name, value) → kept.mark ≡ mark name
+  pub mark : (name value : List ℕ)
+      → setting_of (value_limit area) (body_at d area kept.at) ≡ Some (name, value) → kept.mark ≡ mark name
 
 -- the bodies of the records in a table
 abbrev pub bodies_at : Device → Area → List Kept → List (List ℕ)
@@ -79,9 +80,10 @@ noted d area r = noted_by r (setting_of (value_limit area) (body_at d area r))
 abbrev pub BeginsAt : Option RecordAt → List (RecordAt × List ℕ) → Type 0
 BeginsAt place later = place ≡ slice_get (record_places later) 0
 
--- A walk went through `passed`, all of the part, and the table has those of them that are live among them. It is at this
--- place now.
-pub record Passes (d : Device) (area : Area) (part : Option ℕ) (later : List (RecordAt × List ℕ)) (table : List Kept) (place : Option RecordAt) : Type 0 where
+-- A walk went through `passed`, all of the part, and the table has those of them that are live among them. It
+-- is at this place now.
+pub record Passes (d : Device) (area : Area) (part : Option ℕ) (later : List (RecordAt × List ℕ))
+    (table : List Kept) (place : Option RecordAt) : Type 0 where
   pub passed : List (RecordAt × List ℕ)
   pub rest : List (RecordAt × List ℕ)
   pub are : later ≡ passed ++ rest
@@ -92,13 +94,15 @@ pub record Passes (d : Device) (area : Area) (part : Option ℕ) (later : List (
 -- so from wherever it began in the list
 abbrev pub PassesFrom : Device → Area → Option ℕ → Option RecordAt → List Kept → Option RecordAt → Type 0
 PassesFrom d area part from table place =
-    (done later : List (RecordAt × List ℕ)) → entries_on d area ≡ done ++ later → BeginsAt from later → Passes d area part later table place
+    (done later : List (RecordAt × List ℕ)) → entries_on d area ≡ done ++ later → BeginsAt from later
+    → Passes d area part later table place
 
--- Of the records that were live among some, those stay that are live where the records from this place on stand behind
--- them.
+-- Of the records that were live among some, those stay that are live where the records from this place on
+-- stand behind them.
 abbrev pub StrikesFrom : Device → Area → Option RecordAt → List Kept → List Kept → Type 0
 StrikesFrom d area from old new =
-    (done later : List (RecordAt × List ℕ)) (passed : List (List ℕ)) → entries_on d area ≡ done ++ later → BeginsAt from later
+    (done later : List (RecordAt × List ℕ)) (passed : List (List ℕ)) → entries_on d area ≡ done ++ later
+    → BeginsAt from later
     → bodies_at d area old ≡ live_bodies (value_limit area) passed []
     → bodies_at d area new ≡ live_bodies (value_limit area) passed (bodies later)
 
@@ -107,10 +111,11 @@ abbrev pub if_within : Option ℕ → Option RecordAt → Option RecordAt
 if_within part None = None
 if_within part (Some r) = if is_within part r then Some r else None
 
--- Of the records from a place on, `passed` are the first, all of the part. Those of them are found that are live in the
--- whole list, in its order. The next is the one behind them, if it is of the part; and then they are no fewer than a table
--- has room for.
-pub record Gathers (d : Device) (area : Area) (part : Option ℕ) (later : List (RecordAt × List ℕ)) (found : List Kept) (onward : Option RecordAt) : Type 0 where
+-- Of the records from a place on, `passed` are the first, all of the part. Those of them are found that are
+-- live in the whole list, in its order. The next is the one behind them, if it is of the part; and then they
+-- are no fewer than a table has room for.
+pub record Gathers (d : Device) (area : Area) (part : Option ℕ) (later : List (RecordAt × List ℕ))
+    (found : List Kept) (onward : Option RecordAt) : Type 0 where
   pub passed : List (RecordAt × List ℕ)
   pub rest : List (RecordAt × List ℕ)
   pub are : later ≡ passed ++ rest
@@ -122,4 +127,5 @@ pub record Gathers (d : Device) (area : Area) (part : Option ℕ) (later : List 
 -- so from wherever the walk began in the list
 abbrev pub GathersFrom : Device → Area → Option ℕ → Option RecordAt → List Kept → Option RecordAt → Type 0
 GathersFrom d area part from found next =
-    (done later : List (RecordAt × List ℕ)) → entries_on d area ≡ done ++ later → BeginsAt from later → Gathers d area part later found next
+    (done later : List (RecordAt × List ℕ)) → entries_on d area ≡ done ++ later → BeginsAt from later
+    → Gathers d area part later found next

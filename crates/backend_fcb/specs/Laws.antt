@@ -13,5 +13,8 @@ use Rattle.settings_laws.proofs.FrontLemmas.{is-settings}
 use Rattle.backend_fcb.specs.Standing.{damage_on, settings_on, bodies_on}
 
 -- lawful names and values throughout, and fewer than 2^32
-pub reads_settings : (d : Device) (area : Area) → IsLawful d.banks d.bytes → IsLawfulFor d.banks area → area.role ≡ FcbRole → damage_on d area ≡ None → IsSettings (value_limit area) (settings_on d area)
-reads_settings d area lawful for role undamaged = is-settings (value_limit area) (bodies_on d area) (few-on d area lawful (record { lawful = for; role = inl role }))
+pub reads_settings : (d : Device) (area : Area) → IsLawful d.banks d.bytes → IsLawfulFor d.banks area
+    → area.role ≡ FcbRole → damage_on d area ≡ None → IsSettings (value_limit area) (settings_on d area)
+reads_settings d area lawful for role undamaged =
+    is-settings (value_limit area) (bodies_on d area)
+    (few-on d area lawful (record { lawful = for; role = inl role }))

@@ -24,7 +24,8 @@ abbrev pub room_by : Area → Geometry → Room
 room_by area geometry = room geometry.unit geometry.sector
 
 abbrev pub TearsBy : Area → Geometry → Command → ℕ → Map → Map → Type 0
-TearsBy area geometry command done before after = Tears (value_limit area) geometry.unit (body_for command) done before after
+TearsBy area geometry command done before after =
+    Tears (value_limit area) geometry.unit (body_for command) done before after
 
 abbrev pub area_of : FcbBackend → Area
 area_of backend = backend.ring.area

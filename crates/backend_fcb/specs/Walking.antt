@@ -6,4 +6,5 @@ use Rattle.backend_api.specs.Least.{is_before}
 -- the name of a record, where it is greater than the one and less than the other
 abbrev pub name_between : Option (List ℕ) → Option (List ℕ) → Option (List ℕ × List ℕ) → Option (List ℕ)
 name_between after before None = None
-name_between after before (Some (name, value)) = if is_behind after name && is_before name before then Some name else None
+name_between after before (Some (name, value)) =
+    if is_behind after name && is_before name before then Some name else None

@@ -1,4 +1,5 @@
--- Where the settings of an NVS area are among its items: the count of names, the names behind it, and each value above its name.
+-- Where the settings of an NVS area are among its items: the count of names, the names behind it, and each
+-- value above its name.
 use Rattle.std.specs.Prelude.{◌≡◌, ℕ, ◌+◌, ◌*◌, ◌^◌, ◌<◌, ◌≤◌, min, Bool, false, true, not, ◌&&◌, List, length, slice_index, Option, Some, None, ◌==◌, nat_le, if◌then◌else◌}
 use Rattle.std.proofs.Common.{cond, refl, ap, arith}
 use Rattle.std.proofs.lemmas.Bool.{false≢true}
@@ -51,7 +52,9 @@ settings_of area items = settings_in (numbers_in area) items
 -- Of the names that the count allows, this is the least place that is free, if there is one.
 abbrev pub IsFreePlace : Numbering → Items → Option ℕ → Type 0
 IsFreePlace n items None = (place : ℕ) → IsInside n items place → ¬ IsFree items place (place + n.step)
-IsFreePlace n items (Some free) = IsInside n items free × IsFree items free (free + n.step) × ((place : ℕ) → n.first ≤ place → place < free → ¬ IsFree items place (place + n.step))
+IsFreePlace n items (Some free) =
+    IsInside n items free × IsFree items free (free + n.step)
+    × ((place : ℕ) → n.first ≤ place → place < free → ¬ IsFree items place (place + n.step))
 
 -- ---- room
 
@@ -77,7 +80,8 @@ count-few (Some bytes) = number-few bytes
 
 no-count : (o : Option (List ℕ)) → is_count o ≡ false → count_of o ≡ 0
 no-count None none = refl
-no-count (Some bytes) none = ap (λ (b : Bool). cond b (min 511 (slice_index bytes 0 + 256 * slice_index bytes 1)) 0) none
+no-count (Some bytes) none =
+    ap (λ (b : Bool). cond b (min 511 (slice_index bytes 0 + 256 * slice_index bytes 1)) 0) none
 
 pub nvs-numbers : (limit : ℕ) → IsNumbering (nvs_numbering limit)
 nvs-numbers limit = record {
@@ -104,5 +108,6 @@ nvs-counts limit price (Some bytes) is =
     two_bytes n is = grind (arith, nat_tests)
 
 -- a name that has a value is never one too many
-pub nvs-stored : (settings : Map) (name : List ℕ) → contains_key settings name ≡ true → too_many settings name ≡ false
+pub nvs-stored : (settings : Map) (name : List ℕ) → contains_key settings name ≡ true
+    → too_many settings name ≡ false
 nvs-stored settings name stored = ap (λ (b : Bool). not b && nat_le 511 (len settings)) stored

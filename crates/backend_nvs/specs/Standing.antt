@@ -19,20 +19,25 @@ use Rattle.backend_nvs.specs.Numbers.{numbers_in, nvs-numbers, settings_of}
 -- the store stands, and each item belongs to a setting or is the count
 pub record Stands (backend : NvsBackend) (geometry : Geometry) (sectors : List (List ℕ)) : Type 0 where
   pub store : NvsStands backend.store geometry sectors
-  pub clean : HasNoStrays (numbers_in backend.store.store.area) (nvs_items backend.store.store.area geometry sectors)
+  pub clean : HasNoStrays (numbers_in backend.store.store.area)
+      (nvs_items backend.store.store.area geometry sectors)
 
 -- a mount would have nothing to do
 pub record Rests (area : Area) (geometry : Geometry) (sectors : List (List ℕ)) : Type 0 where
   pub store : nvs_rests area geometry sectors
   pub clean : HasNoStrays (numbers_in area) (nvs_items area geometry sectors)
 
-pub stands-rest : (backend : NvsBackend) (geometry : Geometry) (sectors : List (List ℕ)) → Stands backend geometry sectors → Rests backend.store.store.area geometry sectors
-stands-rest backend geometry sectors stands = record { store = nvs-rested backend.store geometry sectors stands.store; clean = stands.clean }
+pub stands-rest : (backend : NvsBackend) (geometry : Geometry) (sectors : List (List ℕ))
+    → Stands backend geometry sectors → Rests backend.store.store.area geometry sectors
+stands-rest backend geometry sectors stands =
+    record { store = nvs-rested backend.store geometry sectors stands.store; clean = stands.clean }
 
 -- lawful names and values throughout, and fewer than 2^32
-pub reads_settings : (d : Device) (area : Area) → IsLawful d.banks d.bytes → IsLawfulFor d.banks area → area.role ≡ NvsRole → on nvs_damage d area ≡ None
+pub reads_settings : (d : Device) (area : Area) → IsLawful d.banks d.bytes → IsLawfulFor d.banks area
+    → area.role ≡ NvsRole → on nvs_damage d area ≡ None
     → IsSettings (value_limit area) (settings_of area (on nvs_items d area))
-reads_settings d area lawful for role undamaged = settings-lawful (numbers_in area) (nvs-numbers (value_limit area)) (omega arith) (on nvs_items d area)
+reads_settings d area lawful for role undamaged =
+    settings-lawful (numbers_in area) (nvs-numbers (value_limit area)) (omega arith) (on nvs_items d area)
 
 -- the backend stands on this device
 pub record StandsOn (d : Device) (backend : NvsBackend) : Type 0 where

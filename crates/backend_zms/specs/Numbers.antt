@@ -1,5 +1,5 @@
--- Where the settings of a ZMS area are among its items: each name at one of the 16 ids of its group, and its value 0x40000000
--- above it.
+-- Where the settings of a ZMS area are among its items: each name at one of the 16 ids of its group, and its
+-- value 0x40000000 above it.
 use Rattle.std.specs.Prelude.{◌≡◌, ℕ, ◌+◌, ◌^◌, ◌<◌, ◌≤◌, Bool, true, false, not, ◌&&◌, List, Option, ◌==◌, nat_le, nat_lt, count_by, refl}
 use Rattle.std.proofs.Common.{ap, lit<, lit≤}
 use Rattle.std.proofs.lemmas.Bool.{false≢true}
@@ -63,10 +63,16 @@ no-count price count counts = absurd (false≢true counts)
 
 -- the name is new, and its group has as many names as ids
 abbrev pub too_many : Map → List ℕ → Bool
-too_many settings name = not (contains_key settings name) && nat_le GROUP_SIZE (count_by (λ other. group_of other == group_of name) (keys settings))
+too_many settings name =
+    not (contains_key settings name)
+    && nat_le GROUP_SIZE (count_by (λ other. group_of other == group_of name) (keys settings))
 
-pub stored-one : (settings : Map) (name : List ℕ) → contains_key settings name ≡ true → too_many settings name ≡ false
-stored-one settings name has = ap (λ (b : Bool). not b && nat_le GROUP_SIZE (count_by (λ other. group_of other == group_of name) (keys settings))) has
+pub stored-one : (settings : Map) (name : List ℕ) → contains_key settings name ≡ true
+    → too_many settings name ≡ false
+stored-one settings name has =
+    ap
+    (λ (b : Bool). not b
+    && nat_le GROUP_SIZE (count_by (λ other. group_of other == group_of name) (keys settings))) has
 
 -- The numbers of room, by the store's price and by what a sector has. There is no count.
 abbrev pub zms_room : (Geometry → ℕ → ℕ) → (Geometry → ℕ) → Geometry → Room

@@ -36,13 +36,18 @@ pub record Stands (backend : ZmsBackend) (geometry : Geometry) (sectors : List (
   pub store : ZmsStands backend.store geometry sectors
   pub clean : IsClean backend.store.store.area geometry sectors
 
-pub stands-rest : (backend : ZmsBackend) (geometry : Geometry) (sectors : List (List ℕ)) → Stands backend geometry sectors → Rests backend.store.store.area geometry sectors
-stands-rest backend geometry sectors stands = record { store = zms-rested backend.store geometry sectors stands.store; clean = stands.clean }
+pub stands-rest : (backend : ZmsBackend) (geometry : Geometry) (sectors : List (List ℕ))
+    → Stands backend geometry sectors → Rests backend.store.store.area geometry sectors
+stands-rest backend geometry sectors stands =
+    record { store = zms-rested backend.store geometry sectors stands.store; clean = stands.clean }
 
 -- lawful names and values throughout, and fewer than 2^32
-pub reads_settings : (d : Device) (area : Area) → IsLawful d.banks d.bytes → IsLawfulFor d.banks area → IsServed area (geometry_of d area) → on zms_damage d area ≡ None
+pub reads_settings : (d : Device) (area : Area) → IsLawful d.banks d.bytes → IsLawfulFor d.banks area
+    → IsServed area (geometry_of d area) → on zms_damage d area ≡ None
     → IsSettings (value_limit area) (on settings_of d area)
-reads_settings d area lawful for serves undamaged = settings-lawful (numbers_in area) (zms-numbers (value_limit area)) step-small (zms_items area (geometry_of d area) (sectors_of d area))
+reads_settings d area lawful for serves undamaged =
+    settings-lawful (numbers_in area) (zms-numbers (value_limit area)) step-small
+    (zms_items area (geometry_of d area) (sectors_of d area))
 
 -- the backend stands on a lawful area
 pub record IsReady (d : Device) (backend : ZmsBackend) : Type 0 where

@@ -40,8 +40,8 @@ name_of (Log image script out) = codes "log"
 name_of (Items image script out) = codes "items"
 name_of (Mirror image script out) = codes "mirror"
 
--- The words that the command is about, in the order in which they are written. A number is in decimal, without a sign or
--- leading zeros.
+-- The words that the command is about, in the order in which they are written. A number is in decimal,
+-- without a sign or leading zeros.
 abbrev pub operands_of : Command → List (List ℕ)
 operands_of (Build out spec) = out.now ∷ spec.now ∷ []
 operands_of (Run image script out) = image.now ∷ script.now ∷ out.now ∷ []

@@ -62,7 +62,8 @@ AreNoWords values = (words : List Text) → ¬ AreWords values words
 pub record IsFound (found : Option (Text × List Row)) (command : Command) : Type 0 where
   pub rows : List Row
   pub at : found ≡ Some (name_of command, rows)
-  pub values : values_at (operand_names (name_of command)) rows ≡ map (λ word. Some word) (operands_of command)
+  pub values : values_at (operand_names (name_of command)) rows
+      ≡ map (λ word. Some word) (operands_of command)
   pub in_range : IsInRange command
 
 -- what was found is no command

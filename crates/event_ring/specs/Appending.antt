@@ -53,8 +53,8 @@ append_units d ring body =
 
 -- ---- how it ends
 
--- The record stands whole behind what was kept, and just so many records that check were dropped. So the log has one body
--- more, and the items cost as much more as the record does.
+-- The record stands whole behind what was kept, and just so many records that check were dropped. So the log
+-- has one body more, and the items cost as much more as the record does.
 pub record Adds (old new : Device) (before after : Ring) (body : List ℕ) (dropped : ℕ) : Type 0 where
   pub rest : List Item
   pub kept : Keeps old before body rest
@@ -73,8 +73,9 @@ pub record Adds (old new : Device) (before after : Ring) (body : List ℕ) (drop
 abbrev pub torn_body : List ℕ → ℕ → List ℕ
 torn_body body n = take n body ++ replicate (length body - n) 0xFF
 
--- The items after a loss: as before; or without what was dropped; or then with a torn one of the record's cost, or with the
--- record. Or, by chance, with a record whose body is a front of this one, but not all, and then FF to its length.
+-- The items after a loss: as before; or without what was dropped; or then with a torn one of the record's
+-- cost, or with the record. Or, by chance, with a record whose body is a front of this one, but not all, and
+-- then FF to its length.
 abbrev pub LeavesItems : Bool → ℕ → List Item → List Item → List ℕ → List Item → Type 0
 LeavesItems true unit before rest body after =
     (n : ℕ) × (n < length body) × (after ≡ rest ++ Whole (torn_body body n) ∷ [])
@@ -82,8 +83,8 @@ LeavesItems false unit before rest body after =
     (after ≡ before) ⊎ (after ≡ rest) ⊎ (after ≡ rest ++ Torn (record_cost unit (length body)) ∷ [])
     ⊎ (after ≡ rest ++ Whole body ∷ [])
 
--- The log then: as before; or without what was dropped; or then with the record. Or, by chance, with a front of its body, but not
--- all, and then FF to its length.
+-- The log then: as before; or without what was dropped; or then with the record. Or, by chance, with a front
+-- of its body, but not all, and then FF to its length.
 abbrev pub LeavesLog : Bool → List (List ℕ) → List (List ℕ) → List ℕ → List (List ℕ) → Type 0
 LeavesLog true before rest body after =
     (n : ℕ) × (n < length body) × (after ≡ rest ++ torn_body body n ∷ [])
@@ -99,7 +100,8 @@ ItemsTellLog =
 pub record IsCut (old new : Device) (area : Area) (rest : List Item) (body : List ℕ) : Type 0 where
   pub loss : Loss
   pub last : new.last_loss ≡ Some loss
-  pub items : LeavesItems (chance_on new area loss) (unit_of new area) (items_on old area) rest body (items_on new area)
+  pub items : LeavesItems (chance_on new area loss) (unit_of new area) (items_on old area) rest body
+      (items_on new area)
 
 -- power was off, or was lost in the append
 pub record Loses (old new : Device) (before after : Ring) (body : List ℕ) : Type 0 where

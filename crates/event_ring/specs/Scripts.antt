@@ -15,7 +15,8 @@ use Rattle.event_ring.specs.Items.{items_on, cost_in}
 use Rattle.event_ring.specs.Room.{room_on, longest_on}
 use Rattle.event_ring.specs.Standing.{IsOpen, LogMounts}
 
--- A script of mounts and appends leads from a blank area to this one. Each call may answer as it can, and be cut.
+-- A script of mounts and appends leads from a blank area to this one. Each call may answer as it can, and be
+-- cut.
 pub data IsReached : Area → Device → Type 0 where
   -- nothing was called yet
   Blank :
@@ -25,18 +26,20 @@ pub data IsReached : Area → Device → Type 0 where
       (area : Area) (old new : Device) (answer : Result EventLog MountFault) → IsReached area old
       → LogMounts old new area answer → IsReached area new
   Appends :
-      (area : Area) (old new : Device) (ring after : Ring) (body : List ℕ) (answer : Result ℕ LogFault) → IsReached area old
+      (area : Area) (old new : Device) (ring after : Ring) (body : List ℕ) (answer : Result ℕ LogFault)
+      → IsReached area old
       → IsOpen old ring → ring.area ≡ area → LogAppends old new ring after body answer → IsReached area new
   -- between two calls power may go and come back, and other areas change
   Stays :
       (area : Area) (old new : Device) → IsReached area old → new.banks ≡ old.banks
       → sectors_of new area ≡ sectors_of old area → IsReached area new
 
--- After any script from a blank area, whatever was lost, an append drops a front only where the items cost more than all
--- sectors but one have room for, less the longest record in each.
+-- After any script from a blank area, whatever was lost, an append drops a front only where the items cost
+-- more than all sectors but one have room for, less the longest record in each.
 abbrev pub DropsOnlyWhereFull : Type 0
 DropsOnlyWhereFull =
-    (d : Device) (ring : Ring) (body : List ℕ) → IsReached ring.area d → IsLawful d.banks d.bytes → IsOpen d ring
+    (d : Device) (ring : Ring) (body : List ℕ) → IsReached ring.area d → IsLawful d.banks d.bytes
+    → IsOpen d ring
     → is_too_long ring.area (length body) ≡ false → drops_for d ring body ≡ true
     → (ring.area.sectors - 1) * (room_on d ring.area - longest_on d ring.area)
     < cost_in d ring.area (items_on d ring.area)

@@ -1,4 +1,5 @@
--- Whether the units that were put before a loss spell, by chance, another record than the one that was to be put.
+-- Whether the units that were put before a loss spell, by chance, another record than the one that was to be
+-- put.
 use Rattle.std.specs.Prelude.{◌≡◌, ◌↔◌, ℕ, ◌+◌, ◌-◌, ◌*◌, ◌%◌, Bool, true, false, not, ◌&&◌, List, ◌++◌, length, take, replicate, Some, ◌==◌, nat_lt, nat_le}
 use Rattle.std.specs.Str.{bytes_eq}
 use Rattle.flash_sim.specs.Bank.{IsLawful}
@@ -16,12 +17,15 @@ use Rattle.fcb_ring.specs.Writing.{IsChance}
 
 -- the units that were put, with FF behind them
 abbrev pub bytes_put : ℕ → Loss → List ℕ
-bytes_put unit loss = take (loss.done * unit) loss.want.items ++ replicate (length loss.want.items - loss.done * unit) 0xFF
+bytes_put unit loss =
+    take (loss.done * unit) loss.want.items ++ replicate (length loss.want.items - loss.done * unit) 0xFF
 
 -- the loss lies in the area, and does not begin a sector
 abbrev pub is_behind_header : Area → ℕ → Loss → Bool
 is_behind_header area size loss =
-    (loss.at.bank == area.bank) && (nat_le (area.first * size) loss.at.offset && (nat_lt loss.at.offset ((area.first + area.sectors) * size) && not (loss.at.offset % size == 0)))
+    (loss.at.bank == area.bank)
+    && (nat_le (area.first * size) loss.at.offset
+    && (nat_lt loss.at.offset ((area.first + area.sectors) * size) && not (loss.at.offset % size == 0)))
 
 -- some of the units were put, and not all
 abbrev pub is_part : ℕ → Loss → Bool
@@ -29,13 +33,18 @@ is_part unit loss = nat_lt 0 loss.done && nat_lt (loss.done * unit) (length loss
 
 -- the bytes are one record, and it checks
 abbrev pub is_record : ℕ → List ℕ → Bool
-is_record unit bytes = has_record bytes 0 && (((record_of unit bytes 0).end == length bytes) && (record_of unit bytes 0).checks)
+is_record unit bytes =
+    has_record bytes 0 && (((record_of unit bytes 0).end == length bytes) && (record_of unit bytes 0).checks)
 
 -- The area has a free sector, and the bytes that were put are another record than the one that was to be put.
 unfoldable pub chance : Area → Geometry → List (List ℕ) → Loss → Bool
 chance area geometry sectors loss =
     not (is_full (states geometry.unit sectors))
-    && (is_behind_header area geometry.sector loss && (is_part geometry.unit loss && (is_record geometry.unit (bytes_put geometry.unit loss) && not (bytes_eq (bytes_put geometry.unit loss) loss.want.items))))
+    &&
+    (is_behind_header area geometry.sector loss
+    && (is_part geometry.unit loss
+    && (is_record geometry.unit (bytes_put geometry.unit loss)
+    && not (bytes_eq (bytes_put geometry.unit loss) loss.want.items))))
 
 abbrev pub chance_on : Device → Area → Loss → Bool
 chance_on d area loss = chance area (geometry_of d area) (sectors_of d area) loss
@@ -44,15 +53,19 @@ chance_on d area loss = chance area (geometry_of d area) (sectors_of d area) los
 abbrev pub HasNoChance : Device → Area → Type 0
 HasNoChance d area = (loss : Loss) × (d.last_loss ≡ Some loss) × (chance_on d area loss ≡ false)
 
--- where power was lost in a record, and a sector is free, the record that was cut checks and is another one, or not
+-- where power was lost in a record, and a sector is free, the record that was cut checks and is another one,
+-- or not
 abbrev pub TellsRecord : Device → Area → Type 0
 TellsRecord d area =
-    (place offset : ℕ) (body : List ℕ) (done : ℕ) → IsRecordLoss d area place offset body done → is_full (states_on d area) ≡ false
-    → (loss : Loss) → d.last_loss ≡ Some loss → (chance_on d area loss ≡ true) ↔ IsChance (unit_of d area) body done
+    (place offset : ℕ) (body : List ℕ) (done : ℕ) → IsRecordLoss d area place offset body done
+    → is_full (states_on d area) ≡ false
+    → (loss : Loss) → d.last_loss ≡ Some loss
+    → (chance_on d area loss ≡ true) ↔ IsChance (unit_of d area) body done
 
 -- what `chance` tells of each kind of loss
 abbrev pub TellsChance : Type 0
 TellsChance =
     (d : Device) (area : Area) → IsLawful d.banks d.bytes → IsRingArea d.banks area
-    → TellsRecord d area × ((place : ℕ) → IsHeaderLoss d area place → HasNoChance d area) × ((place : ℕ) → IsEraseLoss d area place → HasNoChance d area)
+    → TellsRecord d area × ((place : ℕ) → IsHeaderLoss d area place → HasNoChance d area)
+    × ((place : ℕ) → IsEraseLoss d area place → HasNoChance d area)
     × ((loss : Loss) → is_full (states_on d area) ≡ true → chance_on d area loss ≡ false)

@@ -82,33 +82,48 @@ FitsOpened stage used count = ⊥
 
 -- ---- one record
 
--- A record with this body stands behind the others of the newest sector, and in the list where that sector counts.
+-- A record with this body stands behind the others of the newest sector, and in the list where that sector
+-- counts.
 pub record PutsRecord (old new : Device) (ring : Ring) (body : List ℕ) : Type 0 where
   pub at : RecordAt
   pub sector : at.sector ≡ newest_place ring
-  pub here : sector_list new ring.area (newest_place ring) ≡ sector_list old ring.area (newest_place ring) ++ (at, body) ∷ []
-  pub list : HasEntriesOn new ring.area (entries_on old ring.area ++ (if ring.used == ring.area.sectors then [] else ((at, body) ∷ [])))
+  pub here : sector_list new ring.area (newest_place ring)
+      ≡ sector_list old ring.area (newest_place ring) ++ (at, body) ∷ []
+  pub list : HasEntriesOn new ring.area
+      (entries_on old ring.area ++ (if ring.used == ring.area.sectors then [] else ((at, body) ∷ [])))
 
 -- the list has one record more, with this body, in this sector
 abbrev pub AddsRecord : Device → Device → Area → ℕ → List ℕ → Type 0
-AddsRecord old new area place body = (at : RecordAt) × (at.sector ≡ place) × HasEntriesOn new area (entries_on old area ++ (at, body) ∷ [])
+AddsRecord old new area place body =
+    (at : RecordAt) × (at.sector ≡ place) × HasEntriesOn new area (entries_on old area ++ (at, body) ∷ [])
 
--- What stands behind a list once so many units of a record were put into this sector: nothing that checks; the record, if
--- all else of it is FF; or by chance the body that these units spell.
+-- What stands behind a list once so many units of a record were put into this sector: nothing that checks;
+-- the record, if all else of it is FF; or by chance the body that these units spell.
 abbrev pub CutList : ℕ → List (List ℕ) → List (RecordAt × List ℕ) → ℕ → List ℕ → ℕ → Type 0
 CutList unit sectors list place body done =
     ((IsChance unit body done → ⊥) × HasEntries unit sectors list)
-    ⊎ ((at : RecordAt) × (at.sector ≡ place) × (cut_record unit body done ≡ record_image unit body) × HasEntries unit sectors (list ++ (at, body) ∷ []))
-    ⊎ ((at : RecordAt) × (at.sector ≡ place) × IsChance unit body done × HasEntries unit sectors (list ++ (at, spelled unit body done) ∷ []))
+    ⊎
+    ((at : RecordAt) × (at.sector ≡ place) × (cut_record unit body done ≡ record_image unit body)
+    × HasEntries unit sectors (list ++ (at, body) ∷ []))
+    ⊎
+    ((at : RecordAt) × (at.sector ≡ place) × IsChance unit body done
+    × HasEntries unit sectors (list ++ (at, spelled unit body done) ∷ []))
 
 -- power was lost after so many units of a record at this offset of this sector, which it does not begin
-pub record IsRecordLoss (new : Device) (area : Area) (place offset : ℕ) (body : List ℕ) (done : ℕ) : Type 0 where
+pub record IsRecordLoss (new : Device) (area : Area) (place offset : ℕ) (body : List ℕ) (done : ℕ) :
+    Type 0 where
   pub has_sector : place < area.sectors
   pub behind_header : 8 ≤ offset
   pub in_sector : offset + cost_on new area (length body) ≤ sector_size new area
   pub one_program : cost_on new area (length body) ≤ PROGRAM_LIMIT
   pub fewer : done < record_units new area (length body)
-  pub loss : new.last_loss ≡ Some (record { at = place_of new area place offset; want = record { items = image_on new area body }; done = done })
+  pub loss : new.last_loss
+      ≡ Some
+      (record {
+        at = place_of new area place offset;
+        want = record { items = image_on new area body };
+        done = done;
+      })
 
 -- where power was on, it was lost in a record with this body behind those of the ring
 abbrev pub LosesRecord : Device → Device → Ring → List ℕ → Type 0
@@ -128,20 +143,23 @@ LosesHeader old new ring = old.is_on ≡ true → IsHeaderLoss new ring.area (ne
 
 -- power was lost in the erase of this sector
 abbrev pub IsEraseLoss : Device → Area → ℕ → Type 0
-IsEraseLoss new area place = new.last_loss ≡ Some (record { at = place_of new area place 0; want = record { items = [] }; done = 0 })
+IsEraseLoss new area place =
+    new.last_loss ≡ Some (record { at = place_of new area place 0; want = record { items = [] }; done = 0 })
 
 -- Of the sectors with a torn header, those before one are blank. Power was lost in the erase of that one.
 abbrev pub StopsMending : Device → Device → Area → Type 0
 StopsMending old new area =
-    (n : ℕ) × (sectors_of new area ≡ mended_up_to n (sectors_of old area)) × (old.is_on ≡ true → IsEraseLoss new area n)
+    (n : ℕ) × (sectors_of new area ≡ mended_up_to n (sectors_of old area))
+    × (old.is_on ≡ true → IsEraseLoss new area n)
 
--- The erase of this sector was lost while an area was mounted. Of the sectors before it those with a torn header are blank; or all
--- of those are, and it is the newest one.
+-- The erase of this sector was lost while an area was mounted. Of the sectors before it those with a torn
+-- header are blank; or all of those are, and it is the newest one.
 pub record StopsErasing (old new : Device) (area : Area) : Type 0 where
   pub done : ℕ
   pub sectors : sectors_of new area ≡ mended_up_to done (sectors_of old area)
   pub place : ℕ
-  pub which : (place ≡ done) ⊎ ((done ≡ area.sectors) × (place ≡ newest_of_all (unit_of old area) (sectors_of old area)))
+  pub which : (place ≡ done)
+      ⊎ ((done ≡ area.sectors) × (place ≡ newest_of_all (unit_of old area) (sectors_of old area)))
   pub lost : old.is_on ≡ true → IsEraseLoss new area place
 
 -- an append to this sector that was cut in the sector's header
@@ -194,7 +212,8 @@ end_after unit before len stays = (if stays then before.end else padded unit 8) 
 -- a record with this body is the last thing in this sector before the ring's end
 abbrev pub EndsWithRecord : Device → Ring → ℕ → List ℕ → Type 0
 EndsWithRecord d ring place body =
-    slice_range (sector_bytes d ring.area place) (ring.end - cost_on d ring.area (length body)) ring.end ≡ image_on d ring.area body
+    slice_range (sector_bytes d ring.area place) (ring.end - cost_on d ring.area (length body)) ring.end
+    ≡ image_on d ring.area body
 
 -- the ring stands, ready for the next record, and just so many units were spent
 pub record IsReady (old new : Device) (after : Ring) (spent : ℕ) : Type 0 where
@@ -238,13 +257,17 @@ abbrev pub end_for : Device → Ring → List ℕ → ℕ → ℕ
 end_for d ring body kept = end_after (unit_of d ring.area) ring (length body) (stays_for d ring body kept)
 
 -- how an append of a record that leaves so much room ends
-abbrev pub AppendEnds : {T : Type 0} → Device → Device → Ring → Ring → List ℕ → ℕ → Result T AppendFault → Type 0
+abbrev pub AppendEnds : {T : Type 0} → Device → Device → Ring → Ring → List ℕ → ℕ → Result T AppendFault
+    → Type 0
 AppendEnds old new before after body kept (Ok x) =
     CanAppend old before body kept × AddsRecord old new before.area (place_for old before body kept) body
-    × GoesOn before after (stays_for old before body kept) × IsReady old new after (units_for old before body kept)
-AppendEnds old new before after body kept (Err TooLong) = (too_long_for old before body kept ≡ true) × IsRefused old new before after
+    × GoesOn before after (stays_for old before body kept)
+    × IsReady old new after (units_for old before body kept)
+AppendEnds old new before after body kept (Err TooLong) =
+    (too_long_for old before body kept ≡ true) × IsRefused old new before after
 AppendEnds old new before after body kept (Err Full) =
-    (too_long_for old before body kept ≡ false) × (stays_for old before body kept ≡ false) × (is_scratch_left before ≡ true) × IsRefused old new before after
+    (too_long_for old before body kept ≡ false) × (stays_for old before body kept ≡ false)
+    × (is_scratch_left before ≡ true) × IsRefused old new before after
 AppendEnds old new before after body kept (Err PowerLost) =
     CanAppend old before body kept × CutAppend old new before.area (place_for old before body kept) body
     × IsDown old new after (units_for old before body kept)
@@ -287,7 +310,8 @@ pub record StopsBeginning (old new : Device) (before after : Ring) : Type 0 wher
   pub lost : LosesHeader old new before
   pub bound : SpendsAtMost old new (header_units old before.area)
 
--- The oldest sector is erased, and the next is the oldest: its records are gone from the list's front, and the copies stand at its end.
+-- The oldest sector is erased, and the next is the oldest: its records are gone from the list's front, and
+-- the copies stand at its end.
 pub record EndsCollection (old new : Device) (before after : Ring) : Type 0 where
   pub rest : List (RecordAt × List ℕ)
   pub old_list : entries_on old before.area ≡ sector_list old before.area before.oldest ++ rest
@@ -307,7 +331,9 @@ begins_with d area front r = starts_with nat_eq (body_at d area r) front
 -- a record with the body of this one stands behind the copies in the newest sector
 abbrev pub CopiesRecord : Device → Device → Ring → RecordAt → Type 0
 CopiesRecord old new ring r =
-    (at : RecordAt) × (at.sector ≡ newest_place ring) × (sector_list new ring.area (newest_place ring) ≡ sector_list old ring.area (newest_place ring) ++ (at, body_at old ring.area r) ∷ [])
+    (at : RecordAt) × (at.sector ≡ newest_place ring)
+    × (sector_list new ring.area (newest_place ring)
+    ≡ sector_list old ring.area (newest_place ring) ++ (at, body_at old ring.area r) ∷ [])
 
 -- This record stands anew behind the copies in the scratch sector. The list is the old one.
 pub record CopiedRecord (old new : Device) (before after : Ring) (r : RecordAt) : Type 0 where
@@ -321,7 +347,8 @@ pub record CopiedRecord (old new : Device) (before after : Ring) (r : RecordAt) 
   pub oldest : after.oldest ≡ before.oldest
   pub used : after.used ≡ before.used
   pub end : after.end ≡ before.end + cost_on old before.area r.len
-  pub written : Writes old new before.area (newest_place before) before.end (image_on old before.area (body_at old before.area r))
+  pub written : Writes old new before.area (newest_place before) before.end
+      (image_on old before.area (body_at old before.area r))
   pub copies : CopiesRecord old new before r
   pub units : Spends old new (record_units old before.area r.len)
 

@@ -26,11 +26,13 @@ sector_entries unit place sector = map (entry_of place sector) (filter (λ r. r.
 
 -- the area's records that check, the oldest first
 unfoldable pub entries : ℕ → List (List ℕ) → List (RecordAt × List ℕ)
-entries unit sectors = flat_map (λ place. sector_entries unit place (sector_at sectors place)) (counting (states unit sectors))
+entries unit sectors =
+    flat_map (λ place. sector_entries unit place (sector_at sectors place)) (counting (states unit sectors))
 
 -- the records of a sector that check, from an offset on
 abbrev pub records_from : ℕ → ℕ → List ℕ → ℕ → List RecordAt
-records_from unit place sector from = map (placed place) (filter (λ r. r.checks) (walk (record_at unit sector) (length sector) from))
+records_from unit place sector from =
+    map (placed place) (filter (λ r. r.checks) (walk (record_at unit sector) (length sector) from))
 
 -- and those of the sectors behind it, where so many count from the oldest on
 unfoldable pub following : ℕ → List (List ℕ) → ℕ → ℕ → ℕ → ℕ → List RecordAt
@@ -38,7 +40,8 @@ following unit sectors oldest count k from =
     let at = turned (length sectors) oldest in
     if nat_lt k count then
     records_from unit (at k) (sector_at sectors (at k)) from
-    ++ flat_map (λ j. records_from unit (at j) (sector_at sectors (at j)) (padded unit 8)) (range_with_len (k + 1) (count - (k + 1)))
+    ++ flat_map (λ j. records_from unit (at j) (sector_at sectors (at j)) (padded unit 8))
+    (range_with_len (k + 1) (count - (k + 1)))
     else []
 
 abbrev pub bodies : List (RecordAt × List ℕ) → List (List ℕ)

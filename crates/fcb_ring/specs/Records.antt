@@ -1,4 +1,5 @@
--- The records of a sector, one behind the other. A record is a length field, a body and a CRC, each padded to the unit.
+-- The records of a sector, one behind the other. A record is a length field, a body and a CRC, each padded to
+-- the unit.
 use Rattle.std.specs.Prelude.{ℕ, zero, suc, ◌+◌, ◌*◌, ◌%◌, Bool, not, ◌&&◌, List, [], ◌∷◌, ◌++◌, length, slice_index, slice_range, Option, Some, None, ◌==◌, find, nat_eq, nat_lt, nat_le, if◌then◌else◌}
 use Rattle.std.specs.List.{last_or, starts_with}
 use Rattle.std.specs.Option.{option_map, option_map_or}
@@ -16,12 +17,16 @@ field_width first = if nat_lt first 0x80 then 1 else 2
 
 -- Two bytes FF FF are an erased length field. It ends the records, as the sector's end does.
 unfoldable pub has_record : List ℕ → ℕ → Bool
-has_record sector at = nat_lt at (length sector) && not ((slice_index sector at == 0xFF) && (slice_index sector (at + 1) == 0xFF))
+has_record sector at =
+    nat_lt at (length sector)
+    && not ((slice_index sector at == 0xFF) && (slice_index sector (at + 1) == 0xFF))
 
 -- The CRC covers the length as it is written, and the body, without their padding.
 unfoldable pub checks_at : List ℕ → ℕ → ℕ → ℕ → ℕ → Bool
 checks_at sector at body len crc_at =
-    crc 0xFF (slice_range sector at (at + field_width (slice_index sector at)) ++ slice_range sector body (body + len)) == slice_index sector crc_at
+    crc 0xFF
+    (slice_range sector at (at + field_width (slice_index sector at))
+    ++ slice_range sector body (body + len)) == slice_index sector crc_at
 
 -- what the bytes from there on read as, where a record stands there
 unfoldable pub record_of : ℕ → List ℕ → ℕ → Record
@@ -29,11 +34,19 @@ record_of unit sector at =
     let len = body_len (slice_index sector at) (slice_index sector (at + 1)) in
     let body = at + unit in
     let crc_at = body + padded unit len in
-    record { offset = at; body = body; len = len; end = crc_at + unit; checks = checks_at sector at body len crc_at }
+    record {
+      offset = at;
+      body = body;
+      len = len;
+      end = crc_at + unit;
+      checks = checks_at sector at body len crc_at;
+    }
 
 -- the record there; none where the records end, or where it would pass the sector's end
 unfoldable pub record_at : ℕ → List ℕ → ℕ → Option Record
-record_at unit sector at = if has_record sector at && nat_le (record_of unit sector at).end (length sector) then Some (record_of unit sector at) else None
+record_at unit sector at =
+    if has_record sector at
+    && nat_le (record_of unit sector at).end (length sector) then Some (record_of unit sector at) else None
 
 -- its body begins with these bytes, and it checks
 abbrev pub passes : List ℕ → List ℕ → Record → Bool
@@ -50,7 +63,9 @@ walk step (suc n) at = option_map_or (λ r. r ∷ walk step n r.end) (step at) [
 
 -- the first of them from a place on that passes
 abbrev pub first_passing : ℕ → List ℕ → List ℕ → ℕ → Option Record
-first_passing unit sector front from = option_map (with_front sector front) (find (passes sector front) (walk (record_at unit sector) (length sector) from))
+first_passing unit sector front from =
+    option_map (with_front sector front)
+    (find (passes sector front) (walk (record_at unit sector) (length sector) from))
 
 -- the records of a sector, those that do not check too; they begin behind the header's eight bytes
 unfoldable pub records : ℕ → List ℕ → List Record

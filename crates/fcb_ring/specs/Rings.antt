@@ -9,7 +9,16 @@ use Rattle.fcb_ring.specs.declared.sector.SectorState.{SectorState}
 
 -- stands for a sector that is not there
 abbrev pub no_state : SectorState
-no_state = record { is_torn = false; is_free = true; has_header = false; id = 0; end = 0; is_overfull = false; is_dirty = false }
+no_state =
+    record {
+      is_torn = false;
+      is_free = true;
+      has_header = false;
+      id = 0;
+      end = 0;
+      is_overfull = false;
+      is_dirty = false;
+    }
 
 abbrev pub state_at : List SectorState → ℕ → SectorState
 state_at states place = slice_index_or states place no_state
@@ -35,28 +44,35 @@ distance count from place = if nat_lt place from then place + count - from else 
 -- its id is one more than that of the used sector before it
 abbrev pub continues : List SectorState → ℕ → Bool
 continues states place =
-    is_used states (before (length states) place) && ((state_at states place).id == ((state_at states (before (length states) place)).id + 1) % 65536)
+    is_used states (before (length states) place)
+    && ((state_at states place).id == ((state_at states (before (length states) place)).id + 1) % 65536)
 
 abbrev pub opens_run : List SectorState → ℕ → Bool
 opens_run states place = is_used states place && not (continues states place)
 
--- The used sectors are one run where only one of them does not continue the sector before it. That is the oldest.
+-- The used sectors are one run where only one of them does not continue the sector before it. That is the
+-- oldest.
 unfoldable pub oldest_place : List SectorState → ℕ
 oldest_place states = unwrap_or (find (opens_run states) (places states)) 0
 
 unfoldable pub second_start : List SectorState → Option ℕ
-second_start states = find (opens_run states) (range_with_len (oldest_place states + 1) (length states - (oldest_place states + 1)))
+second_start states =
+    find (opens_run states)
+    (range_with_len (oldest_place states + 1) (length states - (oldest_place states + 1)))
 
 abbrev pub is_full : List SectorState → Bool
 is_full states = list_all (λ state. not state.is_free) states
 
 -- Where no sector is free the newest, which stands before the oldest, counts for nothing.
 unfoldable pub counts : List SectorState → ℕ → Bool
-counts states place = is_used states place && not (is_full states && (place == before (length states) (oldest_place states)))
+counts states place =
+    is_used states place && not (is_full states && (place == before (length states) (oldest_place states)))
 
 -- the sectors that count, from the oldest on
 unfoldable pub counting : List SectorState → List ℕ
-counting states = filter (counts states) (map (turned (length states) (oldest_place states)) (range_with_len 0 (length states)))
+counting states =
+    filter (counts states)
+    (map (turned (length states) (oldest_place states)) (range_with_len 0 (length states)))
 
 -- whether the sector shows this kind of damage
 abbrev pub shows : Why → List SectorState → ℕ → Bool
@@ -67,7 +83,8 @@ shows why states place = false
 
 -- the lowest sector that does
 abbrev pub first_of : Why → List SectorState → Option Damaged
-first_of why states = option_map (λ place. record { sector = place; why = why }) (find (shows why states) (places states))
+first_of why states =
+    option_map (λ place. record { sector = place; why = why }) (find (shows why states) (places states))
 
 -- the lowest sector of the first kind of damage; a bad sequence names sector 0
 unfoldable pub first_damage : List SectorState → Option Damaged
@@ -84,11 +101,16 @@ pub record IsRing (states : List SectorState) (oldest used : ℕ) : Type 0 where
   pub most : used ≤ length states
   pub empty : used ≡ 0 → oldest ≡ 0
   pub used_ones : (k : ℕ) → k < used → (state_at states (turned (length states) oldest k)).is_free ≡ false
-  pub free_ones : (k : ℕ) → used ≤ k → k < length states → (state_at states (turned (length states) oldest k)).is_free ≡ true
+  pub free_ones : (k : ℕ) → used ≤ k → k < length states
+      → (state_at states (turned (length states) oldest k)).is_free ≡ true
   pub headers : (k : ℕ) → k < used → (state_at states (turned (length states) oldest k)).has_header ≡ true
-  pub ids : (k : ℕ) → k + 1 < used → (state_at states (turned (length states) oldest (k + 1))).id ≡ ((state_at states (turned (length states) oldest k)).id + 1) % 65536
+  pub ids : (k : ℕ) → k + 1 < used
+      → (state_at states (turned (length states) oldest (k + 1))).id
+      ≡ ((state_at states (turned (length states) oldest k)).id + 1) % 65536
 
 -- so many of them, the oldest first, end in their sector with nothing behind them
 abbrev pub AreClean : List SectorState → ℕ → ℕ → Type 0
 AreClean states oldest count =
-    (k : ℕ) → k < count → ((state_at states (turned (length states) oldest k)).is_overfull ≡ false) × ((state_at states (turned (length states) oldest k)).is_dirty ≡ false)
+    (k : ℕ) → k < count
+    → ((state_at states (turned (length states) oldest k)).is_overfull ≡ false)
+    × ((state_at states (turned (length states) oldest k)).is_dirty ≡ false)

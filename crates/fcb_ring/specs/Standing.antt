@@ -52,7 +52,10 @@ uncounted stage = if is_uncounted stage then 1 else 0
 abbrev pub FitsStage : Stage → List SectorState → ℕ → ℕ → Type 0
 FitsStage (Inspected true) sectors oldest used = used + 1 ≡ length sectors
 FitsStage (Inspected false) sectors oldest used = used < length sectors
-FitsStage Ready sectors oldest used = (used < length sectors) × ((k : ℕ) → used ≤ k → k < length sectors → (state_at sectors (turned (length sectors) oldest k)).is_torn ≡ false)
+FitsStage Ready sectors oldest used =
+    (used < length sectors)
+    × ((k : ℕ) → used ≤ k → k < length sectors
+    → (state_at sectors (turned (length sectors) oldest k)).is_torn ≡ false)
 FitsStage Collecting sectors oldest used = used ≡ length sectors
 FitsStage Down sectors oldest used = ⊥
 
@@ -64,7 +67,10 @@ pub record IsWritten (state : SectorState) (ring : Ring) : Type 0 where
 pub record Stands (unit : ℕ) (sectors : List (List ℕ)) (ring : Ring) : Type 0 where
   pub form : IsRing (states unit sectors) ring.oldest (ring.used + uncounted ring.stage)
   pub clean : AreClean (states unit sectors) ring.oldest ring.used
-  pub last : 0 < ring.used → IsWritten (state_at (states unit sectors) (turned (length (states unit sectors)) ring.oldest (ring.used - 1))) ring
+  pub last : 0 < ring.used
+      → IsWritten
+      (state_at (states unit sectors) (turned (length (states unit sectors)) ring.oldest (ring.used - 1)))
+      ring
   pub stage : FitsStage ring.stage (states unit sectors) ring.oldest ring.used
 
 -- the ring stands on this device
@@ -104,7 +110,8 @@ IsListed d area r = Contains (places_on d area) r
 
 -- these bytes are its body
 abbrev pub IsBodyOf : Device → Area → RecordAt → List ℕ → Type 0
-IsBodyOf d area r body = (i : ℕ) → slice_get (places_on d area) i ≡ Some r → slice_get (entries_on d area) i ≡ Some (r, body)
+IsBodyOf d area r body =
+    (i : ℕ) → slice_get (places_on d area) i ≡ Some r → slice_get (entries_on d area) i ≡ Some (r, body)
 
 -- the records of one sector that check, from an offset on
 abbrev pub records_on : Device → Area → ℕ → ℕ → List RecordAt
@@ -113,12 +120,14 @@ records_on d area place from = records_from (unit_of d area) place (sector_bytes
 -- the records that check from an offset on, in the sector so far behind the oldest, and in those after it
 abbrev pub following_on : Device → Ring → ℕ → ℕ → List RecordAt
 following_on d ring further from =
-    following (unit_of d ring.area) (sectors_of d ring.area) ring.oldest (min ring.used (ring.area.sectors - 1)) further from
+    following (unit_of d ring.area) (sectors_of d ring.area) ring.oldest
+    (min ring.used (ring.area.sectors - 1)) further from
 
 -- the record after this one, or the first of all
 abbrev pub IsNext : List (RecordAt × List ℕ) → Option RecordAt → Option RecordAt → Type 0
 IsNext list None next = next ≡ slice_get (record_places list) 0
-IsNext list (Some r) next = (i : ℕ) → slice_get (record_places list) i ≡ Some r → next ≡ slice_get (record_places list) (i + 1)
+IsNext list (Some r) next =
+    (i : ℕ) → slice_get (record_places list) i ≡ Some r → next ≡ slice_get (record_places list) (i + 1)
 
 -- the first whose body begins with these bytes
 abbrev pub first_with : List ℕ → List (RecordAt × List ℕ) → Option RecordAt
@@ -127,7 +136,8 @@ first_with front list = option_map (λ entry. entry.0) (find (λ entry. starts_w
 -- the first such record after this one, or of all
 abbrev pub IsNextWith : List (RecordAt × List ℕ) → List ℕ → Option RecordAt → Option RecordAt → Type 0
 IsNextWith list front None next = next ≡ first_with front list
-IsNextWith list front (Some r) next = (i : ℕ) → slice_get (record_places list) i ≡ Some r → next ≡ first_with front (drop (i + 1) list)
+IsNextWith list front (Some r) next =
+    (i : ℕ) → slice_get (record_places list) i ≡ Some r → next ≡ first_with front (drop (i + 1) list)
 
 -- what mounting erases: each sector with a torn header, and the newest one where no sector is free
 abbrev pub erases_due : List SectorState → ℕ
@@ -145,10 +155,12 @@ ring_damage d area = first_damage (states_on d area)
 abbrev pub newest_of_all : ℕ → List (List ℕ) → ℕ
 newest_of_all unit sectors = before (length sectors) (oldest_place (states unit sectors))
 
--- The sectors after these erases: each with a torn header is blank, and so is the newest one where no sector is free.
+-- The sectors after these erases: each with a torn header is blank, and so is the newest one where no sector
+-- is free.
 abbrev pub mounted_sectors : ℕ → List (List ℕ) → List (List ℕ)
 mounted_sectors unit sectors =
-    if is_full (states unit sectors) then slice_set (map mended sectors) (newest_of_all unit sectors) (blanked (sector_at sectors (newest_of_all unit sectors))) else map mended sectors
+    if is_full (states unit sectors) then slice_set (map mended sectors) (newest_of_all unit sectors)
+    (blanked (sector_at sectors (newest_of_all unit sectors))) else map mended sectors
 
 -- those of the area
 abbrev pub mounted_on : Device → Area → List (List ℕ)
@@ -157,8 +169,10 @@ mounted_on d area = mounted_sectors (unit_of d area) (sectors_of d area)
 -- how mounting ends: the damage of the area, and then nothing changed; or it is not damaged
 abbrev pub MountEnds : Device → Device → Area → ℕ → Result Ring MountFault → Type 0
 MountEnds old new area reserve (Ok ring) =
-    (ring_damage old area ≡ None) × StandsOn new ring × (ring.stage ≡ Ready) × (ring.area ≡ area) × (ring.reserve ≡ reserve)
+    (ring_damage old area ≡ None) × StandsOn new ring × (ring.stage ≡ Ready) × (ring.area ≡ area)
+    × (ring.reserve ≡ reserve)
     × Spends old new (erases_on old area)
 MountEnds old new area reserve (Err (HasDamage damaged)) = (ring_damage old area ≡ Some damaged) × (new ≡ old)
-MountEnds old new area reserve (Err PowerLost) = (ring_damage old area ≡ None) × SpendsAtMost old new (erases_on old area)
+MountEnds old new area reserve (Err PowerLost) =
+    (ring_damage old area ≡ None) × SpendsAtMost old new (erases_on old area)
 MountEnds old new area reserve (Err NoMemory) = ⊥

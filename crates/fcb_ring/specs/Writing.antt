@@ -9,7 +9,8 @@ use Rattle.fcb_ring.specs.SectorStates.{lead}
 unfoldable pub filled : ℕ → List ℕ → List ℕ
 filled unit part = part ++ replicate (padded unit (length part) - length part) 0xFF
 
--- a length below 128 is one byte; a longer one has its low seven bits, with the top bit set, and then the rest
+-- a length below 128 is one byte; a longer one has its low seven bits, with the top bit set, and then the
+-- rest
 unfoldable pub length_field : ℕ → List ℕ
 length_field len = if nat_lt len 0x80 then len ∷ [] else (len % 0x80 + 0x80) ∷ (len / 0x80) ∷ []
 
@@ -28,7 +29,9 @@ header_image unit id = filled unit (lead ++ (id % 0x100) ∷ (id / 0x100) ∷ []
 
 -- a record of which so many units were put: FF stands behind them
 abbrev pub cut_record : ℕ → List ℕ → ℕ → List ℕ
-cut_record unit body done = take (done * unit) (record_image unit body) ++ replicate (record_cost unit (length body) - done * unit) 0xFF
+cut_record unit body done =
+    take (done * unit) (record_image unit body)
+    ++ replicate (record_cost unit (length body) - done * unit) 0xFF
 
 -- the body that it spells
 abbrev pub spelled : ℕ → List ℕ → ℕ → List ℕ

@@ -13,7 +13,9 @@ has_label label area = bytes_eq label area.label.bytes
 
 -- a sector belongs to both: neither begins where the other has ended
 abbrev pub shares_sector : Area → Area → Bool
-shares_sector area other = (area.bank == other.bank) && (nat_lt area.first (other.first + other.sectors) && nat_lt other.first (area.first + area.sectors))
+shares_sector area other =
+    (area.bank == other.bank)
+    && (nat_lt area.first (other.first + other.sectors) && nat_lt other.first (area.first + area.sectors))
 
 -- the area is of an image of this version
 abbrev pub HasVersion : ℕ → Area → Type 0
@@ -34,6 +36,9 @@ pub record IsNewTo (areas : List Area) (area : Area) : Type 0 where
 abbrev pub Adds : List Bank → List Area → List Area → Area → Result (Unit {0}) AddFault → Type 0
 Adds banks old new area (Ok _) = IsInBank banks area × IsNewTo old area × (new ≡ old ++ area ∷ [])
 Adds banks old new area (Err Exists) = (list_any (has_label area.label.bytes) old ≡ true) × (new ≡ old)
-Adds banks old new area (Err OutOfBank) = (list_any (has_label area.label.bytes) old ≡ false) × (IsInBank banks area → ⊥) × (new ≡ old)
-Adds banks old new area (Err Overlaps) = (list_any (has_label area.label.bytes) old ≡ false) × IsInBank banks area × (list_any (shares_sector area) old ≡ true) × (new ≡ old)
+Adds banks old new area (Err OutOfBank) =
+    (list_any (has_label area.label.bytes) old ≡ false) × (IsInBank banks area → ⊥) × (new ≡ old)
+Adds banks old new area (Err Overlaps) =
+    (list_any (has_label area.label.bytes) old ≡ false) × IsInBank banks area
+    × (list_any (shares_sector area) old ≡ true) × (new ≡ old)
 Adds banks old new area (Err NoMemory) = IsInBank banks area × IsNewTo old area × (new ≡ old)

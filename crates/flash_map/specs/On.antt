@@ -14,5 +14,7 @@ abbrev pub HoldsOn : (Area → Geometry → List (List ℕ) → Type 0) → Devi
 HoldsOn holds d area = holds area (geometry_of d area) (sectors_of d area)
 
 -- a state stands on the area that it was mounted on
-abbrev pub StandsOn : {S : Type 0} → (S → Area) → (S → Geometry → List (List ℕ) → Type 0) → Device → S → Type 0
-StandsOn mounted_on stands d state = stands state (geometry_of d (mounted_on state)) (sectors_of d (mounted_on state))
+abbrev pub StandsOn : {S : Type 0} → (S → Area) → (S → Geometry → List (List ℕ) → Type 0) → Device → S
+    → Type 0
+StandsOn mounted_on stands d state =
+    stands state (geometry_of d (mounted_on state)) (sectors_of d (mounted_on state))

@@ -12,8 +12,10 @@ pub record CanProgramAll (d : Device) (area : Area) (sector offset : ℕ) (bytes
   pub whole_units : length bytes % unit_of d area ≡ 0
   pub aligned : offset % unit_of d area ≡ 0
   pub in_sector : offset + length bytes ≤ sector_size d area
-  pub erased : (bank_of d area.bank).kind ≡ Erasing → slice_range (sector_bytes d area sector) offset (offset + length bytes) ≡ replicate (length bytes) 255
+  pub erased : (bank_of d area.bank).kind ≡ Erasing
+      → slice_range (sector_bytes d area sector) offset (offset + length bytes) ≡ replicate (length bytes) 255
 
 -- where power was on, it was lost in a call that was to put at most so many bytes
 abbrev pub LosesWithin : ℕ → Device → Device → Type 0
-LosesWithin most old new = old.is_on ≡ true → (loss : Loss) × (new.last_loss ≡ Some loss) × (length loss.want.items ≤ most)
+LosesWithin most old new =
+    old.is_on ≡ true → (loss : Loss) × (new.last_loss ≡ Some loss) × (length loss.want.items ≤ most)

@@ -20,15 +20,20 @@ best subtrees name = position (is_greatest (map (depth name) subtrees)) (map (de
 -- ---- where no two subtrees are the same
 
 abbrev pub AreDistinct : List (List ℕ) → Type 0
-AreDistinct subtrees = (i j : ℕ) → i < length subtrees → j < length subtrees → get_or subtrees i [] ≡ get_or subtrees j [] → i ≡ j
+AreDistinct subtrees =
+    (i j : ℕ) → i < length subtrees → j < length subtrees → get_or subtrees i [] ≡ get_or subtrees j []
+    → i ≡ j
 
 -- it has fewer parts and fewer bytes than the other
 abbrev pub IsShorter : List ℕ → List ℕ → Type 0
-IsShorter subtree other = (length (parts_of subtree) < length (parts_of other)) × (length subtree < length other)
+IsShorter subtree other =
+    (length (parts_of subtree) < length (parts_of other)) × (length subtree < length other)
 
 -- the subtree at this place matches the name, and each other one that does is shorter
 pub record IsLongest (subtrees : List (List ℕ)) (name : List ℕ) (place : ℕ) : Type 0 where
   pub within : place < length subtrees
   pub rest : List ℕ
   pub matches : matched_rest name (get_or subtrees place []) ≡ Some rest
-  pub others : (k : ℕ) (left : List ℕ) → k < length subtrees → matched_rest name (get_or subtrees k []) ≡ Some left → (k ≡ place) ⊎ IsShorter (get_or subtrees k []) (get_or subtrees place [])
+  pub others : (k : ℕ) (left : List ℕ) → k < length subtrees
+      → matched_rest name (get_or subtrees k []) ≡ Some left
+      → (k ≡ place) ⊎ IsShorter (get_or subtrees k []) (get_or subtrees place [])

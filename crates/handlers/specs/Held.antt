@@ -33,7 +33,8 @@ committed h = record h { commits = h.commits + min 1 (2 ^ 64 - 1 - h.commits) }
 
 -- how giving a handler a value ends
 abbrev pub SetEnds : HandlerState → HandlerState → List ℕ → List ℕ → Result (Unit {0}) SetRefusal → Type 0
-SetEnds before after rest value (Ok x) = (accepts before.kind value ≡ true) × (after ≡ given before rest value)
+SetEnds before after rest value (Ok x) =
+    (accepts before.kind value ≡ true) × (after ≡ given before rest value)
 SetEnds before after rest value (Err Rejected) = (accepts before.kind value ≡ false) × (after ≡ before)
 SetEnds before after rest value (Err NoMemory) = (accepts before.kind value ≡ true) × (after ≡ before)
 

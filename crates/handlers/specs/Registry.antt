@@ -24,10 +24,15 @@ module _ {B : Type 0} where
   has_subtree rows subtree = list_any (λ row. bytes_eq subtree row.subtree) rows
 
   -- how registering a handler ends; it comes back where it was refused
-  abbrev pub RegisterEnds : List (Row B) → List (Row B) → List ℕ → B → Result (Unit {0}) (RegisterFault × B) → Type 0
-  RegisterEnds before after subtree handler (Ok x) = (has_subtree before subtree ≡ false) × (after ≡ before ++ record { subtree = subtree; handler = handler } ∷ [])
-  RegisterEnds before after subtree handler (Err (Exists, back)) = (has_subtree before subtree ≡ true) × (after ≡ before) × (back ≡ handler)
-  RegisterEnds before after subtree handler (Err (NoMemory, back)) = (has_subtree before subtree ≡ false) × (after ≡ before) × (back ≡ handler)
+  abbrev pub RegisterEnds : List (Row B) → List (Row B) → List ℕ → B → Result (Unit {0}) (RegisterFault × B)
+      → Type 0
+  RegisterEnds before after subtree handler (Ok x) =
+      (has_subtree before subtree ≡ false)
+      × (after ≡ before ++ record { subtree = subtree; handler = handler } ∷ [])
+  RegisterEnds before after subtree handler (Err (Exists, back)) =
+      (has_subtree before subtree ≡ true) × (after ≡ before) × (back ≡ handler)
+  RegisterEnds before after subtree handler (Err (NoMemory, back)) =
+      (has_subtree before subtree ≡ false) × (after ≡ before) × (back ≡ handler)
 
   -- a handler with its subtree, by the state that it is in
   abbrev pub row_of : (B → HandlerState) → Row B → Registered
@@ -51,8 +56,11 @@ abbrev pub state_at : List Registered → ℕ → HandlerState
 state_at handlers i = (get_or handlers i nobody).state
 
 -- a set of the handler at this place
-abbrev pub SetsAt : List Registered → List Registered → ℕ → List ℕ → List ℕ → Result (Unit {0}) SetRefusal → Type 0
-SetsAt before after i rest value result = (next : HandlerState) × (after ≡ with_state before i next) × SetEnds (state_at before i) next rest value result
+abbrev pub SetsAt : List Registered → List Registered → ℕ → List ℕ → List ℕ → Result (Unit {0}) SetRefusal
+    → Type 0
+SetsAt before after i rest value result =
+    (next : HandlerState) × (after ≡ with_state before i next)
+    × SetEnds (state_at before i) next rest value result
 
 -- a commit of the handler at this place
 abbrev pub commit_at : List Registered → ℕ → List Registered

@@ -29,7 +29,8 @@ pub record Plain : Type 0 where
   pub bytes : List (List ℕ)
 
 abbrev pub plain_of : List Bank → List Area → List (Vec ℕ) → Plain
-plain_of banks areas bytes = record { version = version_of areas; banks = banks; areas = map plain_area areas; bytes = contents bytes }
+plain_of banks areas bytes =
+    record { version = version_of areas; banks = banks; areas = map plain_area areas; bytes = contents bytes }
 
 abbrev pub plain : Image → Plain
 plain image = plain_of image.banks.items image.map image.bytes.items
@@ -46,12 +47,20 @@ role_byte Sel = 4
 
 -- kind, unit, two zeros, bytes of a sector, sectors
 abbrev pub bank_text : Bank → List ℕ
-bank_text bank = kind_byte bank.kind ∷ bank.unit ∷ 0 ∷ 0 ∷ (to_le_bytes w32 bank.sector ++ to_le_bytes w32 bank.count)
+bank_text bank =
+    kind_byte bank.kind ∷ bank.unit ∷ 0 ∷ 0 ∷ (to_le_bytes w32 bank.sector ++ to_le_bytes w32 bank.count)
 
 -- role, bank, first sector, sectors, length of the label, a zero, the label in eight bytes
 abbrev pub area_text : Area → List ℕ
-area_text area = role_byte area.role ∷ area.bank ∷ (to_le_bytes w16 area.first ++ (to_le_bytes w16 area.sectors ++ (length area.label.bytes ∷ 0 ∷ (area.label.bytes ++ replicate (8 - length area.label.bytes) 0))))
+area_text area =
+    role_byte area.role ∷ area.bank ∷
+    (to_le_bytes w16 area.first
+    ++ (to_le_bytes w16 area.sectors
+    ++ (length area.label.bytes ∷ 0 ∷ (area.label.bytes ++ replicate (8 - length area.label.bytes) 0))))
 
--- the letters ZSIM, the version, numbers of banks and areas, a zero; the banks, the areas, the bytes of each bank
+-- the letters ZSIM, the version, numbers of banks and areas, a zero; the banks, the areas, the bytes of each
+-- bank
 unfoldable pub file_of : Plain → List ℕ
-file_of image = 0x5A ∷ 0x53 ∷ 0x49 ∷ 0x4D ∷ image.version ∷ length image.banks ∷ length image.areas ∷ 0 ∷ (flat_map bank_text image.banks ++ (flat_map area_text image.areas ++ concat image.bytes))
+file_of image =
+    0x5A ∷ 0x53 ∷ 0x49 ∷ 0x4D ∷ image.version ∷ length image.banks ∷ length image.areas ∷ 0 ∷
+    (flat_map bank_text image.banks ++ (flat_map area_text image.areas ++ concat image.bytes))

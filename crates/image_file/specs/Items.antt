@@ -27,8 +27,10 @@ pub record IsListed (l : Listed) : Type 0 where
 
 -- the answer says whether the bank may be added
 abbrev pub TakesBank : ℕ → List Bank → List Bank → List Area → Bank → Result Bool OutOfMemory → Type 0
-TakesBank version old new areas bank (Ok true) = IsImageBank version bank × (areas ≡ []) × (length old < MOST_BANKS) × (new ≡ old ++ bank ∷ [])
-TakesBank version old new areas bank (Ok false) = (IsImageBank version bank → areas ≡ [] → length old < MOST_BANKS → ⊥) × (new ≡ old)
+TakesBank version old new areas bank (Ok true) =
+    IsImageBank version bank × (areas ≡ []) × (length old < MOST_BANKS) × (new ≡ old ++ bank ∷ [])
+TakesBank version old new areas bank (Ok false) =
+    (IsImageBank version bank → areas ≡ [] → length old < MOST_BANKS → ⊥) × (new ≡ old)
 TakesBank version old new areas bank (Err _) = ⊤
 
 -- a selector is the only one
@@ -37,14 +39,21 @@ IsAlone others area = is_selector area ≡ true → count_by is_selector others 
 
 -- the answer says whether the area may be added
 abbrev pub TakesListed : List Bank → List Area → List Area → Area → Result Bool OutOfMemory → Type 0
-TakesListed banks old new area (Ok true) = IsImageArea banks (map plain_area old) (plain_area area) × (length old < MOST_AREAS) × IsAlone (map plain_area old) area × (new ≡ old ++ area ∷ [])
-TakesListed banks old new area (Ok false) = (IsImageArea banks (map plain_area old) (plain_area area) → length old < MOST_AREAS → IsAlone (map plain_area old) area → ⊥) × (new ≡ old)
+TakesListed banks old new area (Ok true) =
+    IsImageArea banks (map plain_area old) (plain_area area) × (length old < MOST_AREAS)
+    × IsAlone (map plain_area old) area × (new ≡ old ++ area ∷ [])
+TakesListed banks old new area (Ok false) =
+    (IsImageArea banks (map plain_area old) (plain_area area) → length old < MOST_AREAS
+    → IsAlone (map plain_area old) area → ⊥) × (new ≡ old)
 TakesListed banks old new area (Err _) = ⊤
 
 -- the answer says whether what was found may be added
-abbrev pub TakesFound : ℕ → List Bank → List Bank → List Area → List Area → Option Bank → Option Area → Result Bool OutOfMemory → Type 0
-TakesFound version old_banks banks old_areas areas (Some bank) area result = TakesBank version old_banks banks old_areas bank result × (areas ≡ old_areas)
-TakesFound version old_banks banks old_areas areas None (Some area) result = TakesListed old_banks old_areas areas area result × (banks ≡ old_banks)
+abbrev pub TakesFound : ℕ → List Bank → List Bank → List Area → List Area → Option Bank → Option Area
+    → Result Bool OutOfMemory → Type 0
+TakesFound version old_banks banks old_areas areas (Some bank) area result =
+    TakesBank version old_banks banks old_areas bank result × (areas ≡ old_areas)
+TakesFound version old_banks banks old_areas areas None (Some area) result =
+    TakesListed old_banks old_areas areas area result × (banks ≡ old_banks)
 TakesFound version old_banks banks old_areas areas None None result = result ≡ Ok false
 
 -- the answer says whether an item may tell the version
@@ -60,7 +69,8 @@ TakesItem item old new (Err (BadSpec n)) = ⊥
 TakesItem item old new (Err NoMemory) = ⊤
 
 -- all items were added, and n is their number
-pub record AllAdded (word : List ℕ) (version : ℕ) (banks : List Bank) (areas : List Area) (n : ℕ) : Type 0 where
+pub record AllAdded (word : List ℕ) (version : ℕ) (banks : List Bank) (areas : List Area) (n : ℕ) :
+    Type 0 where
   pub lawful : IsListed (listed version banks areas)
   pub items : AddsAll nothing_listed (parts 44 word) (listed version banks areas)
   pub lacking : (HasNeeded (map plain_area areas) → ⊥) → FirstBad nothing_listed (parts 44 word) (n + 1)

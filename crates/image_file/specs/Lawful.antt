@@ -73,7 +73,15 @@ pub record FitsText (area : Area) : Type 0 where
 
 -- stands for an area that is not there
 abbrev pub no_area : Area
-no_area = record { label = record { bytes = []; spare = [] }; role = Nvs; bank = 0; first = 0; sectors = 0; version = 1 }
+no_area =
+    record {
+      label = record { bytes = []; spare = [] };
+      role = Nvs;
+      bank = 0;
+      first = 0;
+      sectors = 0;
+      version = 1;
+    }
 
 abbrev pub area_at : List Area → ℕ → Area
 area_at areas i = slice_index_or areas i no_area
@@ -87,9 +95,11 @@ pub record IsImage (image : Plain) : Type 0 where
   pub few_areas : length image.areas ≤ MOST_AREAS
   pub versions : All (HasVersion image.version) image.areas
   -- each area beside those before it
-  pub each_area : (i : ℕ) → i < length image.areas → IsImageArea image.banks (take i image.areas) (area_at image.areas i)
+  pub each_area : (i : ℕ) → i < length image.areas
+      → IsImageArea image.banks (take i image.areas) (area_at image.areas i)
   -- with nothing in the unused room of their labels
   pub plain : map plain_area image.areas ≡ image.areas
   pub needed : HasNeeded image.areas
   pub count : length image.bytes ≡ length image.banks
-  pub lengths : (i : ℕ) → i < length image.banks → length (slice_index_or image.bytes i []) ≡ capacity (bank_at image.banks i)
+  pub lengths : (i : ℕ) → i < length image.banks
+      → length (slice_index_or image.bytes i []) ≡ capacity (bank_at image.banks i)

@@ -9,15 +9,20 @@ use Rattle.text_parts.specs.Parts.{parts}
 
 -- bytes are the file of one image at most
 abbrev pub OneImage : Type 0
-OneImage = (bytes : List ℕ) (image other : Plain) → IsImageFile bytes image → IsImageFile bytes other → image ≡ other
+OneImage =
+    (bytes : List ℕ) (image other : Plain) → IsImageFile bytes image → IsImageFile bytes other → image ≡ other
 
 -- the file of an image has no fault
 abbrev pub NotBoth : Type 0
-NotBoth = (bytes : List ℕ) (image : Plain) (at : ℕ) (why : ImageWhy) → IsImageFile bytes image → FirstFault bytes (rows bytes) at why → ⊥
+NotBoth =
+    (bytes : List ℕ) (image : Plain) (at : ℕ) (why : ImageWhy) → IsImageFile bytes image
+    → FirstFault bytes (rows bytes) at why → ⊥
 
 -- bytes have one first fault at most
 abbrev pub OneFault : Type 0
-OneFault = (bytes : List ℕ) (at other : ℕ) (why because : ImageWhy) → FirstFault bytes (rows bytes) at why → FirstFault bytes (rows bytes) other because → (at ≡ other) × (why ≡ because)
+OneFault =
+    (bytes : List ℕ) (at other : ℕ) (why because : ImageWhy) → FirstFault bytes (rows bytes) at why
+    → FirstFault bytes (rows bytes) other because → (at ≡ other) × (why ≡ because)
 
 -- a word describes one blank image at most
 abbrev pub OneBlankImage : Type 0
@@ -25,8 +30,12 @@ OneBlankImage = (word : List ℕ) (image other : Plain) → IsSpec word image �
 
 -- a word that describes an image has no item that may not be added, and lacks no area
 abbrev pub NoBadItem : Type 0
-NoBadItem = (word : List ℕ) (image : Plain) (n : ℕ) → IsSpec word image → FirstBad nothing_listed (parts 44 word) n → ⊥
+NoBadItem =
+    (word : List ℕ) (image : Plain) (n : ℕ) → IsSpec word image → FirstBad nothing_listed (parts 44 word) n
+    → ⊥
 
 -- a word has one first bad item at most
 abbrev pub OneBadItem : Type 0
-OneBadItem = (word : List ℕ) (n other : ℕ) → FirstBad nothing_listed (parts 44 word) n → FirstBad nothing_listed (parts 44 word) other → n ≡ other
+OneBadItem =
+    (word : List ℕ) (n other : ℕ) → FirstBad nothing_listed (parts 44 word) n
+    → FirstBad nothing_listed (parts 44 word) other → n ≡ other

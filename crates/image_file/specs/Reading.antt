@@ -21,4 +21,5 @@ pub record IsImageFile (bytes : List ℕ) (image : Plain) : Type 0 where
 
 -- the image of the file, or its first fault
 abbrev pub ReadsImage : List ℕ → Result Image ImageFault → Type 0
-ReadsImage bytes result = Reads (λ image. IsImageFile bytes (plain image)) (FirstFault bytes (rows bytes)) result
+ReadsImage bytes result =
+    Reads (λ image. IsImageFile bytes (plain image)) (FirstFault bytes (rows bytes)) result

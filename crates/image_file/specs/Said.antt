@@ -27,7 +27,13 @@ role_said (suc (suc (suc zero))) = Fcb
 role_said (suc (suc (suc (suc n)))) = Sel
 
 unfoldable pub bank_said : List ℕ → Bank
-bank_said text = record { kind = kind_said (slice_index text 0); unit = slice_index text 1; sector = from_le_bytes w32 (field_at text 4 4); count = from_le_bytes w32 (field_at text 8 4) }
+bank_said text =
+    record {
+      kind = kind_said (slice_index text 0);
+      unit = slice_index text 1;
+      sector = from_le_bytes w32 (field_at text 4 4);
+      count = from_le_bytes w32 (field_at text 8 4);
+    }
 
 -- in a file of this version
 unfoldable pub area_said : ℕ → List ℕ → Area
@@ -61,7 +67,8 @@ abbrev pub banks_said : List ℕ → ℕ → List Bank
 banks_said bytes n = map (λ i. bank_said (field_at bytes (bank_place i) 12)) (range_with_len 0 n)
 
 abbrev pub areas_said : List ℕ → ℕ → List Area
-areas_said bytes n = map (λ i. area_said (version_said bytes) (field_at bytes (area_place bytes i) 16)) (range_with_len 0 n)
+areas_said bytes n =
+    map (λ i. area_said (version_said bytes) (field_at bytes (area_place bytes i) 16)) (range_with_len 0 n)
 
 abbrev pub all_banks : List ℕ → List Bank
 all_banks bytes = banks_said bytes (bank_count bytes)
@@ -77,8 +84,15 @@ abbrev pub contents_size : List ℕ → ℕ → ℕ
 contents_size bytes i = capacity (bank_at (all_banks bytes) i)
 
 abbrev pub contents_said : List ℕ → ℕ → List (List ℕ)
-contents_said bytes n = map (λ i. field_at bytes (contents_place bytes i) (contents_size bytes i)) (range_with_len 0 n)
+contents_said bytes n =
+    map (λ i. field_at bytes (contents_place bytes i) (contents_size bytes i)) (range_with_len 0 n)
 
 -- the image that a file says, lawful or not
 abbrev pub image_said : List ℕ → Plain
-image_said bytes = record { version = version_said bytes; banks = all_banks bytes; areas = all_areas bytes; bytes = contents_said bytes (bank_count bytes) }
+image_said bytes =
+    record {
+      version = version_said bytes;
+      banks = all_banks bytes;
+      areas = all_areas bytes;
+      bytes = contents_said bytes (bank_count bytes);
+    }

@@ -11,4 +11,6 @@ MayBeLoaded = (image : Plain) → IsImage image → IsLawful image.banks image.b
 
 -- a store of its role takes each of its areas
 abbrev pub MayBeServed : Type 0
-MayBeServed = (image : Plain) (i : ℕ) → IsImage image → i < length image.areas → IsLawfulFor image.banks (area_at image.areas i)
+MayBeServed =
+    (image : Plain) (i : ℕ) → IsImage image → i < length image.areas
+    → IsLawfulFor image.banks (area_at image.areas i)

@@ -33,7 +33,9 @@ abbrev pub bank_words : Bank → List (List ℕ)
 bank_words bank = bank_word bank.kind ∷ decimal bank.unit ∷ decimal bank.sector ∷ decimal bank.count ∷ []
 
 abbrev pub area_words : Area → List (List ℕ)
-area_words area = area_word area.role ∷ area.label.bytes ∷ decimal area.bank ∷ decimal area.first ∷ decimal area.sectors ∷ []
+area_words area =
+    area_word area.role ∷ area.label.bytes ∷ decimal area.bank ∷ decimal area.first ∷ decimal area.sectors ∷
+    []
 
 -- the version, and banks and areas so far
 pub record Listed : Type 0 where
@@ -88,16 +90,19 @@ abbrev pub AddsAll : Listed → List (List ℕ) → Listed → Type 0
 AddsAll old [] new = new ≡ old
 AddsAll old (item ∷ items) new = (mid : Listed) × Adds old item mid × AddsAll mid items new
 
--- the n-th item, counted from 1, is the first that may not be added; one behind the last item stands for areas that
--- the whole needs and lacks
+-- the n-th item, counted from 1, is the first that may not be added; one behind the last item stands for
+-- areas that the whole needs and lacks
 abbrev pub FirstBad : Listed → List (List ℕ) → ℕ → Type 0
 FirstBad old [] n = (HasNeeded old.areas → ⊥) × (n ≡ 1)
-FirstBad old (item ∷ items) n = (((new : Listed) → Adds old item new → ⊥) × (n ≡ 1)) ⊎ ((mid : Listed) × Adds old item mid × (k : ℕ) × (n ≡ 1 + k) × FirstBad mid items k)
+FirstBad old (item ∷ items) n =
+    (((new : Listed) → Adds old item new → ⊥) × (n ≡ 1))
+    ⊎ ((mid : Listed) × Adds old item mid × (k : ℕ) × (n ≡ 1 + k) × FirstBad mid items k)
 
 -- the word describes the image, which is blank
 pub record IsSpec (word : List ℕ) (image : Plain) : Type 0 where
   pub lawful : IsImage image
-  pub items : AddsAll nothing_listed (parts 44 word) (record { version = image.version; banks = image.banks; areas = image.areas })
+  pub items : AddsAll nothing_listed (parts 44 word)
+      (record { version = image.version; banks = image.banks; areas = image.areas })
   pub blank : image.bytes ≡ map (λ bank. replicate (capacity bank) 255) image.banks
 
 abbrev pub ReadsSpec : List ℕ → Result Image SpecFault → Type 0
@@ -121,7 +126,8 @@ pub record IsRole (word : List ℕ) (found : Option Role) : Type 0 where
   pub only : (role : Role) → word ≡ area_word role → found ≡ Some role
 
 abbrev pub bank_from : Option Kind → Option ℕ → Option ℕ → Option ℕ → Option Bank
-bank_from (Some kind) (Some unit) (Some sector) (Some count) = Some (record { kind = kind; unit = unit; sector = sector; count = count })
+bank_from (Some kind) (Some unit) (Some sector) (Some count) =
+    Some (record { kind = kind; unit = unit; sector = sector; count = count })
 bank_from (Some kind) (Some unit) (Some sector) None = None
 bank_from (Some kind) (Some unit) None count = None
 bank_from (Some kind) None sector count = None
@@ -130,10 +136,13 @@ bank_from None unit sector count = None
 -- the bank that an item describes, if its numbers are below 2^32
 pub record IsBankItem (item : List ℕ) (found : Option Bank) : Type 0 where
   pub sound : IfSome found (λ bank. parts 47 item ≡ bank_words bank)
-  pub only : (version : ℕ) (bank : Bank) → IsImageBank version bank → parts 47 item ≡ bank_words bank → found ≡ Some bank
+  pub only : (version : ℕ) (bank : Bank) → IsImageBank version bank → parts 47 item ≡ bank_words bank
+      → found ≡ Some bank
 
 abbrev pub area_from : ℕ → Option Role → ArrayString → Option ℕ → Option ℕ → Option ℕ → Option Area
-area_from version (Some role) label (Some bank) (Some first) (Some sectors) = Some (record { label = label; role = role; bank = bank; first = first; sectors = sectors; version = version })
+area_from version (Some role) label (Some bank) (Some first) (Some sectors) =
+    Some
+    (record { label = label; role = role; bank = bank; first = first; sectors = sectors; version = version })
 area_from version (Some role) label (Some bank) (Some first) None = None
 area_from version (Some role) label (Some bank) None sectors = None
 area_from version (Some role) label None first sectors = None
@@ -148,5 +157,7 @@ pub record FitsItem (area : Area) : Type 0 where
 
 -- the area of this version that an item describes, if it fits
 pub record IsAreaItem (version : ℕ) (item : List ℕ) (found : Option Area) : Type 0 where
-  pub sound : IfSome found (λ area. (parts 47 item ≡ area_words area) × IsLabel area.label.bytes × (area.version ≡ version))
-  pub only : (area : Area) → FitsItem area → area.version ≡ version → plain_area area ≡ area → parts 47 item ≡ area_words area → option_map plain_area found ≡ Some area
+  pub sound : IfSome found
+      (λ area. (parts 47 item ≡ area_words area) × IsLabel area.label.bytes × (area.version ≡ version))
+  pub only : (area : Area) → FitsItem area → area.version ≡ version → plain_area area ≡ area
+      → parts 47 item ≡ area_words area → option_map plain_area found ≡ Some area

@@ -77,7 +77,9 @@ Rule bytes BankCount = (1 ≤ bank_count bytes) × (bank_count bytes ≤ MOST_BA
 Rule bytes AreaCount = (1 ≤ area_count bytes) × (area_count bytes ≤ MOST_AREAS)
 Rule bytes Zero = slice_index bytes 7 ≡ 0
 Rule bytes (BankAt i) = IsBankText (version_said bytes) (field_at bytes (bank_place i) 12)
-Rule bytes (AreaAt i) = IsAreaText (version_said bytes) (all_banks bytes) (areas_said bytes i) (field_at bytes (area_place bytes i) 16)
+Rule bytes (AreaAt i) =
+    IsAreaText (version_said bytes) (all_banks bytes) (areas_said bytes i)
+    (field_at bytes (area_place bytes i) 16)
 Rule bytes Needed = HasNeeded (all_areas bytes)
 Rule bytes (ContentsAt i) = ⊤
 Rule bytes End = length bytes ≡ contents_place bytes (bank_count bytes)
@@ -135,7 +137,8 @@ AllHold bytes (row ∷ rows) = Holds bytes row × AllHold bytes rows
 -- one of the fields departs, and each before it holds
 abbrev pub FirstFault : List ℕ → List Row → ℕ → ImageWhy → Type 0
 FirstFault bytes [] at why = ⊥
-FirstFault bytes (row ∷ rows) at why = Departs bytes row at why ⊎ (Holds bytes row × FirstFault bytes rows at why)
+FirstFault bytes (row ∷ rows) at why =
+    Departs bytes row at why ⊎ (Holds bytes row × FirstFault bytes rows at why)
 
 abbrev pub header_rows : List Row
 header_rows = Magic ∷ Version ∷ BankCount ∷ AreaCount ∷ Zero ∷ []
@@ -148,4 +151,7 @@ contents_rows bytes = rows_of ContentsAt (bank_count bytes) ++ End ∷ []
 
 -- all fields of a file
 abbrev pub rows : List ℕ → List Row
-rows bytes = header_rows ++ (rows_of BankAt (bank_count bytes) ++ (rows_of AreaAt (area_count bytes) ++ Needed ∷ contents_rows bytes))
+rows bytes =
+    header_rows
+    ++ (rows_of BankAt (bank_count bytes)
+    ++ (rows_of AreaAt (area_count bytes) ++ Needed ∷ contents_rows bytes))

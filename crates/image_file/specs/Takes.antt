@@ -8,6 +8,8 @@ use Rattle.image_file.specs.Lawful.{IsImageArea}
 
 -- the answer says whether the area may stand there
 abbrev pub TakesArea : List Bank → List Area → List Area → Area → Result Bool NoMemory → Type 0
-TakesArea banks old new area (Ok true) = IsImageArea banks (map plain_area old) (plain_area area) × (new ≡ old ++ area ∷ [])
-TakesArea banks old new area (Ok false) = (IsImageArea banks (map plain_area old) (plain_area area) → ⊥) × (new ≡ old)
+TakesArea banks old new area (Ok true) =
+    IsImageArea banks (map plain_area old) (plain_area area) × (new ≡ old ++ area ∷ [])
+TakesArea banks old new area (Ok false) =
+    (IsImageArea banks (map plain_area old) (plain_area area) → ⊥) × (new ≡ old)
 TakesArea banks old new area (Err _) = ⊤

@@ -52,13 +52,15 @@ pub record LacksItems (host : Outside) (name : List ℕ) (refusal : Refusal) : T
 -- ---- a script
 
 -- SCRIPT is a script of these lines, with such ids, no value in which is longer than the limit
-pub record HasLines (ids : Ids) (limit : ℕ) (host : Outside) (name : List ℕ) (lines : List Line) : Type 0 where
+pub record HasLines (ids : Ids) (limit : ℕ) (host : Outside) (name : List ℕ) (lines : List Line) :
+    Type 0 where
   pub text : List ℕ
   pub has : HasShortFile host name most_script text
   pub is : IsScript (item_forms (ids_end ids)) limit text (map row_of lines)
 
 -- line n is the first that is refused, for this cause
-pub record HasBadLine (ids : Ids) (limit : ℕ) (host : Outside) (name : List ℕ) (n : ℕ) (why : LineWhy) : Type 0 where
+pub record HasBadLine (ids : Ids) (limit : ℕ) (host : Outside) (name : List ℕ) (n : ℕ) (why : LineWhy) :
+    Type 0 where
   pub text : List ℕ
   pub has : HasShortFile host name most_script text
   pub is : IsBadLine (item_forms (ids_end ids)) limit text n why

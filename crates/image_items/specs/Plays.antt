@@ -75,21 +75,23 @@ pub record OpensItems (name : List ℕ) (host : Outside) (image : Plain) (area :
   pub role : has_items area.role ≡ true
 
 -- That image, and the lines of SCRIPT.
-pub record SetsItems (name script : List ℕ) (host : Outside) (image : Plain) (area : Area) (lines : List Line) : Type 0 where
+pub record SetsItems (name script : List ℕ) (host : Outside) (image : Plain) (area : Area) (lines : List Line)
+    : Type 0 where
   pub opens : OpensItems name host image area
   pub plays : HasLines (ids_of area.role) (value_limit area) host script lines
 
 -- ---- done
 
 -- The text tells the answers that a plain map of items gives to the opening mount and to the lines, wherever
--- power was lost: the items that the image reads as. OUT is the file of the image with the bytes that are left,
--- and it reads as the last list, and so as the last items, also where power is off. After each line what is kept
--- of each id is the newest of its whole history, at least one version where it has a value. From a blank area
--- all of that history is kept, and `gone` tells that there never was such a version, as long as the sets and
--- deletes of the lines so far, each whatever it answered, cost no more than a sector has. The units in the
--- answers are those that the flash has spent, and its losses are the answers that tell of one. The flash was
--- loaded once.
-pub record PlaysItems (name script out : List ℕ) (host : Outside) (old new : Device) (text : List ℕ) (file : Option File) : Type 0 where
+-- power was lost: the items that the image reads as. OUT is the file of the image with the bytes that are
+-- left, and it reads as the last list, and so as the last items, also where power is off. After each line
+-- what is kept of each id is the newest of its whole history, at least one version where it has a value. From
+-- a blank area all of that history is kept, and `gone` tells that there never was such a version, as long as
+-- the sets and deletes of the lines so far, each whatever it answered, cost no more than a sector has. The
+-- units in the answers are those that the flash has spent, and its losses are the answers that tell of one.
+-- The flash was loaded once.
+pub record PlaysItems (name script out : List ℕ) (host : Outside) (old new : Device) (text : List ℕ)
+    (file : Option File) : Type 0 where
   pub image : Plain
   pub area : Area
   pub lines : List Line
@@ -99,7 +101,8 @@ pub record PlaysItems (name script out : List ℕ) (host : Outside) (old new : D
   pub history :
       HasHistory (rules_on (kind_of area.role) (begun image old) area) new.spent (Mount ∷ lines) answers
       (state_of (kind_of area.role) area (begun image old)) (state_of (kind_of area.role) area new)
-  pub whole : IsBlankIn image area → KeepsWhole (kind_of area.role) area (Mount ∷ lines) answers (begun image old) new
+  pub whole : IsBlankIn image area
+      → KeepsWhole (kind_of area.role) area (Mount ∷ lines) answers (begun image old) new
   pub reads : list_in image area ≡ (state_of (kind_of area.role) area (begun image old)).list
   pub leaves : list_in (left image new) area ≡ (state_of (kind_of area.role) area new).list
   -- no damage was found, and none is left; with power on in the end the next mount has nothing to do
@@ -122,7 +125,8 @@ pub record LacksItemLines (name script : List ℕ) (host : Outside) (refusal : R
 
 -- The opening mount found the damage that the image shows. Nothing was done to the flash but that it was
 -- loaded.
-pub record FindsItemDamage (name script : List ℕ) (host : Outside) (old new : Device) (refusal : Refusal) : Type 0 where
+pub record FindsItemDamage (name script : List ℕ) (host : Outside) (old new : Device) (refusal : Refusal) :
+    Type 0 where
   pub image : Plain
   pub area : Area
   pub lines : List Line
@@ -132,8 +136,8 @@ pub record FindsItemDamage (name script : List ℕ) (host : Outside) (old new : 
   pub shows : damage_in image area ≡ Some damage
   pub loaded : new ≡ begun image old
 
--- In the order in which they are looked at: the image; its items; the lines; and then damage, once the flash is
--- loaded. But for damage the flash is as before.
+-- In the order in which they are looked at: the image; its items; the lines; and then damage, once the flash
+-- is loaded. But for damage the flash is as before.
 abbrev pub RefusesItems : List ℕ → List ℕ → Outside → Device → Device → Refusal → Type 0
 RefusesItems name script host old new refusal =
     (LacksImage host name refusal × (new ≡ old))
@@ -159,7 +163,8 @@ StopsItems name script host old new = (new ≡ old) ⊎ HasBegunItems name scrip
 -- ---- as a whole
 
 -- How a play on items ends, before anything is printed or written.
-abbrev pub ItemPlayEnds : List ℕ → List ℕ → List ℕ → Outside → Outside → Device → Device → Result Outcome Stop → Type 0
+abbrev pub ItemPlayEnds : List ℕ → List ℕ → List ℕ → Outside → Outside → Device → Device → Result Outcome Stop
+    → Type 0
 ItemPlayEnds name script out host host' old new (Ok outcome) =
     PlaysItems name script out host old new outcome.text.items (file_of outcome.file) × (host' ≡ host)
 ItemPlayEnds name script out host host' old new (Err (Refused refusal)) =

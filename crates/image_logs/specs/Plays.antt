@@ -52,17 +52,20 @@ pub record OpensLog (name : List ℕ) (host : Outside) (image : Plain) (area : A
   pub role : area.role ≡ Fcb
 
 -- That image, and the lines of SCRIPT.
-pub record SetsLog (name script : List ℕ) (host : Outside) (image : Plain) (area : Area) (lines : List Line) : Type 0 where
+pub record SetsLog (name script : List ℕ) (host : Outside) (image : Plain) (area : Area) (lines : List Line) :
+    Type 0 where
   pub opens : OpensLog name host image area
   pub plays : HasLines (value_limit area) host script lines
 
 -- ---- done
 
--- The text tells the answers that a plain list of records gives to the opening mount and to the lines, wherever power was lost:
--- the log that the image reads as. OUT is the file of the image with the bytes that are left, and it reads as the last log, also
--- where power is off. After each line the log is all records so far but the first ones, which were dropped. The units in the
--- answers are those that the flash has spent, and its losses are the answers that tell of one. The flash was loaded once.
-pub record PlaysLog (name script out : List ℕ) (host : Outside) (old new : Device) (text : List ℕ) (file : Option File) : Type 0 where
+-- The text tells the answers that a plain list of records gives to the opening mount and to the lines,
+-- wherever power was lost: the log that the image reads as. OUT is the file of the image with the bytes that
+-- are left, and it reads as the last log, also where power is off. After each line the log is all records so
+-- far but the first ones, which were dropped. The units in the answers are those that the flash has spent,
+-- and its losses are the answers that tell of one. The flash was loaded once.
+pub record PlaysLog (name script out : List ℕ) (host : Outside) (old new : Device) (text : List ℕ)
+    (file : Option File) : Type 0 where
   pub image : Plain
   pub area : Area
   pub lines : List Line
@@ -92,8 +95,10 @@ pub record LacksLogLines (name script : List ℕ) (host : Outside) (refusal : Re
   pub opens : OpensLog name host image area
   pub lacks : LacksLines (value_limit area) host script refusal
 
--- The opening mount found the damage that the image shows. Nothing was done to the flash but that it was loaded.
-pub record FindsLogDamage (name script : List ℕ) (host : Outside) (old new : Device) (refusal : Refusal) : Type 0 where
+-- The opening mount found the damage that the image shows. Nothing was done to the flash but that it was
+-- loaded.
+pub record FindsLogDamage (name script : List ℕ) (host : Outside) (old new : Device) (refusal : Refusal) :
+    Type 0 where
   pub image : Plain
   pub area : Area
   pub lines : List Line
@@ -103,8 +108,8 @@ pub record FindsLogDamage (name script : List ℕ) (host : Outside) (old new : D
   pub shows : damage_in image area ≡ Some damage
   pub loaded : new ≡ begun image old
 
--- In the order in which they are looked at: the image; its log; the lines; and then damage, once the flash is loaded. But for damage
--- the flash is as before.
+-- In the order in which they are looked at: the image; its log; the lines; and then damage, once the flash is
+-- loaded. But for damage the flash is as before.
 abbrev pub RefusesLog : List ℕ → List ℕ → Outside → Device → Device → Refusal → Type 0
 RefusesLog name script host old new refusal =
     (LacksImage host name refusal × (new ≡ old))
@@ -130,12 +135,15 @@ StopsLog name script host old new = (new ≡ old) ⊎ HasBegunLog name script ho
 -- ---- as a whole
 
 -- How a play on a log ends, before anything is printed or written.
-abbrev pub LogPlayEnds : List ℕ → List ℕ → List ℕ → Outside → Outside → Device → Device → Result Outcome Stop → Type 0
+abbrev pub LogPlayEnds : List ℕ → List ℕ → List ℕ → Outside → Outside → Device → Device → Result Outcome Stop
+    → Type 0
 LogPlayEnds name script out host host' old new (Ok outcome) =
     PlaysLog name script out host old new outcome.text.items (file_of outcome.file) × (host' ≡ host)
-LogPlayEnds name script out host host' old new (Err (Refused refusal)) = RefusesLog name script host old new refusal × (host' ≡ host)
+LogPlayEnds name script out host host' old new (Err (Refused refusal)) =
+    RefusesLog name script host old new refusal × (host' ≡ host)
 LogPlayEnds name script out host host' old new (Err HostFailed) = (new ≡ old) × (host' ≡ failed host)
-LogPlayEnds name script out host host' old new (Err NoMemory) = StopsLog name script host old new × (host' ≡ host)
+LogPlayEnds name script out host host' old new (Err NoMemory) =
+    StopsLog name script host old new × (host' ≡ host)
 
 -- what a play ends with where lines stop: the damage of the area is told by its label
 abbrev pub IsStop : Area → SessionFault → Stop → Type 0

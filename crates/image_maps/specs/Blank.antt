@@ -30,8 +30,8 @@ AreasAreBlank = (d : Device) (area : Area) → IsBlankFlash d → IsLawfulFor d.
 
 -- ---- the selector
 
--- The selector, where the map has one, shows no damage, and a mount has nothing to erase in it. It names no area, so the first
--- store area is active.
+-- The selector, where the map has one, shows no damage, and a mount has nothing to erase in it. It names no
+-- area, so the first store area is active.
 pub record NamesNone (areas : List Area) (d : Device) : Type 0 where
   pub undamaged : selector_damage_on areas d ≡ None
   pub idle : (selector : Area) → selector_of areas ≡ Some selector → erases_on d selector ≡ 0
@@ -39,7 +39,8 @@ pub record NamesNone (areas : List Area) (d : Device) : Type 0 where
 
 -- that of a lawful map on a blank flash
 abbrev pub BlankNamesNone : Type 0
-BlankNamesNone = (areas : List Area) (d : Device) → IsBlankFlash d → IsLawfulMap d.banks areas → NamesNone areas d
+BlankNamesNone =
+    (areas : List Area) (d : Device) → IsBlankFlash d → IsLawfulMap d.banks areas → NamesNone areas d
 
 -- ---- the map
 
@@ -52,4 +53,5 @@ pub record HoldsNothing (areas : List Area) (d : Device) : Type 0 where
 
 -- that of a lawful image each byte of which is FF
 abbrev pub BlankHoldsNothing : Type 0
-BlankHoldsNothing = (areas : List Area) (d : Device) → IsBlankFlash d → IsImage (held areas d) → HoldsNothing areas d
+BlankHoldsNothing =
+    (areas : List Area) (d : Device) → IsBlankFlash d → IsImage (held areas d) → HoldsNothing areas d

@@ -36,8 +36,11 @@ limit_in version = if version == 2 then LONG_VALUE_LIMIT else VALUE_LIMIT
 
 -- all areas of an image have the limit of its version, and so the map has
 abbrev pub OneLimit : Type 0
-OneLimit = (areas : List Area) (d : Device) → IsImage (held areas d) → limit_of areas ≡ limit_in (version_of areas)
+OneLimit =
+    (areas : List Area) (d : Device) → IsImage (held areas d) → limit_of areas ≡ limit_in (version_of areas)
 
 abbrev pub EachLimit : Type 0
-EachLimit = (areas : List Area) (d : Device) → IsImage (held areas d) → (i : ℕ) (area : Area) → slice_get areas i ≡ Some area
+EachLimit =
+    (areas : List Area) (d : Device) → IsImage (held areas d) → (i : ℕ) (area : Area)
+    → slice_get areas i ≡ Some area
     → value_limit area ≡ limit_of areas

@@ -8,5 +8,6 @@ use Rattle.session.specs.OnMap.{IsServed}
 
 -- the lines of a text have values within the limit
 abbrev pub LinesAreServed : Type 0
-LinesAreServed = (limit : ℕ) (text : List ℕ) (lines : List Line) → IsScript settings_forms limit text (map row_of lines)
+LinesAreServed =
+    (limit : ℕ) (text : List ℕ) (lines : List Line) → IsScript settings_forms limit text (map row_of lines)
     → All (IsServed limit) lines

@@ -47,7 +47,8 @@ any_meanings = meanings any_damage any_contents any_room mirror_prices
 
 -- ---- how an image reads
 
--- The place of the area that is read: the one that the selector names, or the other one where that is all FF and the other is not.
+-- The place of the area that is read: the one that the selector names, or the other one where that is all FF
+-- and the other is not.
 abbrev pub trusted_in : List Area → Plain → ℕ
 trusted_in areas image = trusted_on areas (flash_of image)
 
@@ -57,7 +58,8 @@ settings_in areas image = on any_contents (flash_of image) (area_at areas (trust
 
 -- and those in the other one
 abbrev pub other_settings_in : List Area → Plain → Map
-other_settings_in areas image = on any_contents (flash_of image) (area_at areas (beside_in areas (trusted_in areas image)))
+other_settings_in areas image =
+    on any_contents (flash_of image) (area_at areas (beside_in areas (trusted_in areas image)))
 
 -- the damage that a mount finds, with its area's place: the selector's, or else that of the area that is read
 abbrev pub damage_in : List Area → Plain → Option (ℕ × Damaged)
@@ -72,7 +74,8 @@ pub record OpensMirror (name : List ℕ) (host : Outside) (image : Plain) (areas
   pub mirrored : AreMirrored areas
 
 -- That image, and the lines of SCRIPT.
-pub record SetsMirror (name script : List ℕ) (host : Outside) (image : Plain) (areas : List Area) (lines : List Line) : Type 0 where
+pub record SetsMirror (name script : List ℕ) (host : Outside) (image : Plain) (areas : List Area)
+    (lines : List Line) : Type 0 where
   pub opens : OpensMirror name host image areas
   pub plays : HasLines (limit_of areas) host script lines
 
@@ -86,13 +89,15 @@ closing new whole = moment new whole
 
 -- ---- done
 
--- The text tells the answers that a plain map gives to the opening mount and to the lines, wherever power was lost and an area was
--- replaced: the map that the image reads as. Each loss leaves the map after commands of the lines in their order, all of the
--- acknowledged ones among them. With power on in the end both areas read as the last map. OUT is the file of the image with the bytes
--- that are left, and it reads as the last map, also where power is off; an image that shows no damage is left so. The units in the answers
--- are those that the flash has spent, and its losses are the answers that tell of one. The flash was loaded once, and once more for each
--- area that was replaced.
-pub record PlaysMirror (name script out : List ℕ) (host : Outside) (old new : Device) (text : List ℕ) (file : Option File) : Type 0 where
+-- The text tells the answers that a plain map gives to the opening mount and to the lines, wherever power was
+-- lost and an area was replaced: the map that the image reads as. Each loss leaves the map after commands of
+-- the lines in their order, all of the acknowledged ones among them. With power on in the end both areas read
+-- as the last map. OUT is the file of the image with the bytes that are left, and it reads as the last map,
+-- also where power is off; an image that shows no damage is left so. The units in the answers are those that
+-- the flash has spent, and its losses are the answers that tell of one. The flash was loaded once, and once
+-- more for each area that was replaced.
+pub record PlaysMirror (name script out : List ℕ) (host : Outside) (old new : Device) (text : List ℕ)
+    (file : Option File) : Type 0 where
   pub image : Plain
   pub areas : List Area
   pub lines : List Line
@@ -102,23 +107,28 @@ pub record PlaysMirror (name script out : List ℕ) (host : Outside) (old new : 
   pub ran : Ran any_meanings areas (Mount ∷ lines) answers (opening image old) (closing new whole)
   pub after :
       let rules = rules_of any_meanings areas image.banks new.spent in
-      let first = state_of any_meanings areas (opening image old) in let last = state_of any_meanings areas (closing new whole) in
+      let first = state_of any_meanings areas (opening image old) in
+      let last = state_of any_meanings areas (closing new whole) in
       IsAfterPrefix rules (Mount ∷ lines) answers first last
   pub mirrored : IsMirrored (state_of any_meanings areas (closing new whole))
   pub reads : settings_in areas image ≡ (state_of any_meanings areas (opening image old)).settings
   pub reads_other : other_settings_in areas image ≡ (state_of any_meanings areas (opening image old)).other
   pub leaves : settings_in areas (left image new) ≡ (state_of any_meanings areas (closing new whole)).settings
-  pub leaves_other : other_settings_in areas (left image new) ≡ (state_of any_meanings areas (closing new whole)).other
-  -- where the image shows no damage, in its selector and in the area that is read, OUT shows none, and mirror-reads as the last map
+  pub leaves_other : other_settings_in areas (left image new)
+      ≡ (state_of any_meanings areas (closing new whole)).other
+  -- where the image shows no damage, in its selector and in the area that is read, OUT shows none, and
+  -- mirror-reads as the last map
   pub undamaged : damage_in areas image ≡ None → damage_in areas (left image new) ≡ None
   pub mirror_reads :
       damage_in areas image ≡ None
-      → MirrorReads any_damage any_contents areas (flash_of (left image new)) (state_of any_meanings areas (closing new whole)).settings
-  -- With power on in the end neither area of OUT is damaged, and both read as the last map. A mount of OUT has nothing to do where that map
-  -- has settings, or the selector names the area that is read.
+      → MirrorReads any_damage any_contents areas (flash_of (left image new))
+      (state_of any_meanings areas (closing new whole)).settings
+  -- With power on in the end neither area of OUT is damaged, and both read as the last map. A mount of OUT
+  -- has nothing to do where that map has settings, or the selector names the area that is read.
   pub both_read :
       IsOn (state_of any_meanings areas (closing new whole))
-      → BothRead any_damage any_contents areas (flash_of (left image new)) (state_of any_meanings areas (closing new whole)).settings
+      → BothRead any_damage any_contents areas (flash_of (left image new))
+      (state_of any_meanings areas (closing new whole)).settings
   pub rests :
       IsOn (state_of any_meanings areas (closing new whole))
       → NamesRead (state_of any_meanings areas (closing new whole))
@@ -145,7 +155,8 @@ IsLabelled areas place label = label.bytes ≡ (area_at areas place).label.bytes
 abbrev pub IsStop : List Area → SessionFault → Stop → Type 0
 IsStop areas (IsDamaged place damage) stop =
     (label : ArrayString) × IsLabelled areas place label × (stop ≡ Refused (BadArea label damage))
-IsStop areas (IsUnfit place) stop = (label : ArrayString) × IsLabelled areas place label × (stop ≡ Refused (Unfit label))
+IsStop areas (IsUnfit place) stop =
+    (label : ArrayString) × IsLabelled areas place label × (stop ≡ Refused (Unfit label))
 IsStop areas WantsMemory stop = stop ≡ NoMemory
 
 abbrev pub TellsDamage : SessionFault → Type 0
@@ -157,9 +168,10 @@ TellsDamage WantsMemory = ⊥
 abbrev pub FitsImage : List Area → Plain → Type 0
 FitsImage areas image = FitsBoth any_meanings areas image.banks (settings_in areas image)
 
--- A mount found damage, or settings that do not fit one of the two areas. An image that shows no damage is not refused for it, and one
--- whose settings fit both areas is not refused since they do not.
-pub record StopsAtMount (name script : List ℕ) (host : Outside) (old new : Device) (refusal : Refusal) : Type 0 where
+-- A mount found damage, or settings that do not fit one of the two areas. An image that shows no damage is
+-- not refused for it, and one whose settings fit both areas is not refused since they do not.
+pub record StopsAtMount (name script : List ℕ) (host : Outside) (old new : Device) (refusal : Refusal) :
+    Type 0 where
   pub image : Plain
   pub areas : List Area
   pub lines : List Line
@@ -170,8 +182,8 @@ pub record StopsAtMount (name script : List ℕ) (host : Outside) (old new : Dev
   pub shows : damage_in areas image ≡ None → ¬ TellsDamage fault
   pub fits : FitsImage areas image → ¬ TellsUnfit fault
 
--- In the order in which they are looked at: the image; its mirror; the lines; and then what a mount finds, once the flash is loaded. But
--- for what a mount finds the flash is as before.
+-- In the order in which they are looked at: the image; its mirror; the lines; and then what a mount finds,
+-- once the flash is loaded. But for what a mount finds the flash is as before.
 abbrev pub RefusesMirror : List ℕ → List ℕ → Outside → Device → Device → Refusal → Type 0
 RefusesMirror name script host old new refusal =
     (LacksImage host name refusal × (new ≡ old))
@@ -199,10 +211,12 @@ StopsMirror name script host old new = (new ≡ old) ⊎ HasBegunMirror name scr
 -- ---- as a whole
 
 -- How a play on a mirror ends, before anything is printed or written.
-abbrev pub MirrorPlayEnds : List ℕ → List ℕ → List ℕ → Outside → Outside → Device → Device → Result Outcome Stop → Type 0
+abbrev pub MirrorPlayEnds : List ℕ → List ℕ → List ℕ → Outside → Outside → Device → Device
+    → Result Outcome Stop → Type 0
 MirrorPlayEnds name script out host host' old new (Ok outcome) =
     PlaysMirror name script out host old new outcome.text.items (file_of outcome.file) × (host' ≡ host)
 MirrorPlayEnds name script out host host' old new (Err (Refused refusal)) =
     RefusesMirror name script host old new refusal × (host' ≡ host)
 MirrorPlayEnds name script out host host' old new (Err HostFailed) = (new ≡ old) × (host' ≡ failed host)
-MirrorPlayEnds name script out host host' old new (Err NoMemory) = StopsMirror name script host old new × (host' ≡ host)
+MirrorPlayEnds name script out host host' old new (Err NoMemory) =
+    StopsMirror name script host old new × (host' ≡ host)

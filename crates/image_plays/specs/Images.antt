@@ -29,7 +29,17 @@ pub record HasAreas (image : Plain) (areas : List Area) : Type 0 where
 
 -- a flash that holds the image and nothing else
 abbrev pub flash_of : Plain → Device
-flash_of image = record { banks = image.banks; bytes = image.bytes; is_on = true; losses = 0; spent = 0; loads = 0; last_loss = None; plan = Untold }
+flash_of image =
+    record {
+      banks = image.banks;
+      bytes = image.bytes;
+      is_on = true;
+      losses = 0;
+      spent = 0;
+      loads = 0;
+      last_loss = None;
+      plan = Untold;
+    }
 
 -- the place of its active area
 abbrev pub active_of : List Area → Plain → ℕ

@@ -1,4 +1,5 @@
--- Which image a play begins with and which lines it plays, or why there are none; and what it tells of the answers.
+-- Which image a play begins with and which lines it plays, or why there are none; and what it tells of the
+-- answers.
 use Rattle.std.specs.Prelude.{◌≡◌, ℕ, Option, Some, None, List, [], ◌∷◌, ◌++◌, codes}
 use Rattle.text_parts.specs.Parts.{parts}
 use Rattle.zs_host.specs.Outside.{Outside}

@@ -53,7 +53,8 @@ pub record Opens (play : Play) (host : Outside) (image : Plain) (areas : List Ar
   pub has : HasAreas image areas
 
 -- That image, and the lines of the play.
-pub record Sets (play : Play) (host : Outside) (image : Plain) (areas : List Area) (lines : List Line) : Type 0 where
+pub record Sets (play : Play) (host : Outside) (image : Plain) (areas : List Area) (lines : List Line) :
+    Type 0 where
   pub opens : Opens play host image areas
   pub plays : PlaysLines play.source (limit_of areas) host lines
 
@@ -71,20 +72,22 @@ abbrev pub WritesLeft : Option (List ℕ) → Plain → Option File → Type 0
 WritesLeft None image file = file ≡ None
 WritesLeft (Some out) image file = (bytes : List ℕ) × IsImageFile bytes image × (file ≡ Some (out, bytes))
 
--- THE HEADLINE.
--- The text tells the answers that a plain map gives to the opening mount and to the lines, wherever power was lost: the map that
--- the image reads as, in the area that it names as active. OUT is the file of the image with the bytes that are left, and it reads
--- as the map in the end, in the area that is active in the end, also where power is off. The units in the answers are those that
--- the flash has spent, and its losses are the answers that tell of one. The handlers that were registered hold what the last state
+-- THE HEADLINE. The text tells the answers that a plain map gives to the opening mount and to the lines,
+-- wherever power was lost: the map that the image reads as, in the area that it names as active. OUT is the
+-- file of the image with the bytes that are left, and it reads as the map in the end, in the area that is
+-- active in the end, also where power is off. The units in the answers are those that the flash has spent,
+-- and its losses are the answers that tell of one. The handlers that were registered hold what the last state
 -- says. The flash was loaded once.
-pub record Plays (k : Stores) (kinds : List HandlerKind) (play : Play) (host : Outside) (old new : Stage) (text : List ℕ) (file : Option File) : Type 0 where
+pub record Plays (k : Stores) (kinds : List HandlerKind) (play : Play) (host : Outside) (old new : Stage)
+    (text : List ℕ) (file : Option File) : Type 0 where
   pub image : Plain
   pub areas : List Area
   pub lines : List Line
   pub sets : Sets play host image areas lines
   pub answers : List Answer
   pub left_kinds : List HandlerKind
-  pub ran : Ran k.meanings k.damage areas (Mount ∷ lines) answers (opening old image kinds) (closing new left_kinds)
+  pub ran : Ran k.meanings k.damage areas (Mount ∷ lines) answers (opening old image kinds)
+      (closing new left_kinds)
   pub reads : ReadsAs k areas image (state_of k.meanings areas (opening old image kinds))
   pub leaves : ReadsAs k areas (left image new.bench) (state_of k.meanings areas (closing new left_kinds))
   -- an image that shows no damage is left so, and with power on in the end the next mount has nothing to do
@@ -97,20 +100,23 @@ pub record Plays (k : Stores) (kinds : List HandlerKind) (play : Play) (host : O
 
 -- ---- refused
 
--- A mount found damage: the first that looked at the selector, or the first that looked at the active area. The image shows some, or
--- no mount would be refused.
-pub record FindsDamage (k : Stores) (kinds : List HandlerKind) (play : Play) (host : Outside) (old new : Stage) (label : List ℕ) (damage : Damaged) : Type 0 where
+-- A mount found damage: the first that looked at the selector, or the first that looked at the active area.
+-- The image shows some, or no mount would be refused.
+pub record FindsDamage (k : Stores) (kinds : List HandlerKind) (play : Play) (host : Outside)
+    (old new : Stage) (label : List ℕ) (damage : Damaged) : Type 0 where
   pub image : Plain
   pub areas : List Area
   pub lines : List Line
   pub sets : Sets play host image areas lines
   pub place : ℕ
   pub named : label ≡ (area_at areas place).label.bytes
-  pub stops : RunStops k.meanings k.damage areas (Mount ∷ lines) (opening old image kinds) new.bench (IsDamaged place damage)
+  pub stops : RunStops k.meanings k.damage areas (Mount ∷ lines) (opening old image kinds) new.bench
+      (IsDamaged place damage)
   pub shows : damage_of k areas image ≡ None → ⊥
 
 abbrev pub IsDamage : Stores → List HandlerKind → Play → Outside → Stage → Stage → Refusal → Type 0
-IsDamage k kinds play host old new (BadArea label damage) = FindsDamage k kinds play host old new label.bytes damage
+IsDamage k kinds play host old new (BadArea label damage) =
+    FindsDamage k kinds play host old new label.bytes damage
 IsDamage k kinds play host old new BadSpec = ⊥
 IsDamage k kinds play host old new (NoFile word) = ⊥
 IsDamage k kinds play host old new (BadFile at why) = ⊥
@@ -127,8 +133,8 @@ pub record LacksLines (play : Play) (host : Outside) (refusal : Refusal) : Type 
   pub opens : Opens play host image areas
   pub lacks : LacksSource play.source (limit_of areas) host refusal
 
--- In the order in which they are looked at: the image; the lines; and then damage, once the flash is loaded. But for damage flash
--- and handlers are as before.
+-- In the order in which they are looked at: the image; the lines; and then damage, once the flash is loaded.
+-- But for damage flash and handlers are as before.
 abbrev pub Refuses : Stores → List HandlerKind → Play → Outside → Stage → Stage → Refusal → Type 0
 Refuses k kinds play host old new refusal =
     (LacksStart play.start host refusal × (new ≡ old))
@@ -138,14 +144,17 @@ Refuses k kinds play host old new refusal =
 -- ---- stopped, since the host failed or memory ran out
 
 -- The image was put on the flash, and the lines were played up to one that wanted memory, or all of them.
-pub record HasBegun (k : Stores) (kinds : List HandlerKind) (play : Play) (host : Outside) (old new : Stage) : Type 0 where
+pub record HasBegun (k : Stores) (kinds : List HandlerKind) (play : Play) (host : Outside) (old new : Stage) :
+    Type 0 where
   pub image : Plain
   pub areas : List Area
   pub lines : List Line
   pub sets : Sets play host image areas lines
-  pub went : RunStops k.meanings k.damage areas (Mount ∷ lines) (opening old image kinds) new.bench WantsMemory
+  pub went : RunStops k.meanings k.damage areas (Mount ∷ lines) (opening old image kinds) new.bench
+      WantsMemory
       ⊎ ((answers : List Answer) × (left_kinds : List HandlerKind)
-      × Ran k.meanings k.damage areas (Mount ∷ lines) answers (opening old image kinds) (closing new left_kinds))
+      × Ran k.meanings k.damage areas (Mount ∷ lines) answers (opening old image kinds)
+      (closing new left_kinds))
 
 -- flash and handlers are as before, or the play had begun
 abbrev pub Stops : Stores → List HandlerKind → Play → Outside → Stage → Stage → Type 0
@@ -154,14 +163,18 @@ Stops k kinds play host old new = (new ≡ old) ⊎ HasBegun k kinds play host o
 -- ---- as a whole
 
 -- How a play ends, before anything is printed or written.
-abbrev pub PlayEnds : Stores → List HandlerKind → Play → Outside → Outside → Stage → Stage → Result Outcome Stop → Type 0
-PlayEnds k kinds play host host' old new (Ok outcome) = Plays k kinds play host old new outcome.text.items (file_of outcome.file) × (host' ≡ host)
-PlayEnds k kinds play host host' old new (Err (Refused refusal)) = Refuses k kinds play host old new refusal × (host' ≡ host)
+abbrev pub PlayEnds : Stores → List HandlerKind → Play → Outside → Outside → Stage → Stage
+    → Result Outcome Stop → Type 0
+PlayEnds k kinds play host host' old new (Ok outcome) =
+    Plays k kinds play host old new outcome.text.items (file_of outcome.file) × (host' ≡ host)
+PlayEnds k kinds play host host' old new (Err (Refused refusal)) =
+    Refuses k kinds play host old new refusal × (host' ≡ host)
 PlayEnds k kinds play host host' old new (Err HostFailed) = (new ≡ old) × (host' ≡ failed host)
 PlayEnds k kinds play host host' old new (Err NoMemory) = Stops k kinds play host old new × (host' ≡ host)
 
 -- what a play ends with where lines stop: the damage of the area at a place is told by its label
 abbrev pub IsStop : List Area → SessionFault → Stop → Type 0
-IsStop areas (IsDamaged place damage) (Refused (BadArea label found)) = (label.bytes ≡ (area_at areas place).label.bytes) × (found ≡ damage)
+IsStop areas (IsDamaged place damage) (Refused (BadArea label found)) =
+    (label.bytes ≡ (area_at areas place).label.bytes) × (found ≡ damage)
 IsStop areas WantsMemory NoMemory = ⊤
 IsStop areas fault stop = ⊥

@@ -17,8 +17,10 @@ use Rattle.image_plays.specs.declared.stops.Refusal.TheVariants.{BadSpec, NoFile
 use Rattle.image_plays.specs.declared.stops.Stop.{Stop}
 use Rattle.image_plays.specs.declared.stops.Stop.TheVariants.{Refused, HostFailed, NoMemory}
 
--- P of what was read, Q of the refusal; files, print and the count of faults stay but where the host failed, which counts one fault
-abbrev pub ReadsOr : {X : Type 0} → (X → Type 0) → (Refusal → Type 0) → Outside → Outside → Result X Stop → Type 0
+-- P of what was read, Q of the refusal; files, print and the count of faults stay but where the host failed,
+-- which counts one fault
+abbrev pub ReadsOr : {X : Type 0} → (X → Type 0) → (Refusal → Type 0) → Outside → Outside → Result X Stop
+    → Type 0
 ReadsOr P Q old new (Ok x) = P x × (new ≡ old)
 ReadsOr P Q old new (Err (Refused refusal)) = Q refusal × (new ≡ old)
 ReadsOr P Q old new (Err HostFailed) = new ≡ failed old
@@ -51,7 +53,8 @@ pub record HasImage (host : Outside) (name : List ℕ) (image : Plain) : Type 0 
   pub has : HasShortFile host name most_image text
   pub is : IsImageFile text image
 
--- the first place of the file that departs from the format, and how; a file that is too long is refused at its limit
+-- the first place of the file that departs from the format, and how; a file that is too long is refused at
+-- its limit
 abbrev pub HasBadFile : Outside → List ℕ → ℕ → ImageWhy → Type 0
 HasBadFile host name at why =
     ((text : List ℕ) × HasShortFile host name most_image text × FirstFault text (rows text) at why)

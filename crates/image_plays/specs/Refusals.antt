@@ -37,15 +37,21 @@ script_why line_why.Long = codes "Long"
 script_why line_why.Number = codes "Number"
 
 abbrev pub usage_line : List ℕ
-usage_line = codes "usage: image_tool build OUT SPEC | run IMAGE SCRIPT OUT | dump IMAGE | migrate IMAGE OUT | gen OUT BACKEND N | log IMAGE SCRIPT OUT | items IMAGE SCRIPT OUT | mirror IMAGE SCRIPT OUT\n"
+usage_line =
+    codes "usage: image_tool build OUT SPEC | run IMAGE SCRIPT OUT | dump IMAGE | migrate IMAGE OUT | gen OUT
+    BACKEND N | log IMAGE SCRIPT OUT | items IMAGE SCRIPT OUT | mirror IMAGE SCRIPT OUT\n"
 
 abbrev pub line_of : Refusal → List ℕ
 line_of BadSpec = usage_line
 line_of (NoFile word) = codes "no file: " ++ word.now ++ codes "\n"
-line_of (BadFile at reason) = codes "bad image: at " ++ decimal at ++ codes ": " ++ file_why reason ++ codes "\n"
+line_of (BadFile at reason) =
+    codes "bad image: at " ++ decimal at ++ codes ": " ++ file_why reason ++ codes "\n"
 line_of NoLog = codes "bad image: no log\n"
 line_of NoItems = codes "bad image: no items\n"
 line_of NoMirror = codes "bad image: no mirror\n"
-line_of (BadArea label damage) = codes "bad image: area " ++ label.bytes ++ codes " sector " ++ decimal damage.sector ++ codes ": " ++ area_why damage.why ++ codes "\n"
+line_of (BadArea label damage) =
+    codes "bad image: area " ++ label.bytes ++ codes " sector " ++ decimal damage.sector ++ codes ": "
+    ++ area_why damage.why ++ codes "\n"
 line_of (Unfit label) = codes "bad image: area " ++ label.bytes ++ codes ": Unfit\n"
-line_of (BadScript n reason) = codes "bad script: line " ++ decimal n ++ codes ": " ++ script_why reason ++ codes "\n"
+line_of (BadScript n reason) =
+    codes "bad script: line " ++ decimal n ++ codes ": " ++ script_why reason ++ codes "\n"

@@ -20,7 +20,8 @@ pub record Stage : Type 0 where
 abbrev pub stage : Device → List Registered → Stage
 stage bench registry = record { bench = bench; registry = registry }
 
--- What the bytes of areas mean to the stores on them, which damage they show, and whether a mount would have nothing to do.
+-- What the bytes of areas mean to the stores on them, which damage they show, and whether a mount would have
+-- nothing to do.
 pub record Stores : Type 1 where
   pub meanings : Meanings
   pub damage : Area → Geometry → List (List ℕ) → Option Damaged
@@ -29,4 +30,5 @@ pub record Stores : Type 1 where
 abbrev pub stores : (Area → Geometry → List (List ℕ) → Map) → (Area → Geometry → Room)
     → (Area → Geometry → List (List ℕ) → Loss → Bool) → (Area → Geometry → Command → ℕ → Map → Map → Type 0)
     → (Area → Geometry → List (List ℕ) → Option Damaged) → (Area → Geometry → List (List ℕ) → Type 0) → Stores
-stores contents room chance tears damage rests = record { meanings = meanings contents room chance tears; damage = damage; rests = rests }
+stores contents room chance tears damage rests =
+    record { meanings = meanings contents room chance tears; damage = damage; rests = rests }

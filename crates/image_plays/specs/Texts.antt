@@ -57,8 +57,8 @@ last_pairs answers = option_map_or pairs_in (last_answer answers) []
 abbrev pub counted : List ℕ → ℕ → List ℕ
 counted word count = codes " " ++ word ++ codes " " ++ decimal count
 
--- how many lines set, delete and get; the names at the end and the bytes of their values; the answers to the lines and to the
--- opening mount that are not fine
+-- how many lines set, delete and get; the names at the end and the bytes of their values; the answers to the
+-- lines and to the opening mount that are not fine
 abbrev pub summary : List ℕ → ℕ → List Line → List Answer → List ℕ
 summary backend n lines answers =
     codes "gen " ++ backend ++ codes " " ++ decimal n ++ codes ":"

@@ -32,14 +32,19 @@ abbrev pub SpecsAreEmpty : Type 0
 SpecsAreEmpty = (word : List ℕ) (image : Plain) (areas : List Area) → IsSpec word image → HasAreas image areas
     → IsEmptyImage areas image
 
--- A play that begins with the blank image of a generated script is refused for want of its lines alone: never for the image or its
--- damage.
+-- A play that begins with the blank image of a generated script is refused for want of its lines alone: never
+-- for the image or its damage.
 abbrev pub BlanksLackLinesAlone : Type 0
-BlanksLackLinesAlone = (kinds : List HandlerKind) (play : Play) (kind : StoreKind) (host : Outside) (old new : Stage) (refusal : Refusal)
-    → play.start ≡ Blank kind → Refuses any_stores kinds play host old new refusal → LacksLines play host refusal
+BlanksLackLinesAlone =
+    (kinds : List HandlerKind) (play : Play) (kind : StoreKind) (host : Outside) (old new : Stage)
+    (refusal : Refusal)
+    → play.start ≡ Blank kind → Refuses any_stores kinds play host old new refusal
+    → LacksLines play host refusal
 
 -- `gen` has lines of its own, so it is done, but where the host fails or memory runs out.
 abbrev pub GenIsCarriedOut : Type 0
-GenIsCarriedOut = (kinds : List HandlerKind) (words : List (List ℕ)) (out : Bor (List ℕ)) (kind : StoreKind) (n : ℕ)
+GenIsCarriedOut =
+    (kinds : List HandlerKind) (words : List (List ℕ)) (out : Bor (List ℕ)) (kind : StoreKind) (n : ℕ)
     (host host' : Outside) (old new : Stage) (result : Status)
-    → IsCommand words (Gen out kind n) → ToolEnds any_stores kinds words host host' old new result → IsCarriedOut result
+    → IsCommand words (Gen out kind n) → ToolEnds any_stores kinds words host host' old new result
+    → IsCarriedOut result

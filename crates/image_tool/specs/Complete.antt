@@ -34,16 +34,18 @@ use Rattle.image_tool.specs.declared.tasks.Task.TheVariants.{Build, Plays, Log, 
 use Rattle.image_tool.specs.Tasks.{task_of}
 use Rattle.image_tool.specs.Tool.{ToolEnds, any_stores}
 
--- The host tells its files, and the play begins with an image: it shows no damage, and there are lines to play. Lists of the
--- areas of one image differ in the unused room of their labels alone.
+-- The host tells its files, and the play begins with an image: it shows no damage, and there are lines to
+-- play. Lists of the areas of one image differ in the unused room of their labels alone.
 pub record IsSound (k : Stores) (play : Play) (host : Outside) : Type 0 where
   pub tells : IsSome host.files
   pub image : Plain
   pub begins : BeginsWith play.start host image
   pub undamaged : (areas : List Area) → HasAreas image areas → damage_of k areas image ≡ None
-  pub reads : (areas : List Area) → HasAreas image areas → (lines : List Line) × PlaysLines play.source (limit_of areas) host lines
+  pub reads : (areas : List Area) → HasAreas image areas
+      → (lines : List Line) × PlaysLines play.source (limit_of areas) host lines
 
--- The host tells its files, and IMAGE is an image with a log, which shows no damage, and SCRIPT has lines to play.
+-- The host tells its files, and IMAGE is an image with a log, which shows no damage, and SCRIPT has lines to
+-- play.
 pub record IsSoundLog (name script : List ℕ) (host : Outside) : Type 0 where
   pub tells : IsSome host.files
   pub image : Plain
@@ -53,7 +55,8 @@ pub record IsSoundLog (name script : List ℕ) (host : Outside) : Type 0 where
   pub lines : List LogLine
   pub reads : HasLines (value_limit area) host script lines
 
--- The host tells its files, and IMAGE is an image with items, which shows no damage, and SCRIPT has lines to play.
+-- The host tells its files, and IMAGE is an image with items, which shows no damage, and SCRIPT has lines to
+-- play.
 pub record IsSoundItems (name script : List ℕ) (host : Outside) : Type 0 where
   pub tells : IsSome host.files
   pub image : Plain
@@ -63,14 +66,15 @@ pub record IsSoundItems (name script : List ℕ) (host : Outside) : Type 0 where
   pub lines : List ItemLine
   pub reads : HasItemLines (ids_of area.role) (value_limit area) host script lines
 
--- The host tells its files, and IMAGE is an image with a mirror: it shows no damage (in its selector, and in the area that is
--- read), its settings fit both areas, and SCRIPT has lines to play.
+-- The host tells its files, and IMAGE is an image with a mirror: it shows no damage (in its selector, and in
+-- the area that is read), its settings fit both areas, and SCRIPT has lines to play.
 pub record IsSoundMirror (name script : List ℕ) (host : Outside) : Type 0 where
   pub tells : IsSome host.files
   pub image : Plain
   pub has : HasImage host name image
   pub mirrored : AreMirrored image.areas
-  pub reads : (areas : List Area) → HasAreas image areas → (lines : List MirrorLine) × HasMirrorLines (limit_of areas) host script lines
+  pub reads : (areas : List Area) → HasAreas image areas
+      → (lines : List MirrorLine) × HasMirrorLines (limit_of areas) host script lines
   pub undamaged : (areas : List Area) → HasAreas image areas → mirror_damage areas image ≡ None
   pub fits : (areas : List Area) → HasAreas image areas → FitsImage areas image
 
@@ -94,7 +98,9 @@ IsCarriedOut status.NoFile = ⊥
 
 -- Words that are a command on what is sound are not refused.
 abbrev pub SoundIsCarriedOut : Type 0
-SoundIsCarriedOut = (kinds : List HandlerKind) (words : List (List ℕ)) (host host' : Outside) (old new : Stage) (result : Status)
+SoundIsCarriedOut =
+    (kinds : List HandlerKind) (words : List (List ℕ)) (host host' : Outside) (old new : Stage)
+    (result : Status)
     → (IsNoCommand words → ⊥) → ((c : Command) → IsCommand words c → IsSoundTask any_stores (task_of c) host)
     → ToolEnds any_stores kinds words host host' old new result → IsCarriedOut result
 
@@ -103,4 +109,5 @@ abbrev pub BlanksAreLawful : Type 0
 BlanksAreLawful = (kind : StoreKind) → (image : Plain) × IsSpec (blank_spec kind) image
 
 abbrev pub BlanksAreNotRefused : Type 0
-BlanksAreNotRefused = (kind : StoreKind) (host : Outside) (refusal : Refusal) → LacksStart (Blank kind) host refusal → ⊥
+BlanksAreNotRefused =
+    (kind : StoreKind) (host : Outside) (refusal : Refusal) → LacksStart (Blank kind) host refusal → ⊥

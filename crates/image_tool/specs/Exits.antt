@@ -15,7 +15,8 @@ use Rattle.image_tool.specs.Tool.{NoCommandEnds, ToolEnds, any_stores, exit_code
 abbrev pub program_kinds : List HandlerKind
 program_kinds = Table ∷ Table ∷ Table ∷ Table ∷ Counter ∷ Counter ∷ Level ∷ Level ∷ []
 
--- The code is that of the status with which the words end, where the handlers are those of the program and none is registered.
+-- The code is that of the status with which the words end, where the handlers are those of the program and
+-- none is registered.
 abbrev pub Exits : List (List ℕ) → Outside → Outside → Device → Device → ℕ → Type 0
 Exits words host host' old new code =
     (ends : Status) × (left : List Registered) × (code ≡ exit_code ends)
@@ -32,16 +33,30 @@ real_host = record { files = None; printed = None; faults = 0 }
 
 -- a flash with no bank, and with power on
 abbrev pub no_flash : Device
-no_flash = record { banks = []; bytes = []; is_on = true; losses = 0; spent = 0; loads = 0; last_loss = None; plan = Never }
+no_flash =
+    record {
+      banks = [];
+      bytes = [];
+      is_on = true;
+      losses = 0;
+      spent = 0;
+      loads = 0;
+      last_loss = None;
+      plan = Never;
+    }
 
 -- The words of the process ended so, on a flash with no bank.
 abbrev pub WordsExit : ℕ → Type 0
-WordsExit code = (words : List (List ℕ)) × (host' : Outside) × (new : Device) × Exits words real_host host' no_flash new code
+WordsExit code =
+    (words : List (List ℕ)) × (host' : Outside) × (new : Device)
+    × Exits words real_host host' no_flash new code
 
 -- the words of the process are no text, and so no command
 abbrev pub TextExit : ℕ → Type 0
-TextExit code = (host' : Outside) × (ends : Status) × (code ≡ exit_code ends) × NoCommandEnds real_host host' ends
+TextExit code =
+    (host' : Outside) × (ends : Status) × (code ≡ exit_code ends) × NoCommandEnds real_host host' ends
 
--- What the process ends with: its words ended so, or they are no text, or memory ran out before they were read.
+-- What the process ends with: its words ended so, or they are no text, or memory ran out before they were
+-- read.
 abbrev pub ProcessExits : ℕ → Type 0
 ProcessExits code = WordsExit code ⊎ TextExit code ⊎ (code ≡ exit_code status.NoMemory)

@@ -21,14 +21,20 @@ use Rattle.image_plays.specs.Stages.{Stage, Stores}
 use Rattle.image_tool.specs.declared.tasks.Task.{Task}
 use Rattle.image_tool.specs.declared.tasks.Task.TheVariants.{Build, Plays as ToPlay, Log, Items, Mirror}
 
--- `run` plays a script, `dump` asks for the names and prints that answer alone, `migrate` mounts and migrates, and `gen` plays a
--- generated script on a blank image and prints its summary; `log` plays a script on a log, `items` one on items, and `mirror` one on a mirror
+-- `run` plays a script, `dump` asks for the names and prints that answer alone, `migrate` mounts and
+-- migrates, and `gen` plays a generated script on a blank image and prints its summary; `log` plays a script
+-- on a log, `items` one on items, and `mirror` one on a mirror
 abbrev pub task_of : Command → Task
 task_of (command.Build out spec) = Build out spec
-task_of (command.Run image script out) = ToPlay (record { start = FromFile image; source = Script script; telling = All; output = Into out })
-task_of (command.Dump image) = ToPlay (record { start = FromFile image; source = Names; telling = Last; output = Nowhere })
-task_of (command.Migrate image out) = ToPlay (record { start = FromFile image; source = Migration; telling = All; output = Into out })
-task_of (command.Gen out backend n) = ToPlay (record { start = Blank backend; source = Generated n; telling = Summary backend n; output = Into out })
+task_of (command.Run image script out) =
+    ToPlay (record { start = FromFile image; source = Script script; telling = All; output = Into out })
+task_of (command.Dump image) =
+    ToPlay (record { start = FromFile image; source = Names; telling = Last; output = Nowhere })
+task_of (command.Migrate image out) =
+    ToPlay (record { start = FromFile image; source = Migration; telling = All; output = Into out })
+task_of (command.Gen out backend n) =
+    ToPlay
+    (record { start = Blank backend; source = Generated n; telling = Summary backend n; output = Into out })
 task_of (command.Log image script out) = Log image script out
 task_of (command.Items image script out) = Items image script out
 task_of (command.Mirror image script out) = Mirror image script out
@@ -42,7 +48,8 @@ Does k kinds (Log image script out) host old new text file =
 Does k kinds (Items image script out) host old new text file =
     PlaysItems image.now script.now out.now host old.bench new.bench text file × (new.registry ≡ old.registry)
 Does k kinds (Mirror image script out) host old new text file =
-    PlaysMirror image.now script.now out.now host old.bench new.bench text file × (new.registry ≡ old.registry)
+    PlaysMirror image.now script.now out.now host old.bench new.bench text file
+    × (new.registry ≡ old.registry)
 
 -- it is refused for this cause
 abbrev pub Causes : Stores → List HandlerKind → Task → Outside → Stage → Stage → Refusal → Type 0
@@ -67,8 +74,12 @@ StopsAt k kinds (Mirror image script out) host old new =
     StopsMirror image.now script.now host old.bench new.bench × (new.registry ≡ old.registry)
 
 -- before anything is printed or written
-abbrev pub Prepares : Stores → List HandlerKind → Task → Outside → Outside → Stage → Stage → Result Outcome Stop → Type 0
-Prepares k kinds task host host' old new (Ok outcome) = Does k kinds task host old new outcome.text.items (file_of outcome.file) × (host' ≡ host)
-Prepares k kinds task host host' old new (Err (Refused refusal)) = Causes k kinds task host old new refusal × (host' ≡ host)
-Prepares k kinds task host host' old new (Err HostFailed) = StopsAt k kinds task host old new × (host' ≡ failed host)
+abbrev pub Prepares : Stores → List HandlerKind → Task → Outside → Outside → Stage → Stage
+    → Result Outcome Stop → Type 0
+Prepares k kinds task host host' old new (Ok outcome) =
+    Does k kinds task host old new outcome.text.items (file_of outcome.file) × (host' ≡ host)
+Prepares k kinds task host host' old new (Err (Refused refusal)) =
+    Causes k kinds task host old new refusal × (host' ≡ host)
+Prepares k kinds task host host' old new (Err HostFailed) =
+    StopsAt k kinds task host old new × (host' ≡ failed host)
 Prepares k kinds task host host' old new (Err NoMemory) = StopsAt k kinds task host old new × (host' ≡ host)

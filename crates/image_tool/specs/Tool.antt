@@ -36,13 +36,16 @@ status_of (BadScript n reason) = status.BadScript
 -- ---- a task that was not done; `from` is the outside of before, with one more fault where the host failed
 
 -- the line of a refusal, which has its cause, was printed, whole or only its beginning
-abbrev pub TellsRefusal : Stores → List HandlerKind → Task → Outside → Outside → Outside → Stage → Stage → Type 0
-TellsRefusal k kinds task from host host' old new = (refusal : Refusal) × Causes k kinds task host old new refusal × PrintsFront from host' (line_of refusal)
+abbrev pub TellsRefusal : Stores → List HandlerKind → Task → Outside → Outside → Outside → Stage → Stage
+    → Type 0
+TellsRefusal k kinds task from host host' old new =
+    (refusal : Refusal) × Causes k kinds task host old new refusal × PrintsFront from host' (line_of refusal)
 
 -- the text was printed, whole or only its beginning; or it was printed whole, and OUT may hold anything
 abbrev pub TellsPart : Stores → List HandlerKind → Task → Outside → Outside → Outside → Stage → Stage → Type 0
 TellsPart k kinds task from host host' old new =
-    (text : List ℕ) × (file : Option File) × Does k kinds task host old new text file × DeliversPart from host' text file
+    (text : List ℕ) × (file : Option File) × Does k kinds task host old new text file
+    × DeliversPart from host' text file
 
 -- Nothing was printed, and the task stopped; or a part was of what it would print and write.
 abbrev pub EndsEarly : Stores → List HandlerKind → Task → Outside → Outside → Outside → Stage → Stage → Type 0
@@ -56,21 +59,27 @@ EndsEarly k kinds task from host host' old new =
 -- what the task does was printed and written, and nothing else
 abbrev pub IsDone : Stores → List HandlerKind → Task → Outside → Outside → Stage → Stage → Type 0
 IsDone k kinds task host host' old new =
-    (text : List ℕ) × (file : Option File) × Does k kinds task host old new text file × (host' ≡ delivered host text file)
+    (text : List ℕ) × (file : Option File) × Does k kinds task host old new text file
+    × (host' ≡ delivered host text file)
 
 -- the line of a refusal of this status, which has its cause, was printed, and nothing else
 abbrev pub IsRefused : Stores → List HandlerKind → Task → Outside → Outside → Stage → Stage → Status → Type 0
 IsRefused k kinds task host host' old new result =
-    (refusal : Refusal) × Causes k kinds task host old new refusal × (result ≡ status_of refusal) × (host' ≡ printed_more host (line_of refusal))
+    (refusal : Refusal) × Causes k kinds task host old new refusal × (result ≡ status_of refusal)
+    × (host' ≡ printed_more host (line_of refusal))
 
 abbrev pub TaskEnds : Stores → List HandlerKind → Task → Outside → Outside → Stage → Stage → Status → Type 0
 TaskEnds k kinds task host host' old new status.Done = IsDone k kinds task host host' old new
-TaskEnds k kinds task host host' old new status.HostFault = EndsEarly k kinds task (failed host) host host' old new
+TaskEnds k kinds task host host' old new status.HostFault =
+    EndsEarly k kinds task (failed host) host host' old new
 TaskEnds k kinds task host host' old new status.NoMemory = EndsEarly k kinds task host host host' old new
 TaskEnds k kinds task host host' old new status.Usage = IsRefused k kinds task host host' old new status.Usage
-TaskEnds k kinds task host host' old new status.NoFile = IsRefused k kinds task host host' old new status.NoFile
-TaskEnds k kinds task host host' old new status.BadScript = IsRefused k kinds task host host' old new status.BadScript
-TaskEnds k kinds task host host' old new status.BadImage = IsRefused k kinds task host host' old new status.BadImage
+TaskEnds k kinds task host host' old new status.NoFile =
+    IsRefused k kinds task host host' old new status.NoFile
+TaskEnds k kinds task host host' old new status.BadScript =
+    IsRefused k kinds task host host' old new status.BadScript
+TaskEnds k kinds task host host' old new status.BadImage =
+    IsRefused k kinds task host host' old new status.BadImage
 
 -- the words are no command: the usage line was printed, whole or only its beginning
 abbrev pub NoCommandEnds : Outside → Outside → Status → Type 0
@@ -83,7 +92,8 @@ NoCommandEnds host host' status.BadScript = ⊥
 NoCommandEnds host host' status.BadImage = ⊥
 
 -- The words are a command, and it ended so; or they are none; or memory ran out before they were read.
-abbrev pub ToolEnds : Stores → List HandlerKind → List (List ℕ) → Outside → Outside → Stage → Stage → Status → Type 0
+abbrev pub ToolEnds : Stores → List HandlerKind → List (List ℕ) → Outside → Outside → Stage → Stage → Status
+    → Type 0
 ToolEnds k kinds words host host' old new result =
     ((c : Command) × IsCommand words c × TaskEnds k kinds (task_of c) host host' old new result)
     ⊎ (IsNoCommand words × NoCommandEnds host host' result × (new ≡ old))

@@ -7,7 +7,8 @@ use Rattle.ring_laws.specs.Forms.{AtRest}
 use Rattle.ring_store.specs.Kind.{Kind, IsKind}
 use Rattle.ring_store.specs.Standing.{list_of}
 
--- At rest the items cost no more than all sectors but one have room for, so what is told as free is never cut off at 0.
+-- At rest the items cost no more than all sectors but one have room for, so what is told as free is never cut
+-- off at 0.
 abbrev pub ItemsFit : Type 0
 ItemsFit =
     (k : Kind) (sectors : List (List ℕ)) (size : ℕ)

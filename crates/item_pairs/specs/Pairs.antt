@@ -14,7 +14,8 @@ module _ (n : Numbering) where
 
   -- a lawful name at an id of its own, and a value of 1 to the most bytes
   abbrev pub is_pair : ℕ → List ℕ → List ℕ → Bool
-  is_pair place name value = is_name name && n.is_home place name && nat_le 1 (length value) && nat_le (length value) n.longest
+  is_pair place name value =
+      is_name name && n.is_home place name && nat_le 1 (length value) && nat_le (length value) n.longest
 
   -- the setting that two items are
   abbrev pub pair_of : ℕ → Option (List ℕ) → Option (List ℕ) → Option (List ℕ × List ℕ)
@@ -42,7 +43,8 @@ pub record IsInside (n : Numbering) (items : Items) (place : ℕ) : Type 0 where
 
 -- no setting of this name stands below the place
 abbrev pub IsLowest : Numbering → Items → List ℕ → ℕ → Type 0
-IsLowest n items name place = (other : ℕ) → n.first ≤ other → other < place → ¬ HasName (pair_at n items other) name
+IsLowest n items name place =
+    (other : ℕ) → n.first ≤ other → other < place → ¬ HasName (pair_at n items other) name
 
 -- the setting of this name that counts stands there
 pub record IsAt (n : Numbering) (items : Items) (name : List ℕ) (place : ℕ) : Type 0 where

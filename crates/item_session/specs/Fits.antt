@@ -20,7 +20,8 @@ FitsOpen kind d area Mount = RestsOn kind d area
 FitsOpen kind d area line = ⊤
 
 -- what the area says of items is as before, but for what the line adds: each version that was kept still is
-pub record ForgetsNone (kind : Geometry → Kind) (area : Area) (line : Line) (answer : Answer) (old new : Device)
+pub record ForgetsNone (kind : Geometry → Kind) (area : Area) (line : Line) (answer : Answer)
+    (old new : Device)
     : Type 0 where
   pub added : List (ℕ × List ℕ)
   pub adds : Adds new.spent line answer added

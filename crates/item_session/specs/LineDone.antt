@@ -108,7 +108,8 @@ pub record LineDone (kind : Geometry → Kind) (area : Area) (line : Line) (answ
   pub plans : (replan line ≡ keeps_plan → ⊥) → SameButPlan old new
 
 -- a whole run of lines
-pub record Runs (kind : Geometry → Kind) (area : Area) (lines : List Line) (answers : List Answer) (old new : Device)
+pub record Runs (kind : Geometry → Kind) (area : Area) (lines : List Line) (answers : List Answer)
+    (old new : Device)
     : Type 0 where
   pub session :
       Follows (Step (rules_on kind old area) new.spent) lines answers

@@ -34,14 +34,16 @@ WantsMemory kind area line old new = ⊥
 
 -- Lines were carried out one after another, and as a whole they follow the table, and the counts, the
 -- plan and the bytes of the bench are those that the answers say.
-pub record Ran (kind : Geometry → Kind) (area : Area) (lines : List Line) (answers : List Answer) (old new : Device)
+pub record Ran (kind : Geometry → Kind) (area : Area) (lines : List Line) (answers : List Answer)
+    (old new : Device)
     : Type 0 where
   pub in_turn : Follows (LineDone kind area) lines answers old new
   pub whole : Runs kind area lines answers old new
 
 -- The first lines were carried out, and then memory was wanting, for the next one or for an answer.
 -- Nothing changed behind them, but that power may be on, and that only where a mount was next.
-pub record RunStops (kind : Geometry → Kind) (area : Area) (lines : List Line) (old new : Device) : Type 0 where
+pub record RunStops (kind : Geometry → Kind) (area : Area) (lines : List Line) (old new : Device) :
+    Type 0 where
   pub front : List Line
   pub rest : List Line
   pub are : lines ≡ front ++ rest

@@ -56,7 +56,8 @@ pub record Tracked : Type 0 where
 -- The history goes on, and all of it is kept as long as the sets and deletes of the lines so far, each
 -- whatever it answered, cost no more than a sector has. So long `gone` tells that there never was such a
 -- version.
-pub record WholeStep (kind : Geometry → Kind) (area : Area) (line : Line) (answer : Answer) (old new : Tracked)
+pub record WholeStep (kind : Geometry → Kind) (area : Area) (line : Line) (answer : Answer)
+    (old new : Tracked)
     : Type 0 where
   pub done : LineDone kind area line answer old.device new.device
   pub records :

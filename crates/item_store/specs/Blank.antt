@@ -42,14 +42,20 @@ module _ (n size : ℕ) (several : 2 ≤ n) where
   nvs-undamaged unit = blank-undamaged (nvs.reading unit) (reads-blank unit) blanks several-too erased-each
 
   pub nvs-empty : (unit : ℕ) → items_of (nvs.list_of unit (replicate n (replicate size 0xFF))) ≡ empty
-  nvs-empty unit = ap items_of (blank-empty (nvs.reading unit) (reads-blank unit) blanks several-too erased-each) ∙ items-none
+  nvs-empty unit =
+      ap items_of (blank-empty (nvs.reading unit) (reads-blank unit) blanks several-too erased-each) ∙
+      items-none
 
   -- and as ZMS, on a bank of either kind
   unused-each : (kind : BankKind) (k : ℕ) → k < length blanks → is_unused kind (sector_at blanks k) ≡ true
   unused-each kind k lt = erased-unused kind (sector_at blanks k) (erased-each k lt)
 
   pub zms-undamaged : (kind : BankKind) → zms.damage_of kind (replicate n (replicate size 0xFF)) ≡ None
-  zms-undamaged kind = undamaged_ring kind blanks (blank-undamaged (zms.reading kind) (laws kind) blanks several-too (unused-each kind))
+  zms-undamaged kind =
+      undamaged_ring kind blanks
+      (blank-undamaged (zms.reading kind) (laws kind) blanks several-too (unused-each kind))
 
   pub zms-empty : (kind : BankKind) → items_of (zms.list_of kind (replicate n (replicate size 0xFF))) ≡ empty
-  zms-empty kind = ap items_of (blank-empty (zms.reading kind) (laws kind) blanks several-too (unused-each kind)) ∙ items-none
+  zms-empty kind =
+      ap items_of (blank-empty (zms.reading kind) (laws kind) blanks several-too (unused-each kind)) ∙
+      items-none

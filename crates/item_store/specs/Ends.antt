@@ -21,7 +21,9 @@ most_items geometry = geometry.sectors * (geometry.sector / 8)
 -- the least id behind this one that has a value
 abbrev pub IsNextId : Items → Option ℕ → Option ℕ → Type 0
 IsNextId items after None = (id : ℕ) → IsBehind after id → get items id ≡ None
-IsNextId items after (Some next) = IsBehind after next × (get items next ≡ None → ⊥) × ((id : ℕ) → IsBehind after id → id < next → get items id ≡ None)
+IsNextId items after (Some next) =
+    IsBehind after next × (get items next ≡ None → ⊥)
+    × ((id : ℕ) → IsBehind after id → id < next → get items id ≡ None)
 
 -- ---- writing
 
@@ -30,13 +32,15 @@ abbrev pub Holds : Items → ℕ → List ℕ → Type 0
 Holds items id bytes = get items id ≡ Some bytes
 
 -- the item has these bytes, and all others stay; equal bytes program nothing
-pub record Writes (price : ℕ → ℕ) (cap : ℕ) (old new : Device) (before after : Items) (id : ℕ) (bytes : List ℕ) : Type 0 where
+pub record Writes (price : ℕ → ℕ) (cap : ℕ) (old new : Device) (before after : Items) (id : ℕ)
+    (bytes : List ℕ) : Type 0 where
   pub short : price (length bytes) ≤ cap
   pub items : after ≡ insert before id bytes
   pub equal : Holds before id bytes → new ≡ old
 
 -- There is no room: the items cost too much. They stay.
-pub record FindsNoSpace (price : ℕ → ℕ) (cap sectors : ℕ) (before after : Items) (id : ℕ) (bytes : List ℕ) (need live : ℕ) : Type 0 where
+pub record FindsNoSpace (price : ℕ → ℕ) (cap sectors : ℕ) (before after : Items) (id : ℕ) (bytes : List ℕ)
+    (need live : ℕ) : Type 0 where
   pub short : price (length bytes) ≤ cap
   pub needs : need ≡ price (length bytes)
   pub lives : live ≡ items_cost price before
@@ -45,17 +49,24 @@ pub record FindsNoSpace (price : ℕ → ℕ) (cap sectors : ℕ) (before after 
   pub items : after ≡ before
 
 -- power was lost: the items are the old ones, or those with the item
-pub record StopsWriting (price : ℕ → ℕ) (cap : ℕ) (before after : Items) (id : ℕ) (bytes : List ℕ) : Type 0 where
+pub record StopsWriting (price : ℕ → ℕ) (cap : ℕ) (before after : Items) (id : ℕ) (bytes : List ℕ) :
+    Type 0 where
   pub short : price (length bytes) ≤ cap
   pub other : ¬ Holds before id bytes
   pub items : (after ≡ before) ⊎ (after ≡ insert before id bytes)
 
--- on an area of so many sectors; `TooLong` exactly where the bytes and their entry cost more than a sector has
-abbrev pub WriteEnds : {T : Type 0} → (ℕ → ℕ) → ℕ → ℕ → Device → Device → Items → Items → ℕ → List ℕ → Result T WriteFault → Type 0
-WriteEnds price cap sectors old new before after id bytes (Ok _) = Writes price cap old new before after id bytes
-WriteEnds price cap sectors old new before after id bytes (Err (NoSpace need live)) = FindsNoSpace price cap sectors before after id bytes need live
-WriteEnds price cap sectors old new before after id bytes (Err TooLong) = (cap < price (length bytes)) × (new ≡ old)
-WriteEnds price cap sectors old new before after id bytes (Err PowerLost) = StopsWriting price cap before after id bytes
+-- on an area of so many sectors; `TooLong` exactly where the bytes and their entry cost more than a sector
+-- has
+abbrev pub WriteEnds : {T : Type 0} → (ℕ → ℕ) → ℕ → ℕ → Device → Device → Items → Items → ℕ → List ℕ
+    → Result T WriteFault → Type 0
+WriteEnds price cap sectors old new before after id bytes (Ok _) =
+    Writes price cap old new before after id bytes
+WriteEnds price cap sectors old new before after id bytes (Err (NoSpace need live)) =
+    FindsNoSpace price cap sectors before after id bytes need live
+WriteEnds price cap sectors old new before after id bytes (Err TooLong) =
+    (cap < price (length bytes)) × (new ≡ old)
+WriteEnds price cap sectors old new before after id bytes (Err PowerLost) =
+    StopsWriting price cap before after id bytes
 
 -- ---- deleting
 

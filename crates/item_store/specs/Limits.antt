@@ -22,10 +22,12 @@ pub limit-least : (area : Area) → 256 ≤ value_limit area
 limit-least area = elim (limits area) [ inl long ↦ let e = long.1 in omega arith | inr e ↦ omega arith ]
 
 -- a sector has more than the longest value
-pub value-leaves_room : (d : Device) (area : Area) (length : ℕ) → IsLawfulFor d.banks area → length ≤ value_limit area → length + 256 ≤ sector_size d area
+pub value-leaves_room : (d : Device) (area : Area) (length : ℕ) → IsLawfulFor d.banks area
+    → length ≤ value_limit area → length + 256 ≤ sector_size d area
 value-leaves_room d area length lawful short =
     let least : 512 ≤ sector_size d area = lawful.at_least in
     elim (limits area) [
-      | inl long ↦ let e = long.1 in let more : 4096 ≤ sector_size d area = lawful.long_values long.0 in omega arith
+      | inl long ↦ let e =
+          long.1 in let more : 4096 ≤ sector_size d area = lawful.long_values long.0 in omega arith
       | inr e ↦ omega arith
     ]

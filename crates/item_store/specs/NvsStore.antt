@@ -49,29 +49,39 @@ pub nvs-rested : (nvs : Nvs) (geometry : Geometry) (sectors : List (List ℕ))
     → NvsStands nvs geometry sectors → nvs_rests nvs.store.area geometry sectors
 nvs-rested nvs geometry sectors stands = ring-rested NvsRole kind kept nvs.store geometry sectors stands
 
-fits-4 : (sector length : ℕ) → length + 256 ≤ sector → slot_size 4 + padded 4 length ≤ sector - 4 * slot_size 4
+fits-4 : (sector length : ℕ) → length + 256 ≤ sector
+    → slot_size 4 + padded 4 length ≤ sector - 4 * slot_size 4
 unfolding padded slot_size
 fits-4 sector length short = omega arith
 
-fits-8 : (sector length : ℕ) → length + 256 ≤ sector → slot_size 8 + padded 8 length ≤ sector - 4 * slot_size 8
+fits-8 : (sector length : ℕ) → length + 256 ≤ sector
+    → slot_size 8 + padded 8 length ≤ sector - 4 * slot_size 8
 unfolding padded slot_size
 fits-8 sector length short = omega arith
 
-fits-16 : (sector length : ℕ) → length + 256 ≤ sector → slot_size 16 + padded 16 length ≤ sector - 4 * slot_size 16
+fits-16 : (sector length : ℕ) → length + 256 ≤ sector
+    → slot_size 16 + padded 16 length ≤ sector - 4 * slot_size 16
 unfolding padded slot_size
 fits-16 sector length short = omega arith
 
-unit-fits : (unit sector length : ℕ) → IsUnit unit → length + 256 ≤ sector → cost unit length ≤ capacity unit sector
+unit-fits : (unit sector length : ℕ) → IsUnit unit → length + 256 ≤ sector
+    → cost unit length ≤ capacity unit sector
 unit-fits unit sector length is short =
     elim is [
-      | inl four ↦ subst (λ (u : ℕ). cost u length ≤ capacity u sector) (sym four) (fits-4 sector length short)
+      | inl four ↦ subst (λ (u : ℕ). cost u length ≤ capacity u sector) (sym four)
+          (fits-4 sector length short)
       | inr more ↦ elim more [
-        | inl eight ↦ subst (λ (u : ℕ). cost u length ≤ capacity u sector) (sym eight) (fits-8 sector length short)
-        | inr sixteen ↦ subst (λ (u : ℕ). cost u length ≤ capacity u sector) (sym sixteen) (fits-16 sector length short)
+        | inl eight ↦ subst (λ (u : ℕ). cost u length ≤ capacity u sector) (sym eight)
+            (fits-8 sector length short)
+        | inr sixteen ↦ subst (λ (u : ℕ). cost u length ≤ capacity u sector) (sym sixteen)
+            (fits-16 sector length short)
       ]
     ]
 
 -- what a value as long as the area allows costs fits a sector
-pub nvs-fits : (d : Device) (area : Area) (length : ℕ) → IsLawfulFor d.banks area → area.role ≡ NvsRole → length ≤ value_limit area → nvs_price (geometry_of d area) length ≤ nvs_cap (geometry_of d area)
+pub nvs-fits : (d : Device) (area : Area) (length : ℕ) → IsLawfulFor d.banks area → area.role ≡ NvsRole
+    → length ≤ value_limit area → nvs_price (geometry_of d area) length ≤ nvs_cap (geometry_of d area)
 nvs-fits d area length lawful role short =
-    unit-fits (geometry_of d area).unit (geometry_of d area).sector length (subst (λ (r : Role). HasUnit r (geometry_of d area).unit) role lawful.unit) (value-leaves_room d area length lawful short)
+    unit-fits (geometry_of d area).unit (geometry_of d area).sector length
+    (subst (λ (r : Role). HasUnit r (geometry_of d area).unit) role lawful.unit)
+    (value-leaves_room d area length lawful short)

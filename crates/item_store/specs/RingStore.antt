@@ -29,9 +29,10 @@ ring_rests kind area geometry sectors =
     let reading = (kind geometry).reading in
     is_closed_at reading sectors (next sectors (open_sector reading sectors)) ≡ false
 
--- The store is up: the area is not damaged and at rest, and the store knows its open sector and where the latest
--- entries stand.
-pub record RingStands {T : Type 0} (own : Role) (kind : Geometry → Kind) (kept : Geometry → List ℕ → T) (store : Store T)
+-- The store is up: the area is not damaged and at rest, and the store knows its open sector and where the
+-- latest entries stand.
+pub record RingStands {T : Type 0} (own : Role) (kind : Geometry → Kind) (kept : Geometry → List ℕ → T)
+    (store : Store T)
     (geometry : Geometry) (sectors : List (List ℕ)) : Type 0 where
   pub role : store.area.role ≡ own
   pub up : store.up ≡ true
@@ -42,12 +43,14 @@ pub record RingStands {T : Type 0} (own : Role) (kind : Geometry → Kind) (kept
   pub cached : IsCacheOf store.cache (all_placed (slots (kind geometry)) sectors)
 
 -- a mount of such an area would have nothing to do
-pub ring-rested : {T : Type 0} (role : Role) (kind : Geometry → Kind) (kept : Geometry → List ℕ → T) (store : Store T)
+pub ring-rested : {T : Type 0} (role : Role) (kind : Geometry → Kind) (kept : Geometry → List ℕ → T)
+    (store : Store T)
     (geometry : Geometry) (sectors : List (List ℕ))
     → RingStands role kind kept store geometry sectors → ring_rests kind store.area geometry sectors
 ring-rested role kind kept store geometry sectors stands =
     let reading = (kind geometry).reading in
-    subst (λ (place : ℕ). is_closed_at reading sectors (next sectors place) ≡ false) stands.current stands.rested
+    subst (λ (place : ℕ). is_closed_at reading sectors (next sectors place) ≡ false) stands.current
+    stands.rested
 
 -- the index is a table of the last entries of ids
 abbrev pub ring_tells : (Geometry → Kind) → LastSlots → Geometry → List (List ℕ) → Type 0

@@ -57,4 +57,5 @@ value-fits sector length short = grind (arith, nat_tests)
 pub zms-fits : (d : Device) (area : Area) (length : ℕ) → IsLawfulFor d.banks area
     → area.role ≡ ZmsRole → length ≤ value_limit area
     → zms_price (geometry_of d area) length ≤ zms_cap (geometry_of d area)
-zms-fits d area length lawful serves short = value-fits (geometry_of d area).sector length (value-leaves_room d area length lawful short)
+zms-fits d area length lawful serves short =
+    value-fits (geometry_of d area).sector length (value-leaves_room d area length lawful short)

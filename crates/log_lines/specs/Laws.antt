@@ -12,4 +12,5 @@ OneMeaning = (one other : Line) → row_of one ≡ row_of other → one ≡ othe
 -- words spell a line, or are refused for some cause
 abbrev pub EachIsRead : Type 0
 EachIsRead = (limit : ℕ) (words : List (List ℕ)) → 0 < length words
-    → ((line : Line) × Spells log_forms limit words (row_of line)) ⊎ ((why : LineWhy) × Refuses log_forms limit words why)
+    → ((line : Line) × Spells log_forms limit words (row_of line))
+    ⊎ ((why : LineWhy) × Refuses log_forms limit words why)

@@ -10,8 +10,8 @@ use Rattle.log_lines.specs.declared.answer.Answer.TheVariants.{Appended, Lost}
 use Rattle.log_lines.specs.Plan.{is_lost}
 use Rattle.log_session.specs.Step.{Drops, State, Step}
 
--- What an append leaves behind the log: its record; where power was lost, its record or none, or by chance one with a front of its
--- body, but not all of it, and then FF. Other lines leave none.
+-- What an append leaves behind the log: its record; where power was lost, its record or none, or by chance
+-- one with a front of its body, but not all of it, and then FF. Other lines leave none.
 abbrev pub Leaves : Line → Answer → List (List ℕ) → Type 0
 Leaves (Put body) (Appended units dropped) records = records ≡ body ∷ []
 Leaves (Put body) (Lost units false) records = (records ≡ []) ⊎ (records ≡ body ∷ [])
@@ -22,9 +22,11 @@ Leaves line answer records = records ≡ []
 abbrev pub TakesFront : Geometry → List (List ℕ) → ℕ → Type 0
 TakesFront geometry log taken = (rest : List (List ℕ)) × Drops geometry taken log rest
 
--- So many of the oldest records it drops: as many as it tells, or some front where power was lost, and other lines none.
+-- So many of the oldest records it drops: as many as it tells, or some front where power was lost, and other
+-- lines none.
 abbrev pub Takes : Geometry → Line → Answer → List (List ℕ) → ℕ → Type 0
-Takes geometry (Put body) (Appended units dropped) log taken = (taken ≡ dropped) × TakesFront geometry log taken
+Takes geometry (Put body) (Appended units dropped) log taken =
+    (taken ≡ dropped) × TakesFront geometry log taken
 Takes geometry (Put body) (Lost units chance) log taken = TakesFront geometry log taken
 Takes geometry line answer log taken = taken ≡ 0
 
@@ -53,8 +55,10 @@ abbrev pub LogStep : Geometry → ℕ → Line → Answer → Logged → Logged 
 LogStep geometry last line answer old new =
     Step geometry last line answer old.state new.state × Records geometry line answer old new × HoldsRest new
 
--- After each line the log is all records so far, from those of the start on, but the first ones, which were dropped.
-pub record IsAfterDrops (geometry : Geometry) (last : ℕ) (lines : List Line) (answers : List Answer) (old new : State) : Type 0 where
+-- After each line the log is all records so far, from those of the start on, but the first ones, which were
+-- dropped.
+pub record IsAfterDrops (geometry : Geometry) (last : ℕ) (lines : List Line) (answers : List Answer)
+    (old new : State) : Type 0 where
   pub all : List (List ℕ)
   pub dropped : ℕ
   pub runs :

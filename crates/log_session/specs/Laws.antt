@@ -19,7 +19,8 @@ use Rattle.log_session.specs.History.{IsAfterDrops, PowerStep}
 use Rattle.log_session.specs.LineDone.{IsServed, LineDone, Runs}
 use Rattle.log_session.specs.Step.{State, Step}
 
--- wherever power is lost, the log holds every acknowledged record that no drop took, in order, and behind it what lost appends left
+-- wherever power is lost, the log holds every acknowledged record that no drop took, in order, and behind it
+-- what lost appends left
 abbrev pub HoldsAcknowledged : Type 0
 HoldsAcknowledged =
     (geometry : Geometry) (last : ℕ) (lines : List Line) (answers : List Answer) (old new : State)
@@ -34,12 +35,13 @@ LosesPower =
 -- two runs in a row are one
 abbrev pub RunsInRow : Type 0
 RunsInRow =
-    (geometry : Geometry) (last : ℕ) (lines more : List Line) (answers others : List Answer) (old mid new : State)
+    (geometry : Geometry) (last : ℕ) (lines more : List Line) (answers others : List Answer)
+    (old mid new : State)
     → Follows (Step geometry last) lines answers old mid → Follows (Step geometry last) more others mid new
     → Follows (Step geometry last) (lines ++ more) (answers ++ others) old new
 
--- a run of a bench, line by line, follows the table, its counts and its plan are those that its answers say, and no byte changed
--- outside the area
+-- a run of a bench, line by line, follows the table, its counts and its plan are those that its answers say,
+-- and no byte changed outside the area
 abbrev pub LinesMakeRuns : Type 0
 LinesMakeRuns =
     (area : Area) (lines : List Line) (answers : List Answer) (old new : Device)
@@ -51,17 +53,19 @@ LinesAreServed =
     (limit : ℕ) (text : List ℕ) (lines : List Line)
     → IsScript log_forms limit text (map row_of lines) → All (IsServed limit) lines
 
--- Lines that are carried out one by one on an area that mounts and appends reached from a blank one are mounts and appends too.
+-- Lines that are carried out one by one on an area that mounts and appends reached from a blank one are
+-- mounts and appends too.
 abbrev pub RunsReach : Type 0
 RunsReach =
     (area : Area) (lines : List Line) (answers : List Answer) (old new : Device)
     → IsReached area old → Follows (LineDone area) lines answers old new → IsReached area new
 
--- On such an area a line drops records only where the items cost more than all sectors but one have room for, less the longest
--- record in each.
+-- On such an area a line drops records only where the items cost more than all sectors but one have room for,
+-- less the longest record in each.
 abbrev pub DropsWhereFull : Type 0
 DropsWhereFull =
     (area : Area) (body : List ℕ) (units dropped : ℕ) (old new : Device)
-    → IsReached area old → IsLawful old.banks old.bytes → LineDone area (Put body) (Appended units dropped) old new
+    → IsReached area old → IsLawful old.banks old.bytes
+    → LineDone area (Put body) (Appended units dropped) old new
     → 0 < dropped
     → (area.sectors - 1) * (room_on old area - longest_on old area) < cost_in old area (items_on old area)

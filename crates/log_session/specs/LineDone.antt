@@ -76,14 +76,15 @@ pub record AppendsOn (area : Area) (body : List ℕ) (end : Result ℕ LogFault)
   pub same_area : before.area ≡ area
   pub ends : LogAppends old new before after body end
 
--- A record is put as the log appends it: a front is dropped only where the record does not fit and no sector but one is free.
+-- A record is put as the log appends it: a front is dropped only where the record does not fit and no sector
+-- but one is free.
 abbrev pub PutsBy : Area → Line → Answer → Device → Device → Type 0
 PutsBy area (Put body) (Appended units dropped) old new = AppendsOn area body (Ok dropped) old new
 PutsBy area (Put body) (Lost units chance) old new = AppendsOn area body (Err PowerLost) old new
 PutsBy area line answer old new = ⊤
 
--- An area that shows no damage is mounted: the erases that it wants are carried out, no more of them where power is lost, and all
--- items stay, the torn ones too.
+-- An area that shows no damage is mounted: the erases that it wants are carried out, no more of them where
+-- power is lost, and all items stay, the torn ones too.
 pub record MountsBy (area : Area) (answer : Answer) (old new : Device) : Type 0 where
   pub undamaged : ring_damage old area ≡ None
   pub at_most : units_of answer ≤ erases_on old area
@@ -94,10 +95,12 @@ pub record MountsBy (area : Area) (answer : Answer) (old new : Device) : Type 0 
 abbrev pub SameButPlan : Device → Device → Type 0
 SameButPlan old new = new ≡ record old { plan = new.plan }
 
--- A line was carried out by the table. But for the plan, the bench was touched in the area alone: a loss of power lies in it, and
--- without a unit no byte changed. A line on the plan changes nothing else, and one that tells the records changes nothing.
+-- A line was carried out by the table. But for the plan, the bench was touched in the area alone: a loss of
+-- power lies in it, and without a unit no byte changed. A line on the plan changes nothing else, and one that
+-- tells the records changes nothing.
 pub record LineDone (area : Area) (line : Line) (answer : Answer) (old new : Device) : Type 0 where
-  pub step : (last : ℕ) → new.spent ≤ last → Step (geometry_of old area) last line answer (state_of area old) (state_of area new)
+  pub step : (last : ℕ) → new.spent ≤ last
+      → Step (geometry_of old area) last line answer (state_of area old) (state_of area new)
   pub accounts : Accounts line answer old new
   pub keeps : Keeps area old new
   pub touches : replan line ≡ keeps_plan → Touches (area ∷ []) (powered_for line old) new (is_lost answer)
@@ -116,10 +119,12 @@ TellsLastChance area (line ∷ lines) (answer ∷ answers) d = TellsLastChance a
 
 -- a whole run of lines
 pub record Runs (area : Area) (lines : List Line) (answers : List Answer) (old new : Device) : Type 0 where
-  pub session : Follows (Step (geometry_of old area) new.spent) lines answers (state_of area old) (state_of area new)
+  pub session : Follows (Step (geometry_of old area) new.spent) lines answers (state_of area old)
+      (state_of area new)
   pub spent : old.spent + units_in answers ≡ new.spent
   pub losses : new.losses ≡ counted old.losses (losses_in answers)
-  pub planned : IsCounted new.spent → Planned old.plan lines answers × (new.plan ≡ plan_through old.plan lines answers)
+  pub planned : IsCounted new.spent
+      → Planned old.plan lines answers × (new.plan ≡ plan_through old.plan lines answers)
   pub keeps : Keeps area old new
   pub unplanned : All PlansNoLoss lines → StaysUnplanned old new
   pub chance : TellsLastChance area lines answers new

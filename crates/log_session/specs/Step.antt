@@ -1,5 +1,6 @@
--- The table: which answers a plain list of records gives to a line, and what they make of it. The choices are whether power is
--- lost in a line, what a lost append leaves then, how many of the oldest records an append drops, and the units.
+-- The table: which answers a plain list of records gives to a line, and what they make of it. The choices are
+-- whether power is lost in a line, what a lost append leaves then, how many of the oldest records an append
+-- drops, and the units.
 use Rattle.std.specs.Prelude.{◌≡◌, ◌⊎◌, ℕ, ◌+◌, ◌-◌, ◌/◌, ◌^◌, ◌<◌, ◌≤◌, Bool, true, false, List, [], ◌∷◌, ◌++◌, length, sum_by}
 use Rattle.flash_map.specs.declared.area.Geometry.{Geometry}
 use Rattle.flash_map.specs.Units.{padded}
@@ -39,8 +40,8 @@ header_units geometry = padded geometry.unit 8 / geometry.unit
 abbrev pub most_to_put : Geometry → List ℕ → ℕ
 most_to_put geometry body = header_units geometry + 1 + record_units geometry body
 
--- An append spends the units of its record; and those of a header, where a sector is opened; and an erase as well, where the oldest
--- sector is dropped, in which alone records may be dropped.
+-- An append spends the units of its record; and those of a header, where a sector is opened; and an erase as
+-- well, where the oldest sector is dropped, in which alone records may be dropped.
 abbrev pub PutUnits : Geometry → List ℕ → ℕ → ℕ → Type 0
 PutUnits geometry body dropped units =
     ((units ≡ record_units geometry body) × (dropped ≡ 0))
@@ -61,15 +62,18 @@ pub record Drops (geometry : Geometry) (dropped : ℕ) (log rest : List (List �
   pub one_sector : records_cost geometry front ≤ geometry.sector - padded geometry.unit 8
 
 -- so many records are dropped, and this one stands behind the others
-pub record AddsRecord (geometry : Geometry) (last : ℕ) (body : List ℕ) (units dropped : ℕ) (old new : State) : Type 0 where
+pub record AddsRecord (geometry : Geometry) (last : ℕ) (body : List ℕ) (units dropped : ℕ) (old new : State) :
+    Type 0 where
   pub rest : List (List ℕ)
   pub drops : Drops geometry dropped old.log rest
   pub state : new ≡ record old { log = rest ++ body ∷ [] }
   pub units_are : IsCounted last → PutUnits geometry body dropped units
   pub at_most : units ≤ most_to_put geometry body
 
--- Power is off. Nothing was dropped, or the oldest records; then the record stands, or by chance a torn one, or neither.
-pub record LosesRecord (geometry : Geometry) (body : List ℕ) (units : ℕ) (chance : Bool) (old new : State) : Type 0 where
+-- Power is off. Nothing was dropped, or the oldest records; then the record stands, or by chance a torn one,
+-- or neither.
+pub record LosesRecord (geometry : Geometry) (body : List ℕ) (units : ℕ) (chance : Bool) (old new : State) :
+    Type 0 where
   pub dropped : ℕ
   pub rest : List (List ℕ)
   pub drops : Drops geometry dropped old.log rest
@@ -78,7 +82,8 @@ pub record LosesRecord (geometry : Geometry) (body : List ℕ) (units : ℕ) (ch
   pub at_most : units ≤ most_to_put geometry body
 
 abbrev pub Appends : Geometry → ℕ → List ℕ → Answer → State → State → Type 0
-Appends geometry last body (Appended units dropped) old new = AddsRecord geometry last body units dropped old new
+Appends geometry last body (Appended units dropped) old new =
+    AddsRecord geometry last body units dropped old new
 Appends geometry last body (Lost units chance) old new = LosesRecord geometry body units chance old new
 Appends geometry last body answer old new = ⊥
 
@@ -116,4 +121,5 @@ Answers geometry last Uncut answer old new = Arms answer old new
 -- with power off, `off` and no change; else by the line
 abbrev pub Step : Geometry → ℕ → Line → Answer → State → State → Type 0
 Step geometry last line Off old new = (needs_power line ≡ true) × IsOff old × (new ≡ old)
-Step geometry last line answer old new = (needs_power line ≡ true → IsOn old) × Answers geometry last line answer old new
+Step geometry last line answer old new =
+    (needs_power line ≡ true → IsOn old) × Answers geometry last line answer old new

@@ -17,7 +17,8 @@ abbrev pub Spares : ℕ → ℕ → ℕ → Event → Type 0
 Spares slots id sector (noted other at slot) = cache_slot slots other ≢ cache_slot slots id
 Spares slots id sector (forgot gone) = gone ≢ sector
 
--- The place was noted for an id with the same cache slot. Since then no other was, and the sector was not forgotten.
+-- The place was noted for an id with the same cache slot. Since then no other was, and the sector was not
+-- forgotten.
 pub record IsLastNoted (slots : ℕ) (events : List Event) (id sector slot : ℕ) : Type 0 where
   pub since : List Event
   pub earlier : List Event

@@ -17,7 +17,8 @@ is_choice body = (length body == 2) && (slice_index body 1 == 0xFF - slice_index
 
 -- the store area that a record with this body names
 unfoldable pub named : List Area → List ℕ → Option ℕ
-named areas body = if is_choice body && is_store_at areas (slice_index body 0) then Some (slice_index body 0) else None
+named areas body =
+    if is_choice body && is_store_at areas (slice_index body 0) then Some (slice_index body 0) else None
 
 -- what is found in the last element of a list in which something is
 unfoldable pub latest : {X Y : Type 0} → (X → Option Y) → List X → Option Y
@@ -40,7 +41,8 @@ last_record areas list = option_map (λ (choice : RecordAt × ℕ). choice.0) (l
 
 -- the active area by these sectors of a selector's area, which show no damage
 abbrev pub active_by : List Area → Geometry → List (List ℕ) → ℕ
-active_by areas geometry sectors = unwrap_or (chosen areas (bodies (entries geometry.unit sectors))) (first_store areas)
+active_by areas geometry sectors =
+    unwrap_or (chosen areas (bodies (entries geometry.unit sectors))) (first_store areas)
 
 -- and by the selector's area on a device
 abbrev pub active_in : List Area → Device → Area → ℕ

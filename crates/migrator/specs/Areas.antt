@@ -45,5 +45,6 @@ pub record IsLawfulMap (banks : List Bank) (areas : List Area) : Type 0 where
   pub each : (i : ℕ) (area : Area) → slice_get areas i ≡ Some area → IsLawfulFor banks area
   pub apart : (i j : ℕ) (area other : Area) → slice_get areas i ≡ Some area → slice_get areas j ≡ Some other
       → i ≢ j → AreApart area other
-  pub versions : (i j : ℕ) (area other : Area) → slice_get areas i ≡ Some area → slice_get areas j ≡ Some other
+  pub versions : (i j : ℕ) (area other : Area) → slice_get areas i ≡ Some area
+      → slice_get areas j ≡ Some other
       → area.version ≡ other.version

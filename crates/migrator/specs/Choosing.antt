@@ -40,31 +40,36 @@ SelectorMounts old new area (Err NoMemory) = ⊥
 
 -- the active area is as before, or the one that was chosen
 abbrev pub OldOrChosen : List Area → Device → Device → Area → ℕ → Type 0
-OldOrChosen areas old new area index = (active_in areas new area ≡ active_in areas old area) ⊎ (active_in areas new area ≡ index)
+OldOrChosen areas old new area index =
+    (active_in areas new area ≡ active_in areas old area) ⊎ (active_in areas new area ≡ index)
 
 -- power was lost while an area was chosen
 abbrev pub ChoiceIsCut : List Area → Device → Device → Area → Ring → ℕ → Type 0
 ChoiceIsCut areas old new area after index =
     OldOrChosen areas old new area index × (ring_damage new area ≡ None) × (is_up after.stage ≡ false)
 
--- The record that names the area fits, or a sector beside the scratch one is free: it stands behind the others of the list, and
--- just its units were spent, with those of a header where that sector was opened.
+-- The record that names the area fits, or a sector beside the scratch one is free: it stands behind the
+-- others of the list, and just its units were spent, with those of a header where that sector was opened.
 pub record AddsChoice (old new : Device) (ring : Ring) (index : ℕ) : Type 0 where
   pub room : CanAppend old ring (choice_of index) 0
   pub list : AddsRecord old new ring.area (place_for old ring (choice_of index) 0) (choice_of index)
   pub units : Spends old new (units_for old ring (choice_of index) 0)
 
 -- how the record that names the area is put, where it fits
-abbrev pub PutEnds : {T : Type 0} → List Area → Device → Device → Ring → Ring → ℕ → Result T AppendFault → Type 0
-PutEnds areas old new before after index (Ok x) = IsOpen new after × (active_in areas new before.area ≡ index) × AddsChoice old new before index
+abbrev pub PutEnds : {T : Type 0} → List Area → Device → Device → Ring → Ring → ℕ → Result T AppendFault
+    → Type 0
+PutEnds areas old new before after index (Ok x) =
+    IsOpen new after × (active_in areas new before.area ≡ index) × AddsChoice old new before index
 PutEnds areas old new before after index (Err TooLong) = ⊥
 PutEnds areas old new before after index (Err Full) =
-    (stays_for old before (choice_of index) 0 ≡ false) × (is_scratch_left before ≡ true) × (new ≡ old) × (after ≡ before)
+    (stays_for old before (choice_of index) 0 ≡ false) × (is_scratch_left before ≡ true) × (new ≡ old)
+    × (after ≡ before)
 PutEnds areas old new before after index (Err PowerLost) = ChoiceIsCut areas old new before.area after index
 
 -- how the choice of an area ends
 abbrev pub ChooseEnds : {T E : Type 0} → List Area → Device → Device → Ring → Ring → ℕ → Result T E → Type 0
-ChooseEnds areas old new before after index (Ok x) = IsOpen new after × (active_in areas new before.area ≡ index)
+ChooseEnds areas old new before after index (Ok x) =
+    IsOpen new after × (active_in areas new before.area ≡ index)
 ChooseEnds areas old new before after index (Err lost) = ChoiceIsCut areas old new before.area after index
 
 -- ---- a collection
@@ -85,9 +90,10 @@ pub record Copied (old new : Device) (before after : Ring) (last : Option Record
   pub used : after.used ≡ before.used
   pub end : after.end ≤ header_on old before.area + cost_on old before.area 2
 
--- The list that a collection of the oldest sector leaves: the records of the others, and behind them, if it was of the oldest
--- sector, a copy of the last that names a store area.
-pub record LeavesList (areas : List Area) (old : Device) (ring : Ring) (list : List (RecordAt × List ℕ)) : Type 0 where
+-- The list that a collection of the oldest sector leaves: the records of the others, and behind them, if it
+-- was of the oldest sector, a copy of the last that names a store area.
+pub record LeavesList (areas : List Area) (old : Device) (ring : Ring) (list : List (RecordAt × List ℕ)) :
+    Type 0 where
   pub rest : List (RecordAt × List ℕ)
   pub copies : List (RecordAt × List ℕ)
   pub old_list : entries_on old ring.area ≡ sector_list old ring.area ring.oldest ++ rest
@@ -107,7 +113,8 @@ pub record Collected (areas : List Area) (old new : Device) (before after : Ring
   pub list : LeavesList areas old before (entries_on new before.area)
   pub units : Spends old new (collection_units old before.area list.copies)
 
--- The oldest sector was collected, and the record that names the area stands behind the list that this leaves.
+-- The oldest sector was collected, and the record that names the area stands behind the list that this
+-- leaves.
 pub record CollectsAndAdds (areas : List Area) (old new : Device) (ring : Ring) (index : ℕ) : Type 0 where
   pub left : List (RecordAt × List ℕ)
   pub collected : LeavesList areas old ring left
@@ -115,13 +122,16 @@ pub record CollectsAndAdds (areas : List Area) (old new : Device) (ring : Ring) 
   pub list : HasEntriesOn new ring.area (left ++ (at, choice_of index) ∷ [])
   pub units : Spends old new (collection_units old ring.area collected.copies + record_units old ring.area 2)
 
--- What the choice of an area makes of the list: one record more, which names the area. Only where it does not fit and no sector
--- but the scratch one is free, the oldest is collected first.
+-- What the choice of an area makes of the list: one record more, which names the area. Only where it does not
+-- fit and no sector but the scratch one is free, the oldest is collected first.
 abbrev pub Chooses : List Area → Device → Device → Ring → ℕ → Type 0
 Chooses areas old new ring index =
     AddsChoice old new ring index
-    ⊎ ((stays_for old ring (choice_of index) 0 ≡ false) × (is_scratch_left ring ≡ true) × CollectsAndAdds areas old new ring index)
+    ⊎
+    ((stays_for old ring (choice_of index) 0 ≡ false) × (is_scratch_left ring ≡ true)
+    × CollectsAndAdds areas old new ring index)
 
--- the most units and erases of the choice of an area, whole or cut: two headers, a copy, a record, and an erase
+-- the most units and erases of the choice of an area, whole or cut: two headers, a copy, a record, and an
+-- erase
 abbrev pub choice_units : Device → Area → ℕ
 choice_units d area = 2 * header_units d area + 2 * record_units d area 2 + 1

@@ -9,11 +9,13 @@ use Rattle.backend_api.specs.Room.{Room, HasNoRoom}
 use Rattle.backend_api.specs.declared.backend.SetFault.{SetFault}
 use Rattle.backend_api.specs.declared.backend.SetFault.TheVariants.{NoSpace, TooManyNames, PowerLost}
 
--- the settings of the names before this one: those that were put when it is its turn; all of them where there is none
+-- the settings of the names before this one: those that were put when it is its turn; all of them where there
+-- is none
 abbrev pub before : Map → Option (List ℕ) → Map
 before settings end = retain_keys settings (λ name. is_before name end)
 
--- puts of the pairs before the one at this place, one by one in the order of names, make from the empty map just these
+-- puts of the pairs before the one at this place, one by one in the order of names, make from the empty map
+-- just these
 abbrev pub PutsInOrder : Map → Type 0
 PutsInOrder settings =
     (i : ℕ) (name value : List ℕ) → slice_get (entries settings) i ≡ Some (name, value)
@@ -48,5 +50,6 @@ pub record HasOneWithoutRoom (room : Room) (sectors : ℕ) (settings : Map) (nee
 abbrev pub CopyEnds : {T : Type 0} → Room → ℕ → Map → Map → Result T SetFault → Type 0
 CopyEnds room sectors settings copy (Ok x) = (copy ≡ settings) × NoneTooMany room settings None
 CopyEnds room sectors settings copy (Err TooManyNames) = HasOneTooMany room settings
-CopyEnds room sectors settings copy (Err (NoSpace need live)) = HasOneWithoutRoom room sectors settings need live
+CopyEnds room sectors settings copy (Err (NoSpace need live)) =
+    HasOneWithoutRoom room sectors settings need live
 CopyEnds room sectors settings copy (Err PowerLost) = Unit {0}

@@ -58,18 +58,21 @@ target_area areas active = option_and_then (slice_get areas) (target areas activ
 
 -- the areas on which a migration works: that one, and the selector's
 abbrev pub worked_on : List Area → Area → ℕ → List Area
-worked_on areas selector active = option_map_or (λ area. area ∷ selector ∷ []) (target_area areas active) (selector ∷ [])
+worked_on areas selector active =
+    option_map_or (λ area. area ∷ selector ∷ []) (target_area areas active) (selector ∷ [])
 
 -- the room of an area on a device
 abbrev pub room_on : (Area → Geometry → Room) → Device → Area → Room
 room_on room d area = room area (geometry_of d area)
 
--- The selector and a store are mounted on areas of a lawful map: the ring is the selector's, and the store's area is active. The store
--- is one that serves each area in which settings are stored.
-pub record IsServed {S : Type 0} (serves : Area → Geometry → Type 0) (mounted_on : S → Area) (stands : S → Geometry → List (List ℕ) → Type 0)
+-- The selector and a store are mounted on areas of a lawful map: the ring is the selector's, and the store's
+-- area is active. The store is one that serves each area in which settings are stored.
+pub record IsServed {S : Type 0} (serves : Area → Geometry → Type 0) (mounted_on : S → Area)
+    (stands : S → Geometry → List (List ℕ) → Type 0)
     (areas : List Area) (d : Device) (ring : Ring) (state : S) (active : ℕ) : Type 0 where
   pub lawful : IsLawfulMap d.banks areas
-  pub served : (index : ℕ) (area : Area) → slice_get areas index ≡ Some area → is_store area ≡ true → serves area (geometry_of d area)
+  pub served : (index : ℕ) (area : Area) → slice_get areas index ≡ Some area → is_store area ≡ true
+      → serves area (geometry_of d area)
   pub selected : selector_of areas ≡ Some ring.area
   pub open_ring : IsOpen d ring
   pub there : slice_get areas active ≡ Some (mounted_on state)
@@ -90,12 +93,14 @@ abbrev pub FillEnds : {T : Type 0} → Room → ℕ → Map → Map → Result T
 FillEnds room sectors settings copy (Ok x) = (copy ≡ settings) × NoneTooMany room settings None
 FillEnds room sectors settings copy (Err NoTarget) = ⊥
 FillEnds room sectors settings copy (Err TooManyNames) = HasOneTooMany room settings
-FillEnds room sectors settings copy (Err (NoSpace need live)) = HasOneWithoutRoom room sectors settings need live
+FillEnds room sectors settings copy (Err (NoSpace need live)) =
+    HasOneWithoutRoom room sectors settings need live
 FillEnds room sectors settings copy (Err PowerLost) = Unit {0}
 FillEnds room sectors settings copy (Err NoMemory) = Unit {0}
 
 -- The settings are those that the active area of the map reads as; neither it nor the selector is damaged.
-pub record ReadsAs (damage : Area → Geometry → List (List ℕ) → Option Damaged) (contents : Area → Geometry → List (List ℕ) → Map)
+pub record ReadsAs (damage : Area → Geometry → List (List ℕ) → Option Damaged)
+    (contents : Area → Geometry → List (List ℕ) → Map)
     (areas : List Area) (d : Device) (settings : Map) : Type 0 where
   pub sound : selector_damage_on areas d ≡ None
   pub area : Area
@@ -104,34 +109,41 @@ pub record ReadsAs (damage : Area → Geometry → List (List ℕ) → Option Da
   pub reads : on contents d area ≡ settings
 
 -- the area at this index is active, and has all settings
-pub record IsMoved (damage : Area → Geometry → List (List ℕ) → Option Damaged) (contents : Area → Geometry → List (List ℕ) → Map)
-    (room : Room) (areas : List Area) (selector area : Area) (index : ℕ) (settings : Map) (new : Device) : Type 0 where
+pub record IsMoved (damage : Area → Geometry → List (List ℕ) → Option Damaged)
+    (contents : Area → Geometry → List (List ℕ) → Map)
+    (room : Room) (areas : List Area) (selector area : Area) (index : ℕ) (settings : Map) (new : Device) :
+    Type 0 where
   pub active : active_in areas new selector ≡ index
   pub undamaged : on damage new area ≡ None
   pub reads : on contents new area ≡ settings
   pub free : NoneTooMany room settings None
 
--- The most units and erases of filling an area, whole or cut: it is erased and mounted, and so many settings are put into it.
+-- The most units and erases of filling an area, whole or cut: it is erased and mounted, and so many settings
+-- are put into it.
 abbrev pub fill_units : Geometry → ℕ → ℕ
 fill_units geometry names = geometry.sectors + mount_units geometry + names * most_units geometry
 
--- The most units and erases of moving so many settings to an area, whole or cut: it is filled, and then chosen.
+-- The most units and erases of moving so many settings to an area, whole or cut: it is filled, and then
+-- chosen.
 abbrev pub move_units : Device → Area → Area → ℕ → ℕ
 move_units d selector area names = fill_units (geometry_of d area) names + choice_units d selector
 
 -- and of a migration: those of moving them to the target; none where there is no target
 abbrev pub migrate_units : Device → List Area → Area → ℕ → ℕ → ℕ
-migrate_units d areas selector active names = option_map_or (λ area. move_units d selector area names) (target_area areas active) 0
+migrate_units d areas selector active names =
+    option_map_or (λ area. move_units d selector area names) (target_area areas active) 0
 
 -- the active area is the one that was
 abbrev pub StaysActive : List Area → Area → Device → Device → Type 0
 StaysActive areas selector old new = active_in areas new selector ≡ active_in areas old selector
 
 -- How moving the settings to the area at this index ends.
-abbrev pub MoveEnds : {S : Type 0} → (S → Area) → (Area → Geometry → List (List ℕ) → Option Damaged) → (Area → Geometry → List (List ℕ) → Map)
+abbrev pub MoveEnds : {S : Type 0} → (S → Area) → (Area → Geometry → List (List ℕ) → Option Damaged)
+    → (Area → Geometry → List (List ℕ) → Map)
     → Room → List Area → Area → Area → ℕ → Map → Device → Device → Result (S × ℕ) MigrateFault → Type 0
 MoveEnds mounted damage contents room areas selector area index settings old new (Ok moved) =
-    (moved.1 ≡ index) × (mounted moved.0 ≡ area) × IsMoved damage contents room areas selector area index settings new
+    (moved.1 ≡ index) × (mounted moved.0 ≡ area)
+    × IsMoved damage contents room areas selector area index settings new
 MoveEnds mounted damage contents room areas selector area index settings old new (Err NoTarget) = ⊥
 MoveEnds mounted damage contents room areas selector area index settings old new (Err TooManyNames) =
     HasOneTooMany room settings × StaysActive areas selector old new
@@ -139,7 +151,8 @@ MoveEnds mounted damage contents room areas selector area index settings old new
     HasOneWithoutRoom room area.sectors settings need live × StaysActive areas selector old new
 MoveEnds mounted damage contents room areas selector area index settings old new (Err PowerLost) =
     StaysActive areas selector old new ⊎ IsMoved damage contents room areas selector area index settings new
-MoveEnds mounted damage contents room areas selector area index settings old new (Err NoMemory) = StaysActive areas selector old new
+MoveEnds mounted damage contents room areas selector area index settings old new (Err NoMemory) =
+    StaysActive areas selector old new
 
 -- the area at this index is the target
 pub record IsTarget (areas : List Area) (active index : ℕ) (area : Area) : Type 0 where
@@ -147,15 +160,20 @@ pub record IsTarget (areas : List Area) (active index : ℕ) (area : Area) : Typ
   pub there : slice_get areas index ≡ Some area
 
 -- there is a target, and the move to it ends so
-abbrev pub Migrates : {S : Type 0} → (S → Area) → (Area → Geometry → List (List ℕ) → Option Damaged) → (Area → Geometry → List (List ℕ) → Map)
-    → (Area → Geometry → Room) → List Area → Area → ℕ → Map → Device → Device → Result (S × ℕ) MigrateFault → Type 0
+abbrev pub Migrates : {S : Type 0} → (S → Area) → (Area → Geometry → List (List ℕ) → Option Damaged)
+    → (Area → Geometry → List (List ℕ) → Map)
+    → (Area → Geometry → Room) → List Area → Area → ℕ → Map → Device → Device → Result (S × ℕ) MigrateFault
+    → Type 0
 Migrates mounted damage contents room areas selector active settings old new result =
     (index : ℕ) × (area : Area) × IsTarget areas active index area
-    × MoveEnds mounted damage contents (room_on room old area) areas selector area index settings old new result
+    × MoveEnds mounted damage contents (room_on room old area) areas selector area index settings old new
+    result
 
 -- how a migration ends: there is no target exactly where it says so, and then nothing changed
-abbrev pub MigrateEnds : {S : Type 0} → (S → Area) → (Area → Geometry → List (List ℕ) → Option Damaged) → (Area → Geometry → List (List ℕ) → Map)
-    → (Area → Geometry → Room) → List Area → Area → ℕ → Map → Device → Device → Result (S × ℕ) MigrateFault → Type 0
+abbrev pub MigrateEnds : {S : Type 0} → (S → Area) → (Area → Geometry → List (List ℕ) → Option Damaged)
+    → (Area → Geometry → List (List ℕ) → Map)
+    → (Area → Geometry → Room) → List Area → Area → ℕ → Map → Device → Device → Result (S × ℕ) MigrateFault
+    → Type 0
 MigrateEnds mounted damage contents room areas selector active settings old new (Err NoTarget) =
     (target areas active ≡ None) × (new ≡ old)
 MigrateEnds mounted damage contents room areas selector active settings old new result =

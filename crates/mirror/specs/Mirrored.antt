@@ -21,7 +21,8 @@ use Rattle.mirror.specs.Room.{Prices, IsMirrored, FitsOn, IsTightOn, too_many_on
 -- ---- one side
 
 -- A store is up on a lawful area of a role that may be mirrored.
-pub record SideStands {S : Type 0} (mounted_on : S → Area) (stands : S → Geometry → List (List ℕ) → Type 0) (d : Device) (side : Side S) : Type 0 where
+pub record SideStands {S : Type 0} (mounted_on : S → Area) (stands : S → Geometry → List (List ℕ) → Type 0)
+    (d : Device) (side : Side S) : Type 0 where
   pub lawful : IsLawfulFor d.banks side.area
   pub role : IsMirrored side.area
   pub here : mounted_on side.store ≡ side.area
@@ -40,19 +41,23 @@ module _ {S : Type 0} (trusted other : Side S) where
   abbrev pub higher : Area
   higher = if nat_lt trusted.place other.place then other.area else trusted.area
 
--- What a command makes of one side: it has these settings then. Where there is nothing to do, nothing is programmed.
-pub record IsDone (contents : Area → Geometry → List (List ℕ) → Map) (old new : Device) (area : Area) (nothing : Type 0) (after : Map) : Type 0 where
+-- What a command makes of one side: it has these settings then. Where there is nothing to do, nothing is
+-- programmed.
+pub record IsDone (contents : Area → Geometry → List (List ℕ) → Map) (old new : Device) (area : Area)
+    (nothing : Type 0) (after : Map) : Type 0 where
   pub settings : on contents new area ≡ after
   pub idle : nothing → new ≡ old
   pub spends : ¬ nothing → SpendsSome old new
 
 -- Power was lost in it: the side has the settings of before, or these.
-pub record IsCut (contents : Area → Geometry → List (List ℕ) → Map) (old new : Device) (area : Area) (nothing : Type 0) (after : Map) : Type 0 where
+pub record IsCut (contents : Area → Geometry → List (List ℕ) → Map) (old new : Device) (area : Area)
+    (nothing : Type 0) (after : Map) : Type 0 where
   pub some : ¬ nothing
   pub settings : (on contents new area ≡ on contents old area) ⊎ (on contents new area ≡ after)
 
 -- how a command on one side ends
-abbrev pub SideCommand : {T : Type 0} → (Area → Geometry → List (List ℕ) → Map) → Device → Device → Area → Type 0 → Map → Result T Lost → Type 0
+abbrev pub SideCommand : {T : Type 0} → (Area → Geometry → List (List ℕ) → Map) → Device → Device → Area
+    → Type 0 → Map → Result T Lost → Type 0
 SideCommand contents old new area nothing after (Ok x) = IsDone contents old new area nothing after
 SideCommand contents old new area nothing after (Err lost) = IsCut contents old new area nothing after
 
@@ -62,9 +67,12 @@ SideCommand contents old new area nothing after (Err lost) = IsCut contents old 
 abbrev pub IsWithin : Map → Map → Type 0
 IsWithin settings others = (name value : List ℕ) → IsStored settings name value → IsStored others name value
 
--- The stores of two areas of one map are up, have no sector in common, hold the same settings, and these fit both.
-pub record IsMirror {S : Type 0} (mounted_on : S → Area) (stands : S → Geometry → List (List ℕ) → Type 0) (contents : Area → Geometry → List (List ℕ) → Map)
-    (room : Area → Geometry → Room) (prices : Area → Geometry → Prices) (d : Device) (trusted other : Side S) : Type 0 where
+-- The stores of two areas of one map are up, have no sector in common, hold the same settings, and these fit
+-- both.
+pub record IsMirror {S : Type 0} (mounted_on : S → Area) (stands : S → Geometry → List (List ℕ) → Type 0)
+    (contents : Area → Geometry → List (List ℕ) → Map)
+    (room : Area → Geometry → Room) (prices : Area → Geometry → Prices) (d : Device) (trusted other : Side S)
+    : Type 0 where
   pub trusted_stands : SideStands mounted_on stands d trusted
   pub other_stands : SideStands mounted_on stands d other
   pub apart : AreApart trusted.area other.area
@@ -77,9 +85,11 @@ pub record IsMirror {S : Type 0} (mounted_on : S → Area) (stands : S → Geome
 
 -- ---- what a command leaves of both
 
--- Power was lost in a command. Neither area is damaged. The trusted one has the settings of before or the new ones, and the other
--- one those of before, or the new ones where the trusted one has them.
-pub record IsCutBoth (damage : Area → Geometry → List (List ℕ) → Option Damaged) (contents : Area → Geometry → List (List ℕ) → Map) (new : Device) (trusted other : Area) (before after : Map) : Type 0 where
+-- Power was lost in a command. Neither area is damaged. The trusted one has the settings of before or the new
+-- ones, and the other one those of before, or the new ones where the trusted one has them.
+pub record IsCutBoth (damage : Area → Geometry → List (List ℕ) → Option Damaged)
+    (contents : Area → Geometry → List (List ℕ) → Map) (new : Device) (trusted other : Area)
+    (before after : Map) : Type 0 where
   pub trusted_sound : on damage new trusted ≡ None
   pub other_sound : on damage new other ≡ None
   pub settings :
@@ -88,95 +98,122 @@ pub record IsCutBoth (damage : Area → Geometry → List (List ℕ) → Option 
       ⊎ ((on contents new trusted ≡ after) × (on contents new other ≡ after))
 
 -- settings fit both areas
-pub record FitBoth (room : Area → Geometry → Room) (prices : Area → Geometry → Prices) (d : Device) (trusted other : Area) (settings : Map) : Type 0 where
+pub record FitBoth (room : Area → Geometry → Room) (prices : Area → Geometry → Prices) (d : Device)
+    (trusted other : Area) (settings : Map) : Type 0 where
   pub trusted_fits : FitsOn room prices d trusted settings
   pub other_fits : FitsOn room prices d other settings
 
 -- the settings of before a command fit both areas, and so do the new ones
-abbrev pub FitEither : (Area → Geometry → Room) → (Area → Geometry → Prices) → Device → Area → Area → Map → Map → Type 0
-FitEither room prices d trusted other before after = FitBoth room prices d trusted other before × FitBoth room prices d trusted other after
+abbrev pub FitEither : (Area → Geometry → Room) → (Area → Geometry → Prices) → Device → Area → Area → Map
+    → Map → Type 0
+FitEither room prices d trusted other before after =
+    FitBoth room prices d trusted other before × FitBoth room prices d trusted other after
 
 -- both have these settings
-pub record BothHave (contents : Area → Geometry → List (List ℕ) → Map) (new : Device) (trusted other : Area) (after : Map) : Type 0 where
+pub record BothHave (contents : Area → Geometry → List (List ℕ) → Map) (new : Device) (trusted other : Area)
+    (after : Map) : Type 0 where
   pub trusted_has : on contents new trusted ≡ after
   pub other_has : on contents new other ≡ after
 
 -- ---- setting
 
 -- the name is one too many in neither of the areas
-pub record IsFew (room : Area → Geometry → Room) (d : Device) (trusted other : Area) (settings : Map) (name : List ℕ) : Type 0 where
+pub record IsFew (room : Area → Geometry → Room) (d : Device) (trusted other : Area) (settings : Map)
+    (name : List ℕ) : Type 0 where
   pub trusted_few : too_many_on room d trusted settings name ≡ false
   pub other_few : too_many_on room d other settings name ≡ false
 
 -- and both have room for the value, or the name has it already
-pub record HasRoom (room : Area → Geometry → Room) (d : Device) (trusted other : Area) (settings : Map) (name value : List ℕ) : Type 0 where
+pub record HasRoom (room : Area → Geometry → Room) (d : Device) (trusted other : Area) (settings : Map)
+    (name value : List ℕ) : Type 0 where
   pub few : IsFew room d trusted other settings name
   pub trusted_room : ¬ IsStored settings name value → ¬ IsTightOn room d trusted settings name value
   pub other_room : ¬ IsStored settings name value → ¬ IsTightOn room d other settings name value
 
 -- The name has the value in both areas, and all others stay; an equal value programs nothing.
-pub record SetsBoth (contents : Area → Geometry → List (List ℕ) → Map) (old new : Device) (trusted other : Area) (name value : List ℕ) : Type 0 where
+pub record SetsBoth (contents : Area → Geometry → List (List ℕ) → Map) (old new : Device)
+    (trusted other : Area) (name value : List ℕ) : Type 0 where
   pub settings : BothHave contents new trusted other (insert (on contents old trusted) name value)
   pub same : IsStored (on contents old trusted) name value → new ≡ old
   pub spends : ¬ IsStored (on contents old trusted) name value → SpendsSome old new
 
 -- one area has no room, by these numbers
-pub record IsFull (room : Area → Geometry → Room) (d : Device) (area : Area) (settings : Map) (name value : List ℕ) (need live : ℕ) : Type 0 where
+pub record IsFull (room : Area → Geometry → Room) (d : Device) (area : Area) (settings : Map)
+    (name value : List ℕ) (need live : ℕ) : Type 0 where
   pub tight : IsTightOn room d area settings name value
   pub needs : need ≡ (room_on room d area).need settings name value
   pub lives : live ≡ (room_on room d area).cost settings
 
 -- how looking for room in one area ends
-abbrev pub LooksForRoom : {T : Type 0} → (Area → Geometry → Room) → Device → Area → Map → List ℕ → List ℕ → Result T SetFault → Type 0
+abbrev pub LooksForRoom : {T : Type 0} → (Area → Geometry → Room) → Device → Area → Map → List ℕ → List ℕ
+    → Result T SetFault → Type 0
 LooksForRoom room d area settings name value (Ok x) = ¬ IsTightOn room d area settings name value
-LooksForRoom room d area settings name value (Err (NoSpace need live)) = IsFull room d area settings name value need live
+LooksForRoom room d area settings name value (Err (NoSpace need live)) =
+    IsFull room d area settings name value need live
 LooksForRoom room d area settings name value (Err TooManyNames) = ⊥
 LooksForRoom room d area settings name value (Err PowerLost) = ⊥
 
 -- The lower of the two has no room, or the higher one alone, and the map has another value or none.
-pub record FindsNoRoom (room : Area → Geometry → Room) (d : Device) (low high : Area) (settings : Map) (name value : List ℕ) (need live : ℕ) : Type 0 where
+pub record FindsNoRoom (room : Area → Geometry → Room) (d : Device) (low high : Area) (settings : Map)
+    (name value : List ℕ) (need live : ℕ) : Type 0 where
   pub other : ¬ IsStored settings name value
   pub full :
       IsFull room d low settings name value need live
       ⊎ ((¬ IsTightOn room d low settings name value) × IsFull room d high settings name value need live)
 
 -- how looking for room in both areas ends
-abbrev pub LooksForBoth : {S T : Type 0} → (Area → Geometry → Room) → Device → Side S → Side S → Map → List ℕ → List ℕ → Result T SetFault → Type 0
-LooksForBoth room d trusted other settings name value (Ok x) = HasRoom room d trusted.area other.area settings name value
+abbrev pub LooksForBoth : {S T : Type 0} → (Area → Geometry → Room) → Device → Side S → Side S → Map → List ℕ
+    → List ℕ → Result T SetFault → Type 0
+LooksForBoth room d trusted other settings name value (Ok x) =
+    HasRoom room d trusted.area other.area settings name value
 LooksForBoth room d trusted other settings name value (Err TooManyNames) =
-    (too_many_on room d trusted.area settings name ≡ true) ⊎ (too_many_on room d other.area settings name ≡ true)
+    (too_many_on room d trusted.area settings name ≡ true)
+    ⊎ (too_many_on room d other.area settings name ≡ true)
 LooksForBoth room d trusted other settings name value (Err (NoSpace need live)) =
-    IsFew room d trusted.area other.area settings name × FindsNoRoom room d (lower trusted other) (higher trusted other) settings name value need live
+    IsFew room d trusted.area other.area settings name
+    × FindsNoRoom room d (lower trusted other) (higher trusted other) settings name value need live
 LooksForBoth room d trusted other settings name value (Err PowerLost) = ⊥
 
 -- how a set ends; a refusal comes before anything is programmed
-abbrev pub MirrorSets : {S T : Type 0} → (Area → Geometry → List (List ℕ) → Option Damaged) → (Area → Geometry → List (List ℕ) → Map) → (Area → Geometry → Room) → (Area → Geometry → Prices)
+abbrev pub MirrorSets : {S T : Type 0} → (Area → Geometry → List (List ℕ) → Option Damaged)
+    → (Area → Geometry → List (List ℕ) → Map) → (Area → Geometry → Room) → (Area → Geometry → Prices)
     → Device → Device → Side S → Side S → List ℕ → List ℕ → Result T SetFault → Type 0
 MirrorSets damage contents room prices old new trusted other name value (Ok x) =
-    HasRoom room old trusted.area other.area (on contents old trusted.area) name value × SetsBoth contents old new trusted.area other.area name value
+    HasRoom room old trusted.area other.area (on contents old trusted.area) name value
+    × SetsBoth contents old new trusted.area other.area name value
 MirrorSets damage contents room prices old new trusted other name value (Err TooManyNames) =
-    ((too_many_on room old trusted.area (on contents old trusted.area) name ≡ true) ⊎ (too_many_on room old other.area (on contents old trusted.area) name ≡ true)) × (new ≡ old)
+    ((too_many_on room old trusted.area (on contents old trusted.area) name ≡ true)
+    ⊎ (too_many_on room old other.area (on contents old trusted.area) name ≡ true)) × (new ≡ old)
 MirrorSets damage contents room prices old new trusted other name value (Err (NoSpace need live)) =
     IsFew room old trusted.area other.area (on contents old trusted.area) name
-    × FindsNoRoom room old (lower trusted other) (higher trusted other) (on contents old trusted.area) name value need live × (new ≡ old)
+    × FindsNoRoom room old (lower trusted other) (higher trusted other) (on contents old trusted.area) name
+    value need live × (new ≡ old)
 MirrorSets damage contents room prices old new trusted other name value (Err PowerLost) =
-    HasRoom room old trusted.area other.area (on contents old trusted.area) name value × (¬ IsStored (on contents old trusted.area) name value)
-    × IsCutBoth damage contents new trusted.area other.area (on contents old trusted.area) (insert (on contents old trusted.area) name value)
-    × FitEither room prices new trusted.area other.area (on contents old trusted.area) (insert (on contents old trusted.area) name value)
+    HasRoom room old trusted.area other.area (on contents old trusted.area) name value
+    × (¬ IsStored (on contents old trusted.area) name value)
+    × IsCutBoth damage contents new trusted.area other.area (on contents old trusted.area)
+    (insert (on contents old trusted.area) name value)
+    × FitEither room prices new trusted.area other.area (on contents old trusted.area)
+    (insert (on contents old trusted.area) name value)
 
 -- ---- deleting
 
 -- The name has no value in either area, and all others stay; an absent name programs nothing.
-pub record DeletesBoth (contents : Area → Geometry → List (List ℕ) → Map) (old new : Device) (trusted other : Area) (name : List ℕ) : Type 0 where
+pub record DeletesBoth (contents : Area → Geometry → List (List ℕ) → Map) (old new : Device)
+    (trusted other : Area) (name : List ℕ) : Type 0 where
   pub settings : BothHave contents new trusted other (remove (on contents old trusted) name)
   pub absent : IsAbsent (on contents old trusted) name → new ≡ old
   pub spends : ¬ IsAbsent (on contents old trusted) name → SpendsSome old new
 
 -- how a delete ends
-abbrev pub MirrorDeletes : {S T : Type 0} → (Area → Geometry → List (List ℕ) → Option Damaged) → (Area → Geometry → List (List ℕ) → Map) → (Area → Geometry → Room) → (Area → Geometry → Prices)
+abbrev pub MirrorDeletes : {S T : Type 0} → (Area → Geometry → List (List ℕ) → Option Damaged)
+    → (Area → Geometry → List (List ℕ) → Map) → (Area → Geometry → Room) → (Area → Geometry → Prices)
     → Device → Device → Side S → Side S → List ℕ → Result T Lost → Type 0
-MirrorDeletes damage contents room prices old new trusted other name (Ok x) = DeletesBoth contents old new trusted.area other.area name
+MirrorDeletes damage contents room prices old new trusted other name (Ok x) =
+    DeletesBoth contents old new trusted.area other.area name
 MirrorDeletes damage contents room prices old new trusted other name (Err lost) =
     (¬ IsAbsent (on contents old trusted.area) name)
-    × IsCutBoth damage contents new trusted.area other.area (on contents old trusted.area) (remove (on contents old trusted.area) name)
-    × FitEither room prices new trusted.area other.area (on contents old trusted.area) (remove (on contents old trusted.area) name)
+    × IsCutBoth damage contents new trusted.area other.area (on contents old trusted.area)
+    (remove (on contents old trusted.area) name)
+    × FitEither room prices new trusted.area other.area (on contents old trusted.area)
+    (remove (on contents old trusted.area) name)

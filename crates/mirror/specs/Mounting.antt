@@ -54,8 +54,10 @@ worked_on selector trusted other = selector ∷ trusted ∷ other ∷ []
 
 -- how naming an area ends: the selector names it, or the one of before
 abbrev pub NameEnds : {T E : Type 0} → List Area → Device → Device → Area → ℕ → Result T E → Type 0
-NameEnds areas old new selector index (Ok x) = (active_in areas new selector ≡ index) × (ring_damage new selector ≡ None)
-NameEnds areas old new selector index (Err lost) = OldOrChosen areas old new selector index × (ring_damage new selector ≡ None)
+NameEnds areas old new selector index (Ok x) =
+    (active_in areas new selector ≡ index) × (ring_damage new selector ≡ None)
+NameEnds areas old new selector index (Err lost) =
+    OldOrChosen areas old new selector index × (ring_damage new selector ≡ None)
 
 -- Power was lost while the selector was mounted or named the trusted area. The selector is not damaged.
 pub record IsCutTrust (areas : List Area) (old new : Device) : Type 0 where
@@ -77,7 +79,8 @@ pub record NamesTrusted (areas : List Area) (old new : Device) : Type 0 where
 -- how mounting the selector ends, with the trusted area
 abbrev pub TrustEnds : List Area → Device → Device → Result ℕ MirrorMount → Type 0
 TrustEnds areas old new (Ok place) = (place ≡ trusted_on areas old) × NamesTrusted areas old new
-TrustEnds areas old new (Err (IsDamaged place shown)) = (place ≡ selector_place areas) × (selector_damage_on areas old ≡ Some shown) × (new ≡ old)
+TrustEnds areas old new (Err (IsDamaged place shown)) =
+    (place ≡ selector_place areas) × (selector_damage_on areas old ≡ Some shown) × (new ≡ old)
 TrustEnds areas old new (Err (Unfit place)) = ⊥
 TrustEnds areas old new (Err PowerLost) = IsCutTrust areas old new
 TrustEnds areas old new (Err NoMemory) = ⊥
@@ -85,38 +88,51 @@ TrustEnds areas old new (Err NoMemory) = ⊥
 -- ---- both areas
 
 -- how the mount of one area ends
-abbrev pub SideEnds : {S : Type 0} → (S → Area) → (S → Geometry → List (List ℕ) → Type 0) → (Area → Geometry → List (List ℕ) → Option Damaged) → Device → Device → Area → ℕ → Result (Side S) MirrorMount → Type 0
+abbrev pub SideEnds : {S : Type 0} → (S → Area) → (S → Geometry → List (List ℕ) → Type 0)
+    → (Area → Geometry → List (List ℕ) → Option Damaged) → Device → Device → Area → ℕ
+    → Result (Side S) MirrorMount → Type 0
 SideEnds mounted_on stands damage old new area place (Ok side) =
-    (on damage old area ≡ None) × (side.area ≡ area) × (side.place ≡ place) × SideStands mounted_on stands new side
-SideEnds mounted_on stands damage old new area place (Err (IsDamaged other shown)) = (other ≡ place) × (on damage old area ≡ Some shown) × (new ≡ old)
+    (on damage old area ≡ None) × (side.area ≡ area) × (side.place ≡ place)
+    × SideStands mounted_on stands new side
+SideEnds mounted_on stands damage old new area place (Err (IsDamaged other shown)) =
+    (other ≡ place) × (on damage old area ≡ Some shown) × (new ≡ old)
 SideEnds mounted_on stands damage old new area place (Err (Unfit other)) = ⊥
 SideEnds mounted_on stands damage old new area place (Err PowerLost) = on damage old area ≡ None
 SideEnds mounted_on stands damage old new area place (Err NoMemory) = new ≡ old
 
 -- how looking whether settings fit one area ends
-abbrev pub FitEnds : {T : Type 0} → (Area → Geometry → Room) → (Area → Geometry → Prices) → Device → Area → ℕ → Map → Result T MirrorMount → Type 0
+abbrev pub FitEnds : {T : Type 0} → (Area → Geometry → Room) → (Area → Geometry → Prices) → Device → Area → ℕ
+    → Map → Result T MirrorMount → Type 0
 FitEnds room prices d area place settings (Ok x) = FitsOn room prices d area settings
 FitEnds room prices d area place settings (Err (IsDamaged other shown)) = ⊥
-FitEnds room prices d area place settings (Err (Unfit other)) = (other ≡ place) × ¬ FitsOn room prices d area settings
+FitEnds room prices d area place settings (Err (Unfit other)) =
+    (other ≡ place) × ¬ FitsOn room prices d area settings
 FitEnds room prices d area place settings (Err PowerLost) = ⊥
 FitEnds room prices d area place settings (Err NoMemory) = ⊤
 
 -- settings fit the area at this place
-abbrev pub FitsAt : (Area → Geometry → Room) → (Area → Geometry → Prices) → List Area → Device → ℕ → Map → Type 0
-FitsAt room prices areas d place settings = (area : Area) → slice_get areas place ≡ Some area → FitsOn room prices d area settings
+abbrev pub FitsAt : (Area → Geometry → Room) → (Area → Geometry → Prices) → List Area → Device → ℕ → Map
+    → Type 0
+FitsAt room prices areas d place settings =
+    (area : Area) → slice_get areas place ≡ Some area → FitsOn room prices d area settings
 
 -- Settings do not fit the area at the lower of two places, or not the one at the higher place alone.
-abbrev pub UnfitAt : (Area → Geometry → Room) → (Area → Geometry → Prices) → List Area → Device → ℕ → ℕ → Map → ℕ → Type 0
+abbrev pub UnfitAt : (Area → Geometry → Room) → (Area → Geometry → Prices) → List Area → Device → ℕ → ℕ → Map
+    → ℕ → Type 0
 UnfitAt room prices areas d trusted other settings place =
     ((place ≡ min trusted other) × ¬ FitsAt room prices areas d place settings)
-    ⊎ ((place ≡ max trusted other) × FitsAt room prices areas d (min trusted other) settings × ¬ FitsAt room prices areas d place settings)
+    ⊎
+    ((place ≡ max trusted other) × FitsAt room prices areas d (min trusted other) settings
+    × ¬ FitsAt room prices areas d place settings)
 
 -- how looking whether settings fit two areas ends
-abbrev pub BothFitEnds : {T : Type 0} → (Area → Geometry → Room) → (Area → Geometry → Prices) → List Area → Device → ℕ → ℕ → Map → Result T MirrorMount → Type 0
+abbrev pub BothFitEnds : {T : Type 0} → (Area → Geometry → Room) → (Area → Geometry → Prices) → List Area
+    → Device → ℕ → ℕ → Map → Result T MirrorMount → Type 0
 BothFitEnds room prices areas d trusted other settings (Ok x) =
     FitsAt room prices areas d trusted settings × FitsAt room prices areas d other settings
 BothFitEnds room prices areas d trusted other settings (Err (IsDamaged place shown)) = ⊥
-BothFitEnds room prices areas d trusted other settings (Err (Unfit place)) = UnfitAt room prices areas d trusted other settings place
+BothFitEnds room prices areas d trusted other settings (Err (Unfit place)) =
+    UnfitAt room prices areas d trusted other settings place
 BothFitEnds room prices areas d trusted other settings (Err PowerLost) = ⊥
 BothFitEnds room prices areas d trusted other settings (Err NoMemory) = ⊤
 
@@ -126,18 +142,21 @@ IsKeptIf (Some kept) store holds = (kept ≡ store) × holds
 IsKeptIf None store holds = ¬ holds
 
 -- The area is not damaged, and has these settings.
-pub record HoldsMap (damage : Area → Geometry → List (List ℕ) → Option Damaged) (contents : Area → Geometry → List (List ℕ) → Map)
+pub record HoldsMap (damage : Area → Geometry → List (List ℕ) → Option Damaged)
+    (contents : Area → Geometry → List (List ℕ) → Map)
     (d : Device) (area : Area) (settings : Map) : Type 0 where
   pub sound : on damage d area ≡ None
   pub reads : on contents d area ≡ settings
 
--- How the mount of the other area ends: it holds the map of the trusted one; or there is no store, and then it was damaged, or held
--- another map.
-abbrev pub HoldEnds : {S : Type 0} → (S → Area) → (S → Geometry → List (List ℕ) → Type 0) → (Area → Geometry → List (List ℕ) → Option Damaged) → (Area → Geometry → List (List ℕ) → Map)
+-- How the mount of the other area ends: it holds the map of the trusted one; or there is no store, and then
+-- it was damaged, or held another map.
+abbrev pub HoldEnds : {S : Type 0} → (S → Area) → (S → Geometry → List (List ℕ) → Type 0)
+    → (Area → Geometry → List (List ℕ) → Option Damaged) → (Area → Geometry → List (List ℕ) → Map)
     → Device → Device → Area → Map → Result (Option S) MirrorMount → Type 0
 HoldEnds mounted_on stands damage contents old new area settings (Ok (Some store)) =
     (mounted_on store ≡ area) × StandsOn mounted_on stands new store × (on contents new area ≡ settings)
-HoldEnds mounted_on stands damage contents old new area settings (Ok None) = ¬ HoldsMap damage contents old area settings
+HoldEnds mounted_on stands damage contents old new area settings (Ok None) =
+    ¬ HoldsMap damage contents old area settings
 HoldEnds mounted_on stands damage contents old new area settings (Err (IsDamaged place shown)) = ⊥
 HoldEnds mounted_on stands damage contents old new area settings (Err (Unfit place)) = ⊥
 HoldEnds mounted_on stands damage contents old new area settings (Err PowerLost) = ⊤
@@ -162,22 +181,27 @@ RepairsAs (Err MoveLost) result = result ≡ Err PowerLost
 RepairsAs (Err MoveNoMemory) result = result ≡ Err NoMemory
 
 -- how opening the other area ends: it holds the map of the trusted one
-abbrev pub OtherEnds : {S : Type 0} → (S → Area) → (S → Geometry → List (List ℕ) → Type 0) → Device → Area → Type 0 → Result S MirrorMount → Type 0
-OtherEnds mounted_on stands new area same (Ok store) = (mounted_on store ≡ area) × StandsOn mounted_on stands new store × same
+abbrev pub OtherEnds : {S : Type 0} → (S → Area) → (S → Geometry → List (List ℕ) → Type 0) → Device → Area
+    → Type 0 → Result S MirrorMount → Type 0
+OtherEnds mounted_on stands new area same (Ok store) =
+    (mounted_on store ≡ area) × StandsOn mounted_on stands new store × same
 OtherEnds mounted_on stands new area same (Err (IsDamaged place shown)) = ⊥
 OtherEnds mounted_on stands new area same (Err (Unfit place)) = ⊥
 OtherEnds mounted_on stands new area same (Err PowerLost) = ⊤
 OtherEnds mounted_on stands new area same (Err NoMemory) = ⊤
 
-module _ (damage : Area → Geometry → List (List ℕ) → Option Damaged) (contents : Area → Geometry → List (List ℕ) → Map) where
+module _ (damage : Area → Geometry → List (List ℕ) → Option Damaged)
+    (contents : Area → Geometry → List (List ℕ) → Map) where
   -- The area has the settings that it had, and is not damaged.
   pub record KeepsArea (old new : Device) (area : Area) : Type 0 where
     pub undamaged : on damage new area ≡ None
     pub reads : on contents new area ≡ on contents old area
 
-  module _ {S : Type 0} (mounted_on : S → Area) (stands : S → Geometry → List (List ℕ) → Type 0) (room : Area → Geometry → Room) (prices : Area → Geometry → Prices) where
+  module _ {S : Type 0} (mounted_on : S → Area) (stands : S → Geometry → List (List ℕ) → Type 0)
+      (room : Area → Geometry → Room) (prices : Area → Geometry → Prices) where
     -- Both stores are up on these areas and hold the map of the trusted one, which was not damaged.
-    pub record MountsBoth (areas : List Area) (old new : Device) (trusted other : Area) (place : ℕ) (mirror : Mirror S) : Type 0 where
+    pub record MountsBoth (areas : List Area) (old new : Device) (trusted other : Area) (place : ℕ)
+        (mirror : Mirror S) : Type 0 where
       pub sound : on damage old trusted ≡ None
       pub trusted_is : mirror.trusted.area ≡ trusted
       pub trusted_at : mirror.trusted.place ≡ place
@@ -187,21 +211,26 @@ module _ (damage : Area → Geometry → List (List ℕ) → Option Damaged) (co
       pub mirrors : IsMirror mounted_on stands contents room prices new mirror.trusted mirror.other
 
   -- Settings do not fit both areas. The other one is untouched.
-  pub record FindsUnfit (room : Area → Geometry → Room) (prices : Area → Geometry → Prices) (areas : List Area) (old new : Device) (trusted other : Area) (place unfit : ℕ) : Type 0 where
+  pub record FindsUnfit (room : Area → Geometry → Room) (prices : Area → Geometry → Prices)
+      (areas : List Area) (old new : Device) (trusted other : Area) (place unfit : ℕ) : Type 0 where
     pub sound : on damage old trusted ≡ None
     pub kept : KeepsArea old new trusted
     pub untouched : sectors_of new other ≡ sectors_of old other
     pub unfits : UnfitAt room prices areas old place (other_place areas place) (on contents old trusted) unfit
 
-  -- Power was lost in the trusted area, while it was mounted: the other one is untouched. Or it was lost later, in the other one,
-  -- and then the map fits both.
-  abbrev pub StopsIn : (Area → Geometry → Room) → (Area → Geometry → Prices) → List Area → Device → Device → Area → Area → ℕ → Type 0
+  -- Power was lost in the trusted area, while it was mounted: the other one is untouched. Or it was lost
+  -- later, in the other one, and then the map fits both.
+  abbrev pub StopsIn : (Area → Geometry → Room) → (Area → Geometry → Prices) → List Area → Device → Device
+      → Area → Area → ℕ → Type 0
   StopsIn room prices areas old new trusted other place =
       Touches (trusted ∷ []) old new true
-      ⊎ (FitsAt room prices areas old place (on contents old trusted) × FitsAt room prices areas old (other_place areas place) (on contents old trusted))
+      ⊎
+      (FitsAt room prices areas old place (on contents old trusted)
+      × FitsAt room prices areas old (other_place areas place) (on contents old trusted))
 
-  -- What a mount of both areas leaves of what they hold, however it ends. The trusted one keeps its settings, and is all FF afterwards only
-  -- where it was so before; and where the other one holds the same map, it goes on holding it.
+  -- What a mount of both areas leaves of what they hold, however it ends. The trusted one keeps its settings,
+  -- and is all FF afterwards only where it was so before; and where the other one holds the same map, it goes
+  -- on holding it.
   pub record SparesBoth (old new : Device) (trusted other : Area) : Type 0 where
     pub written : StaysWritten old new trusted
     pub kept : on damage old trusted ≡ None → KeepsArea old new trusted
@@ -210,11 +239,14 @@ module _ (damage : Area → Geometry → List (List ℕ) → Option Damaged) (co
         → HoldsMap damage contents new other (on contents old trusted)
 
 -- how mounting both areas ends, where the one at this place is trusted
-abbrev pub BothEnds : {S : Type 0} → (S → Area) → (S → Geometry → List (List ℕ) → Type 0) → (Area → Geometry → List (List ℕ) → Option Damaged) → (Area → Geometry → List (List ℕ) → Map)
-    → (Area → Geometry → Room) → (Area → Geometry → Prices) → List Area → Device → Device → Area → Area → ℕ → Result (Mirror S) MirrorMount → Type 0
+abbrev pub BothEnds : {S : Type 0} → (S → Area) → (S → Geometry → List (List ℕ) → Type 0)
+    → (Area → Geometry → List (List ℕ) → Option Damaged) → (Area → Geometry → List (List ℕ) → Map)
+    → (Area → Geometry → Room) → (Area → Geometry → Prices) → List Area → Device → Device → Area → Area → ℕ
+    → Result (Mirror S) MirrorMount → Type 0
 BothEnds mounted_on stands damage contents room prices areas old new trusted other place (Ok mirror) =
     MountsBoth damage contents mounted_on stands room prices areas old new trusted other place mirror
-BothEnds mounted_on stands damage contents room prices areas old new trusted other place (Err (IsDamaged at shown)) =
+BothEnds mounted_on stands damage contents room prices areas old new trusted other place
+    (Err (IsDamaged at shown)) =
     (at ≡ place) × (on damage old trusted ≡ Some shown) × (new ≡ old)
 BothEnds mounted_on stands damage contents room prices areas old new trusted other place (Err (Unfit unfit)) =
     FindsUnfit damage contents room prices areas old new trusted other place unfit
@@ -231,15 +263,18 @@ pub record ArePlaced (areas : List Area) (d : Device) (trusted other : Area) : T
   pub trusted_there : slice_get areas (trusted_on areas d) ≡ Some trusted
   pub other_there : slice_get areas (other_place areas (trusted_on areas d)) ≡ Some other
 
-module _ (damage : Area → Geometry → List (List ℕ) → Option Damaged) (contents : Area → Geometry → List (List ℕ) → Map) where
+module _ (damage : Area → Geometry → List (List ℕ) → Option Damaged)
+    (contents : Area → Geometry → List (List ℕ) → Map) where
   -- The selector names the trusted area, which has the settings that it had; neither is damaged.
   pub record KeepsTrusted (areas : List Area) (old new : Device) (trusted : Area) : Type 0 where
     pub sound : selector_damage_on areas new ≡ None
     pub active : active_on areas new ≡ trusted_on areas old
     pub kept : KeepsArea damage contents old new trusted
 
-  module _ {S : Type 0} (mounted_on : S → Area) (stands : S → Geometry → List (List ℕ) → Type 0) (room : Area → Geometry → Room) (prices : Area → Geometry → Prices) where
-    -- Both stores are up and hold the map of the trusted area. Neither that area nor the selector was damaged.
+  module _ {S : Type 0} (mounted_on : S → Area) (stands : S → Geometry → List (List ℕ) → Type 0)
+      (room : Area → Geometry → Room) (prices : Area → Geometry → Prices) where
+    -- Both stores are up and hold the map of the trusted area. Neither that area nor the selector was
+    -- damaged.
     pub record IsMounted (areas : List Area) (old new : Device) (mirror : Mirror S) : Type 0 where
       pub undamaged : damage_shown damage areas old ≡ None
       pub placed : ArePlaced areas old mirror.trusted.area mirror.other.area
@@ -249,27 +284,31 @@ module _ (damage : Area → Geometry → List (List ℕ) → Option Damaged) (co
       pub rests : SelectorRests areas new
       pub mirrors : IsMirror mounted_on stands contents room prices new mirror.trusted mirror.other
 
-  -- The map of the trusted area does not fit both areas: not the one at the lower place, or not the one at the higher place
-  -- alone. The other area is untouched.
-  pub record IsUnfit (room : Area → Geometry → Room) (prices : Area → Geometry → Prices) (areas : List Area) (old new : Device) (unfit : ℕ) : Type 0 where
+  -- The map of the trusted area does not fit both areas: not the one at the lower place, or not the one at
+  -- the higher place alone. The other area is untouched.
+  pub record IsUnfit (room : Area → Geometry → Room) (prices : Area → Geometry → Prices) (areas : List Area)
+      (old new : Device) (unfit : ℕ) : Type 0 where
     pub undamaged : damage_shown damage areas old ≡ None
     pub trusted : Area
     pub other : Area
     pub placed : ArePlaced areas old trusted other
     pub kept : KeepsTrusted areas old new trusted
     pub untouched : sectors_of new other ≡ sectors_of old other
-    pub unfits : UnfitAt room prices areas old (trusted_on areas old) (other_place areas (trusted_on areas old)) (on contents old trusted) unfit
+    pub unfits : UnfitAt room prices areas old (trusted_on areas old)
+        (other_place areas (trusted_on areas old)) (on contents old trusted) unfit
 
-  -- The selector or the trusted area is damaged. No byte of an area for settings changed, and the map trusts the same area and shows the
-  -- same damage; the selector names the area that it named, or the trusted one.
-  pub record FindsDamage (areas : List Area) (selector : Area) (old new : Device) (place : ℕ) (shown : Damaged) : Type 0 where
+  -- The selector or the trusted area is damaged. No byte of an area for settings changed, and the map trusts
+  -- the same area and shows the same damage; the selector names the area that it named, or the trusted one.
+  pub record FindsDamage (areas : List Area) (selector : Area) (old new : Device) (place : ℕ)
+      (shown : Damaged) : Type 0 where
     pub is_shown : damage_shown damage areas old ≡ Some (place, shown)
     pub still_shown : damage_shown damage areas new ≡ Some (place, shown)
     pub trusted : trusted_on areas new ≡ trusted_on areas old
     pub active : (active_on areas new ≡ active_on areas old) ⊎ (active_on areas new ≡ trusted_on areas old)
     pub touches : Touches (selector ∷ []) old new false
 
-  -- Power was lost behind the selector, in the trusted area, which was not damaged and keeps its settings. The other one is untouched.
+  -- Power was lost behind the selector, in the trusted area, which was not damaged and keeps its settings.
+  -- The other one is untouched.
   pub record StopsInTrusted (areas : List Area) (selector : Area) (old new : Device) : Type 0 where
     pub trusted : Area
     pub there : slice_get areas (trusted_on areas old) ≡ Some trusted
@@ -278,17 +317,20 @@ module _ (damage : Area → Geometry → List (List ℕ) → Option Damaged) (co
     pub touches : Touches (selector ∷ trusted ∷ []) old new true
 
   -- Or behind both of these, in the other area, which was mounted or repaired: the map fits both.
-  pub record StopsInOther (room : Area → Geometry → Room) (prices : Area → Geometry → Prices) (areas : List Area) (old new : Device) : Type 0 where
+  pub record StopsInOther (room : Area → Geometry → Room) (prices : Area → Geometry → Prices)
+      (areas : List Area) (old new : Device) : Type 0 where
     pub trusted : Area
     pub there : slice_get areas (trusted_on areas old) ≡ Some trusted
     pub undamaged : on damage old trusted ≡ None
     pub kept : KeepsTrusted areas old new trusted
     pub fits : FitsAt room prices areas old (trusted_on areas old) (on contents old trusted)
-    pub other_fits : FitsAt room prices areas old (other_place areas (trusted_on areas old)) (on contents old trusted)
+    pub other_fits : FitsAt room prices areas old (other_place areas (trusted_on areas old))
+        (on contents old trusted)
 
-  -- Power was lost: while the selector was mounted or named the trusted area; or later, in the trusted area; or later still, in the
-  -- other one.
-  pub record IsCutMount (room : Area → Geometry → Room) (prices : Area → Geometry → Prices) (areas : List Area) (selector : Area) (old new : Device) : Type 0 where
+  -- Power was lost: while the selector was mounted or named the trusted area; or later, in the trusted area;
+  -- or later still, in the other one.
+  pub record IsCutMount (room : Area → Geometry → Room) (prices : Area → Geometry → Prices)
+      (areas : List Area) (selector : Area) (old new : Device) : Type 0 where
     pub trust : IsCutTrust areas old new
     pub later :
         Touches (selector ∷ []) old new true
@@ -298,20 +340,30 @@ module _ (damage : Area → Geometry → List (List ℕ) → Option Damaged) (co
   -- There was not enough memory. Where the trusted area was not damaged, it keeps its settings.
   pub record LacksMemory (areas : List Area) (old new : Device) : Type 0 where
     pub sound : selector_damage_on areas old ≡ None
-    pub kept : (trusted : Area) → slice_get areas (trusted_on areas old) ≡ Some trusted → on damage old trusted ≡ None → KeepsTrusted areas old new trusted
+    pub kept : (trusted : Area) → slice_get areas (trusted_on areas old) ≡ Some trusted
+        → on damage old trusted ≡ None → KeepsTrusted areas old new trusted
 
 -- how a mount ends
-abbrev pub MirrorMounts : {S : Type 0} → (S → Area) → (S → Geometry → List (List ℕ) → Type 0) → (Area → Geometry → List (List ℕ) → Option Damaged) → (Area → Geometry → List (List ℕ) → Map)
-    → (Area → Geometry → Room) → (Area → Geometry → Prices) → List Area → Area → Device → Device → Result (Mirror S) MirrorMount → Type 0
-MirrorMounts mounted_on stands damage contents room prices areas selector old new (Ok mirror) = IsMounted damage contents mounted_on stands room prices areas old new mirror
-MirrorMounts mounted_on stands damage contents room prices areas selector old new (Err (IsDamaged place shown)) =
+abbrev pub MirrorMounts : {S : Type 0} → (S → Area) → (S → Geometry → List (List ℕ) → Type 0)
+    → (Area → Geometry → List (List ℕ) → Option Damaged) → (Area → Geometry → List (List ℕ) → Map)
+    → (Area → Geometry → Room) → (Area → Geometry → Prices) → List Area → Area → Device → Device
+    → Result (Mirror S) MirrorMount → Type 0
+MirrorMounts mounted_on stands damage contents room prices areas selector old new (Ok mirror) =
+    IsMounted damage contents mounted_on stands room prices areas old new mirror
+MirrorMounts mounted_on stands damage contents room prices areas selector old new
+    (Err (IsDamaged place shown)) =
     FindsDamage damage contents areas selector old new place shown
-MirrorMounts mounted_on stands damage contents room prices areas selector old new (Err (Unfit place)) = IsUnfit damage contents room prices areas old new place
-MirrorMounts mounted_on stands damage contents room prices areas selector old new (Err PowerLost) = IsCutMount damage contents room prices areas selector old new
-MirrorMounts mounted_on stands damage contents room prices areas selector old new (Err NoMemory) = LacksMemory damage contents areas old new
+MirrorMounts mounted_on stands damage contents room prices areas selector old new (Err (Unfit place)) =
+    IsUnfit damage contents room prices areas old new place
+MirrorMounts mounted_on stands damage contents room prices areas selector old new (Err PowerLost) =
+    IsCutMount damage contents room prices areas selector old new
+MirrorMounts mounted_on stands damage contents room prices areas selector old new (Err NoMemory) =
+    LacksMemory damage contents areas old new
 
--- A mount has nothing to do: neither in the selector, which names the trusted area, nor in the two areas, which hold one map.
-pub record IsAtRest (damage : Area → Geometry → List (List ℕ) → Option Damaged) (contents : Area → Geometry → List (List ℕ) → Map) (rests : Area → Geometry → List (List ℕ) → Type 0)
+-- A mount has nothing to do: neither in the selector, which names the trusted area, nor in the two areas,
+-- which hold one map.
+pub record IsAtRest (damage : Area → Geometry → List (List ℕ) → Option Damaged)
+    (contents : Area → Geometry → List (List ℕ) → Map) (rests : Area → Geometry → List (List ℕ) → Type 0)
     (areas : List Area) (d : Device) : Type 0 where
   pub selector : SelectorRests areas d
   pub named : active_on areas d ≡ trusted_on areas d
@@ -330,7 +382,8 @@ other_units geometry names = mount_units geometry + fill_units geometry names
 
 -- and of mounting both areas, where the map has so many names
 abbrev pub both_units : Device → Area → Area → ℕ → ℕ
-both_units d trusted other names = mount_units (geometry_of d trusted) + other_units (geometry_of d other) names
+both_units d trusted other names =
+    mount_units (geometry_of d trusted) + other_units (geometry_of d other) names
 
 -- the most units and erases of a mount of the selector that then names the trusted area
 abbrev pub trust_units : Device → Area → ℕ

@@ -41,8 +41,10 @@ room_by p = pair_room p.price p.cap p.counted (too_many p)
 pub record IsRoomBy (room : Room) (p : Prices) : Type 0 where
   pub cap : room.cap ≡ p.cap
   pub cost : (settings : Map) → room.cost settings ≡ (room_by p).cost settings
-  pub need : (settings : Map) (name value : List ℕ) → room.need settings name value ≡ (room_by p).need settings name value
-  pub largest : (settings : Map) (name value : List ℕ) → room.largest settings name value ≡ (room_by p).largest settings name value
+  pub need : (settings : Map) (name value : List ℕ)
+      → room.need settings name value ≡ (room_by p).need settings name value
+  pub largest : (settings : Map) (name value : List ℕ)
+      → room.largest settings name value ≡ (room_by p).largest settings name value
   pub too_many : (settings : Map) (name : List ℕ) → room.too_many settings name ≡ too_many p settings name
   pub rises : (short long : ℕ) → short ≤ long → p.price short ≤ p.price long
 
@@ -54,8 +56,8 @@ IsMirrored area = (area.role ≡ Nvs) ⊎ (area.role ≡ Zms)
 abbrev pub greatest : Room → ℕ → ℕ
 greatest room limit = room.largest empty (replicate NAME_LIMIT 0x6E) (replicate limit 0)
 
--- What a map may cost in an area of so many sectors. One of the sectors is kept free, and each of the others has room for it as
--- long as it is no fuller than this.
+-- What a map may cost in an area of so many sectors. One of the sectors is kept free, and each of the others
+-- has room for it as long as it is no fuller than this.
 abbrev pub mirror_room : Room → ℕ → ℕ → ℕ
 mirror_room room sectors limit = (sectors - 1) * (room.cap - greatest room limit)
 
@@ -74,7 +76,8 @@ pub record Fits (room : Room) (p : Prices) (sectors limit : ℕ) (settings : Map
 
 -- with the put it would cost more than it may
 abbrev pub IsTight : Room → ℕ → ℕ → Map → List ℕ → List ℕ → Type 0
-IsTight room sectors limit settings name value = mirror_room room sectors limit < room.cost settings + room.need settings name value
+IsTight room sectors limit settings name value =
+    mirror_room room sectors limit < room.cost settings + room.need settings name value
 
 -- ---- on a device, by what a backend says of areas
 
@@ -82,10 +85,12 @@ abbrev pub prices_on : (Area → Geometry → Prices) → Device → Area → Pr
 prices_on prices d area = prices area (geometry_of d area)
 
 abbrev pub FitsOn : (Area → Geometry → Room) → (Area → Geometry → Prices) → Device → Area → Map → Type 0
-FitsOn room prices d area settings = Fits (room_on room d area) (prices_on prices d area) area.sectors (value_limit area) settings
+FitsOn room prices d area settings =
+    Fits (room_on room d area) (prices_on prices d area) area.sectors (value_limit area) settings
 
 abbrev pub IsTightOn : (Area → Geometry → Room) → Device → Area → Map → List ℕ → List ℕ → Type 0
-IsTightOn room d area settings name value = IsTight (room_on room d area) area.sectors (value_limit area) settings name value
+IsTightOn room d area settings name value =
+    IsTight (room_on room d area) area.sectors (value_limit area) settings name value
 
 abbrev pub too_many_on : (Area → Geometry → Room) → Device → Area → Map → List ℕ → Bool
 too_many_on room d area settings name = (room_on room d area).too_many settings name

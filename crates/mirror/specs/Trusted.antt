@@ -20,9 +20,11 @@ is_blank_at areas d place = option_map_or (is_blank_on d) (slice_get areas place
 -- the other area, where this one is all FF and that one is not
 abbrev pub trusted_with : List Area → Device → ℕ → Option ℕ → ℕ
 trusted_with areas d active None = active
-trusted_with areas d active (Some other) = if is_blank_at areas d active && not (is_blank_at areas d other) then other else active
+trusted_with areas d active (Some other) =
+    if is_blank_at areas d active && not (is_blank_at areas d other) then other else active
 
--- The trusted area of a map: the active one, or the other where the active one is all FF and the other is not.
+-- The trusted area of a map: the active one, or the other where the active one is all FF and the other is
+-- not.
 abbrev pub trusted_on : List Area → Device → ℕ
 trusted_on areas d = trusted_with areas d (active_on areas d) (target areas (active_on areas d))
 
@@ -35,11 +37,14 @@ selector_place areas = unwrap_or (selector_found areas) 0
 
 -- ---- the map
 
--- The map has a selector and just two store areas, each of a role that may be mirrored, on which the backend works.
+-- The map has a selector and just two store areas, each of a role that may be mirrored, on which the backend
+-- works.
 pub record IsMirrorMap (serves : Area → Geometry → Type 0) (areas : List Area) (d : Device) : Type 0 where
   pub lawful : IsLawfulMap d.banks areas
-  pub served : (place : ℕ) (area : Area) → slice_get areas place ≡ Some area → is_store area ≡ true → serves area (geometry_of d area)
-  pub roles : (place : ℕ) (area : Area) → slice_get areas place ≡ Some area → is_store area ≡ true → IsMirrored area
+  pub served : (place : ℕ) (area : Area) → slice_get areas place ≡ Some area → is_store area ≡ true
+      → serves area (geometry_of d area)
+  pub roles : (place : ℕ) (area : Area) → slice_get areas place ≡ Some area → is_store area ≡ true
+      → IsMirrored area
   pub selector : Area
   pub selected : selector_of areas ≡ Some selector
   pub one : ℕ
@@ -61,7 +66,8 @@ module _ (damage : Area → Geometry → List (List ℕ) → Option Damaged) whe
       (option_map (λ shown. (trusted_on areas d, shown)) (trusted_damage areas d))
 
   -- The image reads as the map of its trusted area. Neither that area nor the selector is damaged.
-  pub record MirrorReads (contents : Area → Geometry → List (List ℕ) → Map) (areas : List Area) (d : Device) (settings : Map) : Type 0 where
+  pub record MirrorReads (contents : Area → Geometry → List (List ℕ) → Map) (areas : List Area) (d : Device)
+      (settings : Map) : Type 0 where
     pub sound : selector_damage_on areas d ≡ None
     pub area : Area
     pub there : slice_get areas (trusted_on areas d) ≡ Some area
@@ -69,7 +75,10 @@ module _ (damage : Area → Geometry → List (List ℕ) → Option Damaged) whe
     pub reads : on contents d area ≡ settings
 
   -- Both areas read as the map, as they do at rest.
-  pub record BothRead (contents : Area → Geometry → List (List ℕ) → Map) (areas : List Area) (d : Device) (settings : Map) : Type 0 where
+  pub record BothRead (contents : Area → Geometry → List (List ℕ) → Map) (areas : List Area) (d : Device)
+      (settings : Map) : Type 0 where
     pub sound : selector_damage_on areas d ≡ None
-    pub undamaged : (place : ℕ) (area : Area) → slice_get areas place ≡ Some area → is_store area ≡ true → on damage d area ≡ None
-    pub reads : (place : ℕ) (area : Area) → slice_get areas place ≡ Some area → is_store area ≡ true → on contents d area ≡ settings
+    pub undamaged : (place : ℕ) (area : Area) → slice_get areas place ≡ Some area → is_store area ≡ true
+        → on damage d area ≡ None
+    pub reads : (place : ℕ) (area : Area) → slice_get areas place ≡ Some area → is_store area ≡ true
+        → on contents d area ≡ settings

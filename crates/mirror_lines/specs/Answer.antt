@@ -1,4 +1,5 @@
--- The lines of words that an answer is told in, and their text: those of a line on settings, and what `blank` alone answers.
+-- The lines of words that an answer is told in, and their text: those of a line on settings, and what `blank`
+-- alone answers.
 use Rattle.std.specs.Prelude.{ℕ, ⊤, false, List, [], ◌∷◌, codes}
 use Rattle.script_lines.specs.declared.answer.Answer.TheVariants as settings
 use Rattle.script_lines.specs.Answer.{lines_text, one}

@@ -1,5 +1,5 @@
--- Units and losses in answers, and the plan of a loss, as those of lines on settings say them. A blank area that was put in the
--- place of another drops the plan.
+-- Units and losses in answers, and the plan of a loss, as those of lines on settings say them. A blank area
+-- that was put in the place of another drops the plan.
 use Rattle.std.specs.Prelude.{◌≢◌, ℕ, ⊤, Bool, List, [], ◌∷◌, sum_by, count_by}
 use Rattle.flash_sim.specs.Device.{Plan}
 use Rattle.script_lines.specs.declared.answer.Answer.{Answer as settings_answer}

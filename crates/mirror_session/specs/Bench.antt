@@ -26,9 +26,11 @@ pub record Meanings : Type 0 where
   pub room : Area → Geometry → Room
   pub prices : Area → Geometry → Prices
 
-abbrev pub meanings : (Area → Geometry → List (List ℕ) → Option Damaged) → (Area → Geometry → List (List ℕ) → Map)
+abbrev pub meanings : (Area → Geometry → List (List ℕ) → Option Damaged)
+    → (Area → Geometry → List (List ℕ) → Map)
     → (Area → Geometry → Room) → (Area → Geometry → Prices) → Meanings
-meanings damage contents room prices = record { damage = damage; contents = contents; room = room; prices = prices }
+meanings damage contents room prices =
+    record { damage = damage; contents = contents; room = room; prices = prices }
 
 -- a bench, and whether the last mount was whole and no area was replaced since
 pub record Moment : Type 0 where
@@ -71,7 +73,8 @@ room_at m areas banks place = m.room (area_at areas place) (geometry_in banks (a
 
 abbrev pub lacking_at : Meanings → List Area → List Bank → Map → List ℕ → List ℕ → ℕ → Option (ℕ × ℕ)
 lacking_at m areas banks settings name value place =
-    lacking (room_at m areas banks place) (area_at areas place).sectors (value_limit (area_at areas place)) settings name value
+    lacking (room_at m areas banks place) (area_at areas place).sectors (value_limit (area_at areas place))
+    settings name value
 
 abbrev pub is_too_many_at : Meanings → List Area → List Bank → Map → List ℕ → ℕ → Bool
 is_too_many_at m areas banks settings name place = (room_at m areas banks place).too_many settings name

@@ -1,4 +1,5 @@
--- Which commands of a run stand: those of the lines that were done, and each one in which power was lost or not.
+-- Which commands of a run stand: those of the lines that were done, and each one in which power was lost or
+-- not.
 use Rattle.std.specs.Prelude.{◌≡◌, Bool, true, false, List, [], ◌++◌, if◌then◌else◌}
 use Rattle.backend_api.specs.Commands.{Command, all_applied}
 use Rattle.backend_api.specs.Map.{Map}
@@ -20,8 +21,8 @@ pub record Logged : Type 0 where
   pub state : State
   pub log : List Command
 
--- A line adds those of its commands that stand: all where it was done, a front of them where power was lost. With power on both areas read
--- as the start after all commands that stand.
+-- A line adds those of its commands that stand: all where it was done, a front of them where power was lost.
+-- With power on both areas read as the start after all commands that stand.
 pub record LogStep (r : Rules) (start : Map) (line : Line) (answer : Answer) (old new : Logged) : Type 0 where
   pub step : Step r line answer old.state new.state
   pub done : List Command
@@ -30,9 +31,11 @@ pub record LogStep (r : Rules) (start : Map) (line : Line) (answer : Answer) (ol
   pub reads : IsOn new.state → new.state.settings ≡ all_applied start new.log
   pub both : IsMirrored new.state
 
--- Whenever the settings are read, and in the end, they are those of the start after the commands that stand, line by line. Whether one
--- in which power was lost stands may be settled by a later line, as where the area that had it is replaced.
-pub record IsAfterPrefix (r : Rules) (lines : List Line) (answers : List Answer) (old new : State) : Type 0 where
+-- Whenever the settings are read, and in the end, they are those of the start after the commands that stand,
+-- line by line. Whether one in which power was lost stands may be settled by a later line, as where the area
+-- that had it is replaced.
+pub record IsAfterPrefix (r : Rules) (lines : List Line) (answers : List Answer) (old new : State) :
+    Type 0 where
   pub log : List Command
   pub runs :
       Follows (LogStep r old.settings) lines answers

@@ -14,8 +14,8 @@ use Rattle.mirror_session.specs.History.{IsAfterPrefix, IsMirrored, PowerStep}
 use Rattle.mirror_session.specs.State.{State, Rules}
 use Rattle.mirror_session.specs.Step.{Step}
 
--- From before the opening mount on, wherever power is lost and an area is replaced, the settings are those after commands of the lines in
--- their order, all of the acknowledged ones among them.
+-- From before the opening mount on, wherever power is lost and an area is replaced, the settings are those
+-- after commands of the lines in their order, all of the acknowledged ones among them.
 abbrev pub HoldsAcknowledged : Type 0
 HoldsAcknowledged =
     (r : Rules) (lines : List Line) (answers : List Answer) (old new : State)
@@ -34,7 +34,8 @@ LosesPower =
     (r : Rules) (lines : List Line) (answers : List Answer) (old new : State)
     → Follows (Step r) lines answers old new → Follows PowerStep lines answers old.is_on new.is_on
 
--- The selector names another area only behind a mount that found the one of before all FF, and the other one not.
+-- The selector names another area only behind a mount that found the one of before all FF, and the other one
+-- not.
 abbrev pub KeepsNamed : Type 0
 KeepsNamed =
     (r : Rules) (line : Line) (answer : Answer) (old new : State)
@@ -48,8 +49,8 @@ RunsInRow =
     → Follows (Step r) lines answers old mid → Follows (Step r) more others mid new
     → Follows (Step r) (lines ++ more) (answers ++ others) old new
 
--- A run of a bench, line by line, follows the table, its counts and its plan are those that its answers say, and no byte changed outside
--- the areas of the map.
+-- A run of a bench, line by line, follows the table, its counts and its plan are those that its answers say,
+-- and no byte changed outside the areas of the map.
 abbrev pub LinesMakeRuns : Type 0
 LinesMakeRuns =
     (m : Meanings) (areas : List Area) (lines : List Line) (answers : List Answer) (old new : Moment)

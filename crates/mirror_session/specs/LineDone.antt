@@ -68,32 +68,37 @@ pub record Accounts (line : Line) (answer : Answer) (old new : Device) : Type 0 
 
 -- the one that the selector names, and the one beside it
 abbrev pub store_areas : List Area → Device → List Area
-store_areas areas d = area_at areas (active_on areas d) ∷ area_at areas (beside_in areas (active_on areas d)) ∷ []
+store_areas areas d =
+    area_at areas (active_on areas d) ∷ area_at areas (beside_in areas (active_on areas d)) ∷ []
 
 -- all bytes of an area are FF then, and the flash was loaded so
 abbrev pub blanked : Device → Area → Device
 blanked d area =
     let size = sector_size d area in
-    let bytes = overwritten (bytes_of d area.bank) (area.first * size) (replicate (area.sectors * size) 0xFF) in
+    let bytes =
+    overwritten (bytes_of d area.bank) (area.first * size) (replicate (area.sectors * size) 0xFF) in
     loaded d d.banks (slice_set d.bytes area.bank bytes)
 
 -- the area with the label is blank then, and nothing else changed but that power is on at the flash
 abbrev pub Blanks : List Area → List ℕ → Device → Device → Type 0
-Blanks areas label old new = (place : ℕ) × (labelled areas label ≡ Some place) × (new ≡ blanked old (area_at areas place))
+Blanks areas label old new =
+    (place : ℕ) × (labelled areas label ≡ Some place) × (new ≡ blanked old (area_at areas place))
 
 -- what a line that replaced an area makes of the bytes
 abbrev pub Replaced : List Area → Line → Answer → Device → Device → Type 0
 Replaced areas (Blank label) (Told (settings.Done units)) old new = Blanks areas label old new
 Replaced areas line answer old new = ⊤
 
--- the areas that a line works on: a command on the two store areas alone, and another line on those of the map
+-- the areas that a line works on: a command on the two store areas alone, and another line on those of the
+-- map
 abbrev pub worked_on : List Area → Line → Device → List Area
 worked_on areas (Set name value) d = store_areas areas d
 worked_on areas (Del name) d = store_areas areas d
 worked_on areas line d = areas
 
--- The named area and the one beside it are as power left them in the command: neither is damaged, the named one has the settings of
--- before or the new ones, and the other one has the new ones only where the named one has.
+-- The named area and the one beside it are as power left them in the command: neither is damaged, the named
+-- one has the settings of before or the new ones, and the other one has the new ones only where the named one
+-- has.
 abbrev pub CutsBoth : Meanings → List Area → Command → Device → Device → Type 0
 CutsBoth m areas command old new =
     let named = area_at areas (active_on areas old) in
@@ -102,26 +107,30 @@ CutsBoth m areas command old new =
     IsCutBoth m.damage m.contents new named other before (applied before command)
 
 abbrev pub Cuts : Meanings → List Area → Line → Answer → Device → Device → Type 0
-Cuts m areas (Set name value) (Told (settings.Lost units chance)) old new = CutsBoth m areas (command_of name value) old new
+Cuts m areas (Set name value) (Told (settings.Lost units chance)) old new =
+    CutsBoth m areas (command_of name value) old new
 Cuts m areas (Del name) (Told (settings.Lost units chance)) old new = CutsBoth m areas (Delete name) old new
 Cuts m areas line answer old new = ⊤
 
--- A mount spends at most so many units and erases as a mount of each of the three areas, a choice of the selector, and a repair of the map's
--- names do.
+-- A mount spends at most so many units and erases as a mount of each of the three areas, a choice of the
+-- selector, and a repair of the map's names do.
 abbrev pub MountsWithin : Meanings → List Area → ℕ → Device → Type 0
 MountsWithin m areas units old =
-    (selector trusted other : Area) → selector_of areas ≡ Some selector → slice_get areas (trusted_on areas old) ≡ Some trusted
+    (selector trusted other : Area) → selector_of areas ≡ Some selector
+    → slice_get areas (trusted_on areas old) ≡ Some trusted
     → slice_get areas (other_place areas (trusted_on areas old)) ≡ Some other
     → units ≤ trust_units old selector + both_units old trusted other (finite.len (on m.contents old trusted))
 
--- A mount that was whole found no damage. One that was cut found none in the selector, and none in the area that is read, or the loss
--- lies in the selector's area.
+-- A mount that was whole found no damage. One that was cut found none in the selector, and none in the area
+-- that is read, or the loss lies in the selector's area.
 abbrev pub Finds : Meanings → List Area → Line → Answer → Device → Device → Type 0
-Finds m areas Mount (Told (settings.Done units)) old new = (damage_shown m.damage areas old ≡ None) × MountsWithin m areas units old
+Finds m areas Mount (Told (settings.Done units)) old new =
+    (damage_shown m.damage areas old ≡ None) × MountsWithin m areas units old
 Finds m areas Mount (Told (settings.Lost units chance)) old new =
     (selector_damage_on areas old ≡ None)
     × ((on m.damage old (area_at areas (trusted_on areas old)) ≡ None)
-    ⊎ ((selector : Area) → selector_of areas ≡ Some selector → Touches (selector ∷ []) (turned_on old) new true))
+    ⊎ ((selector : Area) → selector_of areas ≡ Some selector
+    → Touches (selector ∷ []) (turned_on old) new true))
     × MountsWithin m areas units old
 Finds m areas line answer old new = ⊤
 
@@ -134,9 +143,11 @@ FitsIn m banks area settings =
 -- the settings fit both store areas
 abbrev pub FitsBoth : Meanings → List Area → List Bank → Map → Type 0
 FitsBoth m areas banks settings =
-    (place : ℕ) (area : Area) → slice_get areas place ≡ Some area → is_store area ≡ true → FitsIn m banks area settings
+    (place : ℕ) (area : Area) → slice_get areas place ≡ Some area → is_store area ≡ true
+    → FitsIn m banks area settings
 
--- What the mirror reads as fits both store areas; and so does what the other area reads as, where an area may be replaced.
+-- What the mirror reads as fits both store areas; and so does what the other area reads as, where an area may
+-- be replaced.
 pub record AllFit (m : Meanings) (areas : List Area) (banks : List Bank) (s : State) : Type 0 where
   pub settings : FitsBoth m areas banks s.settings
   pub other : s.is_whole ≡ true → FitsBoth m areas banks s.other
@@ -152,11 +163,14 @@ FitsThen m areas line answer new = ⊤
 
 -- where the map showed no damage it shows none
 abbrev pub StaysSound : Meanings → List Area → Moment → Moment → Type 0
-StaysSound m areas old new = damage_shown m.damage areas old.device ≡ None → damage_shown m.damage areas new.device ≡ None
+StaysSound m areas old new =
+    damage_shown m.damage areas old.device ≡ None → damage_shown m.damage areas new.device ≡ None
 
 -- with power on neither area is damaged, and both read as the settings
 abbrev pub BothNow : Meanings → List Area → Moment → Type 0
-BothNow m areas now = IsOn (state_of m areas now) → BothRead m.damage m.contents areas now.device (state_of m areas now).settings
+BothNow m areas now =
+    IsOn (state_of m areas now)
+    → BothRead m.damage m.contents areas now.device (state_of m areas now).settings
 
 -- it changes neither bytes nor counts
 abbrev pub is_quiet : Line → Answer → Bool
@@ -170,15 +184,19 @@ is_quiet line answer = true
 abbrev pub SameButPlan : Device → Device → Type 0
 SameButPlan old new = new ≡ record old { plan = new.plan }
 
--- A line was carried out by the table. But for the plan and for an area that is replaced, the bench was touched in the areas that the line
--- works on alone: a loss of power lies in one of them, and without a unit no byte changed.
-pub record LineDone (m : Meanings) (areas : List Area) (line : Line) (answer : Answer) (old new : Moment) : Type 0 where
+-- A line was carried out by the table. But for the plan and for an area that is replaced, the bench was
+-- touched in the areas that the line works on alone: a loss of power lies in one of them, and without a unit
+-- no byte changed.
+pub record LineDone (m : Meanings) (areas : List Area) (line : Line) (answer : Answer) (old new : Moment) :
+    Type 0 where
   pub step :
       (last : ℕ) → new.device.spent ≤ last
-      → Step (rules_of m areas old.device.banks last) line answer (state_of m areas old) (state_of m areas new)
+      → Step (rules_of m areas old.device.banks last) line answer (state_of m areas old)
+      (state_of m areas new)
   pub accounts : Accounts line answer old.device new.device
   pub keeps : Keeps areas (if replaces line answer then 1 else 0) old.device new.device
-  pub touches : replan line answer ≡ keeps_plan → Touches (worked_on areas line old.device) (powered_for line old.device) new.device (is_lost answer)
+  pub touches : replan line answer ≡ keeps_plan
+      → Touches (worked_on areas line old.device) (powered_for line old.device) new.device (is_lost answer)
   pub blanks : Replaced areas line answer old.device new.device
   pub quiet : is_quiet line answer ≡ true → SameButPlan old.device new.device
   pub cuts : Cuts m areas line answer old.device new.device

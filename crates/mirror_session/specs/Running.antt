@@ -28,14 +28,17 @@ use Rattle.mirror_session.specs.Step.{Step}
 
 -- how many areas were replaced
 abbrev pub replaced_in : List Line → List Answer → ℕ
-replaced_in (line ∷ lines) (answer ∷ answers) = (if replaces line answer then 1 else 0) + replaced_in lines answers
+replaced_in (line ∷ lines) (answer ∷ answers) =
+    (if replaces line answer then 1 else 0) + replaced_in lines answers
 replaced_in lines answers = 0
 
--- Lines were carried out one after another. As a whole they follow the table, and the counts, the plan and the bytes of the bench are
--- those that the answers say.
-pub record Ran (m : Meanings) (areas : List Area) (lines : List Line) (answers : List Answer) (old new : Moment) : Type 0 where
+-- Lines were carried out one after another. As a whole they follow the table, and the counts, the plan and
+-- the bytes of the bench are those that the answers say.
+pub record Ran (m : Meanings) (areas : List Area) (lines : List Line) (answers : List Answer)
+    (old new : Moment) : Type 0 where
   pub in_turn : Follows (LineDone m areas) lines answers old new
-  pub session : Follows (Step (rules_of m areas old.device.banks new.device.spent)) lines answers (state_of m areas old) (state_of m areas new)
+  pub session : Follows (Step (rules_of m areas old.device.banks new.device.spent)) lines answers
+      (state_of m areas old) (state_of m areas new)
   pub spent : old.device.spent + units_in answers ≡ new.device.spent
   pub losses : new.device.losses ≡ counted old.device.losses (losses_in answers)
   pub planned :
@@ -57,27 +60,31 @@ takes_memory line = false
 
 -- power was turned on, and nothing changed but in the selector's area
 abbrev pub BeginsMount : List Area → Device → Device → Type 0
-BeginsMount areas old new = (selector : Area) → selector_of areas ≡ Some selector → Touches (selector ∷ []) (turned_on old) new false
+BeginsMount areas old new =
+    (selector : Area) → selector_of areas ≡ Some selector → Touches (selector ∷ []) (turned_on old) new false
 
--- What a line for which memory was wanting leaves of the bench: a mount has begun, and the same area is read, as the same map; no other
--- line changed it.
+-- What a line for which memory was wanting leaves of the bench: a mount has begun, and the same area is read,
+-- as the same map; no other line changed it.
 abbrev pub BeginsLine : Meanings → List Area → Line → Device → Device → Type 0
 BeginsLine m areas Mount old new =
     Touches areas (turned_on old) new false × (trusted_on areas new ≡ trusted_on areas old)
-    × ((settings : Map) → MirrorReads m.damage m.contents areas old settings → MirrorReads m.damage m.contents areas new settings)
+    ×
+    ((settings : Map) → MirrorReads m.damage m.contents areas old settings
+    → MirrorReads m.damage m.contents areas new settings)
 BeginsLine m areas line old new = new ≡ old
 
 -- what the mirror reads as does not fit both areas
 abbrev pub FindsNoFit : Meanings → List Area → Device → Type 0
 FindsNoFit m areas d = ¬ FitsBoth m areas d.banks (on m.contents d (area_at areas (trusted_on areas d)))
 
--- Why a line was not carried out: a mount found the damage that the map shows, or settings that do not fit one of the areas; or memory
--- was wanting for a line that takes some.
+-- Why a line was not carried out: a mount found the damage that the map shows, or settings that do not fit
+-- one of the areas; or memory was wanting for a line that takes some.
 abbrev pub LineStops : Meanings → List Area → Line → Device → Device → SessionFault → Type 0
 LineStops m areas line old new (Damaged place damaged) =
     (line ≡ Mount) × (damage_shown m.damage areas old ≡ Some (place, damaged)) × BeginsMount areas old new
 LineStops m areas line old new (Unfit place) =
-    (line ≡ Mount) × IsUnfit m.damage m.contents m.room m.prices areas (turned_on old) new place × FindsNoFit m areas old
+    (line ≡ Mount) × IsUnfit m.damage m.contents m.room m.prices areas (turned_on old) new place
+    × FindsNoFit m areas old
 LineStops m areas line old new NoMemory = (takes_memory line ≡ true) × BeginsLine m areas line old new
 
 -- ---- all lines
@@ -86,10 +93,12 @@ LineStops m areas line old new NoMemory = (takes_memory line ≡ true) × Begins
 abbrev pub LacksAnswer : List Line → Device → Device → SessionFault → Type 0
 LacksAnswer front old new fault = (1 ≤ length front) × (fault ≡ NoMemory) × (new ≡ old)
 
--- Behind the lines of the front the next one stopped; or memory was wanting for the answer to the line before.
+-- Behind the lines of the front the next one stopped; or memory was wanting for the answer to the line
+-- before.
 abbrev pub StopsAt : Meanings → List Area → List Line → List Line → Device → Device → SessionFault → Type 0
 StopsAt m areas front [] old new fault = LacksAnswer front old new fault
-StopsAt m areas front (line ∷ lines) old new fault = LacksAnswer front old new fault ⊎ LineStops m areas line old new fault
+StopsAt m areas front (line ∷ lines) old new fault =
+    LacksAnswer front old new fault ⊎ LineStops m areas line old new fault
 
 -- a mount among these lines was whole
 abbrev pub is_mounted : Line → Answer → Bool
@@ -106,9 +115,10 @@ TellsUnfit (Damaged place damaged) = ⊥
 TellsUnfit (Unfit place) = ⊤
 TellsUnfit NoMemory = ⊥
 
--- The first lines were carried out, and then a line stopped. That settings do not fit is told by no mount behind one that was whole, and by
--- none where the settings fitted both areas when the lines began.
-pub record RunStops (m : Meanings) (areas : List Area) (lines : List Line) (old : Moment) (new : Device) (fault : SessionFault) : Type 0 where
+-- The first lines were carried out, and then a line stopped. That settings do not fit is told by no mount
+-- behind one that was whole, and by none where the settings fitted both areas when the lines began.
+pub record RunStops (m : Meanings) (areas : List Area) (lines : List Line) (old : Moment) (new : Device)
+    (fault : SessionFault) : Type 0 where
   pub front : List Line
   pub rest : List Line
   pub are : lines ≡ front ++ rest
@@ -119,10 +129,12 @@ pub record RunStops (m : Meanings) (areas : List Area) (lines : List Line) (old 
   pub early : TellsUnfit fault → mounted_in front answers ≡ false
   pub fitting : TellsUnfit fault → ¬ FitNow m areas old
 
--- How lines end: all were carried out, with these answers, and a mount has nothing to do where power is on, and there are settings or
--- the selector names the area that is read; or one stopped.
-abbrev pub RunEnds : (Area → Geometry → List (List ℕ) → Type 0) → Meanings → List Area → List Line → Moment → Device
+-- How lines end: all were carried out, with these answers, and a mount has nothing to do where power is on,
+-- and there are settings or the selector names the area that is read; or one stopped.
+abbrev pub RunEnds : (Area → Geometry → List (List ℕ) → Type 0) → Meanings → List Area → List Line → Moment
+    → Device
     → Result (List Answer) SessionFault → Type 0
 RunEnds rests m areas lines old new (Ok answers) =
-    (whole : Bool) × Ran m areas lines answers old (moment new whole) × RestsNow rests m areas (moment new whole)
+    (whole : Bool) × Ran m areas lines answers old (moment new whole)
+    × RestsNow rests m areas (moment new whole)
 RunEnds rests m areas lines old new (Err fault) = RunStops m areas lines old new fault

@@ -15,15 +15,17 @@ use Rattle.mirror.specs.Mounting.{IsAtRest, SelectorRests}
 use Rattle.mirror_session.specs.Bench.{Meanings, Moment, state_of}
 use Rattle.mirror_session.specs.State.{State, IsOn}
 
-module _ {S : Type 0} (mounted_on : S → Area) (stands : S → Geometry → List (List ℕ) → Type 0) (m : Meanings) where
+module _ {S : Type 0} (mounted_on : S → Area) (stands : S → Geometry → List (List ℕ) → Type 0)
+    (m : Meanings) where
   -- the store is on the area at its place of the map, which shows no damage
   pub record IsSide (areas : List Area) (d : Device) (side : Side S) : Type 0 where
     pub there : slice_get areas side.place ≡ Some side.area
     pub stores : is_store side.area ≡ true
     pub sound : on m.damage d side.area ≡ None
 
-  -- The mirror is on the two store areas of the map, the trusted one being that which the selector names; none of the three is damaged.
-  -- A mount of the selector has nothing to do. With power on both stores are up and hold the same settings.
+  -- The mirror is on the two store areas of the map, the trusted one being that which the selector names;
+  -- none of the three is damaged. A mount of the selector has nothing to do. With power on both stores are up
+  -- and hold the same settings.
   pub record IsHeld (areas : List Area) (d : Device) (mirror : Mirror S) : Type 0 where
     pub trusted : IsSide areas d mirror.trusted
     pub other : IsSide areas d mirror.other
@@ -31,7 +33,8 @@ module _ {S : Type 0} (mounted_on : S → Area) (stands : S → Geometry → Lis
     pub named : mirror.trusted.place ≡ active_on areas d
     pub sound : selector_damage_on areas d ≡ None
     pub rests : SelectorRests areas d
-    pub up : d.is_on ≡ true → IsMirror mounted_on stands m.contents m.room m.prices d mirror.trusted mirror.other
+    pub up : d.is_on ≡ true
+        → IsMirror mounted_on stands m.contents m.room m.prices d mirror.trusted mirror.other
 
   -- where the last mount was whole and no area was replaced since
   abbrev pub IsReady : List Area → Device → Option (Mirror S) → Type 0
@@ -45,4 +48,5 @@ NamesRead s = (s.gone ≡ false) ⊎ (s.settings ≢ empty)
 -- With power on a mount has nothing to do then.
 abbrev pub RestsNow : (Area → Geometry → List (List ℕ) → Type 0) → Meanings → List Area → Moment → Type 0
 RestsNow rests m areas now =
-    IsOn (state_of m areas now) → NamesRead (state_of m areas now) → IsAtRest m.damage m.contents rests areas now.device
+    IsOn (state_of m areas now) → NamesRead (state_of m areas now)
+    → IsAtRest m.damage m.contents rests areas now.device

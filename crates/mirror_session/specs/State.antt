@@ -21,7 +21,8 @@ IsOn state = state.is_on ≡ true
 abbrev pub IsOff : State → Type 0
 IsOff state = state.is_on ≡ false
 
--- What the table of answers knows of a flash: the two areas for settings, and what they refuse. It knows no byte.
+-- What the table of answers knows of a flash: the two areas for settings, and what they refuse. It knows no
+-- byte.
 pub record Rules : Type 0 where
   -- the other one of the two areas, by the place of one in the map
   pub beside : ℕ → ℕ

@@ -1,5 +1,5 @@
--- The table: which answers a plain map gives to a line, and what they make of the state. The choices are whether power is lost in a
--- line, which of the two areas a command that was cut has reached, and the units.
+-- The table: which answers a plain map gives to a line, and what they make of the state. The choices are
+-- whether power is lost in a line, which of the two areas a command that was cut has reached, and the units.
 use Rattle.std.specs.Prelude.{◌≡◌, ◌⊎◌, ℕ, ◌<◌, ◌≤◌, ◌==◌, Bool, true, false, List, [], ◌∷◌, map, Some, None, if◌then◌else◌}
 use Rattle.std.specs.FinMap.{entries}
 use Rattle.script_lines.specs.declared.answer.Answer.{Answer as settings_answer}
@@ -51,8 +51,8 @@ pub record IsDone (r : Rules) (command : Command) (units : ℕ) (old new : State
 abbrev pub HasOrNot : Command → Map → Map → Type 0
 HasOrNot command before after = (after ≡ before) ⊎ (after ≡ applied before command)
 
--- Power was lost in a command that both areas take. The one that is read has it, or has it not; the other one has it only where that
--- one has, or where that one is read since the named one is all FF.
+-- Power was lost in a command that both areas take. The one that is read has it, or has it not; the other one
+-- has it only where that one has, or where that one is read since the named one is all FF.
 pub record IsCut (r : Rules) (command : Command) (units : ℕ) (old new : State) : Type 0 where
   pub free : IsFree r old.settings command
   pub room : HasRoom r old.settings command
@@ -60,7 +60,9 @@ pub record IsCut (r : Rules) (command : Command) (units : ℕ) (old new : State)
   pub here : HasOrNot command old.settings new.settings
   pub there :
       (new.other ≡ old.settings)
-      ⊎ ((new.other ≡ applied old.settings command) × ((new.settings ≡ applied old.settings command) ⊎ (new.gone ≡ true)))
+      ⊎
+      ((new.other ≡ applied old.settings command)
+      × ((new.settings ≡ applied old.settings command) ⊎ (new.gone ≡ true)))
   pub at_most : units ≤ r.most
   pub state : new ≡ record old { settings = new.settings; other = new.other; gone = new.gone; is_on = false }
 
@@ -71,12 +73,14 @@ RefusesName r m (Delete name) = ⊥
 
 abbrev pub RefusesRoom : Rules → Map → Command → ℕ → ℕ → Type 0
 RefusesRoom r m (Put name value) need live =
-    (r.is_too_many m name ≡ false) × (is_idle m (Put name value) ≡ false) × (r.lacks m name value ≡ Some (need, live))
+    (r.is_too_many m name ≡ false) × (is_idle m (Put name value) ≡ false)
+    × (r.lacks m name value ≡ Some (need, live))
 RefusesRoom r m (Delete name) need live = ⊥
 
 abbrev pub Changes : Rules → Command → settings_answer → State → State → Type 0
 Changes r command (settings.Done units) old new = IsDone r command units old new
-Changes r command (settings.TooMany units) old new = (units ≡ 0) × RefusesName r old.settings command × (new ≡ old)
+Changes r command (settings.TooMany units) old new =
+    (units ≡ 0) × RefusesName r old.settings command × (new ≡ old)
 Changes r command (settings.NoSpace units need live) old new =
     (units ≡ 0) × RefusesRoom r old.settings command need live × (new ≡ old)
 Changes r command (settings.Lost units false) old new = IsCut r command units old new
@@ -103,10 +107,11 @@ renamed r s = record s { named = trusted_of r s }
 
 -- The settings stay, and both areas then read as them.
 abbrev pub Remounts : Rules → State → State → Type 0
-Remounts r old new = new ≡ record (renamed r old) { other = old.settings; gone = new.gone; is_on = true; is_whole = true }
+Remounts r old new =
+    new ≡ record (renamed r old) { other = old.settings; gone = new.gone; is_on = true; is_whole = true }
 
--- The settings stay where power is lost, too, and are read in the same area. The selector names the area of before, or that one; what is
--- not read may be anything.
+-- The settings stay where power is lost, too, and are read in the same area. The selector names the area of
+-- before, or that one; what is not read may be anything.
 pub record StopsMounting (r : Rules) (old new : State) : Type 0 where
   pub names : (new.named ≡ old.named) ⊎ (new.named ≡ trusted_of r old)
   pub trusted : trusted_of r new ≡ trusted_of r old
@@ -128,8 +133,8 @@ Arms answer old new = ⊥
 
 -- ---- replacing an area
 
--- A blank area stands in the place of this one. Where that was the trusted one, the mirror reads as the other one did. What is not read
--- then may be anything.
+-- A blank area stands in the place of this one. Where that was the trusted one, the mirror reads as the other
+-- one did. What is not read then may be anything.
 abbrev pub Replaces : Rules → ℕ → State → State → Type 0
 Replaces r place old new =
     let after = if place == trusted_of r old then old.other else old.settings in
@@ -141,7 +146,8 @@ Blanks r label NoArea old new = IsOff old × (r.place label ≡ None) × (new �
 Blanks r label NotYet old new =
     IsOff old × ((place : ℕ) × (r.place label ≡ Some place)) × (old.is_whole ≡ false) × (new ≡ old)
 Blanks r label (Told (settings.Done units)) old new =
-    (units ≡ 0) × IsOff old × (old.is_whole ≡ true) × ((place : ℕ) × (r.place label ≡ Some place) × Replaces r place old new)
+    (units ≡ 0) × IsOff old × (old.is_whole ≡ true)
+    × ((place : ℕ) × (r.place label ≡ Some place) × Replaces r place old new)
 Blanks r label answer old new = ⊥
 
 -- ---- all lines

@@ -20,14 +20,18 @@ is_up state = backend.is_up state.backend
 
 -- ---- laws
 
-pub stands-up : (state : MirrorStore) (geometry : Geometry) (sectors : List (List ℕ)) → Stands state geometry sectors → is_up state ≡ true
+pub stands-up : (state : MirrorStore) (geometry : Geometry) (sectors : List (List ℕ))
+    → Stands state geometry sectors → is_up state ≡ true
 stands-up state geometry sectors stands = backend.stands-up state.backend geometry sectors stands
 
-pub stands-serves : (state : MirrorStore) (geometry : Geometry) (sectors : List (List ℕ)) → Stands state geometry sectors → any_serves (area_of state) geometry
+pub stands-serves : (state : MirrorStore) (geometry : Geometry) (sectors : List (List ℕ))
+    → Stands state geometry sectors → any_serves (area_of state) geometry
 stands-serves state geometry sectors stands = backend.stands-serves state.backend geometry sectors stands
 
-pub stands-reads : (state : MirrorStore) (geometry : Geometry) (sectors : List (List ℕ)) → Stands state geometry sectors → any_damage (area_of state) geometry sectors ≡ None
+pub stands-reads : (state : MirrorStore) (geometry : Geometry) (sectors : List (List ℕ))
+    → Stands state geometry sectors → any_damage (area_of state) geometry sectors ≡ None
 stands-reads state geometry sectors stands = backend.stands-reads state.backend geometry sectors stands
 
-pub stands-rests : (state : MirrorStore) (geometry : Geometry) (sectors : List (List ℕ)) → Stands state geometry sectors → any_rests (area_of state) geometry sectors
+pub stands-rests : (state : MirrorStore) (geometry : Geometry) (sectors : List (List ℕ))
+    → Stands state geometry sectors → any_rests (area_of state) geometry sectors
 stands-rests state geometry sectors stands = backend.stands-rests state.backend geometry sectors stands

@@ -22,9 +22,10 @@ abbrev pub MountEnds : Device → Device → Area → Result Nvs MountFault → 
 MountEnds old new area result =
     stands.MountEnds NvsRole kind kept old new area (store_in (λ (nvs : Nvs). nvs.store) result)
 
--- Closing and collecting, with this sector open: it was blank, and nothing changed; or it was not, and a whole
--- round was made, with the room that it leaves and just the units that it spends; or power was lost in that, and
--- the list is as before or as the round leaves it. A sector of NVS is clean (`is_clean_at`) where it is blank.
+-- Closing and collecting, with this sector open: it was blank, and nothing changed; or it was not, and a
+-- whole round was made, with the room that it leaves and just the units that it spends; or power was lost in
+-- that, and the list is as before or as the round leaves it. A sector of NVS is clean (`is_clean_at`) where
+-- it is blank.
 abbrev pub RoundEnds : {T : Type 0} → Device → Device → Area → ℕ → Result T PowerLost → Type 0
 RoundEnds old new area place result = closing.RoundEnds (kind_on old area) old new area place result
 

@@ -25,7 +25,12 @@ kind_on d area = kind (geometry_of d area)
 
 -- what is kept of the open sector, by its bytes
 abbrev pub kept : Geometry → List ℕ → NvsOpen
-kept geometry b = record { low = low geometry.unit b; data_end = data_end geometry.unit b; gc_done = has_gc_done geometry.unit b }
+kept geometry b =
+    record {
+      low = low geometry.unit b;
+      data_end = data_end geometry.unit b;
+      gc_done = has_gc_done geometry.unit b;
+    }
 
 -- an area on which a store may stand
 abbrev pub IsNvsArea : List Bank → Area → Type 0

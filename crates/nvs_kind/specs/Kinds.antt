@@ -22,7 +22,8 @@ placed_of p = record { sector = p.sector; slot = p.slot; id = p.entry.id; len = 
 
 -- the entry at a place, as NVS reads it
 pub record ReadsAs (unit : ℕ) (sectors : List (List ℕ)) (p : Placed) (own : Found) : Type 0 where
-  pub read : counting_entry unit (slot_at unit (sector_at sectors p.sector) p.slot) ≡ Some (record { slot = own.slot; entry = own.entry })
+  pub read : counting_entry unit (slot_at unit (sector_at sectors p.sector) p.slot)
+      ≡ Some (record { slot = own.slot; entry = own.entry })
   pub sector : own.sector ≡ p.sector
   pub id : own.entry.id ≡ p.id
   pub len : own.entry.len ≡ p.len

@@ -17,7 +17,8 @@ entry_image unit e = encoded e ++ replicate (slot_size unit - 8) 0xFF
 
 -- the sector after data at the data end, and these bytes of the next slot
 abbrev pub with_slot : ℕ → List ℕ → List ℕ → List ℕ → List ℕ
-with_slot unit sector lower upper = overwritten (overwritten sector (data_end unit sector) lower) (low unit sector - slot_size unit) upper
+with_slot unit sector lower upper =
+    overwritten (overwritten sector (data_end unit sector) lower) (low unit sector - slot_size unit) upper
 
 -- the sector after these bytes of the next slot, with no data
 abbrev pub with_mark : ℕ → List ℕ → List ℕ → List ℕ
@@ -31,11 +32,13 @@ with_close unit sector upper = overwritten sector (length sector - slot_size uni
 
 -- The entry of the next pair: its data stands at the data end. The entry of a delete names that place too.
 abbrev pub next_entry : ℕ → List ℕ → ℕ → List ℕ → Entry
-next_entry unit sector id bytes = record { id = id; offset = data_end unit sector; len = length bytes; part = 0xFF }
+next_entry unit sector id bytes =
+    record { id = id; offset = data_end unit sector; len = length bytes; part = 0xFF }
 
 -- the sector with the next pair: its data, and its entry in the next slot
 abbrev pub after_append : ℕ → List ℕ → ℕ → List ℕ → List ℕ
-after_append unit sector id bytes = with_slot unit sector (data_image unit bytes) (entry_image unit (next_entry unit sector id bytes))
+after_append unit sector id bytes =
+    with_slot unit sector (data_image unit bytes) (entry_image unit (next_entry unit sector id bytes))
 
 -- the sector with gc-done in the next slot, which names the data end
 abbrev pub after_gc_done : ℕ → List ℕ → List ℕ

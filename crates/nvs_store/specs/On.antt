@@ -96,28 +96,34 @@ KeepsListOn old new area = list_of (unit_of old area) (sectors_of new area) ≡ 
 
 -- the list has this pair more, as its newest
 abbrev pub AppendsOn : Device → Device → Area → ℕ → List ℕ → Type 0
-AppendsOn old new area id bytes = list_of (unit_of old area) (sectors_of new area) ≡ list_on old area ++ (id, bytes) ∷ []
+AppendsOn old new area id bytes =
+    list_of (unit_of old area) (sectors_of new area) ≡ list_on old area ++ (id, bytes) ∷ []
 
 -- a sector that was sound is so
 abbrev pub StaysSoundOn : Device → Device → Area → ℕ → Type 0
 StaysSoundOn old new area place =
-    is_sound (unit_of old area) (sector_bytes old area place) ≡ true → is_sound (unit_of old area) (sector_bytes new area place) ≡ true
+    is_sound (unit_of old area) (sector_bytes old area place) ≡ true
+    → is_sound (unit_of old area) (sector_bytes new area place) ≡ true
 
 -- an area that was not damaged is not
 abbrev pub StaysUndamaged : Device → Device → Area → Type 0
 StaysUndamaged old new area = IsUndamaged old area → damage_of (unit_of old area) (sectors_of new area) ≡ None
 
 abbrev pub AddsPairOn : Device → Device → Area → ℕ → ℕ → List ℕ → Type 0
-AddsPairOn old new area place id bytes = AddsPairAt (unit_of old area) (sectors_of old area) (sectors_of new area) place id bytes
+AddsPairOn old new area place id bytes =
+    AddsPairAt (unit_of old area) (sectors_of old area) (sectors_of new area) place id bytes
 
 abbrev pub StopsAddingOn : Device → Device → Area → ℕ → ℕ → List ℕ → Type 0
-StopsAddingOn old new area place id bytes = StopsAddingAt (unit_of old area) (sectors_of old area) (sectors_of new area) place id bytes
+StopsAddingOn old new area place id bytes =
+    StopsAddingAt (unit_of old area) (sectors_of old area) (sectors_of new area) place id bytes
 
 abbrev pub MarksDoneOn : Device → Device → Area → ℕ → Type 0
-MarksDoneOn old new area place = MarksDoneAt (unit_of old area) (sectors_of old area) (sectors_of new area) place
+MarksDoneOn old new area place =
+    MarksDoneAt (unit_of old area) (sectors_of old area) (sectors_of new area) place
 
 abbrev pub StopsMarkingOn : Device → Device → Area → ℕ → Type 0
-StopsMarkingOn old new area place = StopsMarkingAt (unit_of old area) (sectors_of old area) (sectors_of new area) place
+StopsMarkingOn old new area place =
+    StopsMarkingAt (unit_of old area) (sectors_of old area) (sectors_of new area) place
 
 abbrev pub ClosesOn : Device → Device → Area → ℕ → Type 0
 ClosesOn old new area place = ClosesAt (unit_of old area) (sectors_of old area) (sectors_of new area) place

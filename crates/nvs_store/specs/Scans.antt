@@ -63,7 +63,9 @@ sector_scan unit place sector = record {
 
 -- What a mount has to do with this sector open. The next sector is closed only while a collection lasts.
 abbrev pub redo_of : ℕ → List (List ℕ) → ℕ → Redo
-redo_of unit sectors place = if is_closed_at (reading unit) sectors (next sectors place) then (if has_gc_done unit (sector_at sectors place) then EraseNext else CollectAgain) else Nothing
+redo_of unit sectors place =
+    if is_closed_at (reading unit) sectors (next sectors place) then
+    (if has_gc_done unit (sector_at sectors place) then EraseNext else CollectAgain) else Nothing
 
 -- what it has to do once gc-done stands
 abbrev pub marked_redo : Redo → Redo
@@ -73,7 +75,8 @@ marked_redo CollectAgain = EraseNext
 
 -- the scan with this sector open
 abbrev pub scan_at : ℕ → List (List ℕ) → ℕ → Scan
-scan_at unit sectors place = record (sector_scan unit place (sector_at sectors place)) { redo = redo_of unit sectors place }
+scan_at unit sectors place =
+    record (sector_scan unit place (sector_at sectors place)) { redo = redo_of unit sectors place }
 
 abbrev pub scan_of : ℕ → List (List ℕ) → Scan
 scan_of unit sectors = scan_at unit sectors (open_sector (reading unit) sectors)
@@ -83,9 +86,12 @@ scan_of unit sectors = scan_at unit sectors (open_sector (reading unit) sectors)
 abbrev pub free : Scan → ℕ
 free scan = scan.low - scan.data_end
 
--- Whether data of this length fits. A length of 0 is a delete. Slots stay for the close entry, gc-done, a delete and the fence.
+-- Whether data of this length fits. A length of 0 is a delete. Slots stay for the close entry, gc-done, a
+-- delete and the fence.
 abbrev pub fits : ℕ → Scan → ℕ → Bool
-fits unit scan len = if len == 0 then nat_le (2 * slot_size unit) (free scan) else nat_le (cost unit len + (if scan.gc_done then 2 else 3) * slot_size unit) (free scan)
+fits unit scan len =
+    if len == 0 then nat_le (2 * slot_size unit) (free scan) else nat_le
+    (cost unit len + (if scan.gc_done then 2 else 3) * slot_size unit) (free scan)
 
 -- ---- damage and list
 
@@ -123,10 +129,13 @@ last_of id placed = last_wanted (Some id) placed
 abbrev pub last_placed : ℕ → List (List ℕ) → ℕ → Option Found
 last_placed unit sectors id = live.last_placed (nvs unit) sectors id
 
--- The next older entry of a list: the one before the entry at this place, or the newest where no place is named.
+-- The next older entry of a list: the one before the entry at this place, or the newest where no place is
+-- named.
 abbrev pub IsNextOlder : List Found → Option (ℕ × ℕ) → Option Found → Type 0
 IsNextOlder all None next = next ≡ last_or None all
-IsNextOlder all (Some place) next = (older newer : List Found) (p : Found) → all ≡ older ++ p ∷ newer → place ≡ (p.sector, p.slot) → next ≡ last_or None older
+IsNextOlder all (Some place) next =
+    (older newer : List Found) (p : Found) → all ≡ older ++ p ∷ newer → place ≡ (p.sector, p.slot)
+    → next ≡ last_or None older
 
 -- It is an ordinary entry of one of so many sectors of this size, and its data ends in its sector.
 pub record IsInArea (sectors size : ℕ) (p : Found) : Type 0 where
@@ -136,7 +145,8 @@ pub record IsInArea (sectors size : ℕ) (p : Found) : Type 0 where
 
 -- the data of an entry
 abbrev pub placed_bytes : List (List ℕ) → Found → List ℕ
-placed_bytes sectors p = slice_range (sector_at sectors p.sector) p.entry.offset (p.entry.offset + p.entry.len)
+placed_bytes sectors p =
+    slice_range (sector_at sectors p.sector) p.entry.offset (p.entry.offset + p.entry.len)
 
 -- ---- what a step leaves
 

@@ -1,4 +1,5 @@
--- How one sector reads. Data grows upward from the sector's start, and slots of entries grow downward from its end.
+-- How one sector reads. Data grows upward from the sector's start, and slots of entries grow downward from
+-- its end.
 use Rattle.std.specs.Prelude.{◌≡◌, ◌⊎◌, ℕ, ◌+◌, ◌-◌, ◌%◌, ◌≤◌, max, Bool, true, false, not, ◌&&◌, ◌||◌, List, [], ◌∷◌, ◌++◌, length, take, map, fold, sum_by, slice_range, Option, Some, None, ◌==◌, nat_le, nat_lt, if◌then◌else◌}
 use Rattle.std.specs.List.{filter_map, list_any}
 use Rattle.std.specs.Option.{option_and_then, option_map_or}
@@ -35,7 +36,9 @@ counts unit start e = not (e.id == 0xFFFF) && (e.offset % unit == 0) && nat_le (
 
 unfoldable pub counting_entry : ℕ → Slot → Option SlotEntry
 counting_entry unit slot =
-    option_and_then (λ e. if counts unit slot.start e then Some (record { slot = slot.index; entry = e }) else None) (decoded slot.bytes)
+    option_and_then
+    (λ e. if counts unit slot.start e then Some (record { slot = slot.index; entry = e }) else None)
+    (decoded slot.bytes)
 
 -- the entries that count, in slot order
 abbrev pub entries : ℕ → List ℕ → List SlotEntry
@@ -63,11 +66,13 @@ low unit sector = shared.low is_used 1 (slot_size unit) sector
 abbrev pub entry_end : ℕ → SlotEntry → ℕ
 entry_end unit f = f.entry.offset + padded unit f.entry.len
 
--- where the next data goes: above the written units, the data of the entries that count, and the sum of their lengths
+-- where the next data goes: above the written units, the data of the entries that count, and the sum of their
+-- lengths
 unfoldable pub data_end : ℕ → List ℕ → ℕ
 data_end unit sector =
     max (written_end unit (low unit sector - slot_size unit) sector)
-    (max (fold max 0 (map (entry_end unit) (entries unit sector))) (sum_by (λ f. padded unit f.entry.len) (entries unit sector)))
+    (max (fold max 0 (map (entry_end unit) (entries unit sector)))
+    (sum_by (λ f. padded unit f.entry.len) (entries unit sector)))
 
 -- ---- pairs
 
@@ -104,10 +109,12 @@ entry_cost unit f = if f.entry.len == 0 then 0 else cost unit f.entry.len
 abbrev pub has_fence : ℕ → List ℕ → Bool
 has_fence unit sector = nat_lt (length (used_slots unit sector)) (length (slots unit sector))
 
--- An entry that counts ends above the fence's start, or the entries with data cost more than a sector has for them.
+-- An entry that counts ends above the fence's start, or the entries with data cost more than a sector has for
+-- them.
 abbrev pub is_overfull : ℕ → List ℕ → Bool
 is_overfull unit sector =
-    list_any (λ f. nat_lt (low unit sector - slot_size unit) (f.entry.offset + f.entry.len)) (entries unit sector)
+    list_any (λ f. nat_lt (low unit sector - slot_size unit) (f.entry.offset + f.entry.len))
+    (entries unit sector)
     || nat_lt (capacity unit (length sector)) (sum_by (entry_cost unit) (entries unit sector))
 
 -- The sector is blank, or it has a fence and is not overfull.
@@ -144,8 +151,8 @@ pub record AddsPair (unit : ℕ) (old new : List ℕ) (id : ℕ) (bytes : List �
   pub lower : low unit new + slot_size unit ≡ low unit old
   pub grown : data_end unit new ≡ data_end unit old + padded unit (length bytes)
 
--- Programming of a pair stopped before its end: the list is as it was or has the pair, and no more room is used up
--- than the pair takes.
+-- Programming of a pair stopped before its end: the list is as it was or has the pair, and no more room is
+-- used up than the pair takes.
 pub record StopsAdding (unit : ℕ) (old new : List ℕ) (id : ℕ) (bytes : List ℕ) : Type 0 where
   pub list : KeepsList unit old new ⊎ AddsPair unit old new id bytes
   pub lower : low unit old ≤ low unit new + slot_size unit

@@ -20,6 +20,10 @@ abbrev pub is_sought : Sought → ℕ → List (List ℕ) → ℕ → Bool
 is_sought NotClosed unit sectors place = not (is_closed_at (reading unit) sectors place)
 is_sought Opening unit sectors place = follows_closed (reading unit) sectors place
 is_sought NotBlank unit sectors place = not (is_blank_at (reading unit) sectors place)
-is_sought (Dirty current) unit sectors place = not (is_closed_at (reading unit) sectors place) && not (place == current) && not (is_blank_at (reading unit) sectors place)
-is_sought (Unfenced current) unit sectors place = looked_at (reading unit) sectors current place && not (has_fence unit (sector_at sectors place))
-is_sought (Full current) unit sectors place = looked_at (reading unit) sectors current place && is_overfull unit (sector_at sectors place)
+is_sought (Dirty current) unit sectors place =
+    not (is_closed_at (reading unit) sectors place) && not (place == current)
+    && not (is_blank_at (reading unit) sectors place)
+is_sought (Unfenced current) unit sectors place =
+    looked_at (reading unit) sectors current place && not (has_fence unit (sector_at sectors place))
+is_sought (Full current) unit sectors place =
+    looked_at (reading unit) sectors current place && is_overfull unit (sector_at sectors place)

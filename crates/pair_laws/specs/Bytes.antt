@@ -23,8 +23,11 @@ IsIdOf least most items bytes (Some id) = HasBytes least most items id bytes
 
 -- the least bytes of an item of the range that are greater than these; none where there are none
 abbrev pub IsNextOf : ℕ → ℕ → Items → Option (List ℕ) → Option (List ℕ) → Type 0
-IsNextOf least most items after None = (id : ℕ) (bytes : List ℕ) → HasBytes least most items id bytes → is_past after bytes ≡ false
+IsNextOf least most items after None =
+    (id : ℕ) (bytes : List ℕ) → HasBytes least most items id bytes → is_past after bytes ≡ false
 IsNextOf least most items after (Some next) =
     ((id : ℕ) × HasBytes least most items id next)
     × (is_past after next ≡ true)
-    × ((id : ℕ) (bytes : List ℕ) → HasBytes least most items id bytes → is_past after bytes ≡ true → is_lt (slice_cmp nat_cmp bytes next) ≡ false)
+    ×
+    ((id : ℕ) (bytes : List ℕ) → HasBytes least most items id bytes → is_past after bytes ≡ true
+    → is_lt (slice_cmp nat_cmp bytes next) ≡ false)

@@ -9,4 +9,6 @@ names id pairs = list_any (λ pair. pair.0 == id) pairs
 -- The pairs of the victim that are the last of their id in `victim ++ others` and have bytes, in order.
 unfoldable pub live_pairs : List (ℕ × List ℕ) → List (ℕ × List ℕ) → List (ℕ × List ℕ)
 live_pairs [] others = []
-live_pairs (pair ∷ rest) others = if names pair.0 (rest ++ others) || (length pair.1 == 0) then live_pairs rest others else pair ∷ live_pairs rest others
+live_pairs (pair ∷ rest) others =
+    if names pair.0 (rest ++ others)
+    || (length pair.1 == 0) then live_pairs rest others else pair ∷ live_pairs rest others

@@ -1,5 +1,5 @@
--- Rounds of close and collect, on the parts of a list: one for each sector but the blank one before the oldest, the
--- oldest first, the open one last. What a pair takes up is a price by the length of its bytes.
+-- Rounds of close and collect, on the parts of a list: one for each sector but the blank one before the
+-- oldest, the oldest first, the open one last. What a pair takes up is a price by the length of its bytes.
 use Rattle.std.specs.Prelude.{◌≡◌, ℕ, ◌+◌, ◌<◌, List, [], ◌∷◌, ◌++◌, length, sum_by, All, ◌==◌, if◌then◌else◌}
 use Rattle.std.specs.List.{flat_map}
 use Rattle.pair_laws.specs.Live.{live_pairs}
@@ -25,10 +25,12 @@ unfoldable pub collect_oldest : List (List (ℕ × List ℕ)) → List (List (�
 collect_oldest [] = []
 collect_oldest (victim ∷ others) = others ++ live_pairs victim (joined others) ∷ []
 
--- Rounds that make no room, whatever parts are lists of: `live` says what is live of a part before others, `cost` what
--- a part costs. So many rounds led from the parts at the start to those now, each with the live ones of the oldest part
--- as the new last part. All of the new parts is live, and each of them and what is needed cost more than a sector has.
-pub record LeavesNoRoom {A : Type 0} (live : List A → List A → List A) (cost : List A → ℕ) (need capacity : ℕ) (start now : List (List A)) (rounds : ℕ) : Type 0 where
+-- Rounds that make no room, whatever parts are lists of: `live` says what is live of a part before others,
+-- `cost` what a part costs. So many rounds led from the parts at the start to those now, each with the live
+-- ones of the oldest part as the new last part. All of the new parts is live, and each of them and what is
+-- needed cost more than a sector has.
+pub record LeavesNoRoom {A : Type 0} (live : List A → List A → List A) (cost : List A → ℕ) (need capacity : ℕ)
+    (start now : List (List A)) (rounds : ℕ) : Type 0 where
   -- the parts that were not collected yet, and the new ones
   pub old : List (List A)
   pub new : List (List A)
@@ -40,4 +42,5 @@ pub record LeavesNoRoom {A : Type 0} (live : List A → List A → List A) (cost
 
 -- the same of lists of pairs
 abbrev pub FindsNoRoom : (ℕ → ℕ) → ℕ → ℕ → List (List (ℕ × List ℕ)) → List (List (ℕ × List ℕ)) → ℕ → Type 0
-FindsNoRoom price need capacity start now rounds = LeavesNoRoom live_pairs (copies_cost price) need capacity start now rounds
+FindsNoRoom price need capacity start now rounds =
+    LeavesNoRoom live_pairs (copies_cost price) need capacity start now rounds

@@ -9,10 +9,11 @@ use Rattle.pair_laws.specs.Items.{Items}
 -- Both are gone, or power was lost: then none is, or the first alone, or both.
 abbrev pub DeletesPair : {T E : Type 0} → Items → Items → ℕ → ℕ → Result T E → Type 0
 DeletesPair before after first second (Ok x) = after ≡ remove (remove before first) second
-DeletesPair before after first second (Err lost) = (after ≡ before) ⊎ (after ≡ remove before first) ⊎ (after ≡ remove (remove before first) second)
+DeletesPair before after first second (Err lost) =
+    (after ≡ before) ⊎ (after ≡ remove before first) ⊎ (after ≡ remove (remove before first) second)
 
--- One of the two writes was refused: its item is longer than a sector has room for, or the items, with the value at most,
--- leave no room for it.
+-- One of the two writes was refused: its item is longer than a sector has room for, or the items, with the
+-- value at most, leave no room for it.
 pub record IsRefused (price : ℕ → ℕ) (cap sectors : ℕ) (before : Items) (name value : List ℕ) : Type 0 where
   pub one : ℕ
   pub is : (one ≡ price (length value)) ⊎ (one ≡ price (length name))
@@ -26,16 +27,24 @@ OneTooLong price cap name value = (cap < price (length value)) ⊎ (cap < price 
 abbrev pub IsNeedOfOne : (ℕ → ℕ) → ℕ → List ℕ → List ℕ → Type 0
 IsNeedOfOne price need name value = (need ≡ price (length value)) ⊎ (need ≡ price (length name))
 
--- Both are there; or a write was refused, and none is; or power was lost, and none is, or the value alone, or both.
-abbrev pub PutsPair : {T : Type 0} → (ℕ → ℕ) → ℕ → ℕ → Items → Items → ℕ → ℕ → List ℕ → List ℕ → Result T WriteFault → Type 0
-PutsPair price cap sectors before after first second name value (Ok x) = after ≡ insert (insert before second value) first name
-PutsPair price cap sectors before after first second name value (Err (NoSpace need live)) = (after ≡ before) × IsRefused price cap sectors before name value × IsNeedOfOne price need name value
-PutsPair price cap sectors before after first second name value (Err TooLong) = (after ≡ before) × IsRefused price cap sectors before name value × OneTooLong price cap name value
-PutsPair price cap sectors before after first second name value (Err PowerLost) = (after ≡ before) ⊎ (after ≡ insert before second value) ⊎ (after ≡ insert (insert before second value) first name)
+-- Both are there; or a write was refused, and none is; or power was lost, and none is, or the value alone, or
+-- both.
+abbrev pub PutsPair : {T : Type 0} → (ℕ → ℕ) → ℕ → ℕ → Items → Items → ℕ → ℕ → List ℕ → List ℕ
+    → Result T WriteFault → Type 0
+PutsPair price cap sectors before after first second name value (Ok x) =
+    after ≡ insert (insert before second value) first name
+PutsPair price cap sectors before after first second name value (Err (NoSpace need live)) =
+    (after ≡ before) × IsRefused price cap sectors before name value × IsNeedOfOne price need name value
+PutsPair price cap sectors before after first second name value (Err TooLong) =
+    (after ≡ before) × IsRefused price cap sectors before name value × OneTooLong price cap name value
+PutsPair price cap sectors before after first second name value (Err PowerLost) =
+    (after ≡ before) ⊎ (after ≡ insert before second value)
+    ⊎ (after ≡ insert (insert before second value) first name)
 
 -- no other item than these two changed
 abbrev pub AltersTwo : Items → Items → ℕ → ℕ → Type 0
-AltersTwo before after first second = (id : ℕ) → ¬ (id ≡ first) → ¬ (id ≡ second) → get after id ≡ get before id
+AltersTwo before after first second =
+    (id : ℕ) → ¬ (id ≡ first) → ¬ (id ≡ second) → get after id ≡ get before id
 
 -- the place has neither a name nor a value
 abbrev pub IsFree : Items → ℕ → ℕ → Type 0

@@ -6,7 +6,8 @@ use Rattle.item_pairs.specs.Homes.{IsHome}
 use Rattle.item_pairs.specs.Pairs.{IsInside}
 use Rattle.pair_store.specs.declared.homes.Ids.{Ids}
 
--- These ids are ids of names, none of a count or a value, and all below a limit. They are few enough to ask a store for bytes.
+-- These ids are ids of names, none of a count or a value, and all below a limit. They are few enough to ask a
+-- store for bytes.
 pub record AreOfNames (n : Numbering) (top : ℕ) (ids : Ids) : Type 0 where
   pub from : n.first ≤ ids.least
   pub to : ids.most < n.first + n.step
@@ -21,7 +22,8 @@ pub record IsAmong (ids : Ids) (place : ℕ) : Type 0 where
 
 -- each place at which the name may stand, up to the count, is one of these
 abbrev pub HasHomes : Numbering → List ℕ → Ids → Type 0
-HasHomes n name ids = (items : Items) (place : ℕ) → IsInside n items place → n.is_home place name ≡ true → IsAmong ids place
+HasHomes n name ids =
+    (items : Items) (place : ℕ) → IsInside n items place → n.is_home place name ≡ true → IsAmong ids place
 
 -- each place of a name up to the count is one of these
 abbrev pub HasAllHomes : Numbering → Ids → Type 0

@@ -7,8 +7,10 @@ use Rattle.backend_api.specs.Room.{Room}
 use Rattle.item_pairs.specs.PairRoom.{pair_room}
 
 -- by what a count costs and which name is one too many, and by the store's price and what a sector has
-abbrev pub room_in : ((ℕ → ℕ) → ℕ) → (Map → List ℕ → Bool) → (Geometry → ℕ → ℕ) → (Geometry → ℕ) → Geometry → Room
-room_in counted too_many price cap geometry = pair_room (price geometry) (cap geometry) (counted (price geometry)) too_many
+abbrev pub room_in : ((ℕ → ℕ) → ℕ) → (Map → List ℕ → Bool) → (Geometry → ℕ → ℕ) → (Geometry → ℕ) → Geometry
+    → Room
+room_in counted too_many price cap geometry =
+    pair_room (price geometry) (cap geometry) (counted (price geometry)) too_many
 
 -- the settings are the old ones, or have the new value
 abbrev pub IsPut : Map → Map → List ℕ → List ℕ → Type 0

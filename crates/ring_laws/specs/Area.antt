@@ -32,7 +32,8 @@ abbrev pub is_blank_at : Reading → List (List ℕ) → ℕ → Bool
 is_blank_at reading sectors place = reading.is_blank (sector_at sectors place)
 
 abbrev pub follows_closed : Reading → List (List ℕ) → ℕ → Bool
-follows_closed reading sectors place = not (is_closed_at reading sectors place) && is_closed_at reading sectors (previous sectors place)
+follows_closed reading sectors place =
+    not (is_closed_at reading sectors place) && is_closed_at reading sectors (previous sectors place)
 
 -- the sectors that are not closed and follow a closed one
 abbrev pub openings : Reading → List (List ℕ) → List ℕ
@@ -40,38 +41,62 @@ openings reading sectors = filter (follows_closed reading sectors) (places secto
 
 -- Where no sector is closed, the open one is the first that is not blank, or sector 0.
 unfoldable pub open_sector : Reading → List (List ℕ) → ℕ
-open_sector reading sectors = unwrap_or (slice_get (openings reading sectors) 0) (unwrap_or (find (λ place. not (is_blank_at reading sectors place)) (places sectors)) 0)
+open_sector reading sectors =
+    unwrap_or (slice_get (openings reading sectors) 0)
+    (unwrap_or (find (λ place. not (is_blank_at reading sectors place)) (places sectors)) 0)
 
 -- ---- the list, with this sector open
 
--- The sector that counts for nothing while a collection lasts: its victim, the next sector, once gc-done stands in the open
--- one, which has all copies then; and until then the open sector, whose copies are not whole yet.
+-- The sector that counts for nothing while a collection lasts: its victim, the next sector, once gc-done
+-- stands in the open one, which has all copies then; and until then the open sector, whose copies are not
+-- whole yet.
 abbrev pub hidden_place : Reading → List (List ℕ) → ℕ → ℕ
-hidden_place reading sectors open_place = if reading.has_gc_done (sector_at sectors open_place) then next sectors open_place else open_place
+hidden_place reading sectors open_place =
+    if reading.has_gc_done (sector_at sectors open_place) then next sectors open_place else open_place
 
--- The next sector is closed only while a collection lasts. Then each sector but the hidden one counts, and else each.
+-- The next sector is closed only while a collection lasts. Then each sector but the hidden one counts, and
+-- else each.
 abbrev pub counts_at : Reading → List (List ℕ) → ℕ → ℕ → Bool
-counts_at reading sectors open_place place = not (is_closed_at reading sectors (next sectors open_place) && (place == hidden_place reading sectors open_place))
+counts_at reading sectors open_place place =
+    not
+    (is_closed_at reading sectors (next sectors open_place)
+    && (place == hidden_place reading sectors open_place))
 
 unfoldable pub area_pairs : Reading → List (List ℕ) → ℕ → List (ℕ × List ℕ)
-area_pairs reading sectors open_place = flat_map (λ place. reading.pairs (sector_at sectors place)) (filter (counts_at reading sectors open_place) (round (length sectors) open_place))
+area_pairs reading sectors open_place =
+    flat_map (λ place. reading.pairs (sector_at sectors place))
+    (filter (counts_at reading sectors open_place) (round (length sectors) open_place))
 
 -- ---- damage
 
 -- a sector whose fence and costs are looked at: it counts and is not blank
 abbrev pub looked_at : Reading → List (List ℕ) → ℕ → ℕ → Bool
-looked_at reading sectors open_place place = counts_at reading sectors open_place place && not (is_blank_at reading sectors place)
+looked_at reading sectors open_place place =
+    counts_at reading sectors open_place place && not (is_blank_at reading sectors place)
 
 -- the first sector at which this test holds
 abbrev pub first_of_kind : Why → (ℕ → Bool) → List (List ℕ) → Option Damaged
-first_of_kind why test sectors = option_map (λ place. record { sector = place; why = why }) (find test (places sectors))
+first_of_kind why test sectors =
+    option_map (λ place. record { sector = place; why = why }) (find test (places sectors))
 
 -- the first sector of the first kind
 unfoldable pub first_damage : Reading → List (List ℕ) → Option Damaged
 first_damage reading sectors =
     let open_place = open_sector reading sectors in
-    if list_all (is_closed_at reading sectors) (places sectors) then Some (record { sector = 0; why = AllClosed })
-    else option_or (option_map (λ place. record { sector = place; why = TwoOpen }) (slice_get (openings reading sectors) 1))
-    (option_or (first_of_kind Dirty (λ place. not (is_closed_at reading sectors place) && not (place == open_place) && not (is_blank_at reading sectors place)) sectors)
-    (option_or (first_of_kind NoFence (λ place. looked_at reading sectors open_place place && not (reading.has_fence (sector_at sectors place))) sectors)
-    (first_of_kind Overfull (λ place. looked_at reading sectors open_place place && reading.is_overfull (sector_at sectors place)) sectors)))
+    if list_all (is_closed_at reading sectors) (places sectors) then Some
+    (record { sector = 0; why = AllClosed })
+    else option_or
+    (option_map (λ place. record { sector = place; why = TwoOpen })
+    (slice_get (openings reading sectors) 1))
+    (option_or
+    (first_of_kind Dirty
+    (λ place. not (is_closed_at reading sectors place) && not (place == open_place)
+    && not (is_blank_at reading sectors place))
+    sectors)
+    (option_or
+    (first_of_kind NoFence
+    (λ place. looked_at reading sectors open_place place && not (reading.has_fence (sector_at sectors place)))
+    sectors)
+    (first_of_kind Overfull
+    (λ place. looked_at reading sectors open_place place && reading.is_overfull (sector_at sectors place))
+    sectors)))

@@ -1,5 +1,5 @@
--- How a store's entries stand in the slots of a sector, and what they say. Definitions and laws on live entries ask
--- nothing else of a store.
+-- How a store's entries stand in the slots of a sector, and what they say. Definitions and laws on live
+-- entries ask nothing else of a store.
 use Rattle.std.specs.Prelude.{◌≡◌, ℕ, ◌+◌, ◌<◌, ◌≤◌, Bool, true, List, length, map, Option, Some}
 use Rattle.std.specs.List.{filter_map, range_with_len}
 use Rattle.ring_laws.specs.Reading.{Reading}
@@ -30,8 +30,12 @@ pub record Entries (Entry Placed : Type 0) : Type 0 where
 pub record AreEntries {Entry Placed : Type 0} (k : Entries Entry Placed) : Type 0 where
   pub listed : (b : List ℕ) → k.entries b ≡ filter_map (k.in_slot b) (range_with_len k.first (k.slots b))
   pub sector : (place : ℕ) (e : Entry) → k.sector (k.placed_at place e) ≡ place
-  pub slot : (b : List ℕ) (place n : ℕ) (e : Entry) → k.in_slot b n ≡ Some e → k.slot (k.placed_at place e) ≡ n
-  pub pairs : (b : List ℕ) (place : ℕ) → k.reading.pairs b ≡ map (λ e. (k.id (k.placed_at place e), k.bytes b (k.placed_at place e))) (k.entries b)
+  pub slot : (b : List ℕ) (place n : ℕ) (e : Entry) → k.in_slot b n ≡ Some e
+      → k.slot (k.placed_at place e) ≡ n
+  pub pairs : (b : List ℕ) (place : ℕ)
+      → k.reading.pairs b
+      ≡ map (λ e. (k.id (k.placed_at place e), k.bytes b (k.placed_at place e))) (k.entries b)
   -- an entry's bytes are as long as it says
-  pub long : (b : List ℕ) (place n : ℕ) (e : Entry) → k.is_sound b ≡ true → k.first ≤ n → n < k.first + k.slots b → k.in_slot b n ≡ Some e
+  pub long : (b : List ℕ) (place n : ℕ) (e : Entry) → k.is_sound b ≡ true → k.first ≤ n
+      → n < k.first + k.slots b → k.in_slot b n ≡ Some e
       → length (k.bytes b (k.placed_at place e)) ≡ k.len (k.placed_at place e)

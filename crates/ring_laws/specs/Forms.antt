@@ -15,8 +15,10 @@ pub record IsRing (reading : Reading) (sectors : List (List ℕ)) (place blanks 
   pub several : 2 ≤ length sectors
   pub within : place < length sectors
   pub spare : blanks < length sectors
-  pub closed : (k : ℕ) → k < length sectors → is_closed_at reading sectors k ≡ nat_lt blanks (distance (length sectors) place k)
-  pub blank : (k : ℕ) → k < length sectors → (k ≡ place → ⊥) → distance (length sectors) place k ≤ blanks → is_blank_at reading sectors k ≡ true
+  pub closed : (k : ℕ) → k < length sectors
+      → is_closed_at reading sectors k ≡ nat_lt blanks (distance (length sectors) place k)
+  pub blank : (k : ℕ) → k < length sectors → (k ≡ place → ⊥) → distance (length sectors) place k ≤ blanks
+      → is_blank_at reading sectors k ≡ true
   -- where none is closed, the open one is known by what it holds
   pub started : blanks + 1 ≡ length sectors → (is_blank_at reading sectors place ≡ false) ⊎ (place ≡ 0)
 
@@ -27,7 +29,8 @@ pub record AtRest (reading : Reading) (sectors : List (List ℕ)) (place : ℕ) 
   pub some : 0 < blanks
   pub sound : (k : ℕ) → k < length sectors → is_sound reading (sector_at sectors k) ≡ true
 
--- A collection before gc-done. The open sector counts for nothing, whatever it holds: it is blank, or has copies, a cut copy or a cut gc-done.
+-- A collection before gc-done. The open sector counts for nothing, whatever it holds: it is blank, or has
+-- copies, a cut copy or a cut gc-done.
 pub record Collecting (reading : Reading) (sectors : List (List ℕ)) (place : ℕ) : Type 0 where
   pub ring : IsRing reading sectors place 0
   pub not_done : reading.has_gc_done (sector_at sectors place) ≡ false
@@ -37,11 +40,13 @@ pub record Collecting (reading : Reading) (sectors : List (List ℕ)) (place : �
 pub record Collected (reading : Reading) (sectors : List (List ℕ)) (place : ℕ) : Type 0 where
   pub ring : IsRing reading sectors place 0
   pub done : reading.has_gc_done (sector_at sectors place) ≡ true
-  pub sound : (k : ℕ) → k < length sectors → (k ≡ next sectors place → ⊥) → is_sound reading (sector_at sectors k) ≡ true
+  pub sound : (k : ℕ) → k < length sectors → (k ≡ next sectors place → ⊥)
+      → is_sound reading (sector_at sectors k) ≡ true
 
 -- the invariant, with this sector open
 abbrev pub IsForm : Reading → List (List ℕ) → ℕ → Type 0
-IsForm reading sectors place = AtRest reading sectors place ⊎ Collecting reading sectors place ⊎ Collected reading sectors place
+IsForm reading sectors place =
+    AtRest reading sectors place ⊎ Collecting reading sectors place ⊎ Collected reading sectors place
 
 -- ---- what a collection copies
 
@@ -58,4 +63,6 @@ pairs_at reading sectors place = reading.pairs (sector_at sectors place)
 
 -- the live pairs of the victim, which is the next sector; the other closed ones follow it
 abbrev pub to_copy : Reading → List (List ℕ) → ℕ → List (ℕ × List ℕ)
-to_copy reading sectors place = live_pairs (pairs_at reading sectors (next sectors place)) (flat_map (pairs_at reading sectors) (rest (length sectors) place))
+to_copy reading sectors place =
+    live_pairs (pairs_at reading sectors (next sectors place))
+    (flat_map (pairs_at reading sectors) (rest (length sectors) place))

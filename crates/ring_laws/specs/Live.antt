@@ -1,4 +1,5 @@
--- The entries of an area's list with their places, and which of them are live: the last of their id, with bytes.
+-- The entries of an area's list with their places, and which of them are live: the last of their id, with
+-- bytes.
 use Rattle.std.specs.Prelude.{ℕ, Bool, false, ◌&&◌, List, [], length, map, fold, Option, Some, None, ◌==◌, nat_lt, if◌then◌else◌}
 use Rattle.std.specs.List.{filter_map, flat_map, range_with_len}
 use Rattle.std.specs.Option.{option_and_then, option_map, option_map_or}
@@ -13,7 +14,9 @@ module _ {Entry Placed : Type 0} (k : Entries Entry Placed) where
 
   -- the entries of a sector with their places, where it counts with this one open
   abbrev pub counted_in : List (List ℕ) → ℕ → ℕ → List Placed
-  counted_in sectors current place = if counts_at k.reading sectors current place then map (k.placed_at place) (k.entries (sector_at sectors place)) else []
+  counted_in sectors current place =
+      if counts_at k.reading sectors current place then map (k.placed_at place)
+      (k.entries (sector_at sectors place)) else []
 
   -- the entries of the list, with their places
   abbrev pub all_placed : List (List ℕ) → List Placed
@@ -26,7 +29,8 @@ module _ {Entry Placed : Type 0} (k : Entries Entry Placed) where
 
   -- the last entry of an id in one sector
   abbrev pub last_in : ℕ → ℕ → List Entry → Option Entry
-  last_in place id entries = fold (λ last e. if k.id (k.placed_at place e) == id then Some e else last) None entries
+  last_in place id entries =
+      fold (λ last e. if k.id (k.placed_at place e) == id then Some e else last) None entries
 
   -- the last entry of an id, a delete too
   abbrev pub last_placed : List (List ℕ) → ℕ → Option Placed
@@ -40,7 +44,9 @@ module _ {Entry Placed : Type 0} (k : Entries Entry Placed) where
 
   -- where an id's last entry is this one, with bytes
   abbrev pub is_at : Placed → Option Placed → Bool
-  is_at p o = option_map_or (λ last. (k.sector last == k.sector p) && (k.slot last == k.slot p) && nat_lt 0 (k.len p)) o false
+  is_at p o =
+      option_map_or (λ last. (k.sector last == k.sector p) && (k.slot last == k.slot p) && nat_lt 0 (k.len p))
+      o false
 
   -- the entry is the last of its id in the list, and has bytes
   abbrev pub is_live : List (List ℕ) → Placed → Bool
@@ -49,11 +55,13 @@ module _ {Entry Placed : Type 0} (k : Entries Entry Placed) where
   -- the live entry in this slot
   abbrev pub live_in : List (List ℕ) → ℕ → ℕ → Option Placed
   live_in sectors place slot =
-      option_and_then (λ p. if is_live sectors p then Some p else None) (option_map (k.placed_at place) (k.in_slot (sector_at sectors place) slot))
+      option_and_then (λ p. if is_live sectors p then Some p else None)
+      (option_map (k.placed_at place) (k.in_slot (sector_at sectors place) slot))
 
   -- the pairs of the live entries in the first slots of a sector
   abbrev pub live_to : List (List ℕ) → ℕ → ℕ → List (ℕ × List ℕ)
-  live_to sectors place slots = map (pair_of sectors) (filter_map (live_in sectors place) (range_with_len k.first slots))
+  live_to sectors place slots =
+      map (pair_of sectors) (filter_map (live_in sectors place) (range_with_len k.first slots))
 
   -- it costs so many bytes
   abbrev pub cost_of : Option Placed → ℕ

@@ -19,7 +19,8 @@ IsNextId items after (Some next) =
     × ((id : ℕ) → IsBehind after id → id < next → get items id ≡ None)
 
 abbrev pub is_between : ℕ → Option ℕ → Option ℕ → Bool
-is_between id after least = option_map_or (λ a. nat_lt a id) after true && option_map_or (λ l. nat_lt id l) least true
+is_between id after least =
+    option_map_or (λ a. nat_lt a id) after true && option_map_or (λ l. nat_lt id l) least true
 
 -- an id behind this one that has a value
 abbrev pub Follows : Items → Option ℕ → ℕ → Type 0
@@ -32,4 +33,5 @@ IsAtMost (Some least) id = least ≤ id
 
 -- no id of these pairs that is behind this one and has a value is below the least
 abbrev pub IsLeastOf : Items → Option ℕ → List (ℕ × List ℕ) → Option ℕ → Type 0
-IsLeastOf items after pairs least = (id : ℕ) → Follows items after id → names id pairs ≡ true → IsAtMost least id
+IsLeastOf items after pairs least =
+    (id : ℕ) → Follows items after id → names id pairs ≡ true → IsAtMost least id

@@ -18,4 +18,5 @@ pub record IsReading (reading : Reading) : Type 0 where
 
 -- The sector is blank, or it has a fence and is not overfull.
 abbrev pub is_sound : Reading → List ℕ → Bool
-is_sound reading sector = reading.is_blank sector || (reading.has_fence sector && not (reading.is_overfull sector))
+is_sound reading sector =
+    reading.is_blank sector || (reading.has_fence sector && not (reading.is_overfull sector))

@@ -11,5 +11,6 @@ places_before count current place =
 -- and those behind it
 abbrev pub places_after : ℕ → ℕ → ℕ → List ℕ
 places_after count current place =
-    if nat_lt current place then range_with_len (place + 1) (count - (place + 1)) ++ range_with_len 0 (current + 1)
+    if nat_lt current place then range_with_len (place + 1) (count - (place + 1))
+    ++ range_with_len 0 (current + 1)
     else range_with_len (place + 1) (current - place)

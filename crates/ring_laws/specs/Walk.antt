@@ -18,8 +18,12 @@ module _ {Entry Placed : Type 0} (k : Entries Entry Placed) where
 
   -- those with their places, where the sector counts with this one open
   abbrev pub counted_within : List (List ℕ) → ℕ → ℕ → ℕ → List Placed
-  counted_within sectors current place n = if counts_at k.reading sectors current place then map (k.placed_at place) (entries_within (sector_at sectors place) n) else []
+  counted_within sectors current place n =
+      if counts_at k.reading sectors current place then map (k.placed_at place)
+      (entries_within (sector_at sectors place) n) else []
 
   -- the entries of the sectors before this one, and those in its first so many slots
   abbrev pub placed_up_to : List (List ℕ) → ℕ → ℕ → ℕ → List Placed
-  placed_up_to sectors current place n = flat_map (counted_in k sectors current) (places_before (length sectors) current place) ++ counted_within sectors current place n
+  placed_up_to sectors current place n =
+      flat_map (counted_in k sectors current) (places_before (length sectors) current place)
+      ++ counted_within sectors current place n

@@ -23,7 +23,8 @@ latest_of slot placed = fold (λ latest p. if p.id % 64 == slot then Some p else
 abbrev pub stands_at : Placed → ℕ × ℕ
 stands_at p = (p.sector, p.slot)
 
--- Each of the 64 cache slots has the place of the latest of these entries whose ids are its own, and nothing where none is.
+-- Each of the 64 cache slots has the place of the latest of these entries whose ids are its own, and nothing
+-- where none is.
 pub record IsCacheOf (cache : List (Option (ℕ × ℕ))) (placed : List Placed) : Type 0 where
   pub slots : length cache ≡ 64
   pub latest : (id : ℕ) → place_of cache id ≡ option_map stands_at (latest_of (id % 64) placed)
@@ -32,7 +33,8 @@ pub record IsCacheOf (cache : List (Option (ℕ × ℕ))) (placed : List Placed)
 pub record AddsEntry (k : Kind) (old new : List (List ℕ)) (place id len : ℕ) : Type 0 where
   pub slot : ℕ
   pub last : slot + 1 ≡ k.first + k.count (sector_at new place)
-  pub list : all_placed (slots k) new ≡ all_placed (slots k) old ++ placed_at place (new_entry slot id len) ∷ []
+  pub list : all_placed (slots k) new
+      ≡ all_placed (slots k) old ++ placed_at place (new_entry slot id len) ∷ []
 
 -- ---- behind a round
 
@@ -42,7 +44,8 @@ pub record IsTurned (k : Kind) (size : ℕ) (old new : List (List ℕ)) (place :
   pub long : length new ≡ length old
   pub turns : TurnsAt k size old new place
 
--- By whatever round this sector became the open one, of a cache of the list before it came one of the list behind it.
+-- By whatever round this sector became the open one, of a cache of the list before it came one of the list
+-- behind it.
 abbrev pub FollowsRound : Kind → List (List ℕ) → ℕ → List (Option (ℕ × ℕ)) → List (Option (ℕ × ℕ)) → Type 0
 FollowsRound k new opened before behind =
     (size : ℕ) (old : List (List ℕ)) (place : ℕ) → IsTurned k size old new place → opened ≡ next old place

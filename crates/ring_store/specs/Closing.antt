@@ -14,14 +14,15 @@ pub record FindsClean (k : Kind) (old new : Device) (area : Area) (place : ℕ) 
   pub clean : is_clean_at k (sectors_of old area) place ≡ true
   pub same : new ≡ old
 
--- The open sector was not clean, and a whole round was made, with the room that it leaves and the units that it spends.
+-- The open sector was not clean, and a whole round was made, with the room that it leaves and the units that
+-- it spends.
 pub record Turns (k : Kind) (old new : Device) (area : Area) (place : ℕ) : Type 0 where
   pub used : is_clean_at k (sectors_of old area) place ≡ false
   pub turns : TurnsAt k (sector_size old area) (sectors_of old area) (sectors_of new area) place
   pub units : SpendsIn old new (round_units k (sectors_of old area) place)
 
--- The open sector was not clean, and power was lost in the round: the list is as before, or as the whole round leaves it,
--- and no more units are spent than a round that is cut spends at most.
+-- The open sector was not clean, and power was lost in the round: the list is as before, or as the whole
+-- round leaves it, and no more units are spent than a round that is cut spends at most.
 pub record StopsTurning (k : Kind) (old new : Device) (area : Area) (place : ℕ) : Type 0 where
   pub used : is_clean_at k (sectors_of old area) place ≡ false
   pub list : KeepsOrTurns k (sectors_of old area) (sectors_of new area) place

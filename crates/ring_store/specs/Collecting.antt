@@ -30,7 +30,8 @@ pub record HasOpened (k : Kind) (old new : List (List ℕ)) (place : ℕ) : Type
   pub long : length (sector_at new place) ≡ length (sector_at old place)
 
 -- Into the open sector, which had no entry, these pairs were copied. No other sector changed.
-pub record HasCopied (k : Kind) (old new : List (List ℕ)) (place : ℕ) (pairs : List (ℕ × List ℕ)) : Type 0 where
+pub record HasCopied (k : Kind) (old new : List (List ℕ)) (place : ℕ) (pairs : List (ℕ × List ℕ)) :
+    Type 0 where
   pub only : ChangesOnly old new place
   pub ready : k.is_ready (sector_at new place) ≡ true
   pub list : k.reading.pairs (sector_at new place) ≡ pairs
@@ -38,7 +39,8 @@ pub record HasCopied (k : Kind) (old new : List (List ℕ)) (place : ℕ) (pairs
   pub gc_done : k.reading.has_gc_done (sector_at new place) ≡ false
   pub long : length (sector_at new place) ≡ length (sector_at old place)
   -- what the copies cost is gone from the room
-  pub room : k.free (sector_at new place) + copies_cost k.cost pairs ≡ k.cap (length (sector_at old place)) + 3 * k.slot
+  pub room : k.free (sector_at new place) + copies_cost k.cost pairs
+      ≡ k.cap (length (sector_at old place)) + 3 * k.slot
 
 -- copying was cut: the open sector still counts for nothing
 pub record StopsCopying (k : Kind) (old new : List (List ℕ)) (place : ℕ) : Type 0 where
@@ -49,7 +51,9 @@ pub record StopsCopying (k : Kind) (old new : List (List ℕ)) (place : ℕ) : T
 -- one entry was copied, if there is one
 abbrev pub CopiesOne : Kind → List (List ℕ) → List (List ℕ) → ℕ → Option Placed → Type 0
 CopiesOne k old new place None = new ≡ old
-CopiesOne k old new place (Some p) = ChangesOnly old new place × Adds k (sector_at old place) (sector_at new place) p.id (live.bytes_of (slots k) old p)
+CopiesOne k old new place (Some p) =
+    ChangesOnly old new place
+    × Adds k (sector_at old place) (sector_at new place) p.id (live.bytes_of (slots k) old p)
 
 -- what the copy of an entry spends, if there is one
 abbrev pub copy_units : Kind → Option Placed → Range
@@ -62,7 +66,8 @@ pub record CollectsAt (k : Kind) (old new : List (List ℕ)) (place : ℕ) : Typ
   pub list : k.reading.pairs (sector_at new place) ≡ to_copy k.reading old place
   pub gc_done : k.reading.has_gc_done (sector_at new place) ≡ true
   pub long : length (sector_at new place) ≡ length (sector_at old place)
-  pub room : k.free (sector_at new place) + copies_cost k.cost (to_copy k.reading old place) ≡ k.cap (length (sector_at old place)) + 2 * k.slot
+  pub room : k.free (sector_at new place) + copies_cost k.cost (to_copy k.reading old place)
+      ≡ k.cap (length (sector_at old place)) + 2 * k.slot
   -- no sector changed but the open one and the victim
   pub others : (j : ℕ) → (j ≡ place → ⊥) → (j ≡ next old place → ⊥) → sector_at new j ≡ sector_at old j
 
@@ -70,14 +75,16 @@ pub record CollectsAt (k : Kind) (old new : List (List ℕ)) (place : ℕ) : Typ
 abbrev pub fits_beside : Kind → ℕ → List (ℕ × List ℕ) → ℕ → Bool
 fits_beside k size pairs len = nat_le (copies_cost k.cost pairs + k.cost len) (k.cap size)
 
--- A whole round. Afterwards a value fits the open sector exactly where it does beside the copies, and a delete fits.
+-- A whole round. Afterwards a value fits the open sector exactly where it does beside the copies, and a
+-- delete fits.
 pub record TurnsAt (k : Kind) (size : ℕ) (old new : List (List ℕ)) (place : ℕ) : Type 0 where
   pub round : IsRound k.reading old place new
   pub room : (len : ℕ) → 0 < len → fits k (sector_at new (next old place)) len
       ≡ fits_beside k size (pairs_at k.reading new (next old place)) len
   pub delete : fits k (sector_at new (next old place)) 0 ≡ true
   -- the entries of all sectors but the new open one and the victim stay in their slots
-  pub others : (j : ℕ) → (j ≡ next old place → ⊥) → (j ≡ next old (next old place) → ⊥) → entries k (sector_at new j) ≡ entries k (sector_at old j)
+  pub others : (j : ℕ) → (j ≡ next old place → ⊥) → (j ≡ next old (next old place) → ⊥)
+      → entries k (sector_at new j) ≡ entries k (sector_at old j)
 
 -- ---- the list
 
@@ -101,7 +108,9 @@ KeepsOrTurns k old new place =
 
 -- What a mount has to do with this sector open. The next sector is closed only while a collection lasts.
 abbrev pub redo_of : Kind → List (List ℕ) → ℕ → Redo
-redo_of k sectors place = if is_closed_at k.reading sectors (next sectors place) then (if k.reading.has_gc_done (sector_at sectors place) then ClearNext else CollectAgain) else Nothing
+redo_of k sectors place =
+    if is_closed_at k.reading sectors (next sectors place) then
+    (if k.reading.has_gc_done (sector_at sectors place) then ClearNext else CollectAgain) else Nothing
 
 -- the list that it leaves
 abbrev pub redo_list : Kind → List (List ℕ) → ℕ → Redo → List (ℕ × List ℕ)

@@ -1,5 +1,5 @@
--- What a store of items asks of its sectors. Nothing else in this crate knows how a sector holds an entry, what it
--- programs for it, or how a damage looks.
+-- What a store of items asks of its sectors. Nothing else in this crate knows how a sector holds an entry,
+-- what it programs for it, or how a damage looks.
 use Rattle.std.specs.Prelude.{◌≡◌, ℕ, ◌+◌, ◌*◌, ◌<◌, ◌≤◌, max, Bool, true, false, List, length, map, Option, Some, None, ◌==◌, nat_le, if◌then◌else◌}
 use Rattle.std.specs.List.{filter_map, range_with_len}
 use Rattle.flash_map.specs.declared.faults.Damaged.{Damaged}
@@ -11,7 +11,8 @@ use Rattle.ring_laws.specs.Entries.{Entries}
 use Rattle.ring_store.specs.declared.entry.Entry.{Entry}
 use Rattle.ring_store.specs.declared.entry.Placed.{Placed}
 
--- A step that ends whole spends so many units at least, and so many at most. One that is cut spends no more than `lost`.
+-- A step that ends whole spends so many units at least, and so many at most. One that is cut spends no more
+-- than `lost`.
 pub record Range : Type 0 where
   pub least : ℕ
   pub most : ℕ
@@ -38,7 +39,8 @@ pub record Units : Type 0 where
   pub done : List ℕ → Range
   pub close : List ℕ → Range
   pub clear : List ℕ → Range
-  -- the same in any sector: a collection is told by what is copied, not by what the bytes of a sector become on the way
+  -- the same in any sector: a collection is told by what is copied, not by what the bytes of a sector become
+  -- on the way
   pub any_copy : ℕ → Range
   pub any_done : Range
   pub any_clear : Range
@@ -131,31 +133,45 @@ pub record IsKind (k : Kind) : Type 0 where
   pub own_slot : (b : List ℕ) (n : ℕ) (e : Entry) → k.in_slot b n ≡ Some e → e.slot ≡ n
   -- no entry has the id behind those of items
   pub reserved : (b : List ℕ) (n : ℕ) (e : Entry) → k.in_slot b n ≡ Some e → e.id ≡ k.ids → ⊥
-  pub long : (b : List ℕ) (n : ℕ) (e : Entry) → k.within b ≡ true → k.first ≤ n → n < k.first + k.count b → k.in_slot b n ≡ Some e → length (k.bytes b e.slot) ≡ e.len
+  pub long : (b : List ℕ) (n : ℕ) (e : Entry) → k.within b ≡ true → k.first ≤ n → n < k.first + k.count b
+      → k.in_slot b n ≡ Some e → length (k.bytes b e.slot) ≡ e.len
   pub sound : (b : List ℕ) → 512 ≤ length b → is_sound k.reading b ≡ true → k.within b ≡ true
-  pub costs : (b : List ℕ) → 512 ≤ length b → is_sound k.reading b ≡ true → stored_cost k.cost (k.reading.pairs b) ≤ k.cap (length b)
+  pub costs : (b : List ℕ) → 512 ≤ length b → is_sound k.reading b ≡ true
+      → stored_cost k.cost (k.reading.pairs b) ≤ k.cap (length b)
   -- a clean sector holds nothing, and has room for three slots beside what it has for values and entries
   pub clean : (b : List ℕ) → k.is_clean b ≡ true → k.reading.is_blank b ≡ true
   -- so is each sector with no entry, where sectors are not made ready as they open
   pub blank : k.opens_ready ≡ false → (b : List ℕ) → k.reading.is_blank b ≡ true → k.is_clean b ≡ true
   pub room : (b : List ℕ) → 512 ≤ length b → k.is_clean b ≡ true → k.free b ≡ k.cap (length b) + 3 * k.slot
   -- an open sector that is not clean takes entries
-  pub used : (b : List ℕ) → 512 ≤ length b → is_sound k.reading b ≡ true → k.is_clean b ≡ false → k.reading.is_closed b ≡ false → k.is_ready b ≡ true
+  pub used : (b : List ℕ) → 512 ≤ length b → is_sound k.reading b ≡ true → k.is_clean b ≡ false
+      → k.reading.is_closed b ≡ false → k.is_ready b ≡ true
   pub begun : (b : List ℕ) → k.is_ready b ≡ true → k.units.begin b ≡ record { least = 0; most = 0; lost = 0 }
   pub units : AreUnits k.units
   -- no bytes take up less than they are, and no sector has more than its size
   pub least : (len : ℕ) → len ≤ k.cost len
   pub most : (size : ℕ) → k.cap size ≤ size
   -- a round's close, and its copies of pairs that a sector has room for, into a sector that held nothing
-  pub round : (size : ℕ) (closed opened : List ℕ) (pairs : List (ℕ × List ℕ)) → 512 ≤ size → length closed ≡ size → k.reading.is_blank opened ≡ true → copies_cost k.cost pairs ≤ k.cap size
-      → (k.units.close closed).lost + ((making_ready k opened).lost + (copies_cost (λ len. (k.units.any_copy len).lost) pairs + (k.units.any_done.lost + k.units.any_clear.lost))) ≤ k.units.round size
+  pub round : (size : ℕ) (closed opened : List ℕ) (pairs : List (ℕ × List ℕ)) → 512 ≤ size
+      → length closed ≡ size → k.reading.is_blank opened ≡ true → copies_cost k.cost pairs ≤ k.cap size
+      → (k.units.close closed).lost
+      + ((making_ready k opened).lost
+      + (copies_cost (λ len. (k.units.any_copy len).lost) pairs
+      + (k.units.any_done.lost + k.units.any_clear.lost))) ≤ k.units.round size
   -- the copies of a mount, which makes their sector ready or empties it first
-  pub mount : (size : ℕ) (opened : List ℕ) (pairs : List (ℕ × List ℕ)) → 512 ≤ size → copies_cost k.cost pairs ≤ k.cap size
-      → max (k.units.begin opened).lost k.units.any_clear.lost + (copies_cost (λ len. (k.units.any_copy len).lost) pairs + (k.units.any_done.lost + k.units.any_clear.lost)) ≤ k.units.mount size
-  pub entry : (before begun : List ℕ) (len : ℕ) → (k.units.begin before).lost + (k.units.put begun len).lost ≤ k.units.entry len
+  pub mount : (size : ℕ) (opened : List ℕ) (pairs : List (ℕ × List ℕ)) → 512 ≤ size
+      → copies_cost k.cost pairs ≤ k.cap size
+      → max (k.units.begin opened).lost k.units.any_clear.lost
+      + (copies_cost (λ len. (k.units.any_copy len).lost) pairs
+      + (k.units.any_done.lost + k.units.any_clear.lost)) ≤ k.units.mount size
+  pub entry : (before begun : List ℕ) (len : ℕ)
+      → (k.units.begin before).lost + (k.units.put begun len).lost ≤ k.units.entry len
   pub damaged : (sectors : List (List ℕ)) → k.damage sectors ≡ None → first_damage k.reading sectors ≡ None
   pub undamaged : (sectors : List (List ℕ)) → first_damage k.reading sectors ≡ None → k.damage sectors ≡ None
 
--- Whether a value of this length fits a sector. A length of 0 is a delete. Slots stay for gc-done, a delete and the fence.
+-- Whether a value of this length fits a sector. A length of 0 is a delete. Slots stay for gc-done, a delete
+-- and the fence.
 abbrev pub fits : Kind → List ℕ → ℕ → Bool
-fits k b len = if len == 0 then nat_le (2 * k.slot) (k.free b) else nat_le (k.cost len + (if k.reading.has_gc_done b then 2 else 3) * k.slot) (k.free b)
+fits k b len =
+    if len == 0 then nat_le (2 * k.slot) (k.free b) else nat_le
+    (k.cost len + (if k.reading.has_gc_done b then 2 else 3) * k.slot) (k.free b)

@@ -20,9 +20,11 @@ abbrev pub IsOther : ℕ → ℕ → Option Entry → Type 0
 IsOther least most None = Unit {0}
 IsOther least most (Some e) = in_range least most e.id ≡ false
 
--- no entry of a sector's list in the slots from the one with this number on has an id of the range, up to another one
+-- no entry of a sector's list in the slots from the one with this number on has an id of the range, up to
+-- another one
 abbrev pub AreOthers : Kind → List ℕ → ℕ → ℕ → ℕ → ℕ → Type 0
-AreOthers k b from to least most = (slot : ℕ) → k.first + from ≤ slot → slot < k.first + to → IsOther least most (k.in_slot b slot)
+AreOthers k b from to least most =
+    (slot : ℕ) → k.first + from ≤ slot → slot < k.first + to → IsOther least most (k.in_slot b slot)
 
 -- some entry has this id
 abbrev pub has_id : ℕ → List Placed → Bool
@@ -38,9 +40,11 @@ counted_from k sectors current place left =
 
 -- the entries behind the first so many slots of a sector, in the round to the open one
 abbrev pub told_at : Kind → List (List ℕ) → ℕ → ℕ → ℕ → List Placed
-told_at k sectors current place left = counted_from k sectors current place left ++ behind k sectors current place
+told_at k sectors current place left =
+    counted_from k sectors current place left ++ behind k sectors current place
 
--- A walk stands at a place of the list. The ids of the entries behind it are noted, as far as they are in its range.
+-- A walk stands at a place of the list. The ids of the entries behind it are noted, as far as they are in its
+-- range.
 pub record IsAt (k : Kind) (sectors : List (List ℕ)) (current : ℕ) (walk : Lasts) : Type 0 where
   pub inside : walk.place < length sectors
   pub left : walk.left ≤ k.count (sector_at sectors walk.place)
@@ -51,7 +55,8 @@ pub record IsAt (k : Kind) (sectors : List (List ℕ)) (current : ℕ) (walk : L
       → has_bit walk.seen (id - walk.least) ≡ has_id id (told_at k sectors current walk.place walk.left)
 
 -- an entry of the range that a walk told: the last one of its id
-pub record WasTold (k : Kind) (sectors : List (List ℕ)) (current : ℕ) (walk : Lasts) (p : Placed) : Type 0 where
+pub record WasTold (k : Kind) (sectors : List (List ℕ)) (current : ℕ) (walk : Lasts) (p : Placed) :
+    Type 0 where
   pub own : in_range walk.least walk.most p.id ≡ true
   pub last : last_of_id p.id (told_at k sectors current walk.place walk.left) ≡ Some p
 
@@ -62,7 +67,8 @@ pub record IsLastIn (k : Kind) (sectors : List (List ℕ)) (walk : Lasts) (p : P
 
 -- The next one is told, or there is none that was not.
 abbrev pub TellsNext : Kind → List (List ℕ) → ℕ → Lasts → Lasts → Option Placed → Type 0
-TellsNext k sectors current old new None = (p : Placed) → IsLastIn k sectors old p → WasTold k sectors current old p
+TellsNext k sectors current old new None =
+    (p : Placed) → IsLastIn k sectors old p → WasTold k sectors current old p
 TellsNext k sectors current old new (Some next) =
     IsLastIn k sectors old next
     × ((p : Placed) → WasTold k sectors current new p → (p ≡ next) ⊎ WasTold k sectors current old p)
@@ -75,7 +81,8 @@ SameRange old new = (new.least ≡ old.least) × (new.most ≡ old.most)
 
 -- how many sectors stand before a place in the round to the open one
 abbrev pub sectors_left : ℕ → ℕ → ℕ → ℕ
-sectors_left count current place = if nat_lt current place then place - (current + 1) else place + (count - (current + 1))
+sectors_left count current place =
+    if nat_lt current place then place - (current + 1) else place + (count - (current + 1))
 
 -- No more slots than this are left to be looked at: no sector has more than 2 ^ 15.
 abbrev pub slots_left : ℕ → ℕ → Lasts → ℕ

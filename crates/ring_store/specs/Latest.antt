@@ -34,10 +34,12 @@ IsTold (Some bound) id = id < bound
 abbrev pub Rises : List Placed → Type 0
 Rises entries = AllPairs (λ p q. p.id < q.id) entries
 
--- A table tells of the ids below its bound: of each it has the last one of these entries, where that has bytes. It has no
--- other entries, and they stand in the order of their ids. These entries' ids are below a limit.
+-- A table tells of the ids below its bound: of each it has the last one of these entries, where that has
+-- bytes. It has no other entries, and they stand in the order of their ids. These entries' ids are below a
+-- limit.
 pub record TellsBelow (limit : ℕ) (last : LastSlots) (placed : List Placed) : Type 0 where
-  pub told : (id : ℕ) → IsTold last.bound id → last_of_id id last.entries.items ≡ with_bytes (last_of_id id placed)
+  pub told : (id : ℕ) → IsTold last.bound id
+      → last_of_id id last.entries.items ≡ with_bytes (last_of_id id placed)
   pub within : All (λ p. IsTold last.bound p.id) last.entries.items
   pub rises : Rises last.entries.items
   pub few : length last.entries.items ≤ 800
@@ -52,8 +54,8 @@ pub record HadBytes (ids greatest : ℕ) (placed : List Placed) : Type 0 where
   pub bytes : All (λ p. ¬ (p.len ≡ 0)) entries
   pub among : All (Contains placed) entries
 
--- So does a table of 800 places. It has a bound only where more ids than it has places had bytes, none of them above that bound;
--- otherwise it tells of each id.
+-- So does a table of 800 places. It has a bound only where more ids than it has places had bytes, none of
+-- them above that bound; otherwise it tells of each id.
 pub record Tells (limit : ℕ) (last : LastSlots) (placed : List Placed) : Type 0 where
   pub below : TellsBelow limit last placed
   pub full : (bound : ℕ) → last.bound ≡ Some bound → HadBytes 801 bound placed
@@ -69,11 +71,14 @@ pub record Covers (limit : ℕ) (last : LastSlots) (seen : Seen) (placed : List 
 
 -- ---- reading a table
 
--- at this place is the entry of an id, with lesser ones before it and greater ones behind it, or none between them
+-- at this place is the entry of an id, with lesser ones before it and greater ones behind it, or none between
+-- them
 abbrev pub Splits : List Placed → ℕ → Result ℕ ℕ → Type 0
 Splits entries id (Ok at) =
-    AllWithin (λ p. p.id < id) entries 0 at × HoldsAt (λ p. p.id ≡ id) entries at × AllWithin (λ p. id < p.id) entries (at + 1) (length entries)
-Splits entries id (Err at) = AllWithin (λ p. p.id < id) entries 0 at × AllWithin (λ p. id < p.id) entries at (length entries)
+    AllWithin (λ p. p.id < id) entries 0 at × HoldsAt (λ p. p.id ≡ id) entries at
+    × AllWithin (λ p. id < p.id) entries (at + 1) (length entries)
+Splits entries id (Err at) =
+    AllWithin (λ p. p.id < id) entries 0 at × AllWithin (λ p. id < p.id) entries at (length entries)
 
 -- the entry of the least id behind this one
 abbrev pub IsNextIn : Option ℕ → List Placed → Option Placed → Type 0

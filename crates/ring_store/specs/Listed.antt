@@ -48,7 +48,8 @@ IsPlacedOn kind d area current p = IsPlaced (kind_on kind d area) (sectors_of d 
 -- the slot is one of the list of a sector
 abbrev pub HasSlotOn : (Geometry → Kind) → Device → Area → ℕ → ℕ → Type 0
 HasSlotOn kind d area place slot =
-    let k = kind_on kind d area in (k.first ≤ slot) × (slot < k.first + k.count (sector_at (sectors_of d area) place))
+    let k = kind_on kind d area in
+    (k.first ≤ slot) × (slot < k.first + k.count (sector_at (sectors_of d area) place))
 
 -- the bytes of the sector's entries lie in it
 abbrev pub IsWithinOn : (Geometry → Kind) → Device → Area → ℕ → Type 0

@@ -6,10 +6,13 @@ use Rattle.ring_laws.specs.Walk.{placed_up_to}
 use Rattle.ring_store.specs.declared.entry.Placed.{Placed}
 use Rattle.ring_store.specs.Kind.{Kind, slots}
 
--- The next older entry of a list: the one before the entry at this place, or the newest where no place is named.
+-- The next older entry of a list: the one before the entry at this place, or the newest where no place is
+-- named.
 abbrev pub IsNextOlder : List Placed → Option (ℕ × ℕ) → Option Placed → Type 0
 IsNextOlder all None next = next ≡ last_or None all
-IsNextOlder all (Some place) next = (older newer : List Placed) (p : Placed) → all ≡ older ++ p ∷ newer → place ≡ (p.sector, p.slot) → next ≡ last_or None older
+IsNextOlder all (Some place) next =
+    (older newer : List Placed) (p : Placed) → all ≡ older ++ p ∷ newer → place ≡ (p.sector, p.slot)
+    → next ≡ last_or None older
 
 -- the newest entry before a place, in the round to the open sector, whether an entry stands there or not
 abbrev pub newest_before : Kind → List (List ℕ) → ℕ × ℕ → Option Placed

@@ -69,7 +69,8 @@ HasCopyRoomOn kind d area place len =
 -- the entry stands in its slot
 abbrev pub StandsThereOn : (Geometry → Kind) → Device → Area → Placed → Type 0
 StandsThereOn kind d area p =
-    option_map (placed_at p.sector) ((kind_on kind d area).in_slot (sector_on d area p.sector) p.slot) ≡ Some p
+    option_map (placed_at p.sector) ((kind_on kind d area).in_slot (sector_on d area p.sector) p.slot)
+    ≡ Some p
 
 -- ---- what a step makes of it
 
@@ -77,8 +78,10 @@ abbrev pub ChangesOnlyOn : Device → Device → Area → ℕ → Type 0
 ChangesOnlyOn old new area place = ChangesOnly (sectors_of old area) (sectors_of new area) place
 
 -- a step in a sector, by the kind of the area before it
-abbrev pub StepOn : (Kind → List ℕ → List ℕ → Type 0) → (Geometry → Kind) → Device → Device → Area → ℕ → Type 0
-StepOn step kind old new area place = step (kind_on kind old area) (sector_on old area place) (sector_on new area place)
+abbrev pub StepOn : (Kind → List ℕ → List ℕ → Type 0) → (Geometry → Kind) → Device → Device → Area → ℕ
+    → Type 0
+StepOn step kind old new area place =
+    step (kind_on kind old area) (sector_on old area place) (sector_on new area place)
 
 abbrev pub KeepsOn : (Geometry → Kind) → Device → Device → Area → ℕ → Type 0
 KeepsOn = StepOn Keeps
@@ -115,12 +118,14 @@ LeavesRoomOn kind old new area place len =
 abbrev pub KeepsSoundOn : (Geometry → Kind) → Device → Device → Area → ℕ → Type 0
 KeepsSoundOn kind old new area place =
     let k = kind_on kind old area in
-    is_sound k.reading (sector_on old area place) ≡ true → is_sound k.reading (sector_on new area place) ≡ true
+    is_sound k.reading (sector_on old area place) ≡ true
+    → is_sound k.reading (sector_on new area place) ≡ true
 
 -- ---- what a call in the open sector asks for, and how it ends
 
 -- The open sector of a store's area, which takes entries, with what is kept of it.
-pub record IsOpenSector {T : Type 0} (role : Role) (kind : Geometry → Kind) (keep : Geometry → List ℕ → T) (d : Device) (on : Area) (place : ℕ) (held : T) : Type 0 where
+pub record IsOpenSector {T : Type 0} (role : Role) (kind : Geometry → Kind) (keep : Geometry → List ℕ → T)
+    (d : Device) (on : Area) (place : ℕ) (held : T) : Type 0 where
   pub area : IsStoreArea role d.banks on
   pub inside : place < on.sectors
   pub kept : IsKeptOn keep d on place held
@@ -133,7 +138,8 @@ pub record IsCollecting (kind : Geometry → Kind) (d : Device) (on : Area) (pla
   pub not_done : HasNoGcDoneOn kind d on place
 
 -- The entry has bytes, and stands in another sector, which is sound.
-pub record IsSource (kind : Geometry → Kind) (d : Device) (on : Area) (place : ℕ) (from : Placed) : Type 0 where
+pub record IsSource (kind : Geometry → Kind) (d : Device) (on : Area) (place : ℕ) (from : Placed) :
+    Type 0 where
   pub has_source : from.sector < on.sectors
   pub other : from.sector ≡ place → ⊥
   pub source : IsSoundOn kind d on from.sector
@@ -141,16 +147,20 @@ pub record IsSource (kind : Geometry → Kind) (d : Device) (on : Area) (place :
   pub there : StandsThereOn kind d on from
   pub some : 0 < from.len
 
--- How a put ends. On `Ok` the sector has one pair more; where power was lost, its list is as before or has the pair.
-pub record PutEnds {T X E : Type 0} (kind : Geometry → Kind) (keep : Geometry → List ℕ → T) (old new : Device) (on : Area) (place id : ℕ) (bytes : List ℕ) (held : T) (result : Result X E) : Type 0 where
+-- How a put ends. On `Ok` the sector has one pair more; where power was lost, its list is as before or has
+-- the pair.
+pub record PutEnds {T X E : Type 0} (kind : Geometry → Kind) (keep : Geometry → List ℕ → T) (old new : Device)
+    (on : Area) (place id : ℕ) (bytes : List ℕ) (held : T) (result : Result X E) : Type 0 where
   pub only : ChangesOnlyOn old new on place
   pub adds : OnOk result (AddsOn kind old new on place id bytes)
   pub kept : OnOk result (IsKeptAfter keep old new on place held)
   pub lost : OnErr result (KeepsOn kind old new on place ⊎ AddsOn kind old new on place id bytes)
   pub room_lost : OnErr result (LeavesRoomOn kind old new on place (length bytes))
   pub sound : KeepsSoundOn kind old new on place
-  pub spends : OnOk result (SpendsIn old new ((kind_on kind old on).units.put (sector_on old on place) (length bytes)))
-  pub spends_lost : OnErr result (SpendsUpTo old new ((kind_on kind old on).units.put (sector_on old on place) (length bytes)))
+  pub spends : OnOk result
+      (SpendsIn old new ((kind_on kind old on).units.put (sector_on old on place) (length bytes)))
+  pub spends_lost : OnErr result
+      (SpendsUpTo old new ((kind_on kind old on).units.put (sector_on old on place) (length bytes)))
 
 -- gc-done stands in the sector
 pub record IsMarked {T : Type 0} (kind : Geometry → Kind) (keep : Geometry → List ℕ → T)

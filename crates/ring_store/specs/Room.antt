@@ -41,7 +41,8 @@ newest ps = fold (λ older part. part) [] ps
 abbrev pub leaves_room : Kind → ℕ → ℕ → List (List (ℕ × List ℕ)) → ℕ → Bool
 leaves_room k size len ps n = fits_beside k size (newest (collected n ps)) len
 
--- Rounds, told by the sectors before each, the last round's first. A value of this length had room before none.
+-- Rounds, told by the sectors before each, the last round's first. A value of this length had room before
+-- none.
 abbrev pub Rounds : Kind → ℕ → ℕ → List (List ℕ) → List (List (List ℕ)) → List (List ℕ) → Type 0
 Rounds k size len old [] new = new ≡ old
 Rounds k size len old (mid ∷ before) new =
@@ -77,8 +78,8 @@ RoundsFrom k d area len before new = Rounds k (sector_size d area) len (sectors_
 abbrev pub most_rounds : Kind → Device → Area → ℕ → ℕ
 most_rounds k d area rounds = rounds * k.units.round (sector_size d area)
 
--- Rounds were made until a value of this length had room, or one for each sector but the blank one; where it had
--- room at first, none was made. The items stay. For a delete one round is enough.
+-- Rounds were made until a value of this length had room, or one for each sector but the blank one; where it
+-- had room at first, none was made. The items stay. For a delete one round is enough.
 pub record MakesRoom (k : Kind) (old new : Device) (area : Area) (len : ℕ) : Type 0 where
   pub before : List (List (List ℕ))
   pub rounds : RoundsFrom k old area len before (sectors_of new area)
@@ -86,7 +87,8 @@ pub record MakesRoom (k : Kind) (old new : Device) (area : Area) (len : ℕ) : T
   pub none : before ≡ [] → new ≡ old
   -- how many they are is known from the list: the least number, but 0, that leaves room
   pub least : 0 < len → (n : ℕ) → 0 < n → n < length before → leaves_room_at k old area len n ≡ false
-  pub exact : 0 < len → 0 < length before → has_room_at k new area len ≡ leaves_room_at k old area len (length before)
+  pub exact : 0 < len → 0 < length before
+      → has_room_at k new area len ≡ leaves_room_at k old area len (length before)
   pub all : has_room_at k new area len ≡ false → length before + 1 ≡ area.sectors
   pub few : length before < area.sectors
   pub once : len ≡ 0 → (length before ≤ 1) × (has_room_at k new area 0 ≡ true)
@@ -98,10 +100,12 @@ pub record MakesRoom (k : Kind) (old new : Device) (area : Area) (len : ℕ) : T
 abbrev pub cap_at : Kind → Device → Area → ℕ
 cap_at k d area = k.cap (sector_size d area)
 
--- Each pair of the area is live, and each sector but the blank one has no room for so many bytes beside its pairs.
+-- Each pair of the area is live, and each sector but the blank one has no room for so many bytes beside its
+-- pairs.
 abbrev pub IsCrammedFor : Kind → Device → Area → ℕ → Type 0
 IsCrammedFor k d area need =
-    IsCrammed k.reading k.cost need (cap_at k d area) (sectors_of d area) (open_sector k.reading (sectors_of d area))
+    IsCrammed k.reading k.cost need (cap_at k d area) (sectors_of d area)
+    (open_sector k.reading (sectors_of d area))
 
 -- After a round for each sector but the blank one there is no room: the live items leave none, neither in all
 -- sectors together nor in any of them.

@@ -44,10 +44,12 @@ open_units k sectors place =
     if is_closed_at k.reading sectors (next sectors place) then again_units k sectors place
     else (if k.opens_ready then ready_units k sectors place else none)
 
--- Whether a round from this open sector has a victim: the sector after the next one, where it is closed once this one is.
+-- Whether a round from this open sector has a victim: the sector after the next one, where it is closed once
+-- this one is.
 abbrev pub has_victim : Kind → List (List ℕ) → ℕ → Bool
 has_victim k sectors place =
-    let victim = next sectors (next sectors place) in (victim == place) || is_closed_at k.reading sectors victim
+    let victim = next sectors (next sectors place) in
+    (victim == place) || is_closed_at k.reading sectors victim
 
 -- A round of close and collect from this open sector. Where there is no victim, there is nothing to collect.
 abbrev pub round_units : Kind → List (List ℕ) → ℕ → Range

@@ -22,8 +22,8 @@ pub record KeepsMarks (k : Kind) (old new : List ℕ) : Type 0 where
   pub closed : k.reading.is_closed new ≡ k.reading.is_closed old
   pub gc_done : k.reading.has_gc_done new ≡ k.reading.has_gc_done old
 
--- A sector with no entry is ready for one, and has none yet; one in use, or ready before, is as it was. A clean one stays so. What an
--- entry spends in it is known before.
+-- A sector with no entry is ready for one, and has none yet; one in use, or ready before, is as it was. A
+-- clean one stays so. What an entry spends in it is known before.
 pub record Begins (k : Kind) (old new : List ℕ) : Type 0 where
   pub blank : k.reading.is_blank old ≡ true → k.reading.is_blank new ≡ true
   pub clean : k.is_clean old ≡ true → k.is_clean new ≡ true
@@ -67,8 +67,8 @@ pub record Clears (k : Kind) (old new : List ℕ) : Type 0 where
   pub ready : k.is_ready new ≡ true
   pub long : length new ≡ length old
 
--- It was cut: the marks stay, or the sector is clean. Where a sector is made ready as soon as it is open, it is as before, or
--- clean.
+-- It was cut: the marks stay, or the sector is clean. Where a sector is made ready as soon as it is open, it
+-- is as before, or clean.
 pub record StopsClearing (k : Kind) (old new : List ℕ) : Type 0 where
   pub either : KeepsMarks k old new ⊎ (k.is_clean new ≡ true)
   pub opens : k.opens_ready ≡ true → (new ≡ old) ⊎ (k.is_clean new ≡ true)

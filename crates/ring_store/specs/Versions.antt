@@ -12,7 +12,8 @@ pub record KeepsVersions (old new : List (ℕ × List ℕ)) : Type 0 where
   pub newest : (id : ℕ) → versions old id ≡ versions new id ++ gone id
   pub some : (id : ℕ) → IsSome (last old id) → versions new id ≡ [] → ⊥
 
--- A pair more is the newest version of its id, a delete too. Of the others, and of those before it, the newest stay.
+-- A pair more is the newest version of its id, a delete too. Of the others, and of those before it, the
+-- newest stay.
 pub record AddsVersion (old new : List (ℕ × List ℕ)) (id : ℕ) (bytes : List ℕ) : Type 0 where
   pub newest : slice_get (versions new id) 0 ≡ Some bytes
   pub keeps : KeepsVersions (old ++ (id, bytes) ∷ []) new

@@ -40,7 +40,8 @@ KeepsOrAddsVersion k old new area id bytes =
     KeepsVersions (list_at k old area) (list_at k new area)
     ⊎ AddsVersion (list_at k old area) (list_at k new area) id bytes
 
--- The list has one pair more, whose cost is gone from what was free in the open sector, and a mount would have nothing to do.
+-- The list has one pair more, whose cost is gone from what was free in the open sector, and a mount would
+-- have nothing to do.
 pub record PutsPair (k : Kind) (old new : Device) (area : Area) (id : ℕ) (bytes : List ℕ) : Type 0 where
   pub list : list_at k new area ≡ list_at k old area ++ (id, bytes) ∷ []
   pub undamaged : IsUndamagedAt k new area
@@ -48,8 +49,8 @@ pub record PutsPair (k : Kind) (old new : Device) (area : Area) (id : ℕ) (byte
   pub room : k.free (open_at k new area) + k.cost (length bytes) ≡ k.free (open_at k old area)
   pub entry : SpendsEntry k old new (open_at k old area) (length bytes)
 
--- Power was lost: the list is the old one, or has the pair. No more is gone of what was free than the pair costs, and a mount
--- would have nothing to do.
+-- Power was lost: the list is the old one, or has the pair. No more is gone of what was free than the pair
+-- costs, and a mount would have nothing to do.
 pub record StopsPutting (k : Kind) (old new : Device) (area : Area) (id : ℕ) (bytes : List ℕ) : Type 0 where
   pub list : KeepsOrAdds k old new area (id, bytes)
   pub undamaged : IsUndamagedAt k new area
@@ -117,7 +118,8 @@ pub record Writes (k : Kind) (old new : Device) (area : Area) (id : ℕ) (bytes 
   pub at_most : SpendsBetween old new 0 (most_write k old area (length bytes))
 
 -- no round of collections makes room
-pub record FindsNoSpace (k : Kind) (old new : Device) (area : Area) (id : ℕ) (bytes : List ℕ) (need live : ℕ) : Type 0 where
+pub record FindsNoSpace (k : Kind) (old new : Device) (area : Area) (id : ℕ) (bytes : List ℕ) (need live : ℕ)
+    : Type 0 where
   pub needs : need ≡ k.cost (length bytes)
   pub lives : live ≡ live_cost k.cost (list_at k old area)
   pub short : IsShort k old area (length bytes)
@@ -140,7 +142,8 @@ pub record StopsWriting (k : Kind) (old new : Device) (area : Area) (id : ℕ) (
       → StopsEntry k old new (open_at k old area) (length bytes)
   pub at_most : SpendsBetween old new 0 (most_write k old area (length bytes))
 
-abbrev pub WriteEnds : {T : Type 0} → Kind → Device → Device → Area → ℕ → List ℕ → Result T WriteFault → Type 0
+abbrev pub WriteEnds : {T : Type 0} → Kind → Device → Device → Area → ℕ → List ℕ → Result T WriteFault
+    → Type 0
 WriteEnds k old new area id bytes (Ok _) = Writes k old new area id bytes
 WriteEnds k old new area id bytes (Err (NoSpace need live)) = FindsNoSpace k old new area id bytes need live
 WriteEnds k old new area id bytes (Err TooLong) = (¬ IsShort k old area (length bytes)) × (new ≡ old)

@@ -142,7 +142,8 @@ HasFault limit (below end) word _ = ⊥
 abbrev pub SomeFault : ℕ → List Field → List (List ℕ) → LineWhy → Type 0
 SomeFault limit [] words why = ⊥
 SomeFault limit (field ∷ fields) [] why = ⊥
-SomeFault limit (field ∷ fields) (word ∷ words) why = HasFault limit field word why ⊎ SomeFault limit fields words why
+SomeFault limit (field ∷ fields) (word ∷ words) why =
+    HasFault limit field word why ⊎ SomeFault limit fields words why
 
 -- the order of the causes
 abbrev pub rank : LineWhy → ℕ
@@ -155,19 +156,21 @@ rank Long = 5
 rank Number = 6
 
 -- the first cause of all for which one of the words is refused
-pub record IsFirstFault (limit : ℕ) (fields : List Field) (words : List (List ℕ)) (why : LineWhy) : Type 0 where
+pub record IsFirstFault (limit : ℕ) (fields : List Field) (words : List (List ℕ)) (why : LineWhy) :
+    Type 0 where
   pub here : SomeFault limit fields words why
   pub none_before : (earlier : LineWhy) → rank earlier < rank why → SomeFault limit fields words earlier → ⊥
 
 -- the words behind a first word that the table has are refused
-pub record IsRefusedBehind (table : List Form) (limit : ℕ) (word : List ℕ) (operands : List (List ℕ)) (why : LineWhy)
+pub record IsRefusedBehind (table : List Form) (limit : ℕ) (word : List ℕ) (operands : List (List ℕ))
+    (why : LineWhy)
     : Type 0 where
   pub form : Form
   pub found : form_at table word (length operands) ≡ Some form
   pub first : IsFirstFault limit form.fields operands why
 
--- The words are refused by the table for this cause: no form has the first word, no form of it has so many words,
--- or one of the words behind it is refused.
+-- The words are refused by the table for this cause: no form has the first word, no form of it has so many
+-- words, or one of the words behind it is refused.
 abbrev pub Refuses : List Form → ℕ → List (List ℕ) → LineWhy → Type 0
 Refuses table limit [] why = ⊥
 Refuses table limit (word ∷ operands) Unknown = list_any (has_word word) table ≡ false
@@ -179,7 +182,8 @@ Refuses table limit (word ∷ operands) why = IsRefusedBehind table limit word o
 abbrev pub RefusesFields : ℕ → List Field → List (List ℕ) → LineWhy → Type 0
 RefusesFields limit fields operands Unknown = ⊥
 RefusesFields limit fields operands Words = length operands ≢ length fields
-RefusesFields limit fields operands why = (length operands ≡ length fields) × IsFirstFault limit fields operands why
+RefusesFields limit fields operands why =
+    (length operands ≡ length fields) × IsFirstFault limit fields operands why
 
 -- What reading a word, or the words behind the first one, answers.
 
@@ -188,7 +192,8 @@ ReadsField limit field say word (Ok x) = SaysField limit field word (say x)
 ReadsField limit field say word (Err (Refused why)) = HasFault limit field word why
 ReadsField limit field say word (Err NoMemory) = ⊤
 
-abbrev pub ReadsFields : {T : Type 0} → ℕ → List Field → (T → List Said) → List (List ℕ) → Result T LineFault → Type 0
+abbrev pub ReadsFields : {T : Type 0} → ℕ → List Field → (T → List Said) → List (List ℕ) → Result T LineFault
+    → Type 0
 ReadsFields limit fields say operands (Ok x) = SaysAll limit fields operands (say x)
 ReadsFields limit fields say operands (Err (Refused why)) = RefusesFields limit fields operands why
 ReadsFields limit fields say operands (Err NoMemory) = ⊤
@@ -201,7 +206,8 @@ words_of rest = parts_of 32 rest
 abbrev pub ReadsNone : ℕ → Option (Bor (List ℕ)) → Result (Unit {0}) LineFault → Type 0
 ReadsNone limit rest read = ReadsFields limit [] (λ _. []) (words_of rest) read
 
-abbrev pub ReadsOne : {T : Type 0} → ℕ → Field → (T → Said) → Option (Bor (List ℕ)) → Result T LineFault → Type 0
+abbrev pub ReadsOne : {T : Type 0} → ℕ → Field → (T → Said) → Option (Bor (List ℕ)) → Result T LineFault
+    → Type 0
 ReadsOne limit field say rest read = ReadsFields limit (field ∷ []) (λ x. say x ∷ []) (words_of rest) read
 
 abbrev pub ReadsTwo : {S T : Type 0} → ℕ → Field → Field → (S → Said) → (T → Said) → Option (Bor (List ℕ))

@@ -20,7 +20,8 @@ OneCause = (table : List Form) (limit : ℕ) (words : List (List ℕ)) (one othe
 
 -- a text is one list of lines at most, and then none of its lines is refused
 abbrev pub OneScript : Type 0
-OneScript = (table : List Form) (limit : ℕ) (bytes : List ℕ) (rows : List Row) → IsScript table limit bytes rows
+OneScript =
+    (table : List Form) (limit : ℕ) (bytes : List ℕ) (rows : List Row) → IsScript table limit bytes rows
     → ((other : List Row) → IsScript table limit bytes other → other ≡ rows)
     × ((n : ℕ) (why : LineWhy) → IsBadLine table limit bytes n why → ⊥)
 

@@ -52,10 +52,13 @@ IsBadLine table limit text n why = FirstRefused table limit (parts 10 text) n wh
 abbrev pub Takes : List Form → ℕ → List ℕ → List Row → List Row → Type 0
 Takes table limit text old new =
     ((is_skipped text ≡ true) × (new ≡ old))
-    ⊎ ((is_skipped text ≡ false) × (row : Row) × Spells table limit (parts 32 text) row × (new ≡ old ++ row ∷ []))
+    ⊎
+    ((is_skipped text ≡ false) × (row : Row) × Spells table limit (parts 32 text) row
+    × (new ≡ old ++ row ∷ []))
 
 -- What reading a script answers, for lines that say rows of a table.
-abbrev pub ReadsLines : {L : Type 0} → List Form → (L → Row) → ℕ → List ℕ → Result (Vec L) ScriptFault → Type 0
+abbrev pub ReadsLines : {L : Type 0} → List Form → (L → Row) → ℕ → List ℕ → Result (Vec L) ScriptFault
+    → Type 0
 ReadsLines table row limit text (Ok lines) = IsScript table limit text (map row lines.items)
 ReadsLines table row limit text (Err (BadLine n why)) = IsBadLine table limit text n why
 ReadsLines table row limit text (Err NoMemory) = ⊤
@@ -63,7 +66,8 @@ ReadsLines table row limit text (Err NoMemory) = ⊤
 abbrev pub TakesText : {L : Type 0} → List Form → (L → Row) → ℕ → List ℕ → ℕ → List L → List L
     → Result (Unit {0}) ScriptFault → Type 0
 TakesText table row limit text number old new (Ok _) = Takes table limit text (map row old) (map row new)
-TakesText table row limit text number old new (Err (BadLine n why)) = (n ≡ number) × IsRefused table limit text why
+TakesText table row limit text number old new (Err (BadLine n why)) =
+    (n ≡ number) × IsRefused table limit text why
 TakesText table row limit text number old new (Err NoMemory) = ⊤
 
 -- the same for settings

@@ -20,12 +20,16 @@ as_given give = record { subtree = give.subtree; rest = give.rest; value = give.
 
 -- the place of the first one of the kind
 abbrev pub FirstAt : HandlerKind → List HandlerKind → Option ℕ → Type 0
-FirstAt kind kinds (Some i) = (i < length kinds) × (list_any (same_kind kind) (take i kinds) ≡ false) × (same_kind kind (slice_index_or kinds i kind) ≡ true)
+FirstAt kind kinds (Some i) =
+    (i < length kinds) × (list_any (same_kind kind) (take i kinds) ≡ false)
+    × (same_kind kind (slice_index_or kinds i kind) ≡ true)
 FirstAt kind kinds None = list_any (same_kind kind) kinds ≡ false
 
 module _ {B : Type 0} where
-  -- The first handler of the kind was taken out of the others, which stay in their order. All that were new still are.
-  pub record TakesFirst (state : B → HandlerState) (kind : HandlerKind) (before after : List B) (taken : B) : Type 0 where
+  -- The first handler of the kind was taken out of the others, which stay in their order. All that were new
+  -- still are.
+  pub record TakesFirst (state : B → HandlerState) (kind : HandlerKind) (before after : List B) (taken : B) :
+      Type 0 where
     pub others : without_first kind (kinds state before) ≡ Some (kinds state after)
     pub of_kind : (state taken).kind ≡ kind
     pub new : All (IsFresh state) before → IsFresh state taken × All (IsFresh state) after

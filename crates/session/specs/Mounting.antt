@@ -37,18 +37,23 @@ selected_as place (Err (HasDamage damaged)) = Err (MapDamaged place damaged)
 selected_as place (Err MountLost) = Err PowerLost
 selected_as place (Err MountNoMemory) = Err NoMemory
 
--- how mounting the selector ends, where the map has one: it shows the damage, and then nothing changed; or it shows none
+-- how mounting the selector ends, where the map has one: it shows the damage, and then nothing changed; or it
+-- shows none
 abbrev pub SelectorEnds : List Area → Device → Device → Result (Option Selector) MapFault → Type 0
-SelectorEnds areas old new (Ok selector) = (selector_damage_on areas old ≡ None) × HasSelector areas new selector
-SelectorEnds areas old new (Err (MapDamaged place damaged)) = (selector_damage areas old ≡ Some (place, damaged)) × (new ≡ old)
+SelectorEnds areas old new (Ok selector) =
+    (selector_damage_on areas old ≡ None) × HasSelector areas new selector
+SelectorEnds areas old new (Err (MapDamaged place damaged)) =
+    (selector_damage areas old ≡ Some (place, damaged)) × (new ≡ old)
 SelectorEnds areas old new (Err PowerLost) = selector_damage_on areas old ≡ None
 SelectorEnds areas old new (Err NoMemory) = ⊥
 
 -- ---- the map
 
 -- what the mount of settings on the area at this place is for the map
-abbrev pub mounted_as : {K : Type 0} → Option Selector → ℕ → Result (Settings K) MountFault → Result (Session K) MapFault
-mounted_as selector place (Ok settings) = Ok (record { selector = selector; settings = Some settings; active = place })
+abbrev pub mounted_as : {K : Type 0} → Option Selector → ℕ → Result (Settings K) MountFault
+    → Result (Session K) MapFault
+mounted_as selector place (Ok settings) =
+    Ok (record { selector = selector; settings = Some settings; active = place })
 mounted_as selector place (Err (HasDamage damaged)) = Err (MapDamaged place damaged)
 mounted_as selector place (Err MountLost) = Err PowerLost
 mounted_as selector place (Err MountNoMemory) = Err NoMemory
@@ -56,19 +61,25 @@ mounted_as selector place (Err MountNoMemory) = Err NoMemory
 -- the same area is active, and reads as the same settings
 abbrev pub ReadsSame : (Area → Geometry → List (List ℕ) → Map) → List Area → Device → Device → Type 0
 ReadsSame contents areas old new =
-    (active_on areas new ≡ active_on areas old) × (on contents new (active_area areas old) ≡ on contents old (active_area areas old))
+    (active_on areas new ≡ active_on areas old)
+    × (on contents new (active_area areas old) ≡ on contents old (active_area areas old))
 
--- How mounting a map ends: the session is ready, and the map shows no damage; or it shows the damage; or power was lost, where the
--- active area shows damage in the selector's; or memory was wanting.
-abbrev pub MapEnds : {K : Type 0} → (K → Area) → (K → Geometry → List (List ℕ) → Type 0) → (K → Bool) → (Area → Geometry → List (List ℕ) → Option Damaged)
-    → (Area → Geometry → List (List ℕ) → Map) → List Area → Device → Device → Result (Session K) MapFault → Type 0
+-- How mounting a map ends: the session is ready, and the map shows no damage; or it shows the damage; or
+-- power was lost, where the active area shows damage in the selector's; or memory was wanting.
+abbrev pub MapEnds : {K : Type 0} → (K → Area) → (K → Geometry → List (List ℕ) → Type 0) → (K → Bool)
+    → (Area → Geometry → List (List ℕ) → Option Damaged)
+    → (Area → Geometry → List (List ℕ) → Map) → List Area → Device → Device → Result (Session K) MapFault
+    → Type 0
 MapEnds {K} mounted_on stands runs damage contents areas old new (Ok session) =
-    (settings : Settings K) × (session.settings ≡ Some settings) × StandsOnMap mounted_on stands runs areas new session.selector session.active settings
-    × (selector_damage_on areas old ≡ None) × (active_damage damage areas old ≡ None) × ReadsSame contents areas old new
+    (settings : Settings K) × (session.settings ≡ Some settings)
+    × StandsOnMap mounted_on stands runs areas new session.selector session.active settings
+    × (selector_damage_on areas old ≡ None) × (active_damage damage areas old ≡ None)
+    × ReadsSame contents areas old new
 MapEnds mounted_on stands runs damage contents areas old new (Err (MapDamaged place damaged)) =
     (damage_in damage areas old ≡ Some (place, damaged)) × BeginsMount areas old new
 MapEnds mounted_on stands runs damage contents areas old new (Err PowerLost) =
-    (selector_damage_on areas old ≡ None) × ((active_damage damage areas old ≡ None) ⊎ Touches (selectors areas) old new true)
+    (selector_damage_on areas old ≡ None)
+    × ((active_damage damage areas old ≡ None) ⊎ Touches (selectors areas) old new true)
     × ReadsSame contents areas old new
 MapEnds mounted_on stands runs damage contents areas old new (Err NoMemory) = BeginsMount areas old new
 
@@ -79,7 +90,8 @@ abbrev pub down : {K : Type 0} → Session K
 down = record { selector = None; settings = None; active = 0 }
 
 -- what the mount of the map, which took so many units, is for the line
-abbrev pub answered : {K : Type 0} → ℕ → Result (Session K) MapFault → Result (Session K × Answer) SessionFault
+abbrev pub answered : {K : Type 0} → ℕ → Result (Session K) MapFault
+    → Result (Session K × Answer) SessionFault
 answered units (Ok session) = Ok (session, Done units)
 answered units (Err (MapDamaged place damaged)) = Err (IsDamaged place damaged)
 answered units (Err PowerLost) = Ok (down, Lost units false)

@@ -40,8 +40,11 @@ use Rattle.session.specs.declared.fault.SessionFault.{SessionFault}
 use Rattle.session.specs.declared.fault.SessionFault.TheVariants.{Damaged as IsDamaged, NoMemory}
 
 -- what the bytes of areas mean to a backend
-abbrev pub meanings : (Area → Geometry → List (List ℕ) → Map) → (Area → Geometry → Room) → (Area → Geometry → List (List ℕ) → Loss → Bool) → (Area → Geometry → Command → ℕ → Map → Map → Type 0) → Meanings
-meanings contents room chance tears = record { contents = contents; room = room; chance = chance; tears = tears }
+abbrev pub meanings : (Area → Geometry → List (List ℕ) → Map) → (Area → Geometry → Room)
+    → (Area → Geometry → List (List ℕ) → Loss → Bool) → (Area → Geometry → Command → ℕ → Map → Map → Type 0)
+    → Meanings
+meanings contents room chance tears =
+    record { contents = contents; room = room; chance = chance; tears = tears }
 
 -- a bench, with the handlers that are registered and the kinds of those that are left
 abbrev pub moment : Device → List Registered → List HandlerKind → Moment
@@ -65,11 +68,12 @@ active_area areas d = area_at areas (active_on areas d)
 abbrev pub limit_of : List Area → ℕ
 limit_of areas = value_limit (area_at areas (first_store areas))
 
--- The map is one that an image may have: its areas are lawful, each that stores settings is served, there is one, and it is the
--- only one where there is no selector.
+-- The map is one that an image may have: its areas are lawful, each that stores settings is served, there is
+-- one, and it is the only one where there is no selector.
 pub record IsServedMap (serves : Area → Geometry → Type 0) (areas : List Area) (d : Device) : Type 0 where
   pub lawful : IsLawfulMap d.banks areas
-  pub served : (place : ℕ) (area : Area) → slice_get areas place ≡ Some area → is_store area ≡ true → serves area (geometry_of d area)
+  pub served : (place : ℕ) (area : Area) → slice_get areas place ≡ Some area → is_store area ≡ true
+      → serves area (geometry_of d area)
   pub some : is_store_at areas (first_store areas) ≡ true
   pub one : selector_of areas ≡ None → target areas (first_store areas) ≡ None
 
@@ -93,11 +97,14 @@ abbrev pub selector_damage : List Area → Device → Option (ℕ × Damaged)
 selector_damage areas d = option_map (λ damaged. (selector_place areas, damaged)) (selector_damage_on areas d)
 
 -- and that of the active area
-abbrev pub active_damage : (Area → Geometry → List (List ℕ) → Option Damaged) → List Area → Device → Option (ℕ × Damaged)
-active_damage damage areas d = option_map (λ damaged. (active_on areas d, damaged)) (on damage d (active_area areas d))
+abbrev pub active_damage : (Area → Geometry → List (List ℕ) → Option Damaged) → List Area → Device
+    → Option (ℕ × Damaged)
+active_damage damage areas d =
+    option_map (λ damaged. (active_on areas d, damaged)) (on damage d (active_area areas d))
 
 -- the damage that a mount of the map finds: the selector's, and where it shows none that of the active area
-abbrev pub damage_in : (Area → Geometry → List (List ℕ) → Option Damaged) → List Area → Device → Option (ℕ × Damaged)
+abbrev pub damage_in : (Area → Geometry → List (List ℕ) → Option Damaged) → List Area → Device
+    → Option (ℕ × Damaged)
 damage_in damage areas d = option_or (selector_damage areas d) (active_damage damage areas d)
 
 -- the selector's area, where there is one
@@ -108,13 +115,17 @@ abbrev pub turned_on : Device → Device
 turned_on d = record d { is_on = true }
 
 -- A mount found no damage; or it found none in the selector, and power was lost in the selector's area.
-abbrev pub FindsNone : (Area → Geometry → List (List ℕ) → Option Damaged) → List Area → Answer → Device → Device → Type 0
+abbrev pub FindsNone : (Area → Geometry → List (List ℕ) → Option Damaged) → List Area → Answer → Device
+    → Device → Type 0
 FindsNone damage areas answer old new =
     (selector_damage_on areas old ≡ None)
-    × ((active_damage damage areas old ≡ None) ⊎ ((is_lost answer ≡ true) × Touches (selectors areas) (turned_on old) new true))
+    ×
+    ((active_damage damage areas old ≡ None)
+    ⊎ ((is_lost answer ≡ true) × Touches (selectors areas) (turned_on old) new true))
 
 -- a mount has nothing to do, neither in the selector's area nor in the active one
-pub record IsAtRest (rests : Area → Geometry → List (List ℕ) → Type 0) (areas : List Area) (d : Device) : Type 0 where
+pub record IsAtRest (rests : Area → Geometry → List (List ℕ) → Type 0) (areas : List Area) (d : Device) :
+    Type 0 where
   pub selector : (area : Area) → selector_of areas ≡ Some area → erases_on d area ≡ 0
   pub active : HoldsOn rests d (active_area areas d)
 
@@ -129,13 +140,16 @@ mount_bound areas d = selector_erases areas d + mount_units (geometry_of d (acti
 -- the most units and erases of a save: those of one set for each pair that differs
 abbrev pub save_bound : Meanings → List Area → Option (List ℕ) → Moment → ℕ
 save_bound m areas subtree now =
-    due_units (geometry_of now.device (active_area areas now.device)) (on m.contents now.device (active_area areas now.device))
+    due_units (geometry_of now.device (active_area areas now.device))
+    (on m.contents now.device (active_area areas now.device))
     (puts_of (exported subtree now.registry))
 
 -- the most units and erases of a migration from the active area
 abbrev pub move_bound : Meanings → List Area → Device → ℕ
 move_bound m areas d =
-    option_map_or (λ selector. migrate_units d areas selector (active_on areas d) (len (on m.contents d (active_area areas d)))) (selector_of areas) 0
+    option_map_or
+    (λ selector. migrate_units d areas selector (active_on areas d)
+    (len (on m.contents d (active_area areas d)))) (selector_of areas) 0
 
 -- ---- one line
 
@@ -148,13 +162,15 @@ powered_for line d = d
 abbrev pub areas_worked_on : Meanings → List Area → Line → Answer → Device → List Area
 areas_worked_on m areas line answer d =
     map (area_at areas)
-    (places_worked_on (rules_of m areas d.banks 0) (places_of is_selector areas) line answer (active_on areas d ∷ []))
+    (places_worked_on (rules_of m areas d.banks 0) (places_of is_selector areas) line answer
+    (active_on areas d ∷ []))
 
--- A line that leaves the plan of losses to its units touched the bench only in the areas that it works on: a loss of power lies
--- in one of them, and without a unit no byte changed.
+-- A line that leaves the plan of losses to its units touched the bench only in the areas that it works on: a
+-- loss of power lies in one of them, and without a unit no byte changed.
 abbrev pub TouchesWorked : Meanings → List Area → Line → Answer → Device → Device → Type 0
 TouchesWorked m areas line answer old new =
-    replan line ≡ keeps → Touches (areas_worked_on m areas line answer old) (powered_for line old) new (is_lost answer)
+    replan line ≡ keeps
+    → Touches (areas_worked_on m areas line answer old) (powered_for line old) new (is_lost answer)
 
 -- a save and a migration, also one that was cut, kept within its bound
 abbrev pub KeepsWithin : Meanings → List Area → Line → Answer → Moment → Type 0
@@ -162,15 +178,19 @@ KeepsWithin m areas (Save subtree) answer old = units_of answer ≤ save_bound m
 KeepsWithin m areas Migrate answer old = units_of answer ≤ move_bound m areas old.device
 KeepsWithin m areas line answer old = ⊤
 
--- A line was carried out by the table, and touched the bench only where it works; a save and a migration kept within its bound.
-pub record DoneWithin (m : Meanings) (areas : List Area) (line : Line) (answer : Answer) (old new : Moment) : Type 0 where
+-- A line was carried out by the table, and touched the bench only where it works; a save and a migration kept
+-- within its bound.
+pub record DoneWithin (m : Meanings) (areas : List Area) (line : Line) (answer : Answer) (old new : Moment) :
+    Type 0 where
   pub done : LineDone m areas line answer old new
   pub touches : TouchesWorked m areas line answer old.device new.device
   pub most : KeepsWithin m areas line answer old
 
--- A line was carried out by the table, and touched the bench only where it works; a mount, also one that was cut, found no damage
--- and kept within its bound, as a save and a migration did; and where the map shows no damage it shows none afterwards.
-pub record LineCarried (m : Meanings) (damage : Area → Geometry → List (List ℕ) → Option Damaged) (areas : List Area) (line : Line) (answer : Answer) (old new : Moment) : Type 0 where
+-- A line was carried out by the table, and touched the bench only where it works; a mount, also one that was
+-- cut, found no damage and kept within its bound, as a save and a migration did; and where the map shows no
+-- damage it shows none afterwards.
+pub record LineCarried (m : Meanings) (damage : Area → Geometry → List (List ℕ) → Option Damaged)
+    (areas : List Area) (line : Line) (answer : Answer) (old new : Moment) : Type 0 where
   pub done : LineDone m areas line answer old new
   pub touches : TouchesWorked m areas line answer old.device new.device
   pub most : KeepsWithin m areas line answer old
@@ -181,11 +201,14 @@ pub record LineCarried (m : Meanings) (damage : Area → Geometry → List (List
 -- the handlers, which may be any, stayed
 abbrev pub DoneBeside : Meanings → List Area → Line → Answer → Device → Device → Type 0
 DoneBeside m areas line answer old new =
-    (registry : List Registered) (pool : List HandlerKind) → DoneWithin m areas line answer (moment old registry pool) (moment new registry pool)
+    (registry : List Registered) (pool : List HandlerKind)
+    → DoneWithin m areas line answer (moment old registry pool) (moment new registry pool)
 
-abbrev pub CarriedBeside : Meanings → (Area → Geometry → List (List ℕ) → Option Damaged) → List Area → Line → Answer → Device → Device → Type 0
+abbrev pub CarriedBeside : Meanings → (Area → Geometry → List (List ℕ) → Option Damaged) → List Area → Line
+    → Answer → Device → Device → Type 0
 CarriedBeside m damage areas line answer old new =
-    (registry : List Registered) (pool : List HandlerKind) → LineCarried m damage areas line answer (moment old registry pool) (moment new registry pool)
+    (registry : List Registered) (pool : List HandlerKind)
+    → LineCarried m damage areas line answer (moment old registry pool) (moment new registry pool)
 
 -- it needs power, and changes no area but the active one
 abbrev pub is_local : Line → Bool
@@ -205,7 +228,8 @@ is_handled (RunSet name value) = true
 is_handled (RunGet name) = true
 is_handled line = false
 
--- Power was turned on, and the selector, which shows no damage, was mounted: what a choice that was cut left to do was done.
+-- Power was turned on, and the selector, which shows no damage, was mounted: what a choice that was cut left
+-- to do was done.
 pub record OpensSelector (areas : List Area) (old new : Device) : Type 0 where
   pub selector : Area
   pub is : selector_of areas ≡ Some selector
@@ -235,14 +259,15 @@ takes_memory (Cut units) = false
 takes_memory Uncut = false
 takes_memory line = true
 
--- What a line for which memory was wanting leaves of the bench: a mount and a migration have begun, and no other line changed it.
+-- What a line for which memory was wanting leaves of the bench: a mount and a migration have begun, and no
+-- other line changed it.
 abbrev pub BeginsLine : List Area → Line → Device → Device → Type 0
 BeginsLine areas Mount old new = BeginsMount areas old new
 BeginsLine areas Migrate old new = BeginsMove areas old new
 BeginsLine areas line old new = new ≡ old
 
--- Why a line was not carried out: a mount found the damage that the map shows; or memory was wanting for a line that takes some,
--- with power on where the line needs it.
+-- Why a line was not carried out: a mount found the damage that the map shows; or memory was wanting for a
+-- line that takes some, with power on where the line needs it.
 abbrev pub LineStops : (Area → Geometry → List (List ℕ) → Option Damaged)
     → List Area → Line → Device → Device → SessionFault → Type 0
 LineStops damage areas line old new (IsDamaged place damaged) =
@@ -258,8 +283,10 @@ pub record HasSelector (areas : List Area) (d : Device) (selector : Option Selec
   pub opened : ForSome selector (λ s. IsOpen d s.ring)
 
 -- Settings stand on the active area, which is at this place, and the selector is open, where the map has one.
-pub record StandsOnMap {K : Type 0} (mounted_on : K → Area) (stands : K → Geometry → List (List ℕ) → Type 0) (runs : K → Bool)
-    (areas : List Area) (d : Device) (selector : Option Selector) (active : ℕ) (settings : Settings K) : Type 0 where
+pub record StandsOnMap {K : Type 0} (mounted_on : K → Area) (stands : K → Geometry → List (List ℕ) → Type 0)
+    (runs : K → Bool)
+    (areas : List Area) (d : Device) (selector : Option Selector) (active : ℕ) (settings : Settings K) :
+    Type 0 where
   pub is_active : active ≡ active_on areas d
   pub there : slice_get areas active ≡ Some (mounted_on settings.backend)
   pub up : runs settings.backend ≡ true
@@ -275,9 +302,10 @@ IsReady mounted_on stands runs areas d selector active (Some settings) =
 
 -- ---- all lines
 
--- Lines were carried out one after another, and as a whole they follow the table, and the counts, the plan and the bytes of the
--- bench are those that the answers say.
-pub record Ran (m : Meanings) (damage : Area → Geometry → List (List ℕ) → Option Damaged) (areas : List Area) (lines : List Line) (answers : List Answer) (old new : Moment) : Type 0 where
+-- Lines were carried out one after another, and as a whole they follow the table, and the counts, the plan
+-- and the bytes of the bench are those that the answers say.
+pub record Ran (m : Meanings) (damage : Area → Geometry → List (List ℕ) → Option Damaged) (areas : List Area)
+    (lines : List Line) (answers : List Answer) (old new : Moment) : Type 0 where
   pub in_turn : Follows (LineCarried m damage areas) lines answers old new
   pub whole : Runs m areas lines answers old new
 
@@ -285,7 +313,8 @@ pub record Ran (m : Meanings) (damage : Area → Geometry → List (List ℕ) �
 abbrev pub LacksAnswer : List Line → Device → Device → SessionFault → Type 0
 LacksAnswer front old new fault = (1 ≤ length front) × (fault ≡ NoMemory) × (new ≡ old)
 
--- Behind the lines of the front the next one stopped; or memory was wanting for the answer to the line before.
+-- Behind the lines of the front the next one stopped; or memory was wanting for the answer to the line
+-- before.
 abbrev pub StopsAt : (Area → Geometry → List (List ℕ) → Option Damaged)
     → List Area → List Line → List Line → Device → Device → SessionFault → Type 0
 StopsAt damage areas front [] old new fault = LacksAnswer front old new fault
@@ -293,7 +322,9 @@ StopsAt damage areas front (line ∷ lines) old new fault =
     LacksAnswer front old new fault ⊎ LineStops damage areas line old new fault
 
 -- The first lines were carried out, and then a line stopped.
-pub record RunStops (m : Meanings) (damage : Area → Geometry → List (List ℕ) → Option Damaged) (areas : List Area) (lines : List Line) (old : Moment) (new : Device) (fault : SessionFault) : Type 0 where
+pub record RunStops (m : Meanings) (damage : Area → Geometry → List (List ℕ) → Option Damaged)
+    (areas : List Area) (lines : List Line) (old : Moment) (new : Device) (fault : SessionFault) :
+    Type 0 where
   pub front : List Line
   pub rest : List Line
   pub are : lines ≡ front ++ rest
@@ -303,6 +334,8 @@ pub record RunStops (m : Meanings) (damage : Area → Geometry → List (List �
   pub stops : StopsAt damage areas front rest mid.device new fault
 
 -- How lines end: all were carried out, with these answers, on this bench and these handlers; or one stopped.
-abbrev pub RunEnds : Meanings → (Area → Geometry → List (List ℕ) → Option Damaged) → List Area → List Line → Moment → Device → List Registered → Result (List Answer) SessionFault → Type 0
-RunEnds m damage areas lines old new registry (Ok answers) = (left : List HandlerKind) × Ran m damage areas lines answers old (moment new registry left)
+abbrev pub RunEnds : Meanings → (Area → Geometry → List (List ℕ) → Option Damaged) → List Area → List Line
+    → Moment → Device → List Registered → Result (List Answer) SessionFault → Type 0
+RunEnds m damage areas lines old new registry (Ok answers) =
+    (left : List HandlerKind) × Ran m damage areas lines answers old (moment new registry left)
 RunEnds m damage areas lines old new registry (Err fault) = RunStops m damage areas lines old new fault

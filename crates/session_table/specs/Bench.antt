@@ -38,7 +38,16 @@ pub record Meanings : Type 1 where
 -- ---- areas
 
 abbrev pub area_at : List Area → ℕ → Area
-area_at areas place = slice_index_or areas place (record { label = record { bytes = []; spare = [] }; role = Sel; bank = 0; first = 0; sectors = 0; version = 1 })
+area_at areas place =
+    slice_index_or areas place
+    (record {
+      label = record { bytes = []; spare = [] };
+      role = Sel;
+      bank = 0;
+      first = 0;
+      sectors = 0;
+      version = 1;
+    })
 
 abbrev pub is_selector : Role → Bool
 is_selector Sel = true
@@ -49,7 +58,13 @@ abbrev pub places_of : (Role → Bool) → List Area → List ℕ
 places_of is areas = filter (λ place. is (area_at areas place).role) (range_with_len 0 (length areas))
 
 abbrev pub geometry_in : List Bank → Area → Geometry
-geometry_in banks area = record { unit = (bank_at banks area.bank).unit; sector = (bank_at banks area.bank).sector; sectors = area.sectors; kind = (bank_at banks area.bank).kind }
+geometry_in banks area =
+    record {
+      unit = (bank_at banks area.bank).unit;
+      sector = (bank_at banks area.bank).sector;
+      sectors = area.sectors;
+      kind = (bank_at banks area.bank).kind;
+    }
 
 -- the numbers of these areas, where the count of units is so much in the end
 abbrev pub rules_of : Meanings → List Area → List Bank → ℕ → Rules
@@ -102,7 +117,8 @@ abbrev pub all_worked_on : Rules → List ℕ → List Line → List Answer → 
 all_worked_on r selector [] answers actives = []
 all_worked_on r selector (line ∷ lines) [] actives = []
 all_worked_on r selector (line ∷ lines) (answer ∷ answers) actives =
-    worked_on r selector line answer actives ++ all_worked_on r selector lines answers (actives_after r line answer actives)
+    worked_on r selector line answer actives
+    ++ all_worked_on r selector lines answers (actives_after r line answer actives)
 
 -- the banks, the count of loads, and each byte outside these areas
 pub record Keeps (areas : List Area) (old new : Device) : Type 0 where
@@ -137,10 +153,16 @@ TellsChance m areas Migrate answer d = ⊤
 TellsChance m areas line (Lost units chance) d = ShowsChance m (area_at areas (active_on areas d)) chance d
 TellsChance m areas line answer d = ⊤
 
-pub record LineDone (m : Meanings) (areas : List Area) (line : Line) (answer : Answer) (old new : Moment) : Type 0 where
-  pub step : (last : ℕ) → new.device.spent ≤ last → Step (rules_of m areas old.device.banks last) line answer (state_of m areas old) (state_of m areas new)
+pub record LineDone (m : Meanings) (areas : List Area) (line : Line) (answer : Answer) (old new : Moment) :
+    Type 0 where
+  pub step : (last : ℕ) → new.device.spent ≤ last
+      → Step (rules_of m areas old.device.banks last) line answer (state_of m areas old)
+      (state_of m areas new)
   pub accounts : Accounts line answer old.device new.device
-  pub keeps : Keeps (map (area_at areas) (worked_on (rules_of m areas old.device.banks 0) (places_of is_selector areas) line answer (active_on areas old.device ∷ []))) old.device new.device
+  pub keeps : Keeps
+      (map (area_at areas)
+      (worked_on (rules_of m areas old.device.banks 0) (places_of is_selector areas) line answer
+      (active_on areas old.device ∷ []))) old.device new.device
   pub chance : TellsChance m areas line answer new.device
 
 -- ---- a run
@@ -152,11 +174,17 @@ TellsLastChance m areas (line ∷ lines) [] d = ⊤
 TellsLastChance m areas (line ∷ []) (answer ∷ []) d = TellsChance m areas line answer d
 TellsLastChance m areas (line ∷ lines) (answer ∷ answers) d = TellsLastChance m areas lines answers d
 
-pub record Runs (m : Meanings) (areas : List Area) (lines : List Line) (answers : List Answer) (old new : Moment) : Type 0 where
-  pub session : Follows (Step (rules_of m areas old.device.banks new.device.spent)) lines answers (state_of m areas old) (state_of m areas new)
+pub record Runs (m : Meanings) (areas : List Area) (lines : List Line) (answers : List Answer)
+    (old new : Moment) : Type 0 where
+  pub session : Follows (Step (rules_of m areas old.device.banks new.device.spent)) lines answers
+      (state_of m areas old) (state_of m areas new)
   pub spent : old.device.spent + units_in answers ≡ new.device.spent
   pub losses : new.device.losses ≡ counted old.device.losses (losses_in answers)
-  pub planned : IsCounted new.device.spent → Planned old.device.plan lines answers × (new.device.plan ≡ plan_through old.device.plan lines answers)
-  pub keeps : Keeps (map (area_at areas) (all_worked_on (rules_of m areas old.device.banks 0) (places_of is_selector areas) lines answers (active_on areas old.device ∷ []))) old.device new.device
+  pub planned : IsCounted new.device.spent
+      → Planned old.device.plan lines answers × (new.device.plan ≡ plan_through old.device.plan lines answers)
+  pub keeps : Keeps
+      (map (area_at areas)
+      (all_worked_on (rules_of m areas old.device.banks 0) (places_of is_selector areas) lines answers
+      (active_on areas old.device ∷ []))) old.device new.device
   pub unplanned : All PlansNoLoss lines → StaysUnplanned old.device new.device
   pub chance : TellsLastChance m areas lines answers new.device

@@ -26,14 +26,16 @@ abbrev pub StartsFree : Room → Map → List Command → Type 0
 StartsFree room settings [] = ⊥
 StartsFree room settings (command ∷ commands) = is_too_many room settings command ≡ false
 
--- The first so many commands were carried out, and the next one would have put a name too many, as none before it.
+-- The first so many commands were carried out, and the next one would have put a name too many, as none
+-- before it.
 pub record StopsForNames (room : Room) (commands : List Command) (count : ℕ) (before now : Map) : Type 0 where
   pub split : SplitsAt commands count
   pub settings : now ≡ all_applied before split.done
   pub free : AreFree room before split.done
   pub many : is_too_many room now split.at ≡ true
 
--- Power was lost once there was something to carry out: the first ones were carried out, and none of them put a name too many.
+-- Power was lost once there was something to carry out: the first ones were carried out, and none of them put
+-- a name too many.
 pub record StopsForPower (room : Room) (commands : List Command) (before now : Map) : Type 0 where
   pub starts : StartsFree room before commands
   pub front : List Command
@@ -43,7 +45,8 @@ pub record StopsForPower (room : Room) (commands : List Command) (before now : M
   pub settings : now ≡ all_applied before front
 
 -- Power was lost in one of the commands, and so many units of it spell another record.
-pub record StopsTorn (room : Room) (tears : Command → ℕ → Map → Map → Type 0) (commands : List Command) (before now : Map) : Type 0 where
+pub record StopsTorn (room : Room) (tears : Command → ℕ → Map → Map → Type 0) (commands : List Command)
+    (before now : Map) : Type 0 where
   pub count : ℕ
   pub split : SplitsAt commands count
   pub free : AreFree room before (split.done ++ split.at ∷ [])

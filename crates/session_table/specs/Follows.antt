@@ -3,8 +3,10 @@ use Rattle.std.specs.Prelude.{◌≡◌, List, [], ◌∷◌}
 
 module _ {Line Answer State : Type 0} where
   -- `step` says what a line with its answer makes of a state
-  abbrev pub Follows : (Line → Answer → State → State → Type 0) → List Line → List Answer → State → State → Type 0
+  abbrev pub Follows : (Line → Answer → State → State → Type 0) → List Line → List Answer → State → State
+      → Type 0
   Follows step [] [] old new = new ≡ old
-  Follows step (line ∷ lines) (answer ∷ answers) old new = (mid : State) × step line answer old mid × Follows step lines answers mid new
+  Follows step (line ∷ lines) (answer ∷ answers) old new =
+      (mid : State) × step line answer old mid × Follows step lines answers mid new
   Follows step [] (answer ∷ answers) old new = ⊥
   Follows step (line ∷ lines) [] old new = ⊥

@@ -1,4 +1,5 @@
--- Answers where nothing is left open but the units: no power is lost, and nothing is refused for want of room.
+-- Answers where nothing is left open but the units: no power is lost, and nothing is refused for want of
+-- room.
 use Rattle.std.specs.Prelude.{◌≡◌, ℕ, ◌+◌, ◌-◌, ◌==◌, Bool, true, false, not, ◌&&◌, List, [], ◌∷◌, ◌++◌, length, take, map, fold, count_by, Option, Some, None, if◌then◌else◌}
 use Rattle.std.specs.FinMap.{get, entries, empty}
 use Rattle.script_lines.specs.declared.line.Line.{Line}
@@ -51,21 +52,31 @@ ComesOut outcome answer new = (without_units answer ≡ outcome.answer) × (new 
 -- how many of the commands come before the first that puts a name too many
 abbrev pub free_count : Room → Map → List Command → ℕ
 free_count room settings [] = 0
-free_count room settings (command ∷ commands) = if is_too_many room settings command then 0 else free_count room (applied settings command) commands + 1
+free_count room settings (command ∷ commands) =
+    if is_too_many room settings command then 0 else free_count room (applied settings command) commands + 1
 
 abbrev pub all_free : Room → Map → List Command → Bool
 all_free room settings commands = free_count room settings commands == length commands
 
 -- the state after these
 abbrev pub carried_out : Rules → List Command → State → State
-carried_out r commands s = record s { settings = all_applied s.settings (take (free_count (r.room s.active) s.settings commands) commands) }
+carried_out r commands s =
+    record s {
+      settings = all_applied s.settings (take (free_count (r.room s.active) s.settings commands) commands);
+    }
 
 abbrev pub plain_change : Rules → List Command → State → Outcome
-plain_change r commands s = record { answer = if all_free (r.room s.active) s.settings commands then Done 0 else TooMany 0; state = carried_out r commands s }
+plain_change r commands s =
+    record {
+      answer = if all_free (r.room s.active) s.settings commands then Done 0 else TooMany 0;
+      state = carried_out r commands s;
+    }
 
 abbrev pub plain_save : Rules → List Command → State → Outcome
 plain_save r commands s = record {
-  answer = Saved (told (free_count (r.room s.active) s.settings commands)) 0 (if all_free (r.room s.active) s.settings commands then Whole else ManyNames);
+  answer =
+      Saved (told (free_count (r.room s.active) s.settings commands)) 0
+      (if all_free (r.room s.active) s.settings commands then Whole else ManyNames);
   state = carried_out r commands s;
 }
 
@@ -80,21 +91,35 @@ value_or_absent None = Absent
 abbrev pub plain_taking : List ℕ → HandlerKind → Option (List HandlerKind) → State → Outcome
 plain_taking subtree kind None s = record { answer = NoKind; state = s }
 plain_taking subtree kind (Some others) s =
-    record { answer = Done 0; state = record s { registry = s.registry ++ record { subtree = subtree; state = fresh kind } ∷ []; pool = others } }
+    record {
+      answer = Done 0;
+      state = record s {
+        registry = s.registry ++ record { subtree = subtree; state = fresh kind } ∷ [];
+        pool = others;
+      };
+    }
 
 abbrev pub plain_register : List ℕ → HandlerKind → State → Outcome
-plain_register subtree kind s = if is_registered subtree s then record { answer = Exists; state = s } else plain_taking subtree kind (without_first kind s.pool) s
+plain_register subtree kind s =
+    if is_registered subtree s then record { answer = Exists; state = s }
+    else plain_taking subtree kind (without_first kind s.pool) s
 
 abbrev pub plain_load : Option (List ℕ) → State → Outcome
 plain_load subtree s = record {
-  answer = Loaded (map (give s.registry) (deliveries_of subtree s)) (count_by (is_taken s.registry) (deliveries_of subtree s)) (count_by (λ d. not (is_taken s.registry d)) (deliveries_of subtree s))
+  answer =
+      Loaded (map (give s.registry) (deliveries_of subtree s))
+      (count_by (is_taken s.registry) (deliveries_of subtree s))
+      (count_by (λ d. not (is_taken s.registry d)) (deliveries_of subtree s))
       (length (settings_under subtree (entries s.settings)) - length (deliveries_of subtree s));
   state = record s { registry = commit_all subtree (deliver_all s.registry (deliveries_of subtree s)) };
 }
 
 abbrev pub plain_offer : Option Delivery → State → Outcome
 plain_offer None s = record { answer = NoHandler; state = s }
-plain_offer (Some d) s = if is_taken s.registry d then record { answer = Done 0; state = record s { registry = deliver s.registry d } } else record { answer = Rejected; state = s }
+plain_offer (Some d) s =
+    if is_taken s.registry d then
+    record { answer = Done 0; state = record s { registry = deliver s.registry d } } else
+    record { answer = Rejected; state = s }
 
 abbrev pub plain_asked : Option (Option (List ℕ)) → Answer
 plain_asked None = NoHandler
@@ -105,7 +130,9 @@ plain_asked (Some held) = value_or_absent held
 abbrev pub plain_move : Rules → Option ℕ → State → Outcome
 plain_move r None s = record { answer = NoTarget; state = s }
 plain_move r (Some to) s =
-    if all_free (r.room to) empty (all_puts s.settings) then record { answer = Done 0; state = record s { active = to } } else record { answer = TooMany 0; state = s }
+    if all_free (r.room to) empty (all_puts s.settings) then
+    record { answer = Done 0; state = record s { active = to } } else
+    record { answer = TooMany 0; state = s }
 
 -- ---- all lines
 
@@ -114,8 +141,10 @@ plain_on r (Set name value) s = plain_change r (commands_of (Set name value) s) 
 plain_on r (Delete name) s = plain_change r (commands_of (Delete name) s) s
 plain_on r (Save subtree) s = plain_save r (commands_of (Save subtree) s) s
 plain_on r (Get name) s = record { answer = value_or_absent (get s.settings name); state = s }
-plain_on r (Direct subtree) s = record { answer = Told (map as_pair (settings_under subtree (entries s.settings))); state = s }
-plain_on r Names s = record { answer = Named (r.label s.active) (map as_pair (entries s.settings)); state = s }
+plain_on r (Direct subtree) s =
+    record { answer = Told (map as_pair (settings_under subtree (entries s.settings))); state = s }
+plain_on r Names s =
+    record { answer = Named (r.label s.active) (map as_pair (entries s.settings)); state = s }
 plain_on r (Register subtree kind) s = plain_register subtree kind s
 plain_on r (Load subtree) s = plain_load subtree s
 plain_on r Commit s = record { answer = Done 0; state = record s { registry = commit_all None s.registry } }
@@ -127,7 +156,8 @@ plain_on r Uncut s = record { answer = Done 0; state = s }
 plain_on r Migrate s = plain_move r (r.target s.active) s
 
 abbrev pub plain : Rules → Line → State → Outcome
-plain r line s = if needs_power line && not s.is_on then record { answer = Off; state = s } else plain_on r line s
+plain r line s =
+    if needs_power line && not s.is_on then record { answer = Off; state = s } else plain_on r line s
 
 -- of a whole run
 abbrev pub plain_answers : Rules → List Line → State → List Answer

@@ -1,5 +1,5 @@
--- Which commands of a run stand: those of the lines that were done, as many as a refused save tells, and the first so many of each line
--- in which power was lost.
+-- Which commands of a run stand: those of the lines that were done, as many as a refused save tells, and the
+-- first so many of each line in which power was lost.
 use Rattle.std.specs.Prelude.{◌≡◌, Bool, true, false, List, [], ◌++◌, length, if◌then◌else◌}
 use Rattle.script_lines.specs.declared.line.Line.{Line}
 use Rattle.script_lines.specs.declared.line.Line.TheVariants.{Mount}
@@ -24,8 +24,8 @@ pub record IsFront (front commands : List Command) : Type 0 where
   pub rest : List Command
   pub are : commands ≡ front ++ rest
 
--- Of a line's commands these stand: all, where it answered `ok`; as many as it tells, where a save was refused; the first so many, where
--- power was lost; else none.
+-- Of a line's commands these stand: all, where it answered `ok`; as many as it tells, where a save was
+-- refused; the first so many, where power was lost; else none.
 abbrev pub Stand : Answer → List Command → List Command → Type 0
 Stand (Done units) commands done = done ≡ commands
 Stand (Saved pairs units Whole) commands done = done ≡ commands
@@ -39,12 +39,16 @@ pub record Logged : Type 0 where
   pub log : List Command
 
 abbrev pub LogStep : Rules → Line → Answer → Logged → Logged → Type 0
-LogStep r line answer old new = Step r line answer old.state new.state × ((done : List Command) × Stand answer (commands_of line old.state) done × (new.log ≡ old.log ++ done))
+LogStep r line answer old new =
+    Step r line answer old.state new.state
+    × ((done : List Command) × Stand answer (commands_of line old.state) done × (new.log ≡ old.log ++ done))
 
 -- The settings are those of the start after the commands that stand, line by line.
-pub record IsAfterPrefix (r : Rules) (lines : List Line) (answers : List Answer) (old new : State) : Type 0 where
+pub record IsAfterPrefix (r : Rules) (lines : List Line) (answers : List Answer) (old new : State) :
+    Type 0 where
   pub log : List Command
-  pub runs : Follows (LogStep r) lines answers (record { state = old; log = [] }) (record { state = new; log = log })
+  pub runs : Follows (LogStep r) lines answers (record { state = old; log = [] })
+      (record { state = new; log = log })
   pub settings : new.settings ≡ all_applied old.settings log
 
 -- ---- power

@@ -1,4 +1,5 @@
--- What the table of answers knows of a flash: the numbers of its areas, each by its place in the map. It knows no byte.
+-- What the table of answers knows of a flash: the numbers of its areas, each by its place in the map. It
+-- knows no byte.
 use Rattle.std.specs.Prelude.{ℕ, ◌-◌, ◌^◌, ◌<◌, List, Option}
 use Rattle.flash_map.specs.declared.area.Geometry.{Geometry}
 use Rattle.backend_api.specs.Commands.{Command}
@@ -6,7 +7,8 @@ use Rattle.backend_api.specs.Map.{Map}
 use Rattle.backend_api.specs.Room.{Room}
 
 pub record Rules : Type 1 where
-  -- the place of the area to which the settings of the area at a place would go; none where there is no other for settings
+  -- the place of the area to which the settings of the area at a place would go; none where there is no other
+  -- for settings
   pub target : ℕ → Option ℕ
   pub label : ℕ → List ℕ
   pub geometry : ℕ → Geometry

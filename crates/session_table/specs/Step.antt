@@ -1,6 +1,7 @@
--- The table: which answers a plain map gives to a line, and what they make of the state. The choices are whether power is lost in
--- a line, how far its commands went then and whether their units spelt another record, whether a refusal that the numbers of room
--- allow comes, which area is active after a migration that was cut, and the units.
+-- The table: which answers a plain map gives to a line, and what they make of the state. The choices are
+-- whether power is lost in a line, how far its commands went then and whether their units spelt another
+-- record, whether a refusal that the numbers of room allow comes, which area is active after a migration that
+-- was cut, and the units.
 use Rattle.std.specs.Prelude.{◌+◌, ◌≡◌, ◌⊎◌, ℕ, ◌<◌, ◌≤◌, Bool, true, false, not, List, [], ◌∷◌, ◌++◌, length, map, count_by, Option, Some, None, option_map, if◌then◌else◌}
 use Rattle.std.specs.List.{list_any}
 use Rattle.std.specs.Str.{bytes_eq}
@@ -37,18 +38,28 @@ pub record CommandsDone (r : Rules) (commands : List Command) (units : ℕ) (old
   pub some : ¬ (commands ≡ []) → IsCounted r.last → 0 < units
   pub state : new ≡ record old { settings = all_applied old.settings commands }
 
--- Power is off, and the first so many of the commands are carried out; by chance what the units of the next one spell, too.
+-- Power is off, and the first so many of the commands are carried out; by chance what the units of the next
+-- one spell, too.
 abbrev pub CommandsLost : Rules → List Command → Bool → State → State → Type 0
-CommandsLost r commands false old new = StopsForPower (r.room old.active) commands old.settings new.settings × (new ≡ record old { settings = new.settings; is_on = false })
-CommandsLost r commands true old new = StopsTorn (r.room old.active) (r.tears old.active) commands old.settings new.settings × (new ≡ record old { settings = new.settings; is_on = false })
+CommandsLost r commands false old new =
+    StopsForPower (r.room old.active) commands old.settings new.settings
+    × (new ≡ record old { settings = new.settings; is_on = false })
+CommandsLost r commands true old new =
+    StopsTorn (r.room old.active) (r.tears old.active) commands old.settings new.settings
+    × (new ≡ record old { settings = new.settings; is_on = false })
 
 -- a set or a delete, which stands for one command or none
 abbrev pub Changes : Rules → List Command → Answer → State → State → Type 0
-Changes r commands (Done units) old new = (units ≤ most_units (r.geometry old.active)) × CommandsDone r commands units old new
-Changes r commands (TooMany units) old new = (units ≡ 0) × StopsForNames (r.room old.active) commands 0 old.settings new.settings × (new ≡ old)
+Changes r commands (Done units) old new =
+    (units ≤ most_units (r.geometry old.active)) × CommandsDone r commands units old new
+Changes r commands (TooMany units) old new =
+    (units ≡ 0) × StopsForNames (r.room old.active) commands 0 old.settings new.settings × (new ≡ old)
 Changes r commands (NoSpace units need live) old new =
-    (units ≤ most_units (r.geometry old.active)) × MeetsNoRoom (r.room old.active) (r.geometry old.active).sectors old.settings new.settings commands 0 need live × (new ≡ old)
-Changes r commands (Lost units chance) old new = (units ≤ most_units (r.geometry old.active)) × CommandsLost r commands chance old new
+    (units ≤ most_units (r.geometry old.active))
+    × MeetsNoRoom (r.room old.active) (r.geometry old.active).sectors old.settings new.settings commands 0
+    need live × (new ≡ old)
+Changes r commands (Lost units chance) old new =
+    (units ≤ most_units (r.geometry old.active)) × CommandsLost r commands chance old new
 Changes r commands answer old new = ⊥
 
 -- a count stands still at 2^32 - 1
@@ -57,11 +68,16 @@ told count = more_pairs 0 count
 
 -- a save, which stands for any number of commands
 abbrev pub Saves : Rules → List Command → Answer → State → State → Type 0
-Saves r commands (Saved pairs units Whole) old new = (pairs ≡ told (length commands)) × CommandsDone r commands units old new
+Saves r commands (Saved pairs units Whole) old new =
+    (pairs ≡ told (length commands)) × CommandsDone r commands units old new
 Saves r commands (Saved pairs units ManyNames) old new =
-    (done : ℕ) × (pairs ≡ told done) × StopsForNames (r.room old.active) commands done old.settings new.settings × (new ≡ record old { settings = new.settings })
+    (done : ℕ) × (pairs ≡ told done)
+    × StopsForNames (r.room old.active) commands done old.settings new.settings
+    × (new ≡ record old { settings = new.settings })
 Saves r commands (Saved pairs units (NoRoom need live)) old new =
-    (done : ℕ) × (pairs ≡ told done) × MeetsNoRoom (r.room old.active) (r.geometry old.active).sectors old.settings new.settings commands done need live × (new ≡ record old { settings = new.settings })
+    (done : ℕ) × (pairs ≡ told done)
+    × MeetsNoRoom (r.room old.active) (r.geometry old.active).sectors old.settings new.settings commands
+    done need live × (new ≡ record old { settings = new.settings })
 Saves r commands (Lost units chance) old new = CommandsLost r commands chance old new
 Saves r commands answer old new = ⊥
 
@@ -78,11 +94,13 @@ as_pair setting = record { name = setting.0; value = setting.1 }
 
 -- those of a subtree
 abbrev pub Tells : Option (List ℕ) → Answer → State → State → Type 0
-Tells subtree (Told pairs) old new = (pairs ≡ map as_pair (settings_under subtree (entries old.settings))) × (new ≡ old)
+Tells subtree (Told pairs) old new =
+    (pairs ≡ map as_pair (settings_under subtree (entries old.settings))) × (new ≡ old)
 Tells subtree answer old new = ⊥
 
 abbrev pub TellsAll : Rules → Answer → State → State → Type 0
-TellsAll r (Named active pairs) old new = (active ≡ r.label old.active) × (pairs ≡ map as_pair (entries old.settings)) × (new ≡ old)
+TellsAll r (Named active pairs) old new =
+    (active ≡ r.label old.active) × (pairs ≡ map as_pair (entries old.settings)) × (new ≡ old)
 TellsAll r answer old new = ⊥
 
 -- ---- handlers
@@ -99,14 +117,22 @@ same_kind kind other = false
 -- the others, once the first one of the kind was taken, where there is one
 abbrev pub without_first : HandlerKind → List HandlerKind → Option (List HandlerKind)
 without_first kind [] = None
-without_first kind (first ∷ rest) = if same_kind kind first then Some rest else option_map (λ others. first ∷ others) (without_first kind rest)
+without_first kind (first ∷ rest) =
+    if same_kind kind first then Some rest else option_map (λ others. first ∷ others)
+    (without_first kind rest)
 
 abbrev pub Registers : List ℕ → HandlerKind → Answer → State → State → Type 0
 Registers subtree kind Exists old new = (is_registered subtree old ≡ true) × (new ≡ old)
-Registers subtree kind NoKind old new = (is_registered subtree old ≡ false) × (without_first kind old.pool ≡ None) × (new ≡ old)
+Registers subtree kind NoKind old new =
+    (is_registered subtree old ≡ false) × (without_first kind old.pool ≡ None) × (new ≡ old)
 Registers subtree kind (Done units) old new =
     (units ≡ 0) × (is_registered subtree old ≡ false) × (without_first kind old.pool ≡ Some new.pool)
-    × (new ≡ record old { registry = old.registry ++ record { subtree = subtree; state = fresh kind } ∷ []; pool = new.pool })
+    ×
+    (new
+    ≡ record old {
+      registry = old.registry ++ record { subtree = subtree; state = fresh kind } ∷ [];
+      pool = new.pool;
+    })
 Registers subtree kind answer old new = ⊥
 
 abbrev pub deliveries_of : Option (List ℕ) → State → List Delivery
@@ -114,7 +140,9 @@ deliveries_of subtree s = delivered (subtrees s.registry) subtree (entries s.set
 
 -- a delivery as it is told
 abbrev pub give : List Registered → Delivery → Give
-give handlers d = let given = deliveries.give handlers d in record { subtree = given.subtree; rest = given.rest; value = given.value; taken = given.taken }
+give handlers d =
+    let given = deliveries.give handlers d in
+    record { subtree = given.subtree; rest = given.rest; value = given.value; taken = given.taken }
 
 -- each name of the subtree goes to its best handler, or is passed; then come the commits
 abbrev pub Loads : Option (List ℕ) → Answer → State → State → Type 0
@@ -123,7 +151,9 @@ Loads subtree (Loaded gives taken rejected passed) old new =
     × (taken ≡ count_by (is_taken old.registry) (deliveries_of subtree old))
     × (rejected ≡ count_by (λ d. not (is_taken old.registry d)) (deliveries_of subtree old))
     × (passed + length (deliveries_of subtree old) ≡ length (settings_under subtree (entries old.settings)))
-    × (new ≡ record old { registry = commit_all subtree (deliver_all old.registry (deliveries_of subtree old)) })
+    ×
+    (new
+    ≡ record old { registry = commit_all subtree (deliver_all old.registry (deliveries_of subtree old)) })
 Loads subtree answer old new = ⊥
 
 abbrev pub Commits : Answer → State → State → Type 0
@@ -134,15 +164,18 @@ Commits answer old new = ⊥
 abbrev pub Offers : List ℕ → List ℕ → Answer → State → State → Type 0
 Offers name value NoHandler old new = (delivery (subtrees old.registry) (name, value) ≡ None) × (new ≡ old)
 Offers name value Rejected old new =
-    (d : Delivery) × (delivery (subtrees old.registry) (name, value) ≡ Some d) × (is_taken old.registry d ≡ false) × (new ≡ old)
+    (d : Delivery) × (delivery (subtrees old.registry) (name, value) ≡ Some d)
+    × (is_taken old.registry d ≡ false) × (new ≡ old)
 Offers name value (Done units) old new =
-    (d : Delivery) × (units ≡ 0) × (delivery (subtrees old.registry) (name, value) ≡ Some d) × (is_taken old.registry d ≡ true)
+    (d : Delivery) × (units ≡ 0) × (delivery (subtrees old.registry) (name, value) ≡ Some d)
+    × (is_taken old.registry d ≡ true)
     × (new ≡ record old { registry = deliver old.registry d })
 Offers name value answer old new = ⊥
 
 -- what the best handler of a name holds for it, where there is one
 abbrev pub held_for : List Registered → List ℕ → Option (Option (List ℕ))
-held_for handlers name = option_map (λ d. get (state_at handlers d.place).held d.rest) (delivery (subtrees handlers) (name, []))
+held_for handlers name =
+    option_map (λ d. get (state_at handlers d.place).held d.rest) (delivery (subtrees handlers) (name, []))
 
 abbrev pub Asks : List ℕ → Answer → State → State → Type 0
 Asks name NoHandler old new = (held_for old.registry name ≡ None) × (new ≡ old)
@@ -165,12 +198,18 @@ Arms answer old new = ⊥
 
 -- All settings are put into the empty target, one by one, which then is the active area.
 abbrev pub MovesTo : Rules → ℕ → Answer → State → State → Type 0
-MovesTo r to (Done units) old new = AreFree (r.room to) empty (all_puts old.settings) × (new ≡ record old { active = to })
-MovesTo r to (TooMany units) old new = (done : ℕ) × (now : Map) × StopsForNames (r.room to) (all_puts old.settings) done empty now × (new ≡ old)
+MovesTo r to (Done units) old new =
+    AreFree (r.room to) empty (all_puts old.settings) × (new ≡ record old { active = to })
+MovesTo r to (TooMany units) old new =
+    (done : ℕ) × (now : Map) × StopsForNames (r.room to) (all_puts old.settings) done empty now × (new ≡ old)
 MovesTo r to (NoSpace units need live) old new =
-    (done : ℕ) × (now : Map) × MeetsNoRoom (r.room to) (r.geometry to).sectors empty now (all_puts old.settings) done need live × (new ≡ old)
+    (done : ℕ) × (now : Map)
+    × MeetsNoRoom (r.room to) (r.geometry to).sectors empty now (all_puts old.settings) done need live
+    × (new ≡ old)
 MovesTo r to (Lost units false) old new =
-    (new ≡ record old { is_on = false }) ⊎ (AreFree (r.room to) empty (all_puts old.settings) × (new ≡ record old { is_on = false; active = to }))
+    (new ≡ record old { is_on = false })
+    ⊎ (AreFree (r.room to) empty (all_puts old.settings)
+    × (new ≡ record old { is_on = false; active = to }))
 MovesTo r to answer old new = ⊥
 
 abbrev pub Migrates : Rules → Answer → State → State → Type 0

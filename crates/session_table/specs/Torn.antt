@@ -35,10 +35,12 @@ pub record TornAt (place : ℕ) (commands : List Command) (deeds : List Deed) : 
   pub are : commands ≡ front ++ at ∷ rest
   pub deeds_are : deeds ≡ map did front ++ tore place at units ∷ []
 
--- what became of a line's commands: those that stand were carried out, and by chance the one behind them was torn
+-- what became of a line's commands: those that stand were carried out, and by chance the one behind them was
+-- torn
 abbrev pub BecomeOf : ℕ → Answer → List Command → List Deed → Type 0
 BecomeOf place (Lost units true) commands deeds = TornAt place commands deeds
-BecomeOf place answer commands deeds = (done : List Command) × Stand answer commands done × (deeds ≡ map did done)
+BecomeOf place answer commands deeds =
+    (done : List Command) × Stand answer commands done × (deeds ≡ map did done)
 
 -- a state, and what became of the commands so far
 pub record Told : Type 0 where
@@ -47,10 +49,14 @@ pub record Told : Type 0 where
 
 abbrev pub DeedStep : Rules → Line → Answer → Told → Told → Type 0
 DeedStep r line answer old new =
-    Step r line answer old.state new.state × ((deeds : List Deed) × BecomeOf old.state.active answer (commands_of line old.state) deeds × (new.deeds ≡ old.deeds ++ deeds))
+    Step r line answer old.state new.state
+    × ((deeds : List Deed) × BecomeOf old.state.active answer (commands_of line old.state) deeds
+    × (new.deeds ≡ old.deeds ++ deeds))
 
 -- The settings are those of the start after what became of the commands, line by line.
-pub record IsAfterDeeds (r : Rules) (lines : List Line) (answers : List Answer) (old new : State) : Type 0 where
+pub record IsAfterDeeds (r : Rules) (lines : List Line) (answers : List Answer) (old new : State) :
+    Type 0 where
   pub deeds : List Deed
-  pub runs : Follows (DeedStep r) lines answers (record { state = old; deeds = [] }) (record { state = new; deeds = deeds })
+  pub runs : Follows (DeedStep r) lines answers (record { state = old; deeds = [] })
+      (record { state = new; deeds = deeds })
   pub settings : DoAll r deeds old.settings new.settings

@@ -19,7 +19,8 @@ bed_banks =
 
 -- an area of two sectors there, with any label
 abbrev pub placed : Area → Role → ℕ → ℕ → Area
-placed label role bank first = record { label = label.label; role = role; bank = bank; first = first; sectors = 2; version = 1 }
+placed label role bank first =
+    record { label = label.label; role = role; bank = bank; first = first; sectors = 2; version = 1 }
 
 -- three store areas, and the selector's
 pub record IsBed (areas : List Area) : Type 0 where
@@ -31,4 +32,5 @@ pub record IsBed (areas : List Area) : Type 0 where
 
 -- the selector and a store of any kind stand on these areas
 abbrev pub Serves : List Area → Device → Selector → AnyBackend → ℕ → Type 0
-Serves areas d selector backend active = IsServed any_serves area_of Stands areas d selector.ring backend active
+Serves areas d selector backend active =
+    IsServed any_serves area_of Stands areas d selector.ring backend active

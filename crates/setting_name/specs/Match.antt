@@ -4,8 +4,8 @@ use Rattle.std.specs.List.{starts_with, join_with_byte}
 use Rattle.std.specs.Str.{bytes_eq}
 use Rattle.setting_name.specs.Name.{parts_of, is_slash}
 
--- The parts of the key are the first parts of the name, and the others with a slash between each two are the rest.
--- Where there are no others the rest is empty.
+-- The parts of the key are the first parts of the name, and the others with a slash between each two are the
+-- rest. Where there are no others the rest is empty.
 pub record Matches (name key rest : List ℕ) : Type 0 where
   pub others : List (List ℕ)
   pub parts : parts_of name ≡ parts_of key ++ others

@@ -13,7 +13,8 @@ part_is_due text place = (place == 0) || is_slash (slice_index text (place - 1))
 
 -- no part begins at the end, nor at a slash
 abbrev pub lacks_part : List ℕ → ℕ → Bool
-lacks_part text place = part_is_due text place && ((place == length text) || is_slash (slice_index text place))
+lacks_part text place =
+    part_is_due text place && ((place == length text) || is_slash (slice_index text place))
 
 -- the first place where a part should begin and does not
 abbrev pub IsFirstLack : List ℕ → ℕ → Type 0

@@ -34,7 +34,8 @@ is_idle settings (Del name) = is_none (get settings name)
 -- those of the commands that change the settings which the ones before them leave
 unfoldable pub due : Map → List Command → List Command
 due settings [] = []
-due settings (c ∷ commands) = if is_idle settings c then due settings commands else c ∷ due (applied settings c) commands
+due settings (c ∷ commands) =
+    if is_idle settings c then due settings commands else c ∷ due (applied settings c) commands
 
 -- The most units and erases of carrying them out, whole or cut: those of one command for each of them.
 abbrev pub due_units : Geometry → Map → List Command → ℕ
@@ -48,11 +49,14 @@ is_too_many room settings (Del name) = false
 -- none of the names, each put into the settings that the commands before it leave, is one too many
 unfoldable pub AreFree : Room → Map → List Command → Type 0
 AreFree room settings [] = ⊤
-AreFree room settings (c ∷ commands) = (is_too_many room settings c ≡ false) × AreFree room (applied settings c) commands
+AreFree room settings (c ∷ commands) =
+    (is_too_many room settings c ≡ false) × AreFree room (applied settings c) commands
 
 -- there is no room for it, and these are its need and what all settings cost
 abbrev pub LacksRoom : Room → ℕ → Map → Command → ℕ → ℕ → Type 0
-LacksRoom room sectors settings (Put name value) need live = HasNoRoom room sectors settings name value × (need ≡ room.need settings name value) × (live ≡ room.cost settings)
+LacksRoom room sectors settings (Put name value) need live =
+    HasNoRoom room sectors settings name value × (need ≡ room.need settings name value)
+    × (live ≡ room.cost settings)
 LacksRoom room sectors settings (Del name) need live = ⊥
 
 -- the commands, at one of them: so many before it, and those behind it
@@ -64,44 +68,58 @@ pub record SplitsAt (commands : List Command) (count : ℕ) : Type 0 where
   pub count_is : count ≡ length done
 
 -- all of the commands were carried out, and units were spent exactly where there is one
-pub record Carries (room : Room) (old new : Device) (before after : Map) (commands : List Command) : Type 0 where
+pub record Carries (room : Room) (old new : Device) (before after : Map) (commands : List Command) :
+    Type 0 where
   pub settings : after ≡ all_applied before commands
   pub free : AreFree room before commands
   pub none : commands ≡ [] → new ≡ old
   pub some : ¬ (commands ≡ []) → SpendsSome old new
 
 -- the name of one of them would be one too many, and all before it were carried out
-pub record MeetsTooMany (room : Room) (old new : Device) (before after : Map) (commands : List Command) (count : ℕ) : Type 0 where
+pub record MeetsTooMany (room : Room) (old new : Device) (before after : Map) (commands : List Command)
+    (count : ℕ) : Type 0 where
   pub split : SplitsAt commands count
   pub carried : Carries room old new before after split.done
   pub too_many : is_too_many room after split.at ≡ true
 
 -- there is no room for one of them, and the settings are those after all before it
-pub record MeetsNoRoom (room : Room) (sectors : ℕ) (before after : Map) (commands : List Command) (count need live : ℕ) : Type 0 where
+pub record MeetsNoRoom (room : Room) (sectors : ℕ) (before after : Map) (commands : List Command)
+    (count need live : ℕ) : Type 0 where
   pub split : SplitsAt commands count
   pub settings : after ≡ all_applied before split.done
   pub free : AreFree room before (split.done ++ split.at ∷ [])
   pub lacks : LacksRoom room sectors after split.at need live
 
 -- power was lost in one of them, when all before it were carried out
-pub record MeetsLoss (room : Room) (chance : Loss → Bool) (tears : Command → ℕ → Map → Map → Type 0) (old new : Device) (before after : Map) (commands : List Command) (count : ℕ) : Type 0 where
+pub record MeetsLoss (room : Room) (chance : Loss → Bool) (tears : Command → ℕ → Map → Map → Type 0)
+    (old new : Device) (before after : Map) (commands : List Command) (count : ℕ) : Type 0 where
   pub split : SplitsAt commands count
   pub free : AreFree room before (split.done ++ split.at ∷ [])
-  pub stops : old.is_on ≡ true → StopsAt chance (tears split.at) split.at new (all_applied before split.done) after
+  pub stops : old.is_on ≡ true
+      → StopsAt chance (tears split.at) split.at new (all_applied before split.done) after
 
 -- how carrying out commands ends after so many of them, by whether the backend is up
-abbrev pub CarryEnds : {T : Type 0} → Bool → Room → ℕ → (Loss → Bool) → (Command → ℕ → Map → Map → Type 0) → Device → Device → Map → Map → List Command → ℕ → Result T SaveFault → Type 0
-CarryEnds up room sectors chance tears old new before after commands count (Ok x) = (up ≡ true) × (count ≡ length commands) × Carries room old new before after commands
-CarryEnds up room sectors chance tears old new before after commands count (Err Off) = (up ≡ false) × (count ≡ 0) × (new ≡ old)
-CarryEnds up room sectors chance tears old new before after commands count (Err (NoSpace need live)) = (up ≡ true) × MeetsNoRoom room sectors before after commands count need live
-CarryEnds up room sectors chance tears old new before after commands count (Err TooManyNames) = (up ≡ true) × MeetsTooMany room old new before after commands count
-CarryEnds up room sectors chance tears old new before after commands count (Err PowerLost) = (up ≡ true) × MeetsLoss room chance tears old new before after commands count
+abbrev pub CarryEnds : {T : Type 0} → Bool → Room → ℕ → (Loss → Bool) → (Command → ℕ → Map → Map → Type 0)
+    → Device → Device → Map → Map → List Command → ℕ → Result T SaveFault → Type 0
+CarryEnds up room sectors chance tears old new before after commands count (Ok x) =
+    (up ≡ true) × (count ≡ length commands) × Carries room old new before after commands
+CarryEnds up room sectors chance tears old new before after commands count (Err Off) =
+    (up ≡ false) × (count ≡ 0) × (new ≡ old)
+CarryEnds up room sectors chance tears old new before after commands count (Err (NoSpace need live)) =
+    (up ≡ true) × MeetsNoRoom room sectors before after commands count need live
+CarryEnds up room sectors chance tears old new before after commands count (Err TooManyNames) =
+    (up ≡ true) × MeetsTooMany room old new before after commands count
+CarryEnds up room sectors chance tears old new before after commands count (Err PowerLost) =
+    (up ≡ true) × MeetsLoss room chance tears old new before after commands count
 
 -- the same on an area, of those of the commands that are due, by what the backend says of the area
-abbrev pub CarryEndsOn : {T : Type 0} → (Area → Geometry → Room) → (Area → Geometry → List (List ℕ) → Map) → (Area → Geometry → List (List ℕ) → Loss → Bool) → (Area → Geometry → Command → ℕ → Map → Map → Type 0)
+abbrev pub CarryEndsOn : {T : Type 0} → (Area → Geometry → Room) → (Area → Geometry → List (List ℕ) → Map)
+    → (Area → Geometry → List (List ℕ) → Loss → Bool) → (Area → Geometry → Command → ℕ → Map → Map → Type 0)
     → Bool → Area → Device → Device → List Command → ℕ → Result T SaveFault → Type 0
 CarryEndsOn room contents chance tears up area old new commands count result =
-    CarryEnds up (room area (geometry_of old area)) area.sectors (on chance new area) (tears area (geometry_of old area)) old new (on contents old area) (on contents new area) (due (on contents old area) commands) count result
+    CarryEnds up (room area (geometry_of old area)) area.sectors (on chance new area)
+    (tears area (geometry_of old area)) old new (on contents old area) (on contents new area)
+    (due (on contents old area) commands) count result
 
 abbrev pub save_lost : {T : Type 0} → Result T SaveFault → Bool
 save_lost (Ok x) = false

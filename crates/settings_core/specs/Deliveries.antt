@@ -21,7 +21,14 @@ pub record Delivery : Type 0 where
 -- to the best handler for the name, where there is one
 abbrev pub delivery : List (List ℕ) → List ℕ × List ℕ → Option Delivery
 delivery to setting =
-    option_map (λ place. record { place = place; rest = unwrap_or (matched_rest setting.0 (get_or to place [])) []; value = setting.1 }) (best to setting.0)
+    option_map
+    (λ place.
+    record {
+      place = place;
+      rest = unwrap_or (matched_rest setting.0 (get_or to place [])) [];
+      value = setting.1;
+    })
+    (best to setting.0)
 
 -- the settings whose names match the subtree
 abbrev pub settings_under : Option (List ℕ) → List (List ℕ × List ℕ) → List (List ℕ × List ℕ)
@@ -68,7 +75,8 @@ DeliverEnds before after d (Ok taken) = (taken ≡ is_taken before d) × (after 
 DeliverEnds before after d (Err lack) = (is_taken before d ≡ true) × (after ≡ before)
 
 -- the setting went to its best handler, and that was told
-pub record Delivers (before after : List Registered) (old new : Option (List Give)) (setting : List ℕ × List ℕ) (taken : Bool) : Type 0 where
+pub record Delivers (before after : List Registered) (old new : Option (List Give))
+    (setting : List ℕ × List ℕ) (taken : Bool) : Type 0 where
   pub d : Delivery
   pub is : delivery (subtrees before) setting ≡ Some d
   pub answer : is_taken before d ≡ taken
@@ -76,8 +84,13 @@ pub record Delivers (before after : List Registered) (old new : Option (List Giv
   pub told : new ≡ told_more old (give before d ∷ [])
 
 -- how offering a setting to the handlers ends
-abbrev pub OfferEnds : List Registered → List Registered → Option (List Give) → Option (List Give) → List ℕ × List ℕ → Result Offered Lack → Type 0
+abbrev pub OfferEnds : List Registered → List Registered → Option (List Give) → Option (List Give)
+    → List ℕ × List ℕ → Result Offered Lack → Type 0
 OfferEnds before after old new setting (Ok Taken) = Delivers before after old new setting true
 OfferEnds before after old new setting (Ok Rejected) = Delivers before after old new setting false
-OfferEnds before after old new setting (Ok Passed) = (delivery (subtrees before) setting ≡ None) × (after ≡ before) × (new ≡ old)
-OfferEnds before after old new setting (Err lack) = (new ≡ old) × ((after ≡ before) ⊎ ((d : Delivery) × (delivery (subtrees before) setting ≡ Some d) × (after ≡ deliver before d)))
+OfferEnds before after old new setting (Ok Passed) =
+    (delivery (subtrees before) setting ≡ None) × (after ≡ before) × (new ≡ old)
+OfferEnds before after old new setting (Err lack) =
+    (new ≡ old)
+    × ((after ≡ before)
+    ⊎ ((d : Delivery) × (delivery (subtrees before) setting ≡ Some d) × (after ≡ deliver before d)))

@@ -23,13 +23,18 @@ use Rattle.settings_core.specs.declared.runtime.RuntimeFault.{RuntimeFault}
 use Rattle.setting_name.specs.Match.{joined_text}
 use Rattle.setting_name.specs.Name.{IsName}
 
--- The commands that are due make what all of them would make. Each changes something, and what comes behind is due where those before are done.
+-- The commands that are due make what all of them would make. Each changes something, and what comes behind
+-- is due where those before are done.
 pub record DueCommands (settings : Map) (commands : List Command) : Type 0 where
   pub same : all_applied settings (due settings commands) ≡ all_applied settings commands
-  pub changes : (done : List Command) (at : Command) (left : List Command) → due settings commands ≡ done ++ at ∷ left → is_idle (all_applied settings done) at ≡ false
-  pub behind : (others : List Command) → due settings (commands ++ others) ≡ due settings commands ++ due (all_applied settings commands) others
+  pub changes : (done : List Command) (at : Command) (left : List Command)
+      → due settings commands ≡ done ++ at ∷ left → is_idle (all_applied settings done) at ≡ false
+  pub behind : (others : List Command)
+      → due settings (commands ++ others)
+      ≡ due settings commands ++ due (all_applied settings commands) others
 
--- One command is due, or none where the settings are such already; and it is the only one at which a call can stop.
+-- One command is due, or none where the settings are such already; and it is the only one at which a call can
+-- stop.
 pub record OneCommand (settings : Map) (c : Command) : Type 0 where
   pub none : is_idle settings c ≡ true → due settings (c ∷ []) ≡ []
   pub one : is_idle settings c ≡ false → due settings (c ∷ []) ≡ c ∷ []
@@ -45,41 +50,68 @@ offered_all h deliveries = fold (λ s d. offered s d.rest d.value) h deliveries
 
 -- its earlier values overlaid, in order, with those that it accepts
 abbrev pub holds_all : HandlerState → List Delivery → HandlerState
-holds_all h deliveries = record h { held = fold (λ m d. insert m d.rest d.value) h.held (filter (λ d. accepts h.kind d.value) deliveries) }
+holds_all h deliveries =
+    record h {
+      held = fold (λ m d. insert m d.rest d.value) h.held (filter (λ d. accepts h.kind d.value) deliveries);
+    }
 
 -- each handler holds its earlier values overlaid with those of its deliveries that it accepts
 abbrev pub IsDelivered : List Registered → List Delivery → ℕ → Type 0
-IsDelivered handlers deliveries i = i < length handlers → state_at (deliver_all handlers deliveries) i ≡ holds_all (state_at handlers i) (deliveries_at i deliveries)
+IsDelivered handlers deliveries i =
+    i < length handlers
+    → state_at (deliver_all handlers deliveries) i
+    ≡ holds_all (state_at handlers i) (deliveries_at i deliveries)
 
--- the settings have this value for a rest of the handler's subtree, for whose name it is the best, and it accepts the value
-pub record IsFor (handlers : List Registered) (settings : Map) (place : ℕ) (rest value : List ℕ) : Type 0 where
+-- the settings have this value for a rest of the handler's subtree, for whose name it is the best, and it
+-- accepts the value
+pub record IsFor (handlers : List Registered) (settings : Map) (place : ℕ) (rest value : List ℕ) :
+    Type 0 where
   pub stored : IsStored settings (joined_text (get_or handlers place nobody).subtree rest) value
-  pub best_is : best (subtrees handlers) (joined_text (get_or handlers place nobody).subtree rest) ≡ Some place
+  pub best_is : best (subtrees handlers) (joined_text (get_or handlers place nobody).subtree rest)
+      ≡ Some place
   pub accepted : accepts (state_at handlers place).kind value ≡ true
 
--- a handler that held nothing holds, after a load of all settings, just the stored values of the names whose best handler it is, as far as it accepts them
+-- a handler that held nothing holds, after a load of all settings, just the stored values of the names whose
+-- best handler it is, as far as it accepts them
 abbrev pub HoldsStored : ℕ → List Registered → Map → ℕ → Type 0
 HoldsStored limit handlers settings place =
     IsSettings limit settings → place < length handlers → (state_at handlers place).held ≡ empty
-    → (rest value : List ℕ) → get (state_at (deliver_all handlers (delivered (subtrees handlers) None (entries settings))) place).held rest ≡ Some value ↔ IsFor handlers settings place rest value
+    → (rest value : List ℕ)
+    → get
+    (state_at (deliver_all handlers (delivered (subtrees handlers) None (entries settings))) place).held
+    rest ≡ Some value ↔ IsFor handlers settings place rest value
 
 -- no loss of which the device tells spells another record by chance
 abbrev pub HasNoChance : (Loss → Bool) → Device → Type 0
 HasNoChance chance d = (loss : Loss) → d.last_loss ≡ Some loss → chance loss ≡ false
 
 -- a call that was cut then leaves the settings after the first of its commands
-abbrev pub LeavesPart : Room → (Loss → Bool) → (Command → ℕ → Map → Map → Type 0) → Device → Device → Map → Map → List Command → ℕ → Type 0
-LeavesPart room chance tears old new before after commands count = MeetsLoss room chance tears old new before after commands count → old.is_on ≡ true → HasNoChance chance new → IsPartApplied before commands after
+abbrev pub LeavesPart : Room → (Loss → Bool) → (Command → ℕ → Map → Map → Type 0) → Device → Device → Map
+    → Map → List Command → ℕ → Type 0
+LeavesPart room chance tears old new before after commands count =
+    MeetsLoss room chance tears old new before after commands count → old.is_on ≡ true
+    → HasNoChance chance new → IsPartApplied before commands after
 
 -- ---- lawful registries
 
--- What a handler that is new, a value of a lawful name, a load of settings, and commits make of a lawful registry is lawful.
+-- What a handler that is new, a value of a lawful name, a load of settings, and commits make of a lawful
+-- registry is lawful.
 pub record StaysLawful (limit : ℕ) (handlers : List Registered) : Type 0 where
-  pub registers : (subtree : List ℕ) (kind : HandlerKind) → AreLawful limit (handlers ++ record { subtree = subtree; state = fresh kind } ∷ [])
-  pub takes : (name value : List ℕ) (d : Delivery) → IsName name → IsValue limit value → delivery (subtrees handlers) (name, value) ≡ Some d → AreLawful limit (deliver handlers d)
-  pub loads : (subtree : Option (List ℕ)) (settings : Map) → IsSettings limit settings → AreLawful limit (deliver_all handlers (delivered (subtrees handlers) subtree (entries settings)))
-  pub loads_some : (subtree : Option (List ℕ)) (settings : Map) (count : ℕ) → IsSettings limit settings → AreLawful limit (deliver_all handlers (delivered (subtrees handlers) subtree (take count (entries settings))))
+  pub registers : (subtree : List ℕ) (kind : HandlerKind)
+      → AreLawful limit (handlers ++ record { subtree = subtree; state = fresh kind } ∷ [])
+  pub takes : (name value : List ℕ) (d : Delivery) → IsName name → IsValue limit value
+      → delivery (subtrees handlers) (name, value) ≡ Some d → AreLawful limit (deliver handlers d)
+  pub loads : (subtree : Option (List ℕ)) (settings : Map) → IsSettings limit settings
+      → AreLawful limit (deliver_all handlers (delivered (subtrees handlers) subtree (entries settings)))
+  pub loads_some : (subtree : Option (List ℕ)) (settings : Map) (count : ℕ) → IsSettings limit settings
+      → AreLawful limit
+      (deliver_all handlers (delivered (subtrees handlers) subtree (take count (entries settings))))
   pub commits : (subtree : Option (List ℕ)) → AreLawful limit (commit_all subtree handlers)
   -- so however a load ends, and a set at run time
-  pub load_ends : (up : Bool) (after : List Registered) (old new : Option (List Give)) (subtree : Option (List ℕ)) (settings : Map) (result : Result Loaded LoadFault) → IsSettings limit settings → LoadEnds up handlers after old new subtree (entries settings) result → AreLawful limit after
-  pub set_ends : (after : List Registered) (name value : List ℕ) (result : Result (Unit {0}) RuntimeFault) → IsName name → IsValue limit value → RuntimeSetEnds handlers after name value result → AreLawful limit after
+  pub load_ends : (up : Bool) (after : List Registered) (old new : Option (List Give))
+      (subtree : Option (List ℕ)) (settings : Map) (result : Result Loaded LoadFault)
+      → IsSettings limit settings → LoadEnds up handlers after old new subtree (entries settings) result
+      → AreLawful limit after
+  pub set_ends : (after : List Registered) (name value : List ℕ) (result : Result (Unit {0}) RuntimeFault)
+      → IsName name → IsValue limit value → RuntimeSetEnds handlers after name value result
+      → AreLawful limit after

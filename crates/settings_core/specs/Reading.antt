@@ -7,5 +7,6 @@ use Rattle.settings_core.specs.declared.settings.Off.{Off}
 
 -- the value of the name where the backend is up
 abbrev pub GetEnds : Bool → Map → List ℕ → Result (Option (Bor (List ℕ))) Off → Type 0
-GetEnds up settings name (Ok value) = (up ≡ true) × (option_map (λ bytes. bytes.now) value ≡ finite.get settings name)
+GetEnds up settings name (Ok value) =
+    (up ≡ true) × (option_map (λ bytes. bytes.now) value ≡ finite.get settings name)
 GetEnds up settings name (Err off) = up ≡ false

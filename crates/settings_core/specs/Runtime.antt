@@ -30,16 +30,22 @@ pub record Rejects (before : List Registered) (setting : List ℕ × List ℕ) :
   pub is : delivery (subtrees before) setting ≡ Some d
   pub rejects : is_taken before d ≡ false
 
-abbrev pub RuntimeSetEnds : List Registered → List Registered → List ℕ → List ℕ → Result (Unit {0}) RuntimeFault → Type 0
+abbrev pub RuntimeSetEnds : List Registered → List Registered → List ℕ → List ℕ
+    → Result (Unit {0}) RuntimeFault → Type 0
 RuntimeSetEnds before after name value (Ok x) = Takes before after (name, value)
-RuntimeSetEnds before after name value (Err NoHandler) = (best (subtrees before) name ≡ None) × (after ≡ before)
+RuntimeSetEnds before after name value (Err NoHandler) =
+    (best (subtrees before) name ≡ None) × (after ≡ before)
 RuntimeSetEnds before after name value (Err Rejected) = Rejects before (name, value) × (after ≡ before)
 RuntimeSetEnds before after name value (Err NoMemory) = Accepts before (name, value) × (after ≡ before)
 
 -- what the handler at this place holds for the name
 abbrev pub held_at : List Registered → ℕ → List ℕ → Option (List ℕ)
-held_at handlers place name = finite.get (state_at handlers place).held (unwrap_or (matched_rest name (get_or handlers place nobody).subtree) [])
+held_at handlers place name =
+    finite.get (state_at handlers place).held
+    (unwrap_or (matched_rest name (get_or handlers place nobody).subtree) [])
 
 abbrev pub RuntimeGetEnds : List Registered → List ℕ → Result (Option (Bor (List ℕ))) Nobody → Type 0
-RuntimeGetEnds handlers name (Ok value) = (place : ℕ) × (best (subtrees handlers) name ≡ Some place) × (option_map (λ bytes. bytes.now) value ≡ held_at handlers place name)
+RuntimeGetEnds handlers name (Ok value) =
+    (place : ℕ) × (best (subtrees handlers) name ≡ Some place)
+    × (option_map (λ bytes. bytes.now) value ≡ held_at handlers place name)
 RuntimeGetEnds handlers name (Err missing) = best (subtrees handlers) name ≡ None

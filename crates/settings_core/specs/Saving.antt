@@ -46,10 +46,15 @@ more_pairs n more = n + min more (2 ^ 32 - 1 - n)
 
 -- ---- a part of a save
 
--- Commands were carried out on an area, by a backend that was up and of which this is known. So many pairs were counted before, and so many now.
-pub record CarriesOn {S T : Type 0} (mounted_on : S → Area) (stands : S → Geometry → List (List ℕ) → Type 0) (runs : S → Bool) (damage : Area → Geometry → List (List ℕ) → Option Damaged)
-    (room : Area → Geometry → Room) (contents : Area → Geometry → List (List ℕ) → Map) (chance : Area → Geometry → List (List ℕ) → Loss → Bool) (tears : Area → Geometry → Command → ℕ → Map → Map → Type 0)
-    (area : Area) (state : S) (old new : Device) (commands : List Command) (was now : ℕ) (result : Result T SaveFault) : Type 0 where
+-- Commands were carried out on an area, by a backend that was up and of which this is known. So many pairs
+-- were counted before, and so many now.
+pub record CarriesOn {S T : Type 0} (mounted_on : S → Area) (stands : S → Geometry → List (List ℕ) → Type 0)
+    (runs : S → Bool) (damage : Area → Geometry → List (List ℕ) → Option Damaged)
+    (room : Area → Geometry → Room) (contents : Area → Geometry → List (List ℕ) → Map)
+    (chance : Area → Geometry → List (List ℕ) → Loss → Bool)
+    (tears : Area → Geometry → Command → ℕ → Map → Map → Type 0)
+    (area : Area) (state : S) (old new : Device) (commands : List Command) (was now : ℕ)
+    (result : Result T SaveFault) : Type 0 where
   pub area_is : mounted_on state ≡ area
   pub touches : Touches (area ∷ []) old new (save_lost result)
   pub count : ℕ

@@ -23,7 +23,9 @@ is_live limit body later = is_live_by limit (setting_of limit body) later
 -- The records of the victim that are the last of their name in `victim ++ others` and have a value, in order.
 unfoldable pub live_bodies : ℕ → List (List ℕ) → List (List ℕ) → List (List ℕ)
 live_bodies limit [] others = []
-live_bodies limit (body ∷ rest) others = if is_live limit body (rest ++ others) then body ∷ live_bodies limit rest others else live_bodies limit rest others
+live_bodies limit (body ∷ rest) others =
+    if is_live limit body (rest ++ others) then body ∷ live_bodies limit rest others else live_bodies limit
+    rest others
 
 -- the value in a record of this name
 abbrev pub value_for : List ℕ → Option (List ℕ × List ℕ) → Option (List ℕ)

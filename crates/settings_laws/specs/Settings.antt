@@ -16,7 +16,9 @@ value_in body = drop (length (name_in body) + 1) body
 -- A lawful name, `=`, and at most `limit` bytes. Every other body says nothing.
 unfoldable pub setting_of : ℕ → List ℕ → Option (List ℕ × List ℕ)
 setting_of limit body =
-    if is_name (name_in body) && (nat_lt (length (name_in body)) (length body) && nat_le (length (value_in body)) limit) then Some (name_in body, value_in body) else None
+    if is_name (name_in body)
+    && (nat_lt (length (name_in body)) (length body) && nat_le (length (value_in body)) limit) then Some
+    (name_in body, value_in body) else None
 
 -- the most bytes of such a body: a name, `=` and the value
 abbrev pub longest : ℕ → ℕ
@@ -29,7 +31,8 @@ body_of name value = name ++ 0x3D ∷ value
 -- the settings after one more record
 abbrev pub with_setting : Map → Option (List ℕ × List ℕ) → Map
 with_setting settings None = settings
-with_setting settings (Some (name, value)) = if length value == 0 then remove settings name else insert settings name value
+with_setting settings (Some (name, value)) =
+    if length value == 0 then remove settings name else insert settings name value
 
 -- what records with these bodies say, in this order: the last record of a name decides
 unfoldable pub settings_of : ℕ → List (List ℕ) → Map

@@ -26,8 +26,10 @@ HasSlot d area slot = (slot + 1) * 16 ≤ sector_size d area
 
 -- the slot can be programmed: where the bank is one that is erased, it is erased
 abbrev pub CanPut : Device → Area → ℕ → ℕ → Type 0
-CanPut d area sector slot = kind_on d area ≡ Erasing → is_erased (slot_of (sector_bytes d area sector) slot).bytes ≡ true
+CanPut d area sector slot =
+    kind_on d area ≡ Erasing → is_erased (slot_of (sector_bytes d area sector) slot).bytes ≡ true
 
 -- and so for these bytes of the sector
 abbrev pub CanPutAt : Device → Area → ℕ → ℕ → ℕ → Type 0
-CanPutAt d area sector at len = kind_on d area ≡ Erasing → is_erased (slice_range (sector_bytes d area sector) at (at + len)) ≡ true
+CanPutAt d area sector at len =
+    kind_on d area ≡ Erasing → is_erased (slice_range (sector_bytes d area sector) at (at + len)) ≡ true

@@ -14,10 +14,11 @@ use Rattle.zms_cycle.specs.Sector.{slot_of, is_valid_under, is_valid, cycle_of, 
 abbrev pub with_slot : List ℕ → ℕ → List ℕ → List ℕ
 with_slot sector slot bytes = overwritten sector (length sector - (slot + 1) * 16) bytes
 
--- On a bank that is never erased: the sector with the fill unit in a slot that was valid under the cycle. On one that is
--- erased a guard puts nothing.
+-- On a bank that is never erased: the sector with the fill unit in a slot that was valid under the cycle. On
+-- one that is erased a guard puts nothing.
 abbrev pub guarded : Kind → ℕ → ℕ → List ℕ → List ℕ
-guarded Rewritable cycle slot sector = if is_valid_under cycle (slot_of sector slot) then with_slot sector slot fill else sector
+guarded Rewritable cycle slot sector =
+    if is_valid_under cycle (slot_of sector slot) then with_slot sector slot fill else sector
 guarded Erasing cycle slot sector = sector
 
 -- the unit that a guard takes where the slot is valid
@@ -27,7 +28,8 @@ guard_units Erasing cycle slot sector = 0
 
 -- the sector with a value there, where it has more than 8 bytes
 abbrev pub with_value : List ℕ → ℕ → List ℕ → List ℕ
-with_value sector at bytes = if nat_le (length bytes) 8 then sector else overwritten sector at (padded_bytes 16 bytes)
+with_value sector at bytes =
+    if nat_le (length bytes) 8 then sector else overwritten sector at (padded_bytes 16 bytes)
 
 -- the slots from this one to the one before the end hold the fill unit
 abbrev pub IsFilled : List ℕ → ℕ → ℕ → Type 0
@@ -55,7 +57,8 @@ pub record KeepsList (kind : Kind) (most : ℕ) (old new : List ℕ) : Type 0 wh
   pub end_from : data_end kind old ≤ data_end kind new
   pub end_to : data_end kind new ≤ data_end kind old + most
 
--- what a value of so many bytes may leave where it was cut: nothing can be put over it on a bank that is erased
+-- what a value of so many bytes may leave where it was cut: nothing can be put over it on a bank that is
+-- erased
 abbrev pub left_over : Kind → ℕ → ℕ
 left_over Rewritable len = 0
 left_over Erasing len = len
@@ -77,7 +80,9 @@ pub record AddsPair (kind : Kind) (old new : List ℕ) (id : ℕ) (bytes : List 
   pub of_cycle : cycle_of old ≡ Some found.entry.cycle
   pub entry : found.entry ≡ value_entry found.entry.cycle id bytes (data_end kind old)
   -- where the entry does not hold the value, its units do
-  pub stored : nat_le (length bytes) 8 ≡ false → slice_range new (data_end kind old) (data_end kind old + data_len (length bytes)) ≡ padded_bytes 16 bytes
+  pub stored : nat_le (length bytes) 8 ≡ false
+      → slice_range new (data_end kind old) (data_end kind old + data_len (length bytes))
+      ≡ padded_bytes 16 bytes
   pub close_slot : (slot_of new 1).bytes ≡ (slot_of old 1).bytes
   pub lower : low new + 16 ≡ low old
   pub grown : data_end kind new ≡ data_end kind old + data_len (length bytes)
@@ -91,15 +96,16 @@ pub record MarksDone (kind : Kind) (old new : List ℕ) : Type 0 where
   pub closed : is_closed new ≡ is_closed old
   pub gc_done : has_gc_done new ≡ true
   -- what was the guard slot names the data end
-  pub mark : (c : ℕ) → cycle_of old ≡ Some c → decoded (slot_of new (length (valid_slots old) + 2)).bytes ≡ Some (done_entry c (data_end kind old))
+  pub mark : (c : ℕ) → cycle_of old ≡ Some c
+      → decoded (slot_of new (length (valid_slots old) + 2)).bytes ≡ Some (done_entry c (data_end kind old))
   pub same_entries : entries new ≡ entries old
   pub close_slot : (slot_of new 1).bytes ≡ (slot_of old 1).bytes
   pub lower : low new + 16 ≡ low old
   pub same_end : data_end kind new ≡ data_end kind old
   pub sound : is_sound new ≡ true
 
--- The sector is closed, and its list stays. On a bank that is never erased, every unit between its values and its slots holds
--- the fill unit.
+-- The sector is closed, and its list stays. On a bank that is never erased, every unit between its values and
+-- its slots holds the fill unit.
 pub record Closes (kind : Kind) (old new : List ℕ) : Type 0 where
   pub list : pairs new ≡ pairs old
   pub long : length new ≡ length old
@@ -107,7 +113,8 @@ pub record Closes (kind : Kind) (old new : List ℕ) : Type 0 where
   pub closed : is_closed new ≡ true
   -- slot 1 names the start of the lowest used slot
   pub mark : (c : ℕ) → cycle_of old ≡ Some c → decoded (slot_of new 1).bytes ≡ Some (close_entry c (low old))
-  pub filled : kind ≡ Rewritable → IsFilled new (length (valid_slots old) + 2) ((length old - data_end kind old) / 16)
+  pub filled : kind ≡ Rewritable
+      → IsFilled new (length (valid_slots old) + 2) ((length old - data_end kind old) / 16)
   pub slots : valid_slots new ≡ valid_slots old
   pub gc_done : has_gc_done new ≡ has_gc_done old
   pub same_entries : entries new ≡ entries old
@@ -123,8 +130,9 @@ closing_most Erasing room = 1
 abbrev pub next_cycle : Option ℕ → ℕ
 next_cycle cycle = option_map_or (λ c. (c + 1) % 256) cycle 1
 
--- The sector is used in the next cycle, not closed, and slot 2 is not valid. Slot 3, under which the first entry's guard is
--- looked at, stays on a bank that is never erased. On one that is erased the sector is fresh.
+-- The sector is used in the next cycle, not closed, and slot 2 is not valid. Slot 3, under which the first
+-- entry's guard is looked at, stays on a bank that is never erased. On one that is erased the sector is
+-- fresh.
 pub record Empties (kind : Kind) (old new : List ℕ) : Type 0 where
   pub long : length new ≡ length old
   pub cycle : cycle_of new ≡ Some (next_cycle (cycle_of old))
@@ -140,16 +148,20 @@ pub record Empties (kind : Kind) (old new : List ℕ) : Type 0 where
   pub fresh : kind ≡ Erasing → is_fresh new ≡ true
   pub sound : is_sound new ≡ true
 
--- the units of an emptying: the guards of slots 1 and 2, or an erase of a sector that is not erased; and the empty entry
+-- the units of an emptying: the guards of slots 1 and 2, or an erase of a sector that is not erased; and the
+-- empty entry
 abbrev pub emptying : Kind → List ℕ → ℕ
-emptying Rewritable b = 1 + guard_units Rewritable (Some (next_cycle (cycle_of b))) 1 b + guard_units Rewritable (Some (next_cycle (cycle_of b))) 2 b
+emptying Rewritable b =
+    1 + guard_units Rewritable (Some (next_cycle (cycle_of b))) 1 b
+    + guard_units Rewritable (Some (next_cycle (cycle_of b))) 2 b
 emptying Erasing b = if is_erased b then 1 else 2
 
 -- the unit that the guard under the first entry behind an emptying takes, by the sector before the emptying
 abbrev pub first_guard : Kind → List ℕ → ℕ
 first_guard kind b = guard_units kind (Some (next_cycle (cycle_of b))) 3 b
 
--- The sector's being closed, its gc-done and its list are as before. A sector that was overfull is so still, and has no list.
+-- The sector's being closed, its gc-done and its list are as before. A sector that was overfull is so still,
+-- and has no list.
 pub record ReadsAsBefore (old new : List ℕ) : Type 0 where
   pub closed : is_closed new ≡ is_closed old
   pub gc_done : has_gc_done new ≡ has_gc_done old
@@ -164,14 +176,19 @@ pub record HoldsNothing (sector : List ℕ) : Type 0 where
 
 -- bytes of a value of more than 8 bytes stand in the sixteen bytes of slot 1
 unfoldable pub reaches_slot_1 : ℕ → SlotEntry → Bool
-reaches_slot_1 size f = not (nat_le f.entry.len 8) && nat_lt (offset_of f.entry) (size - 16) && nat_lt (size - 32) (offset_of f.entry + f.entry.len)
+reaches_slot_1 size f =
+    not (nat_le f.entry.len 8) && nat_lt (offset_of f.entry) (size - 16)
+    && nat_lt (size - 32) (offset_of f.entry + f.entry.len)
 
--- the sector's emptying guards slot 1, and bytes of a value of its entries stand there; such a sector is overfull
+-- the sector's emptying guards slot 1, and bytes of a value of its entries stand there; such a sector is
+-- overfull
 abbrev pub guards_over_value : List ℕ → Bool
-guards_over_value sector = is_valid_under (next_cycle (cycle_of sector)) (slot_of sector 1) && list_any (reaches_slot_1 (length sector)) (entries sector)
+guards_over_value sector =
+    is_valid_under (next_cycle (cycle_of sector)) (slot_of sector 1)
+    && list_any (reaches_slot_1 (length sector)) (entries sector)
 
--- An emptying by guards that was cut. Every sector reads as before or holds nothing. Its cycle, its slots and its marks stay,
--- and so does each value, unless the guard of slot 1 has to be put over one.
+-- An emptying by guards that was cut. Every sector reads as before or holds nothing. Its cycle, its slots and
+-- its marks stay, and so does each value, unless the guard of slot 1 has to be put over one.
 pub record StopsGuarding (old new : List ℕ) : Type 0 where
   pub either : ReadsAsBefore old new ⊎ HoldsNothing new
   pub kept : KeepsSlots old new

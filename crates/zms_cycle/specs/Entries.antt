@@ -55,11 +55,13 @@ empty_entry cycle = record { cycle = cycle; len = 0xFFFF; id = 0xFFFFFFFF; tail 
 
 -- closes a sector whose lowest used slot starts there
 abbrev pub close_entry : ℕ → ℕ → ZEntry
-close_entry cycle low = record { cycle = cycle; len = 0; id = 0xFFFFFFFF; tail = to_le_bytes w32 low ++ to_le_bytes w32 1 }
+close_entry cycle low =
+    record { cycle = cycle; len = 0; id = 0xFFFFFFFF; tail = to_le_bytes w32 low ++ to_le_bytes w32 1 }
 
 -- marks a sector whose data ends there
 abbrev pub done_entry : ℕ → ℕ → ZEntry
-done_entry cycle end = record { cycle = cycle; len = 0; id = 0xFFFFFFFF; tail = to_le_bytes w32 end ++ to_le_bytes w32 2 }
+done_entry cycle end =
+    record { cycle = cycle; len = 0; id = 0xFFFFFFFF; tail = to_le_bytes w32 end ++ to_le_bytes w32 2 }
 
 -- Ordinary entries.
 
@@ -69,7 +71,9 @@ value_entry cycle id bytes offset = record {
   cycle = cycle;
   len = length bytes;
   id = id;
-  tail = if nat_le (length bytes) 8 then bytes ++ replicate (8 - length bytes) 0 else to_le_bytes w32 offset ++ replicate 4 0;
+  tail =
+      if nat_le (length bytes) 8 then bytes ++ replicate (8 - length bytes) 0 else to_le_bytes w32 offset
+      ++ replicate 4 0;
 }
 
 -- the entry of the same value in another sector
@@ -78,5 +82,7 @@ moved_entry cycle e offset = record {
   cycle = cycle;
   len = e.len;
   id = e.id;
-  tail = if nat_le e.len 8 then take e.len e.tail ++ replicate (8 - e.len) 0 else to_le_bytes w32 offset ++ replicate 4 0;
+  tail =
+      if nat_le e.len 8 then take e.len e.tail ++ replicate (8 - e.len) 0 else to_le_bytes w32 offset
+      ++ replicate 4 0;
 }

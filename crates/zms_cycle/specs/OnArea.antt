@@ -37,7 +37,8 @@ entry_len_on d area sector slot = entry_len (sector_bytes d area sector) slot
 
 -- by the kind of its bank
 abbrev pub Makes : (Kind → List ℕ → List ℕ → Type 0) → Device → Device → Area → ℕ → Type 0
-Makes step old new area sector = step (kind_on old area) (sector_bytes old area sector) (sector_bytes new area sector)
+Makes step old new area sector =
+    step (kind_on old area) (sector_bytes old area sector) (sector_bytes new area sector)
 
 -- its list and marks stay, and so many bytes at most are gone of what was free
 abbrev pub Keeps : ℕ → Device → Device → Area → ℕ → Type 0
@@ -49,7 +50,8 @@ KeepsBut len old new area sector = Keeps (left_over (kind_on old area) (data_len
 
 -- the pair joins its list
 abbrev pub Adds : Device → Device → Area → ℕ → ℕ → List ℕ → Type 0
-Adds old new area sector id bytes = AddsPair (kind_on old area) (sector_bytes old area sector) (sector_bytes new area sector) id bytes
+Adds old new area sector id bytes =
+    AddsPair (kind_on old area) (sector_bytes old area sector) (sector_bytes new area sector) id bytes
 
 -- the pair of a slot of another sector joins its list
 abbrev pub Copies : Device → Device → Area → ℕ → ℕ → ℕ → Type 0
@@ -65,7 +67,9 @@ entry_units len = cost len / 16
 
 -- the guard under the next entry
 abbrev pub next_guard : Device → Area → ℕ → ℕ
-next_guard d area sector = let b = sector_bytes d area sector in guard_units (kind_on d area) (cycle_of b) (length (valid_slots b) + 2 + 1) b
+next_guard d area sector =
+    let b = sector_bytes d area sector in
+    guard_units (kind_on d area) (cycle_of b) (length (valid_slots b) + 2 + 1) b
 
 abbrev pub emptying_units : Device → Area → ℕ → ℕ
 emptying_units d area sector = emptying (kind_on d area) (sector_bytes d area sector)

@@ -1,5 +1,6 @@
 -- How one sector reads. Values grow upward from its start, and slots of sixteen bytes downward from its end.
--- Slot 0 holds the empty entry, which gives the sector's cycle; slot 1 is for the close entry; entries follow from slot 2.
+-- Slot 0 holds the empty entry, which gives the sector's cycle; slot 1 is for the close entry; entries follow
+-- from slot 2.
 use Rattle.std.specs.Prelude.{ℕ, ◌+◌, ◌-◌, ◌*◌, ◌%◌, max, Bool, true, false, not, ◌&&◌, ◌||◌, List, [], length, take, map, fold, sum_by, slice_range, is_some, Option, Some, None, ◌==◌, nat_le, nat_lt, if◌then◌else◌}
 use Rattle.std.specs.List.{filter_map, list_all, list_any}
 use Rattle.std.specs.Option.{option_and_then, option_map_or}
@@ -23,7 +24,8 @@ is_valid_under cycle slot = option_map_or (λ e. e.cycle == cycle) (decoded slot
 
 -- the cycle of the empty entry in slot 0; a sector without one is blank
 unfoldable pub cycle_of : List ℕ → Option ℕ
-cycle_of sector = option_and_then (λ e. if is_empty e then Some e.cycle else None) (decoded (slot_of sector 0).bytes)
+cycle_of sector =
+    option_and_then (λ e. if is_empty e then Some e.cycle else None) (decoded (slot_of sector 0).bytes)
 
 -- valid in a sector of this cycle; in a blank one no slot is
 abbrev pub is_valid : Option ℕ → Slot → Bool
@@ -52,7 +54,9 @@ can_close Erasing sector = is_erased (slot_of sector 1).bytes
 
 -- special entries are passed over
 unfoldable pub entry_in : Slot → Option SlotEntry
-entry_in slot = option_and_then (λ e. if is_special e then None else Some (record { slot = slot.index; entry = e })) (decoded slot.bytes)
+entry_in slot =
+    option_and_then (λ e. if is_special e then None else Some (record { slot = slot.index; entry = e }))
+    (decoded slot.bytes)
 
 abbrev pub entries : List ℕ → List SlotEntry
 entries sector = filter_map entry_in (valid_slots sector)
@@ -72,7 +76,8 @@ data_len len = if nat_le len 8 then 0 else padded 16 len
 abbrev pub cost : ℕ → ℕ
 cost len = 16 + data_len len
 
--- what a sector has for values and entries: all but the slots for empty, close, gc-done, one delete and the guard
+-- what a sector has for values and entries: all but the slots for empty, close, gc-done, one delete and the
+-- guard
 abbrev pub capacity : ℕ → ℕ
 capacity size = size - 80
 
@@ -88,8 +93,8 @@ value_end f = if nat_le f.entry.len 8 then 0 else offset_of f.entry + padded 16 
 unfoldable pub end_of : List SlotEntry → ℕ
 end_of found = max (fold max 0 (map value_end found)) (sum_by (λ f. data_len f.entry.len) found)
 
--- The end of the last unit under the slots that is not erased, where the bank is one that is erased: nothing can be put
--- over what a cut value left there. A blank sector is emptied before anything is put into it.
+-- The end of the last unit under the slots that is not erased, where the bank is one that is erased: nothing
+-- can be put over what a cut value left there. A blank sector is emptied before anything is put into it.
 unfoldable pub written : Kind → List ℕ → ℕ
 written Rewritable sector = 0
 written Erasing sector = if is_some (cycle_of sector) then written_end 16 (low sector) sector else 0
@@ -101,13 +106,18 @@ data_end kind sector = max (end_of (entries sector)) (written kind sector)
 abbrev pub free : Kind → List ℕ → ℕ
 free kind sector = low sector - data_end kind sector
 
--- Whether a value of this length fits; a length of 0 is a delete. Slots stay for gc-done, a delete and the guard.
+-- Whether a value of this length fits; a length of 0 is a delete. Slots stay for gc-done, a delete and the
+-- guard.
 abbrev pub fits : Kind → List ℕ → ℕ → Bool
-fits kind sector len = if len == 0 then nat_le 32 (free kind sector) else nat_le (cost len + (if has_gc_done sector then 2 else 3) * 16) (free kind sector)
+fits kind sector len =
+    if len == 0 then nat_le 32 (free kind sector) else nat_le
+    (cost len + (if has_gc_done sector then 2 else 3) * 16) (free kind sector)
 
 -- the value stands in whole units that end at the limit or under it
 unfoldable pub is_under : ℕ → SlotEntry → Bool
-is_under limit f = if nat_le f.entry.len 8 then true else (offset_of f.entry % 16 == 0) && nat_le (offset_of f.entry + padded 16 f.entry.len) limit
+is_under limit f =
+    if nat_le f.entry.len 8 then true else (offset_of f.entry % 16 == 0)
+    && nat_le (offset_of f.entry + padded 16 f.entry.len) limit
 
 -- there is a guard slot under the entries
 abbrev pub has_guard : List ℕ → Bool
@@ -121,9 +131,12 @@ is_sound sector = has_guard sector && list_all (is_under (low sector - 16)) (ent
 unfoldable pub entry_cost : SlotEntry → ℕ
 entry_cost f = if f.entry.len == 0 then 0 else cost f.entry.len
 
--- a value stands outside whole units or passes the start of the guard slot, or the values cost more than a sector has for them
+-- a value stands outside whole units or passes the start of the guard slot, or the values cost more than a
+-- sector has for them
 unfoldable pub holds_too_much : List ℕ → Bool
-holds_too_much sector = list_any (λ f. not (is_under (low sector - 16) f)) (entries sector) || nat_lt (capacity (length sector)) (sum_by entry_cost (entries sector))
+holds_too_much sector =
+    list_any (λ f. not (is_under (low sector - 16) f)) (entries sector)
+    || nat_lt (capacity (length sector)) (sum_by entry_cost (entries sector))
 
 -- the damage Overfull, as one sector shows it: it has no guard slot, or it holds too much
 abbrev pub is_overfull : List ℕ → Bool
@@ -132,7 +145,8 @@ is_overfull sector = not (has_guard sector) || holds_too_much sector
 -- Pairs.
 
 abbrev pub value_of : List ℕ → ZEntry → List ℕ
-value_of sector e = if nat_le e.len 8 then take e.len e.tail else slice_range sector (offset_of e) (offset_of e + e.len)
+value_of sector e =
+    if nat_le e.len 8 then take e.len e.tail else slice_range sector (offset_of e) (offset_of e + e.len)
 
 abbrev pub pair_of : List ℕ → SlotEntry → ℕ × List ℕ
 pair_of sector f = (f.entry.id, value_of sector f.entry)

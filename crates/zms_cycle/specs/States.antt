@@ -13,7 +13,10 @@ use Rattle.zms_cycle.specs.Sector.{cycle_of, is_closed, valid_slots, data_end, h
 
 -- a data end beyond 32 bits is told as the last number of 32 bits
 abbrev pub state_of : Kind → List ℕ → SectorState
-state_of kind sector = option_map_or (λ cycle. Used cycle (is_closed sector) (length (valid_slots sector)) (min (data_end kind sector) (2 ^ 32 - 1)) (has_gc_done sector)) (cycle_of sector) Blank
+state_of kind sector =
+    option_map_or
+    (λ cycle. Used cycle (is_closed sector) (length (valid_slots sector))
+    (min (data_end kind sector) (2 ^ 32 - 1)) (has_gc_done sector)) (cycle_of sector) Blank
 
 -- this is the cycle of the sector, how many slots its list has, and where its next value goes
 pub record IsOpened (kind : Kind) (sector : List ℕ) (opened : Opened) : Type 0 where

@@ -29,8 +29,9 @@ may_close kind sector = is_closed sector || (not (is_some (cycle_of sector)) || 
 unfoldable pub is_unused : BankKind → List ℕ → Bool
 is_unused kind sector = not (is_begun sector) && (not (is_closed sector) && may_close kind sector)
 
--- Nothing has to be done to it before a collection into it is begun, but to empty a blank one. On a bank that is erased, a
--- sector that is not in use may have bytes of a value that was cut; a clean one is blank or fresh.
+-- Nothing has to be done to it before a collection into it is begun, but to empty a blank one. On a bank that
+-- is erased, a sector that is not in use may have bytes of a value that was cut; a clean one is blank or
+-- fresh.
 unfoldable pub is_clean : BankKind → List ℕ → Bool
 is_clean Rewritable sector = is_unused Rewritable sector
 is_clean Erasing sector = is_unused Erasing sector && (not (is_some (cycle_of sector)) || is_fresh sector)
@@ -70,21 +71,26 @@ open_place sectors = open_sector plain sectors
 -- not the open sector and not closed, it follows a closed one or its slot 2 is valid
 abbrev pub is_second_open : List (List ℕ) → ℕ → ℕ → Bool
 is_second_open sectors open_at place =
-    not (is_closed_at plain sectors place) && (not (place == open_at) && (is_begun (sector_at sectors place) || is_closed_at plain sectors (previous sectors place)))
+    not (is_closed_at plain sectors place)
+    && (not (place == open_at)
+    && (is_begun (sector_at sectors place) || is_closed_at plain sectors (previous sectors place)))
 
 -- A sector that counts is not closed and has an empty entry, but the close entry cannot be put.
 abbrev pub is_dirty_at : BankKind → List (List ℕ) → ℕ → ℕ → Bool
-is_dirty_at kind sectors open_at place = counts_at plain sectors open_at place && not (may_close kind (sector_at sectors place))
+is_dirty_at kind sectors open_at place =
+    counts_at plain sectors open_at place && not (may_close kind (sector_at sectors place))
 
 -- A sector that counts holds more than it may. One that is not in use has its guard slot and no entry.
 abbrev pub is_overfull_at : List (List ℕ) → ℕ → ℕ → Bool
-is_overfull_at sectors open_at place = looked_at plain sectors open_at place && is_overfull (sector_at sectors place)
+is_overfull_at sectors open_at place =
+    looked_at plain sectors open_at place && is_overfull (sector_at sectors place)
 
 -- the first sector of the first kind
 unfoldable pub damage_of : BankKind → List (List ℕ) → Option Damaged
 damage_of kind sectors =
     let open_at = open_place sectors in
-    if list_all (is_closed_at plain sectors) (places sectors) then Some (record { sector = 0; why = AllClosed })
+    if list_all (is_closed_at plain sectors) (places sectors) then Some
+    (record { sector = 0; why = AllClosed })
     else option_or (first_of_kind TwoOpen (is_second_open sectors open_at) sectors)
     (option_or (first_of_kind Dirty (is_dirty_at kind sectors open_at) sectors)
     (first_of_kind Overfull (is_overfull_at sectors open_at) sectors))

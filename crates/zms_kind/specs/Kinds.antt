@@ -37,9 +37,12 @@ emptying_most Erasing = 2
 abbrev pub emptying_units : BankKind → List ℕ → Range
 emptying_units kind b = record { least = emptying kind b; most = emptying kind b; lost = emptying_most kind }
 
--- The guard under the next entry. A sector without a cycle is emptied before, which leaves slot 3 as it is on a bank that is never erased.
+-- The guard under the next entry. A sector without a cycle is emptied before, which leaves slot 3 as it is on
+-- a bank that is never erased.
 abbrev pub next_guard : BankKind → List ℕ → ℕ
-next_guard kind b = if is_some (cycle_of b) then guard_units kind (cycle_of b) (length (valid_slots b) + 2 + 1) b else first_guard kind b
+next_guard kind b =
+    if is_some (cycle_of b) then guard_units kind (cycle_of b) (length (valid_slots b) + 2 + 1) b else
+    first_guard kind b
 
 -- an entry and its value, which take up so many units, and the guard; one that is cut is told with a guard
 abbrev pub entry_units : BankKind → List ℕ → ℕ → Range
@@ -49,17 +52,25 @@ entry_units kind b units = record {
   lost = units + guard_most kind;
 }
 
--- A step spends just so many units, by its sector; a close does so by what it has to fill. In any sector of a bank
--- that is never erased a guard may be there or not.
+-- A step spends just so many units, by its sector; a close does so by what it has to fill. In any sector of a
+-- bank that is never erased a guard may be there or not.
 abbrev pub units_of : BankKind → Units
 units_of kind = record {
   begin = λ b. if is_some (cycle_of b) then just 0 else emptying_units kind b;
   put = λ b len. entry_units kind b (cost len / 16);
   copy = λ b len. entry_units kind b (cost len / 16);
   done = λ b. entry_units kind b 1;
-  close = λ b. record { least = 1; most = closing_most kind (free kind b); lost = closing_most kind (free kind b) };
+  close =
+      λ b.
+      record { least = 1; most = closing_most kind (free kind b); lost = closing_most kind (free kind b) };
   clear = emptying_units kind;
-  any_copy = λ len. record { least = cost len / 16; most = cost len / 16 + guard_most kind; lost = cost len / 16 + guard_most kind };
+  any_copy =
+      λ len.
+      record {
+        least = cost len / 16;
+        most = cost len / 16 + guard_most kind;
+        lost = cost len / 16 + guard_most kind;
+      };
   any_done = record { least = 1; most = 1 + guard_most kind; lost = 1 + guard_most kind };
   any_clear = record { least = 1; most = emptying_most kind; lost = emptying_most kind };
   round = λ size. 3 * (size / 16) + 9;

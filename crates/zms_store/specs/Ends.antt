@@ -22,11 +22,11 @@ abbrev pub MountEnds : Device → Device → Area → Result Zms MountFault → 
 MountEnds old new area result =
     stands.MountEnds ZmsRole kind kept old new area (store_in (λ (zms : Zms). zms.store) result)
 
--- Closing and collecting, with this sector open: it was clean, and nothing changed; or it was not, and a whole
--- round was made, with the room that it leaves and its units: those of the close; of the new open sector, where it
--- has to be made ready; and of a collection, where there is something to collect; or power was lost in that, and the
--- list is as before or as the round leaves it. A sector is clean (`is_clean_at`) where it has no entry and all that a
--- sector has is free in it.
+-- Closing and collecting, with this sector open: it was clean, and nothing changed; or it was not, and a
+-- whole round was made, with the room that it leaves and its units: those of the close; of the new open
+-- sector, where it has to be made ready; and of a collection, where there is something to collect; or power
+-- was lost in that, and the list is as before or as the round leaves it. A sector is clean (`is_clean_at`)
+-- where it has no entry and all that a sector has is free in it.
 abbrev pub RoundEnds : {T : Type 0} → Device → Device → Area → ℕ → Result T PowerLost → Type 0
 RoundEnds old new area place result = closing.RoundEnds (kind_on old area) old new area place result
 

@@ -27,7 +27,13 @@ kind_on d area = kind (geometry_of d area)
 
 -- what is kept of the open sector, by its bytes
 abbrev pub kept : Geometry → List ℕ → ZmsOpen
-kept geometry b = record { gc_done = has_gc_done b; cycle = cycle_of b; slots = length (valid_slots b); data_end = min (data_end geometry.kind b) (2 ^ 32 - 1) }
+kept geometry b =
+    record {
+      gc_done = has_gc_done b;
+      cycle = cycle_of b;
+      slots = length (valid_slots b);
+      data_end = min (data_end geometry.kind b) (2 ^ 32 - 1);
+    }
 
 -- an area on which a store may stand, on a bank of either kind
 abbrev pub IsZmsArea : List Bank → Area → Type 0

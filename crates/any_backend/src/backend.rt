@@ -14,7 +14,8 @@ use setting_name::Name;
 use std::alloc::Global;
 use std::sync::ledger::Ledger;
 
-/// A store of settings on an area, which is the one for the area's role. None is for a selector's area.
+/// A store of settings on an area, which is the one for the area's role. None is for a selector's
+/// area.
 #[derive(Debug, Drop)]
 pub enum AnyBackend {
     Nvs(NvsBackend),

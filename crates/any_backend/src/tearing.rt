@@ -10,8 +10,8 @@ use flash_map::{Area, Role};
 use flash_sim::{Flash, Loss, Steps};
 use std::sync::ledger::Ledger;
 
-/// Whether the units that were put before this loss spell, by chance, another record than the one that was to be put. Only
-/// records of an FCB area may.
+/// Whether the units that were put before this loss spell, by chance, another record than the one
+/// that was to be put. Only records of an FCB area may.
 pub fn chance<F: Flash, L: Ledger>(
     flash: &F,
     area: &Area,

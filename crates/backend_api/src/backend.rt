@@ -32,8 +32,8 @@ use std::sync::ledger::Ledger;
 /// Why a setting was not stored.
 #[derive(Clone, Copy, Debug, PartialEq, Eq)]
 pub enum SetFault {
-    /// There is no room by the backend's numbers (`HasNoRoom`): the bytes that the put needs, and those that all settings
-    /// cost.
+    /// There is no room by the backend's numbers (`HasNoRoom`): the bytes that the put needs, and
+    /// those that all settings cost.
     NoSpace { need: u64, live: u64 },
     /// The name would be one too many.
     TooManyNames,
@@ -58,7 +58,8 @@ pub trait Backend: Drop {
     /// A mount has nothing to do on these sectors.
     ghost rests: { area_type → Geometry → List (List ℕ) → Type 0 };
 
-    /// Whether the units that were put before this loss spell, by chance, another record than the one that was to be put.
+    /// Whether the units that were put before this loss spell, by chance, another record than the
+    /// one that was to be put.
     ghost chance: { area_type → Geometry → List (List ℕ) → loss_type → Bool };
 
     /// Of so many units of a command it may be so, and the first map then becomes the second.
@@ -73,9 +74,10 @@ pub trait Backend: Drop {
     /// Whether no call of the state answered that power was lost.
     ghost runs: { Self → Bool };
 
-    /// Mounts a backend on an area. The map stays, also where power is lost. Whatever the result, it spends at most so many units
-    /// and erases as the area's geometry says (`mount_units`), and none where a mount has nothing to do. An area of items is all
-    /// FF afterwards only where it was so before; in one of records the mount may erase all that stands there.
+    /// Mounts a backend on an area. The map stays, also where power is lost. Whatever the result,
+    /// it spends at most so many units and erases as the area's geometry says (`mount_units`), and
+    /// none where a mount has nothing to do. An area of items is all FF afterwards only where it
+    /// was so before; in one of records the mount may erase all that stands there.
     ///
     /// # Errors
     /// `Damaged` exactly where the area reads as no map, and then nothing was programmed; `PowerLost`; `NoMemory`, and then
@@ -119,7 +121,8 @@ pub trait Backend: Drop {
         ensures { let settings = on contents (F.device flash.now) (mounted_on self.now) in
             option_map (λ bytes. bytes.now) result ≡ finite.get settings name.now };
 
-    /// Gives a name a value that is not empty and no longer than the area allows. An equal value programs nothing.
+    /// Gives a name a value that is not empty and no longer than the area allows. An equal value
+    /// programs nothing.
     ///
     /// # Errors
     /// `TooManyNames` exactly where the name would be one too many, and then nothing was programmed. `NoSpace` only where
@@ -224,7 +227,8 @@ pub trait Backend: Drop {
             OnErr result
             (SpendsAtMost d (F.device flash.new) (count_by is_written (sectors_of d area.now))) };
 
-    /// Whether the units that were put before this loss spell, by chance, another record than the one that was to be put.
+    /// Whether the units that were put before this loss spell, by chance, another record than the
+    /// one that was to be put.
     fn chance<F: Flash, L: Ledger>(
         flash: &F,
         area: &Area,
@@ -239,8 +243,8 @@ pub trait Backend: Drop {
     fn is_up(&self) -> bool
         ensures { result ≡ runs self.now };
 
-    // A state that stands is up. The backend serves its area, which shows no damage, and a mount of it would have
-    // nothing to do.
+    // A state that stands is up. The backend serves its area, which shows no damage, and a mount of
+    // it would have nothing to do.
     ghost stands_up: { (state : Self) (geometry : Geometry) (sectors : List (List ℕ))
         → stands state geometry sectors → runs state ≡ true };
 

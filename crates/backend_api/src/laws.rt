@@ -9,13 +9,14 @@ pub fn walk_names()
     ensures { (settings : Map) → WalksKeys settings }
 {}
 
-/// Puts of all pairs of a map make it from the empty one. The function does nothing; its contract is the law.
+/// Puts of all pairs of a map make it from the empty one. The function does nothing; its contract
+/// is the law.
 pub fn rebuild_settings()
     ensures { (settings : Map) → IsRebuilt settings }
 {}
 
-/// Commands follow one another, and so do the first of them where power is lost. The function does nothing; its contract is
-/// the law.
+/// Commands follow one another, and so do the first of them where power is lost. The function does
+/// nothing; its contract is the law.
 pub fn follow_commands()
     ensures { (before : Map) (commands : List Command) → Follow before commands }
 {}

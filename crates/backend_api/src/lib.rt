@@ -1,5 +1,5 @@
-//! One interface for all stores of settings. Its meaning is the map of names to values that an area reads as; everything
-//! above is proved once against it.
+//! One interface for all stores of settings. Its meaning is the map of names to values that an area
+//! reads as; everything above is proved once against it.
 #![tactic(auto)]
 
 mod backend;

@@ -153,8 +153,8 @@ impl Backend for FcbBackend {
         if value.is_empty() { None } else { Some(value) }
     }
 
-    // As the trait says it. Where the record fits, just its units are spent (`exact`), and up to a loss no more (`no_more`);
-    // else it collects fewer times than the area has sectors (`few`).
+    // As the trait says it. Where the record fits, just its units are spent (`exact`), and up to a
+    // loss no more (`no_more`); else it collects fewer times than the area has sectors (`few`).
     fn set<F: Flash, L: Ledger>(
         &mut self,
         flash: &mut F,
@@ -214,8 +214,8 @@ impl Backend for FcbBackend {
         }
     }
 
-    // As the trait says it. Where the record fits, just its units are spent (`exact`), and up to a loss no more (`no_more`);
-    // else it collects once (`few`).
+    // As the trait says it. Where the record fits, just its units are spent (`exact`), and up to a
+    // loss no more (`no_more`); else it collects once (`few`).
     fn delete<F: Flash, L: Ledger>(
         &mut self,
         flash: &mut F,

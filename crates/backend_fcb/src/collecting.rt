@@ -55,8 +55,8 @@ fn copy_all<F: Flash, L: Ledger>(
     Ok(())
 }
 
-// Copies each record of the oldest sector that is the last of its name and has a value. For each table that these fill,
-// it goes once over what is left of the list.
+// Copies each record of the oldest sector that is the last of its name and has a value. For each
+// table that these fill, it goes once over what is left of the list.
 #[tactic(auto, using(flash_map::proofs::Touches::then))]
 fn copy_live<F: Flash, L: Ledger>(
     ring: &mut Ring,

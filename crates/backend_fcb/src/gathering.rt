@@ -179,8 +179,8 @@ fn push<F: Flash, L: Ledger>(
     }
 }
 
-// Keeps the records of the part that are live among those gone through, until the table is full. The answer is the record
-// at which it stops.
+// Keeps the records of the part that are live among those gone through, until the table is full.
+// The answer is the record at which it stops.
 fn gather<F: Flash, L: Ledger>(
     ring: &Ring,
     flash: &F,
@@ -236,8 +236,8 @@ fn strike_from<F: Flash, L: Ledger>(
     }
 }
 
-// Gathers the live records of the part from there on, at most as many as a table holds, by one walk over the list. The
-// answer is the record from which to go on.
+// Gathers the live records of the part from there on, at most as many as a table holds, by one walk
+// over the list. The answer is the record from which to go on.
 pub(crate) fn gather_live<F: Flash, L: Ledger>(
     ring: &Ring,
     flash: &F,

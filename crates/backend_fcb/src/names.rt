@@ -55,7 +55,8 @@ fn name_between(
     Name::read(setting.name).ok()
 }
 
-// The least name of a record that is greater than this one, or the least of all; it may have no value any more.
+// The least name of a record that is greater than this one, or the least of all; it may have no
+// value any more.
 fn least_name<F: Flash, L: Ledger>(
     ring: &Ring,
     flash: &F,
@@ -77,8 +78,8 @@ fn least_name<F: Flash, L: Ledger>(
     least
 }
 
-// The least name with a value that is greater than this one, or the least of all. It goes over the records twice for each
-// name that it looks at.
+// The least name with a value that is greater than this one, or the least of all. It goes over the
+// records twice for each name that it looks at.
 pub(crate) fn next_name<F: Flash, L: Ledger>(
     ring: &Ring,
     flash: &F,

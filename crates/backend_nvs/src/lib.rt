@@ -1,4 +1,5 @@
-//! Settings over the store of items of an NVS area: the count of names, the names by their numbers, and their values.
+//! Settings over the store of items of an NVS area: the count of names, the names by their numbers,
+//! and their values.
 #![tactic(auto)]
 
 mod backend;

@@ -1,5 +1,5 @@
-//! Settings over a store of items with ids of 32 bits: the id of a name is found by its hash, and each value has the id of
-//! its name plus a constant.
+//! Settings over a store of items with ids of 32 bits: the id of a name is found by its hash, and
+//! each value has the id of its name plus a constant.
 #![tactic(auto)]
 
 mod backend;

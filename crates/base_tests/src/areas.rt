@@ -36,7 +36,8 @@ fn added(map: &mut FlashMap, area: Area) -> Result<(), AddFault>
     map.add(&[BANK], area)
 }
 
-// The label, the bank, the first sector and the count of sectors of each area that is added, and how that ends.
+// The label, the bank, the first sector and the count of sectors of each area that is added, and
+// how that ends.
 const ADDED: [(&str, usize, u32, u32, Result<(), AddFault>); 8] = [
     ("n", 0, 0, 2, Ok(())),
     ("f", 0, 2, 2, Ok(())),
@@ -88,7 +89,8 @@ const COPIED: [u8; 16] = [
     255, 255, 255, 255, 1, 2, 3, 4, 5, 255, 255, 255, 255, 255, 255, 255,
 ];
 
-// Programs two units of the second sector, copies five bytes of them behind the first unit of the first, and erases the second.
+// Programs two units of the second sector, copies five bytes of them behind the first unit of the
+// first, and erases the second.
 #[tactic(auto, unfolding(flash_map::specs::Units::padded))]
 fn exercise<B: Bench, L: Ledger, R: Abort>(
     rt: &R,

@@ -34,7 +34,8 @@ const ERASED: [u8; 32] = [
     7, 7, 7, 7, 7, 7, 7, 7, 7, 7, 7,
 ];
 
-// A cut program, power back, what stands there, and an erase: the sector is FF, and the other one is as it was loaded.
+// A cut program, power back, what stands there, and an erase: the sector is FF, and the other one
+// is as it was loaded.
 fn exercise<B: Bench, L: Ledger, R: Abort>(
     rt: &R,
     alloc: Global,

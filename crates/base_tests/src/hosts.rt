@@ -42,7 +42,8 @@ fn refuses_to_read<H: Host, R: Abort>(rt: &R, alloc: Global, host: &mut H) {
     }
 }
 
-// A file in no folder can't be written, nor one whose other name is taken by a folder; what stood there stands.
+// A file in no folder can't be written, nor one whose other name is taken by a folder; what stood
+// there stands.
 fn refuses_to_write<H: Host, R: Abort>(rt: &R, alloc: Global, host: &mut H) {
     for name in ["no_folder/a", NAME] {
         let written = host.write_whole(alloc, name, b"def");

@@ -1,4 +1,5 @@
-//! Tests of hosts, texts, CRCs, caches, flash, areas, image files, and rings of records with logs on them.
+//! Tests of hosts, texts, CRCs, caches, flash, areas, image files, and rings of records with logs
+//! on them.
 #![tactic(auto)]
 
 #[cfg(test)]

@@ -1,4 +1,5 @@
-// Logs on three small sectors. Units, counts and bodies are those of an independent reading of the same appends.
+// Logs on three small sectors. Units, counts and bodies are those of an independent reading of the
+// same appends.
 ghost use Rattle.std.specs.Prelude.{◌≡◌, ◌<◌, ◌≤◌, ◌∷◌, [], true, false, IfOk, OnOk, length, vec_len};
 ghost use Rattle.fcb_ring.specs.Standing.{IsRingArea};
 ghost use Rattle.event_ring.specs.Standing.{IsOpen};
@@ -108,7 +109,8 @@ fn firsts<F: Flash, L: Ledger>(log: &EventLog, flash: &F, steps: &mut Steps<L>) 
 
 // ---- the rows
 
-// Nine records of 100 bytes each: their bytes, the units of each append, and how many records it drops.
+// Nine records of 100 bytes each: their bytes, the units of each append, and how many records it
+// drops.
 const NINE: [(u8, u64, u32); 9] = [
     (0x11, 29, 0),
     (0x22, 27, 0),
@@ -127,7 +129,8 @@ const FIVE: (usize, [u8; 8]) = (5, [0x55, 0x66, 0x77, 0x88, 0x99, 0, 0, 0]);
 
 const FOUR: (usize, [u8; 8]) = (4, [0x55, 0x66, 0x77, 0x88, 0, 0, 0, 0]);
 
-// Of the ninth append that was cut: after how many units, what the next mount spends, and the records that it finds.
+// Of the ninth append that was cut: after how many units, what the next mount spends, and the
+// records that it finds.
 const CUTS: [(u64, u64, (usize, [u8; 8])); 7] = [
     (0, 0, EIGHT),
     (1, 1, EIGHT),
@@ -207,7 +210,8 @@ fn drops_the_oldest<B: Bench, L: Ledger, R: Abort>(
     Ok(())
 }
 
-// The ninth append is cut after so many units: what the next mount spends, and the records that it finds.
+// The ninth append is cut after so many units: what the next mount spends, and the records that it
+// finds.
 fn cut_ninth<B: Bench, L: Ledger, R: Abort>(
     rt: &R,
     alloc: Global,

@@ -1,5 +1,5 @@
-// Rings on one bed: a bank of three small sectors, and one of two large ones. Places, units and CRCs are those of an
-// independent reading of the same bytes.
+// Rings on one bed: a bank of three small sectors, and one of two large ones. Places, units and
+// CRCs are those of an independent reading of the same bytes.
 ghost use Rattle.std.specs.Prelude.{◌≡◌, ◌<◌, ◌≤◌, ◌∷◌, [], true, IfOk, OnOk, length, vec_len};
 ghost use Rattle.fcb_ring.specs.Changing.{is_scratch_left};
 ghost use Rattle.fcb_ring.specs.Standing.{IsRingArea, StandsOn};
@@ -180,7 +180,8 @@ const OLDER: [u8; 48] = [
 
 const TORN: [u8; 4] = [0xEE, 0xEE, 0xFF, 0xC0];
 
-// A ring that was inspected and then finished: ids FFFF and 0000 in its first sectors, and a torn header in the third.
+// A ring that was inspected and then finished: ids FFFF and 0000 in its first sectors, and a torn
+// header in the third.
 fn finished<B: Bench, L: Ledger, R: Abort>(
     rt: &R,
     alloc: Global,

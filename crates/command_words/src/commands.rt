@@ -14,7 +14,8 @@ pub enum StoreKind {
     Fcb,
 }
 
-/// A command of `image_tool`, with its operands as they were written. No word among them is empty or begins with `-`.
+/// A command of `image_tool`, with its operands as they were written. No word among them is empty
+/// or begins with `-`.
 #[derive(Clone, Copy)]
 pub enum Command<'a> {
     /// Writes the blank image of the specification `spec` into the file `out`.
@@ -22,7 +23,8 @@ pub enum Command<'a> {
         out: &'a str,
         spec: &'a str,
     },
-    /// Runs the script in the file `script` on the image in the file `image`, and writes the image into `out`.
+    /// Runs the script in the file `script` on the image in the file `image`, and writes the image
+    /// into `out`.
     Run {
         image: &'a str,
         script: &'a str,
@@ -32,13 +34,14 @@ pub enum Command<'a> {
     Dump {
         image: &'a str,
     },
-    /// Moves the settings of the image in the file `image` to its next store area, and writes the image into `out`.
+    /// Moves the settings of the image in the file `image` to its next store area, and writes the
+    /// image into `out`.
     Migrate {
         image: &'a str,
         out: &'a str,
     },
-    /// Runs a generated script of `n` lines, 1 to [`MOST_LINES`], on a blank image with one store of the kind `backend`,
-    /// and writes the image into `out`.
+    /// Runs a generated script of `n` lines, 1 to [`MOST_LINES`], on a blank image with one store
+    /// of the kind `backend`, and writes the image into `out`.
     Gen {
         out: &'a str,
         backend: StoreKind,
@@ -58,8 +61,8 @@ pub enum Command<'a> {
         script: &'a str,
         out: &'a str,
     },
-    /// Runs the script in the file `script` on the two store areas of the image in the file `image`, which hold one map of
-    /// settings between them, and writes the image into `out`.
+    /// Runs the script in the file `script` on the two store areas of the image in the file
+    /// `image`, which hold one map of settings between them, and writes the image into `out`.
     Mirror {
         image: &'a str,
         script: &'a str,

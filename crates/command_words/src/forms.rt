@@ -36,8 +36,9 @@ fn form<'a>(
     Ok(command)
 }
 
-// The program with its forms. Its words are read without the program's own name. A command of `clap` takes up much of the stack,
-// so the calls that move one about end before its words are read.
+// The program with its forms. Its words are read without the program's own name. A command of
+// `clap` takes up much of the stack, so the calls that move one about end before its words are
+// read.
 #[inline(never)]
 pub fn image_tool<'a>(alloc: Global) -> Result<Command<'a>, AllocError>
     ensures { IfOk result (λ command. app_of command ≡ image_tool) }

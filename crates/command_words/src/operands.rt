@@ -22,7 +22,8 @@ pub fn store_kind(word: &str) -> Option<StoreKind>
     }
 }
 
-/// The number of lines that the word is, in decimal without a sign or leading zeros; none where it is not 1 to `MOST_LINES`.
+/// The number of lines that the word is, in decimal without a sign or leading zeros; none where it
+/// is not 1 to `MOST_LINES`.
 ///
 /// # Errors
 /// Want of memory alone.

@@ -32,8 +32,8 @@ fn asks_for_help(words: &[String]) -> bool
     }
 }
 
-/// The command that the words write, if they write one. They are read without the program's own name. The one error is
-/// that memory ran out.
+/// The command that the words write, if they write one. They are read without the program's own
+/// name. The one error is that memory ran out.
 #[inline(never)]
 pub fn read_words<'a>(alloc: Global, words: &'a [String]) -> Result<Option<Command<'a>>, AllocError>
     ensures { IfOk result

@@ -77,8 +77,9 @@ fn drop_and_put<F: Flash, L: Ledger>(
 }
 
 impl EventLog {
-    /// Adds a record with this body, and gives how many records that check were dropped for it. Only where the record does
-    /// not fit the newest sector and no sector but the scratch one is free, the oldest sector is dropped first.
+    /// Adds a record with this body, and gives how many records that check were dropped for it.
+    /// Only where the record does not fit the newest sector and no sector but the scratch one is
+    /// free, the oldest sector is dropped first.
     ///
     /// # Errors
     /// `TooLong` exactly where the body is empty or longer than a value of the area may be; nothing changes then. After

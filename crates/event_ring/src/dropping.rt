@@ -28,8 +28,8 @@ fn count_oldest<F: Flash, L: Ledger>(ring: &Ring, flash: &F, steps: &mut Steps<L
     count
 }
 
-// Drops the records of the oldest sector, and gives how many of them checked. They are dropped once the scratch sector is
-// open and the oldest is erased.
+// Drops the records of the oldest sector, and gives how many of them checked. They are dropped once
+// the scratch sector is open and the oldest is erased.
 #[tactic(auto, using(flash_map::proofs::Touches::then))]
 pub(crate) fn drop_oldest<F: Flash, L: Ledger>(
     ring: &mut Ring,

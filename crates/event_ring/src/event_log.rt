@@ -54,7 +54,8 @@ impl EventLog {
         self.ring.is_up()
     }
 
-    /// The record after the given one, or the first of all: the records that check, the oldest first.
+    /// The record after the given one, or the first of all: the records that check, the oldest
+    /// first.
     pub fn next<F: Flash, L: Ledger>(
         &self,
         flash: &F,

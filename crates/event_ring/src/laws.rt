@@ -13,8 +13,9 @@ pub fn blank_is_filled()
     ensures { BlankIsFilled }
 {}
 
-/// Where no sector that counts, but the newest, has room for the longest record, an append drops a front only where the
-/// items cost more than all sectors but one have room for, less the longest record in each.
+/// Where no sector that counts, but the newest, has room for the longest record, an append drops a
+/// front only where the items cost more than all sectors but one have room for, less the longest
+/// record in each.
 pub fn drops_where_full()
     ensures { DropsWhereFull }
 {}

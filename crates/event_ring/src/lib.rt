@@ -1,5 +1,5 @@
-//! An application log over a ring of records: each append adds a record, and where the ring is full the oldest sector's
-//! records are dropped for it.
+//! An application log over a ring of records: each append adds a record, and where the ring is full
+//! the oldest sector's records are dropped for it.
 #![tactic(auto)]
 
 mod appending;

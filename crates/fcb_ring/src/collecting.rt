@@ -25,8 +25,8 @@ fn copy_of(bytes: &[u8]) -> ArrayVec<u8, PROGRAM_LIMIT>
 }
 
 impl Ring {
-    /// Opens the scratch sector, into which the records of the oldest sector that are to stay are copied. The list
-    /// stays, also where power is lost.
+    /// Opens the scratch sector, into which the records of the oldest sector that are to stay are
+    /// copied. The list stays, also where power is lost.
     ///
     /// # Errors
     /// `PowerLost`. The scratch sector is then still free, and the ring is down.
@@ -64,8 +64,8 @@ impl Ring {
         copy_of(self.body(flash, r, steps))
     }
 
-    /// Puts a record of the oldest sector anew behind the copies in the scratch sector. It counts once the collection
-    /// ends. The list stays, also where power is lost.
+    /// Puts a record of the oldest sector anew behind the copies in the scratch sector. It counts
+    /// once the collection ends. The list stays, also where power is lost.
     ///
     /// # Errors
     /// `PowerLost`. The ring is then down.

@@ -24,7 +24,8 @@ pub(crate) fn header_image(id: u16) -> [u8; UNIT]
     image
 }
 
-/// How many bytes of a sector a record takes up whose body has `len` bytes, where a unit has `unit` bytes.
+/// How many bytes of a sector a record takes up whose body has `len` bytes, where a unit has `unit`
+/// bytes.
 pub fn record_cost(unit: u32, len: u32) -> u32
     requires unit { IsUnit unit }
     requires len { len < 2 ^ 30 }

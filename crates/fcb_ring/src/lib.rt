@@ -1,5 +1,5 @@
-//! A ring of records in flash: sectors with a header and rising ids, and records one behind the other. One sector is
-//! kept free, so that a collection has somewhere to put what it keeps.
+//! A ring of records in flash: sectors with a header and rising ids, and records one behind the
+//! other. One sector is kept free, so that a collection has somewhere to put what it keeps.
 #![tactic(auto)]
 
 mod collecting;

@@ -20,7 +20,8 @@ impl Ring {
         (self.used > 0).then_some(self.oldest)
     }
 
-    // How many sectors count, the oldest first: the used ones but, where no sector is free, the newest.
+    // How many sectors count, the oldest first: the used ones but, where no sector is free, the
+    // newest.
     fn counted(&self) -> u32
         requires { 0 < self.now.area.sectors }
         ensures { result ≡ min self.now.used (self.now.area.sectors - 1) }
@@ -102,7 +103,8 @@ impl Ring {
         }
     }
 
-    // The first such record from there on, in the sector so far behind the oldest, and in those after it.
+    // The first such record from there on, in the sector so far behind the oldest, and in those
+    // after it.
     fn next_from<F: Flash, L: Ledger>(
         &self,
         flash: &F,

@@ -7,7 +7,8 @@ ghost use Rattle.fcb_ring.specs.Records.{body_len, field_width, has_record, chec
 use crc8_entry::{START, crc8};
 use flash_map::padded;
 
-/// A record that a sector holds, whether it checks or not. Places are bytes from the sector's start.
+/// A record that a sector holds, whether it checks or not. Places are bytes from the sector's
+/// start.
 #[derive(Clone, Copy, Debug, PartialEq, Eq)]
 pub struct Record {
     /// Where its length field starts.
@@ -78,8 +79,8 @@ fn checks_at(sector: &[u8], at: usize, body: usize, len: usize, crc_at: usize) -
     crc8(crc8(START, field), &sector[body..body + len]) == sector[crc_at]
 }
 
-// The record there, taken not to check where its body begins otherwise than so: its CRC is not computed then. None where
-// the records end, or where it would pass the sector's end.
+// The record there, taken not to check where its body begins otherwise than so: its CRC is not
+// computed then. None where the records end, or where it would pass the sector's end.
 #[tactic(auto, unfolding(crate::specs::Records::record_at, crate::specs::Records::record_of))]
 fn record_with(sector: &[u8], unit: u32, at: u32, front: &[u8]) -> Option<Record>
     requires unit { IsUnit unit }

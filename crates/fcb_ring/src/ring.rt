@@ -19,7 +19,8 @@ use std::sync::ledger::Ledger;
 /// How far a ring has come.
 #[derive(Clone, Copy, Debug, PartialEq, Eq)]
 pub enum Stage {
-    /// The erases of mounting are to come. Where no sector is free, the newest counts for nothing, and waits to be erased.
+    /// The erases of mounting are to come. Where no sector is free, the newest counts for nothing,
+    /// and waits to be erased.
     Inspected { newest_waits: bool },
     /// A sector is free, and the ring takes records.
     Ready,
@@ -35,7 +36,8 @@ pub struct Ring {
     pub(crate) area: Area,
     // the room in bytes that ordinary records leave in each sector
     pub(crate) reserve: u32,
-    // the oldest of the used sectors, and how many are used; one that counts for nothing is not among them
+    // the oldest of the used sectors, and how many are used; one that counts for nothing is not
+    // among them
     pub(crate) oldest: u32,
     pub(crate) used: u32,
     // the id of the newest of these, and where the next record goes in it, in bytes
@@ -91,8 +93,9 @@ fn newest_state(states: &[SectorState], oldest: usize, used: usize) -> SectorSta
 }
 
 impl Ring {
-    /// Reads the area, and programs nothing. The ring gives the records that count, and is not finished. Records that do
-    /// not go into the reserve are to leave `reserve` bytes of their sector.
+    /// Reads the area, and programs nothing. The ring gives the records that count, and is not
+    /// finished. Records that do not go into the reserve are to leave `reserve` bytes of their
+    /// sector.
     ///
     /// # Errors
     /// The damage of the area: the lowest sector of the first kind that it shows.
@@ -148,7 +151,8 @@ impl Ring {
         matches!(self.stage, Stage::Ready | Stage::Collecting)
     }
 
-    /// Whether a collection goes on: the scratch sector is open, and the oldest sector is not yet erased.
+    /// Whether a collection goes on: the scratch sector is open, and the oldest sector is not yet
+    /// erased.
     pub fn is_collecting(&self) -> bool
         ensures { result ≡ is_collecting self.now.stage }
     {
@@ -164,8 +168,8 @@ impl Ring {
 }
 
 impl Ring {
-    /// Carries out the erases of mounting: of each sector with a torn header, and of the newest where no sector is free.
-    /// The list stays, also where power is lost.
+    /// Carries out the erases of mounting: of each sector with a torn header, and of the newest
+    /// where no sector is free. The list stays, also where power is lost.
     ///
     /// # Errors
     /// `PowerLost`. The ring is then down.

@@ -76,8 +76,9 @@ fn spells_other(unit: u32, loss: &Loss) -> bool
     is_record(unit, bytes.as_slice()) && bytes.as_slice() != want
 }
 
-/// Whether the units that were put before a loss in this area spell, by chance, another record than the one that was to be
-/// put. It never holds of a loss in a header or an erase, nor where no sector is free.
+/// Whether the units that were put before a loss in this area spell, by chance, another record than
+/// the one that was to be put. It never holds of a loss in a header or an erase, nor where no
+/// sector is free.
 #[tactic(auto, unfolding(crate::specs::Chance::chance))]
 pub fn chance<F: Flash, L: Ledger>(
     flash: &F,
@@ -96,9 +97,9 @@ pub fn chance<F: Flash, L: Ledger>(
         && spells_other(geometry.unit, loss)
 }
 
-/// Of a loss in a record, in an area with a free sector, `chance` tells whether the record that was cut checks and is another
-/// one. It never holds of a loss in a header or in an erase, nor where no sector is free. The function does nothing; its
-/// contract is the law.
+/// Of a loss in a record, in an area with a free sector, `chance` tells whether the record that was
+/// cut checks and is another one. It never holds of a loss in a header or in an erase, nor where no
+/// sector is free. The function does nothing; its contract is the law.
 pub fn chance_of_a_record()
     ensures { TellsChance }
 {}

@@ -12,7 +12,8 @@ use crate::{Area, area_program, area_view, geometry, padded};
 use flash_sim::{Flash, PowerLost, Steps};
 use std::sync::ledger::Ledger;
 
-/// A range of bytes of one sector of an area: the number of the sector, and the offset and the length in bytes.
+/// A range of bytes of one sector of an area: the number of the sector, and the offset and the
+/// length in bytes.
 #[derive(Clone, Copy, Debug, PartialEq, Eq)]
 pub struct Source {
     pub sector: u32,

@@ -40,10 +40,12 @@ pub enum MountFault {
 /// Why an item was not written.
 #[derive(Clone, Copy, Debug, PartialEq, Eq)]
 pub enum WriteFault {
-    /// No round of collections makes room: the bytes that the write needs, and those of all live items. The items stay.
+    /// No round of collections makes room: the bytes that the write needs, and those of all live
+    /// items. The items stay.
     NoSpace { need: u64, live: u64 },
     /// The item is too long for a sector, and nothing was programmed or erased.
     TooLong,
-    /// Power was off, or was lost in the call. The item is as it was or as it was to be, and the others stay.
+    /// Power was off, or was lost in the call. The item is as it was or as it was to be, and the
+    /// others stay.
     PowerLost,
 }

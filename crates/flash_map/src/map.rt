@@ -33,8 +33,8 @@ impl<T: Drop> From<AllocFailed<T>> for AddFault {
     }
 }
 
-/// Areas, each found by its label, which no other has. Contracts see the list of the areas, in the order in which they
-/// were added.
+/// Areas, each found by its label, which no other has. Contracts see the list of the areas, in the
+/// order in which they were added.
 #[derive(Drop)]
 pub struct FlashMap {
     areas: IndexMap<ArrayString<8>, Area>,
@@ -62,8 +62,8 @@ impl FlashMap {
         }
     }
 
-    /// Adds an area of `banks` behind the others, where it has two sectors or more, lies in its bank and shares no label and
-    /// no sector with them. It has their version.
+    /// Adds an area of `banks` behind the others, where it has two sectors or more, lies in its
+    /// bank and shares no label and no sector with them. It has their version.
     ///
     /// # Errors
     /// The first cause of `AddFault` that holds, or `NoMemory`. The map is as it was.

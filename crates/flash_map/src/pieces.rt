@@ -65,7 +65,8 @@ fn last_unit(bytes: &[u8]) -> [u8; UNIT]
     unit
 }
 
-/// Programs any number of bytes of one sector, with FF behind them up to whole units, upward and in calls of at most `PIECE` bytes.
+/// Programs any number of bytes of one sector, with FF behind them up to whole units, upward and in
+/// calls of at most `PIECE` bytes.
 ///
 /// # Errors
 /// Where power was off, nothing changed. Where it was lost in the call, fewer than all units were put, the lowest first.

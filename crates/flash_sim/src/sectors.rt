@@ -6,13 +6,15 @@ ghost use Rattle.flash_sim.specs.Device.{overwritten};
 use crate::flat_sim::{fill, overwrite};
 use std::alloc::{AllocError, Global};
 
-/// One buffer: a sector of FF, which all erased sectors share, and behind it a place for each sector.
+/// One buffer: a sector of FF, which all erased sectors share, and behind it a place for each
+/// sector.
 #[derive(Drop)]
 pub(crate) struct Sectors {
     /// Bytes of a sector.
     size: usize,
     buffer: Vec<u8>,
-    /// Where the bytes of each sector start in the buffer: at its place, or at 0 where it is erased.
+    /// Where the bytes of each sector start in the buffer: at its place, or at 0 where it is
+    /// erased.
     starts: Vec<usize>,
     ghost shaped: { IsShaped size buffer.items starts.items },
 }
@@ -120,7 +122,8 @@ impl Sectors {
     }
 }
 
-// Where a sector starts whose place holds these bytes: nowhere else, or at the shared sector where they are all FF.
+// Where a sector starts whose place holds these bytes: nowhere else, or at the shared sector where
+// they are all FF.
 fn start_in(buffer: &[u8], place: usize, size: usize) -> usize
     requires { place + size ≤ length buffer.now }
     ensures shared { result ≡ 0 → (place ≡ 0 → ⊥)

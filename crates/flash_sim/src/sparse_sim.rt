@@ -1,4 +1,5 @@
-// A flash in memory that loses power exactly where an armed count is used up, and keeps the bytes of erased sectors once.
+// A flash in memory that loses power exactly where an armed count is used up, and keeps the bytes
+// of erased sectors once.
 ghost use Rattle.std.specs.Prelude.{◌≡◌, ◌+◌, ◌*◌, ◌/◌, ◌%◌, ◌<◌, ◌≤◌, ◌∷◌, length, map, IfOk, OnOk, OnErr, Option, Some, None, [], slice_index, slice_index_or, slice_range, slice_set, replicate, vec_len};
 ghost use Rattle.flash_sim.specs.Bank.{IsLawful};
 ghost use Rattle.flash_sim.specs.BankBytes.{bytes_in, all_bytes, sizes, HaveSizes};
@@ -11,8 +12,9 @@ use crate::{At, Bank, Bench, Flash, Loss, NoMemory, PROGRAM_LIMIT, PowerLost, St
 use std::alloc::{AllocError, Global};
 use std::sync::ledger::Ledger;
 
-/// A flash in memory. An erase gives a sector's place back and writes no byte: erased sectors share their bytes. It
-/// takes memory where it is loaded alone, and tells its plan: power is lost just where that says.
+/// A flash in memory. An erase gives a sector's place back and writes no byte: erased sectors share
+/// their bytes. It takes memory where it is loaded alone, and tells its plan: power is lost just
+/// where that says.
 #[derive(Drop)]
 pub struct SparseSim {
     banks: Vec<Bank>,
@@ -35,8 +37,16 @@ impl SparseSim {
     /// A flash with no bank, and with power on.
     pub fn new(alloc: Global) -> SparseSim
         ensures { device_of result
-            ≡ record
-            { banks = []; bytes = []; is_on = true; losses = 0; spent = 0; loads = 0; last_loss = None; plan = Never } }
+            ≡ record {
+              banks = [];
+              bytes = [];
+              is_on = true;
+              losses = 0;
+              spent = 0;
+              loads = 0;
+              last_loss = None;
+              plan = Never;
+            } }
     {
         SparseSim {
             banks: Vec::new(alloc),

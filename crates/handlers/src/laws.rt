@@ -5,8 +5,8 @@ ghost use Rattle.handlers.specs.Best.{AreDistinct, IsLongest, best};
 ghost use Rattle.handlers.specs.Held.{HandlerState};
 ghost use Rattle.handlers.specs.Registry.{Registered, subtrees, with_state};
 
-/// Of distinct subtrees the best one for a name is the longest that matches it, there is at most one such, and there is
-/// none only where none matches.
+/// Of distinct subtrees the best one for a name is the longest that matches it, there is at most
+/// one such, and there is none only where none matches.
 pub fn longest_is_best()
     ensures longest { (subtrees : List (List ℕ)) (name : List ℕ) (place : ℕ) → AreDistinct subtrees
         → best subtrees name ≡ Some place → IsLongest subtrees name place }

@@ -48,8 +48,8 @@ impl Row<Box<dyn Handler>> {
     }
 }
 
-/// Handlers with their subtrees, in the order in which they were registered. It is generic in what it keeps, so that other
-/// crates may move boxes into it.
+/// Handlers with their subtrees, in the order in which they were registered. It is generic in what
+/// it keeps, so that other crates may move boxes into it.
 #[derive(Drop)]
 pub struct RegistryOf<B> {
     rows: Vec<Row<B>>,

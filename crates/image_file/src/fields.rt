@@ -77,7 +77,8 @@ fn role_of(byte: u8) -> Option<Role>
     }
 }
 
-/// The bank that a field spells in a file of this version; none where it spells none that is lawful.
+/// The bank that a field spells in a file of this version; none where it spells none that is
+/// lawful.
 #[tactic(auto, unfolding(crate::specs::Said::bank_said))]
 pub fn bank_of(version: u8, text: &[u8]) -> Option<Bank>
     requires { length text.now ≡ 12 }

@@ -24,8 +24,8 @@ pub enum ImageWhy {
     BadVersion,
     /// The number of banks is not 1 or 2, or a field is no lawful bank.
     BadBank,
-    /// The number of areas is not 1 to 8, a field is no area that may stand on the banks beside those before it, or the areas
-    /// are not those that an image needs.
+    /// The number of areas is not 1 to 8, a field is no area that may stand on the banks beside
+    /// those before it, or the areas are not those that an image needs.
     BadArea,
     /// It ends inside a field or a bank's bytes.
     Short,
@@ -69,8 +69,8 @@ impl From<flash_sim::NoMemory> for ImageFault {
 /// Why no image was made of a word.
 #[derive(Clone, Copy, Debug, PartialEq, Eq)]
 pub enum SpecFault {
-    /// The first item that may not be added to those before it, counted from 1, or the number of items and one more
-    /// where an area is missing that the whole needs.
+    /// The first item that may not be added to those before it, counted from 1, or the number of
+    /// items and one more where an area is missing that the whole needs.
     BadSpec { item: u32 },
     /// Memory ran out; nothing is said of the word.
     NoMemory,

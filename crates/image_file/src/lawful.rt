@@ -13,7 +13,8 @@ use flash_sim::{Bank, Kind, NoMemory};
 /// The fewest bytes of a sector.
 pub const LEAST_SECTOR: u32 = 512;
 
-/// The fewest bytes of a sector in an image of version 2, where a sector has room for longer values.
+/// The fewest bytes of a sector in an image of version 2, where a sector has room for longer
+/// values.
 pub const LEAST_LONG_SECTOR: u32 = 4096;
 
 /// The most bytes of a sector.
@@ -67,7 +68,8 @@ fn stands_on(role: Role, bank: &Bank) -> bool
     }
 }
 
-/// Adds an area that may stand beside those of the map, and says whether it may. A refusal leaves the map as it was.
+/// Adds an area that may stand beside those of the map, and says whether it may. A refusal leaves
+/// the map as it was.
 ///
 /// # Errors
 /// Want of memory alone.

@@ -1,4 +1,5 @@
-//! Image files: banks, areas and bytes of a flash as one file, and the word that describes a blank image.
+//! Image files: banks, areas and bytes of a flash as one file, and the word that describes a blank
+//! image.
 #![tactic(auto)]
 
 mod fields;

@@ -106,7 +106,8 @@ fn area_from(
     Some(Area::new(label, role, bank as usize, first, sectors, version))
 }
 
-/// The area of an image of this version that an item describes; none only where it describes none with a lawful label and numbers below 2^32.
+/// The area of an image of this version that an item describes; none only where it describes none
+/// with a lawful label and numbers below 2^32.
 ///
 /// # Errors
 /// Want of memory alone.

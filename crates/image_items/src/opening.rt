@@ -92,8 +92,8 @@ pub(crate) fn open_items<'a, H: Host>(
     }
 }
 
-// The lines of a script, with these ids, no value in which has more bytes than the limit. Nothing is
-// printed or written.
+// The lines of a script, with these ids, no value in which has more bytes than the limit. Nothing
+// is printed or written.
 pub(crate) fn read_item_lines<'a, H: Host>(
     alloc: Global,
     name: &'a str,

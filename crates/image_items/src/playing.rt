@@ -132,8 +132,8 @@ fn play_lines<'a, B: Bench>(
 
 /// Plays the script in the file `script` on the numbered items of the image in the file `image`:
 /// reads both, loads the bench, carries out the opening mount and the lines, and gives the texts of
-/// all answers, and the file of the image that is left, to be written into `out`. Nothing is printed
-/// or written, and files stay.
+/// all answers, and the file of the image that is left, to be written into `out`. Nothing is
+/// printed or written, and files stay.
 ///
 /// # Errors
 /// Refused where there is no image, then where it is not exactly one area, for NVS or ZMS, then where

@@ -1,4 +1,5 @@
-//! Plays on application logs: scripts of lines on the log of an image, on a bench that may lose power at any unit.
+//! Plays on application logs: scripts of lines on the log of an image, on a bench that may lose
+//! power at any unit.
 #![tactic(auto)]
 
 mod opening;

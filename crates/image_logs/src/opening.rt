@@ -66,7 +66,8 @@ pub(crate) fn open_log<'a, H: Host>(
     }
 }
 
-// The lines of a script, no body in which has more bytes than the limit. Nothing is printed or written.
+// The lines of a script, no body in which has more bytes than the limit. Nothing is printed or
+// written.
 pub(crate) fn read_log_lines<'a, H: Host>(
     alloc: Global,
     name: &'a str,

@@ -98,9 +98,10 @@ fn play_lines<'a, B: Bench>(
     Ok(Outcome { text, file })
 }
 
-/// Plays the script in the file `script` on the log of the image in the file `image`: reads both, loads the bench, carries out
-/// the opening mount and the lines, and gives the texts of all answers, and the file of the image that is left, to be written
-/// into `out`. Nothing is printed or written, and files stay.
+/// Plays the script in the file `script` on the log of the image in the file `image`: reads both,
+/// loads the bench, carries out the opening mount and the lines, and gives the texts of all
+/// answers, and the file of the image that is left, to be written into `out`. Nothing is printed or
+/// written, and files stay.
 ///
 /// # Errors
 /// Refused where there is no image, then where it is not exactly one area, for FCB, then where there are no lines, then where

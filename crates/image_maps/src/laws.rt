@@ -3,14 +3,16 @@ ghost use Rattle.image_maps.specs.Blank.{AreasAreBlank, BlankHoldsNothing, Blank
 ghost use Rattle.image_maps.specs.Laws.{EachLimit, MapsAreLawful, MapsAreServed, OneLimit, StaysImage};
 ghost use Rattle.image_maps.specs.Lines.{LinesAreServed};
 
-/// The areas of an image are a lawful map, and a session serves it. It stays an image whatever bytes its banks hold.
+/// The areas of an image are a lawful map, and a session serves it. It stays an image whatever
+/// bytes its banks hold.
 pub fn lawful_maps()
     ensures maps { MapsAreLawful }
     ensures stays { StaysImage }
     ensures served { MapsAreServed }
 {}
 
-/// Values may be as long in each area of an image as in the map, and that is by the image's version.
+/// Values may be as long in each area of an image as in the map, and that is by the image's
+/// version.
 pub fn limits()
     ensures map { OneLimit }
     ensures each { EachLimit }
@@ -21,8 +23,9 @@ pub fn lines_fit()
     ensures { LinesAreServed }
 {}
 
-/// Where each byte of the banks is FF, so is each byte of a lawful area. A selector shows no damage there and names no area. The
-/// map of an image shows no damage, its first store area is active and has no settings, and a mount has nothing to do.
+/// Where each byte of the banks is FF, so is each byte of a lawful area. A selector shows no damage
+/// there and names no area. The map of an image shows no damage, its first store area is active and
+/// has no settings, and a mount has nothing to do.
 pub fn blank_maps()
     ensures areas { AreasAreBlank }
     ensures selector { BlankNamesNone }

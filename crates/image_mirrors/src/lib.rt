@@ -1,5 +1,5 @@
-//! Plays on mirrors: scripts of lines on the settings that two areas of an image hold between them, on a bench that may lose power
-//! at any unit.
+//! Plays on mirrors: scripts of lines on the settings that two areas of an image hold between them,
+//! on a bench that may lose power at any unit.
 #![tactic(auto)]
 
 mod opening;

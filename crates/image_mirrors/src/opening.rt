@@ -109,7 +109,8 @@ pub(crate) fn open_mirror<'a, H: Host>(
     }
 }
 
-// The lines of a script, no value in which has more bytes than the limit. Nothing is printed or written.
+// The lines of a script, no value in which has more bytes than the limit. Nothing is printed or
+// written.
 pub(crate) fn read_mirror_lines<'a, H: Host>(
     alloc: Global,
     name: &'a str,

@@ -100,9 +100,10 @@ fn play_lines<'a, B: Bench>(
     Ok(Outcome { text, file })
 }
 
-/// Plays the script in the file `script` on the two store areas of the image in the file `image`, which hold one map of settings
-/// between them: reads both files, loads the bench, carries out the opening mount and the lines, and gives the texts of all answers,
-/// and the file of the image that is left, to be written into `out`. Nothing is printed or written, and files stay.
+/// Plays the script in the file `script` on the two store areas of the image in the file `image`,
+/// which hold one map of settings between them: reads both files, loads the bench, carries out the
+/// opening mount and the lines, and gives the texts of all answers, and the file of the image that
+/// is left, to be written into `out`. Nothing is printed or written, and files stay.
 ///
 /// # Errors
 /// Refused where there is no image, then where it is not exactly two store areas, each for NVS or ZMS, and their selector, then where

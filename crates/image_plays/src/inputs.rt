@@ -89,7 +89,8 @@ fn generates(alloc: Global, n: u32) -> Result<Vec<Line>, NoMemory>
     Ok(lines)
 }
 
-/// The lines of a play, no value in which has more bytes than the limit. Nothing is printed or written.
+/// The lines of a play, no value in which has more bytes than the limit. Nothing is printed or
+/// written.
 ///
 /// # Errors
 /// Refused where a file is missing or no script; or the host failed, or there was not enough memory.

@@ -130,8 +130,9 @@ fn play_lines<'a, K: Backend, B: Bench>(
     Ok(Outcome { text, file })
 }
 
-/// Plays: reads the image and the lines, loads the bench, carries out the opening mount and the lines, and tells what is to be
-/// printed and written. Nothing is printed or written, and files stay.
+/// Plays: reads the image and the lines, loads the bench, carries out the opening mount and the
+/// lines, and tells what is to be printed and written. Nothing is printed or written, and files
+/// stay.
 ///
 /// # Errors
 /// Refused where there is no image, then where there are no lines, then where a mount finds damage. The host failed: nothing was

@@ -43,7 +43,8 @@ pub enum Output<'a> {
     Into { name: &'a str },
 }
 
-/// An image, lines that are carried out on it, what is printed of their answers, and what becomes of the image.
+/// An image, lines that are carried out on it, what is printed of their answers, and what becomes
+/// of the image.
 #[derive(Clone, Copy, Debug, PartialEq, Eq)]
 pub struct Play<'a> {
     pub start: Start<'a>,

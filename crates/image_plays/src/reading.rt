@@ -78,7 +78,8 @@ pub fn read_script_text<'a, H: Host>(
     }
 }
 
-/// The lines of a script, no value in which has more bytes than the limit. Nothing is printed or written.
+/// The lines of a script, no value in which has more bytes than the limit. Nothing is printed or
+/// written.
 ///
 /// # Errors
 /// Refused where there is no such file, or it is no script; or the host failed, or there was not enough memory.

@@ -33,7 +33,8 @@ pub enum Refusal<'a> {
         label: ArrayString<8>,
         damage: Damaged,
     },
-    /// The settings of two areas that hold one map between them do not fit the area with this label.
+    /// The settings of two areas that hold one map between them do not fit the area with this
+    /// label.
     Unfit {
         label: ArrayString<8>,
     },

@@ -9,7 +9,8 @@ pub enum Status {
     Usage,
     /// A line of the script is refused, or the script is too long.
     BadScript,
-    /// The file is no image, or not one that is served, or its area is damaged, or its settings do not fit.
+    /// The file is no image, or not one that is served, or its area is damaged, or its settings do
+    /// not fit.
     BadImage,
     /// A call of the host failed.
     HostFault,

@@ -180,7 +180,8 @@ static ROWS: [Row; 40] = [
         printed: "ok 0\nok 4\n",
         left: &[],
     },
-    // ZMS on a bank that is erased: a collection; a loss in one, and one more in the mount; what a loss left of a value stays
+    // ZMS on a bank that is erased: a collection; a loss in one, and one more in the mount; what a
+    // loss left of a value stays
     Row {
         spec: ERASED,
         script: "set a 11*100 \nset a 22*100 \nset a 33*100 \nset a 44*100 \n",
@@ -416,8 +417,8 @@ fn rows(rt: HostRuntime) -> Result<(), Fail> {
     Ok(())
 }
 
-// A word, a script, bytes that are put into its image's file, each from a place on and so many times, how many bytes of the file
-// stay, the command, its status and the line that it prints.
+// A word, a script, bytes that are put into its image's file, each from a place on and so many
+// times, how many bytes of the file stay, the command, its status and the line that it prints.
 struct Refused {
     spec: &'static str,
     script: &'static str,
@@ -562,7 +563,8 @@ static REFUSED: [Refused; 26] = [
         status: 4,
         printed: "bad image: no log\n",
     },
-    // an image without items, a script that is none on a ZMS area that is erased, and an id that NVS has not
+    // an image without items, a script that is none on a ZMS area that is erased, and an id that
+    // NVS has not
     Refused {
         spec: FCB,
         script: "fly\n",
@@ -712,8 +714,8 @@ fn refusals(rt: HostRuntime) -> Result<(), Fail> {
     Ok(())
 }
 
-// A run makes four calls of its host: it reads the image and the script, prints and writes. Where one of them fails, nothing is
-// called after it.
+// A run makes four calls of its host: it reads the image and the script, prints and writes. Where
+// one of them fails, nothing is called after it.
 #[test]
 fn failing_host(rt: HostRuntime) -> Result<(), Fail> {
     let alloc = rt.alloc();

@@ -122,8 +122,8 @@ fn serve<K: Backend, H: Host, B: Bench>(
     }
 }
 
-/// Carries out the command that the words after the program's name are. The pool has handlers that hold nothing and were never
-/// committed, and the registry has none.
+/// Carries out the command that the words after the program's name are. The pool has handlers that
+/// hold nothing and were never committed, and the registry has none.
 ///
 /// `build OUT SPEC` writes the blank image of SPEC. `run IMAGE SCRIPT OUT` plays the lines of SCRIPT on the image, prints the texts
 /// of all answers, and then writes the image that is left. `dump IMAGE` prints the settings of the image. `migrate IMAGE OUT` plays

@@ -20,7 +20,8 @@ pub enum Answer {
     Deleted,
     /// The area has no such version any more, or never had one.
     Gone,
-    /// What the items cost, what the other entries cost, and what is free beside the items, in bytes.
+    /// What the items cost, what the other entries cost, and what is free beside the items, in
+    /// bytes.
     Space { live: u64, stale: u64, free: u64 },
     /// There is no room for the item, after so many units and erases: the bytes that it costs, and
     /// those that all items cost.

@@ -1,4 +1,5 @@
-//! The lines of a script on numbered items, the texts of their answers, and the plan of a loss through them.
+//! The lines of a script on numbered items, the texts of their answers, and the plan of a loss
+//! through them.
 #![tactic(auto)]
 
 mod answer;

@@ -14,7 +14,8 @@ pub enum Line {
     Older { id: u32, n: u32 },
     /// Asks what the items cost, what else the area has of entries, and what is free.
     Space,
-    /// Plans a loss of power after so many further units and erases, fewer than `script_lines::UNITS_END`.
+    /// Plans a loss of power after so many further units and erases, fewer than
+    /// `script_lines::UNITS_END`.
     Cut { units: u64 },
     /// Drops that plan.
     Uncut,

@@ -70,11 +70,11 @@ fn read_below<I: IdsEnd>(
 
 /// The lines of a script on numbered items.
 ///
-/// Lines end with LF, which the last may lack. An empty line and one that begins with `#` are skipped,
-/// and counted. A line's words are separated by one space. The lines are `set ID HEX`, `get ID`, `del
-/// ID`, `older ID N`, `space`, `cut N`, `uncut` and `mount`. ID is one of these ids and N below 2^32,
-/// in decimal without a sign or leading zeros; HEX is one byte at least and no more than the limit, in
-/// digits of either case.
+/// Lines end with LF, which the last may lack. An empty line and one that begins with `#` are
+/// skipped, and counted. A line's words are separated by one space. The lines are `set ID HEX`,
+/// `get ID`, `del ID`, `older ID N`, `space`, `cut N`, `uncut` and `mount`. ID is one of these ids
+/// and N below 2^32, in decimal without a sign or leading zeros; HEX is one byte at least and no
+/// more than the limit, in digits of either case.
 ///
 /// # Errors
 /// `BadLine` where a line is no line of these: the first such line, with its first cause. `NoMemory`.
@@ -92,8 +92,8 @@ pub fn read_script(
     }
 }
 
-/// No two lines say the same. That no text has two readings, or both a reading and a refusal, holds by
-/// any table: `script_lines::one_reading`.
+/// No two lines say the same. That no text has two readings, or both a reading and a refusal, holds
+/// by any table: `script_lines::one_reading`.
 pub fn one_meaning()
     ensures { OneMeaning }
 {}

@@ -1,6 +1,6 @@
-//! Settings as pairs of items: the map of names to values that a map of items reads as, what a write or a delete of one
-//! item makes of it, and what it costs. It has definitions and laws alone; each function does nothing, and its contract
-//! is the law.
+//! Settings as pairs of items: the map of names to values that a map of items reads as, what a
+//! write or a delete of one item makes of it, and what it costs. It has definitions and laws alone;
+//! each function does nothing, and its contract is the law.
 #![tactic(auto)]
 
 ghost use Rattle.std.specs.Prelude.{◌≡◌, ◌+◌, ◌≤◌, ℕ, Bool, List, Option, Some, None};
@@ -12,7 +12,8 @@ ghost use Rattle.item_pairs.specs.Numbering.{Numbering, IsNumbering};
 ghost use Rattle.item_pairs.specs.PairRoom.{pair_room, IsCountCost};
 ghost use Rattle.item_pairs.specs.Pairs.{IsOf, count_in, pair_at, settings_in, HasName, IsInside, IsLowest, IsAt, IsKept, HasNoStrays};
 
-/// The delete of an item that is neither a count nor a part of a setting that counts leaves the settings.
+/// The delete of an item that is neither a count nor a part of a setting that counts leaves the
+/// settings.
 pub fn stray_deleted()
     ensures { (n : Numbering) (items : Items) (id : ℕ) → IsNumbering n → ¬ IsKept n items id
         → settings_in n (remove items id) ≡ settings_in n items }
@@ -33,7 +34,8 @@ pub fn value_written()
         → settings_in n (insert items (place + n.step) value) ≡ settings_in n items }
 {}
 
-/// The write of a name or a value that makes a setting gives the name its value, where no lower place has the name.
+/// The write of a name or a value that makes a setting gives the name its value, where no lower
+/// place has the name.
 pub fn setting_written()
     ensures { (n : Numbering) (items : Items) (place id : ℕ) (bytes name value : List ℕ)
         → IsNumbering n → IsInside n items place → IsOf n place id
@@ -50,8 +52,8 @@ pub fn name_deleted()
         → settings_in n (remove items place) ≡ remove (settings_in n items) name }
 {}
 
-/// Where there are no strays, the items cost no more than the settings by the numbers of room, which count the count
-/// also where there is none.
+/// Where there are no strays, the items cost no more than the settings by the numbers of room,
+/// which count the count also where there is none.
 pub fn items_cost_at_most()
     ensures { (n : Numbering) (items : Items) (price : ℕ → ℕ) (cap counted : ℕ)
         (too_many : Map → List ℕ → Bool) → IsNumbering n → IsCountCost n price counted

@@ -1,5 +1,5 @@
-//! The lines of a script on numbered items, carried out on a flash that may lose power at any unit, by
-//! a store over any kind of sector.
+//! The lines of a script on numbered items, carried out on a flash that may lose power at any unit,
+//! by a store over any kind of sector.
 #![tactic(auto)]
 
 mod answers;

@@ -16,9 +16,9 @@ use ring_store::SlotSectors;
 use std::alloc::Global;
 use std::sync::ledger::Ledger;
 
-/// Mounts the store of an area, carries out lines one after another, and gives the answers to the mount
-/// and to each line. With power on after the lines a mount of the area would have nothing to do. An
-/// area without damage has none afterwards, whatever the result.
+/// Mounts the store of an area, carries out lines one after another, and gives the answers to the
+/// mount and to each line. With power on after the lines a mount of the area would have nothing to
+/// do. An area without damage has none afterwards, whatever the result.
 ///
 /// # Errors
 /// `Damaged` with the damage that the area shows; the bench is then as before, but that power is on.

@@ -63,8 +63,8 @@ pub trait ItemStore: Drop {
     /// The index tells where the items of an area stand in its sectors, which have this geometry.
     ghost tells: { Self.Index → area_type → Geometry → List (List ℕ) → Type 0 };
 
-    /// Mounts a store on an area. The items stay, also where power is lost. It spends no more units and erases than a write may.
-    /// The area is all FF afterwards only where it was so before.
+    /// Mounts a store on an area. The items stay, also where power is lost. It spends no more units
+    /// and erases than a write may. The area is all FF afterwards only where it was so before.
     ///
     /// # Errors
     /// `Damaged` exactly where the area shows damage, and then nothing was programmed; `PowerLost`; `NoMemory`, and then
@@ -108,7 +108,8 @@ pub trait ItemStore: Drop {
         ensures { option_map (λ bytes. bytes.now) result
             ≡ finite.get (on contents (F.device flash.now) (mounted_on self.now)) id };
 
-    /// Whether an item may be there: where it answers `false`, the id has none. It takes no view of the flash.
+    /// Whether an item may be there: where it answers `false`, the id has none. It takes no view of
+    /// the flash.
     fn may_hold(&self, id: u32) -> bool
         requires known { is_id id }
         ensures { (d : Device) → IsLawful d.banks d.bytes
@@ -118,7 +119,8 @@ pub trait ItemStore: Drop {
     /// An index for `tell` to fill.
     fn new_index() -> Self::Index;
 
-    /// Makes an index of where the items stand. It tells so as long as the area stays as it is. What it told before is gone.
+    /// Makes an index of where the items stand. It tells so as long as the area stays as it is.
+    /// What it told before is gone.
     fn tell<F: Flash, L: Ledger>(&self, flash: &F, index: &mut Self::Index, steps: &mut Steps<L>)
         requires lawful { IsLawfulFor (F.device flash.now).banks (mounted_on self.now) }
         requires stands { StandsOn mounted_on stands (F.device flash.now) self.now }
@@ -139,8 +141,8 @@ pub trait ItemStore: Drop {
         ensures { option_map (λ bytes. bytes.now) result
             ≡ finite.get (on contents (F.device flash.now) (mounted_on self.now)) id };
 
-    /// The id of an item that has these bytes, of the ids from `least` to `most`, no more than 0x1_0020. It is one walk over the
-    /// store's entries at most, and makes no index.
+    /// The id of an item that has these bytes, of the ids from `least` to `most`, no more than
+    /// 0x1_0020. It is one walk over the store's entries at most, and makes no index.
     fn id_of<F: Flash, L: Ledger>(
         &self,
         flash: &F,
@@ -157,8 +159,9 @@ pub trait ItemStore: Drop {
         ensures { IsIdOf least most (on contents (F.device flash.now) (mounted_on self.now))
             bytes.now result };
 
-    /// The least bytes of an item that are greater than `after`, or the least of all, of the ids from `least` to `most`, no more
-    /// than 0x1_0020. It is one walk over the store's entries, and makes no index.
+    /// The least bytes of an item that are greater than `after`, or the least of all, of the ids
+    /// from `least` to `most`, no more than 0x1_0020. It is one walk over the store's entries, and
+    /// makes no index.
     fn next_of<'a, F: Flash, L: Ledger>(
         &self,
         flash: &'a F,
@@ -208,8 +211,9 @@ pub trait ItemStore: Drop {
             → StandsOn mounted_on stands (F.device flash.new) self.new }
         ensures down { write_lost result ≡ true → runs self.new ≡ false };
 
-    /// Deletes an item. Where the id has none, nothing is programmed. It always finds room, and spends at most the units and erases
-    /// that one collection and one entry may (`removal_units`). The area is all FF afterwards only where it was so before.
+    /// Deletes an item. Where the id has none, nothing is programmed. It always finds room, and
+    /// spends at most the units and erases that one collection and one entry may (`removal_units`).
+    /// The area is all FF afterwards only where it was so before.
     ///
     /// # Errors
     /// `PowerLost`: the items are as before, or without this one, and the store is down.
@@ -254,7 +258,8 @@ pub trait ItemStore: Drop {
             result }
         ensures known { IfSome result is_id };
 
-    /// The least id behind this one that has a value, or the least of all, as `next_id` gives it, by what the index tells.
+    /// The least id behind this one that has a value, or the least of all, as `next_id` gives it,
+    /// by what the index tells.
     fn next_by<F: Flash, L: Ledger>(
         &self,
         flash: &F,
@@ -293,8 +298,8 @@ pub trait ItemStore: Drop {
     fn is_up(&self) -> bool
         ensures { result ≡ runs self.now };
 
-    // A store that stands is up. The store serves its area, which shows no damage, and a mount of it would have
-    // nothing to do.
+    // A store that stands is up. The store serves its area, which shows no damage, and a mount of
+    // it would have nothing to do.
     ghost stands_up: { (store : Self) (geometry : Geometry) (sectors : List (List ℕ)) → stands store geometry sectors → runs store ≡ true };
 
     ghost stands_serves: { (store : Self) (geometry : Geometry) (sectors : List (List ℕ)) → stands store geometry sectors → serves (mounted_on store) geometry };

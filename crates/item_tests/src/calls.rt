@@ -14,9 +14,9 @@ use std::process::Abort;
 use std::sync::ledger::Ledger;
 use std::test::Fail;
 
-// The id; the byte and the length of the value that is written, a delete where the length is 0; the units that are
-// spent; need and live where there is no space, both 0 where it is too long; the byte and the length of the value got
-// after the call.
+// The id; the byte and the length of the value that is written, a delete where the length is 0; the
+// units that are spent; need and live where there is no space, both 0 where it is too long; the
+// byte and the length of the value got after the call.
 pub type Call = (u32, (u8, usize), u64, Option<(u64, u64)>, (u8, usize));
 
 /// A store, whose mount spends so many units.
@@ -138,7 +138,8 @@ pub fn shows<T: SlotSectors, B: Bench, L: Ledger, R: Abort>(
     assert_eq!(rt; (end, store.live_cost(bench, steps)), (None, cost));
 }
 
-/// The item of an id up to 9 has these bytes. No item has the other ones, which are less, and none is between the two.
+/// The item of an id up to 9 has these bytes. No item has the other ones, which are less, and none
+/// is between the two.
 pub fn asks<T: SlotSectors, B: Bench, L: Ledger, R: Abort>(
     rt: &R,
     bench: &B,
@@ -156,7 +157,8 @@ pub fn asks<T: SlotSectors, B: Bench, L: Ledger, R: Abort>(
     assert_eq!(rt; (here, none, next), (Some(id), None, true));
 }
 
-/// The entries from the newest to the oldest: the sector, the slot, the id, and the length of the value.
+/// The entries from the newest to the oldest: the sector, the slot, the id, and the length of the
+/// value.
 pub fn walks<T: SlotSectors, B: Bench, L: Ledger, R: Abort>(
     rt: &R,
     bench: &B,

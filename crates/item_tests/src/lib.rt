@@ -1,4 +1,5 @@
-//! Tests of entries and sectors of items, and of stores of items: NVS, ZMS, and the store over the sectors of either.
+//! Tests of entries and sectors of items, and of stores of items: NVS, ZMS, and the store over the
+//! sectors of either.
 #![tactic(auto)]
 
 #[cfg(test)]

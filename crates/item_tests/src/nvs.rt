@@ -1,4 +1,5 @@
-// Calls on two sectors of NVS. What each spends, answers and leaves was written by another reading of the same rules.
+// Calls on two sectors of NVS. What each spends, answers and leaves was written by another reading
+// of the same rules.
 ghost use Rattle.std.specs.Prelude.{◌≡◌, ◌<◌, ◌∷◌, [], OnOk};
 ghost use Rattle.flash_map.specs.declared.area.Role.TheVariants.{Nvs as nvs_role};
 ghost use Rattle.ring_store.specs.Standing.{IsStoreArea};
@@ -36,7 +37,8 @@ pub(crate) const ROUNDS: [Call; 6] = [
     (1, (0x55, 100), 0, None, (0x55, 100)),
 ];
 
-// The end of the second sector then: the last value's entry, gc-done, and the copy of the value before it.
+// The end of the second sector then: the last value's entry, gc-done, and the copy of the value
+// before it.
 pub(crate) const ENDS: [u8; 32] = [
     1, 0, 100, 0, 100, 0, 255, 0x25, 255, 255, 100, 0, 0, 0, 255, 0x7F, 1, 0, 0, 0, 100, 0, 255, 6,
     255, 255, 255, 255, 255, 255, 255, 255,
@@ -189,7 +191,8 @@ fn losses<B: Bench, L: Ledger, R: Abort>(
     Ok(())
 }
 
-// How many views a look-up takes: none where the cache slot is empty, at most two where its latest entry has the id.
+// How many views a look-up takes: none where the cache slot is empty, at most two where its latest
+// entry has the id.
 fn look_ups<B: Views, L: Ledger, R: Abort>(
     rt: &R,
     alloc: Global,

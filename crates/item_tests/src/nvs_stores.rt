@@ -1,5 +1,5 @@
-// The same calls on two sectors by the store of NVS. What each spends, answers and leaves was written by another reading of
-// the same rules.
+// The same calls on two sectors by the store of NVS. What each spends, answers and leaves was
+// written by another reading of the same rules.
 ghost use Rattle.std.specs.Prelude.{◌≡◌, ◌<◌, ◌∷◌, [], IfOk, OnOk};
 ghost use Rattle.nvs_gc.specs.Standing.{IsNvsArea, StandsOn};
 
@@ -130,7 +130,8 @@ fn one_item<B: Bench, L: Ledger, R: Abort>(
     );
 }
 
-// Behind a collection the item is found by its bytes and has one older version, and the area this room.
+// Behind a collection the item is found by its bytes and has one older version, and the area this
+// room.
 fn told<B: Bench, L: Ledger, R: Abort>(rt: &R, bench: &B, nvs: &Nvs, steps: &mut Steps<L>)
     requires stands { StandsOn (B.device bench.now) nvs.now }
 {

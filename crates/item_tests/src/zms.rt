@@ -1,5 +1,5 @@
-// Calls on three sectors of ZMS, on banks of either kind. What each spends, answers and leaves was written by another reading of
-// the same rules.
+// Calls on three sectors of ZMS, on banks of either kind. What each spends, answers and leaves was
+// written by another reading of the same rules.
 ghost use Rattle.std.specs.Prelude.{◌≡◌, ◌+◌, ◌<◌, ◌≤◌, ◌∷◌, [], length, IfOk, OnOk};
 ghost use Rattle.flash_map.specs.declared.area.Role.TheVariants.{Zms as zms_role};
 ghost use Rattle.ring_store.specs.Standing.{IsStoreArea};
@@ -25,8 +25,8 @@ pub(crate) const EMPTY: [u8; 16] = [97, 1, 255, 255, 255, 255, 255, 255, 0, 0, 0
 
 pub(crate) const CLOSE: [u8; 16] = [172, 1, 0, 0, 255, 255, 255, 255, 176, 1, 0, 0, 1, 0, 0, 0];
 
-// Ids 7, 9 and 8 in a closed sector, the second with the value 1 to 9; 7, 3 and a delete of 8 in the next; and a collection
-// into the third that was cut, with an entry that counts for nothing.
+// Ids 7, 9 and 8 in a closed sector, the second with the value 1 to 9; 7, 3 and a delete of 8 in
+// the next; and a collection into the third that was cut, with an entry that counts for nothing.
 pub(crate) const CUT: [Put; 13] = [
     (496, EMPTY),
     (480, CLOSE),
@@ -98,7 +98,8 @@ const ON_ERASED: [Call; 17] = [
     (7, (3, 8), 1, None, (3, 8)),
 ];
 
-// Two sectors with no entry and a unit that was put. The next one is erased as it opens, with nothing to collect: the last write.
+// Two sectors with no entry and a unit that was put. The next one is erased as it opens, with
+// nothing to collect: the last write.
 const USED: [Put; 4] = [
     (1008, EMPTY),
     (960, [0; 16]),
@@ -113,7 +114,8 @@ const INTO_USED: [Call; 4] = [
     (3, (68, 150), 14, None, (68, 150)),
 ];
 
-// The open sector has no entry, and two units of a value that was cut: the next value stands behind them.
+// The open sector has no entry, and two units of a value that was cut: the next value stands behind
+// them.
 const LEFT: [Put; 3] = [(496, EMPTY), (0, [17; 16]), (16, [17; 16])];
 
 const BEHIND_LEFT: [Call; 4] = [
@@ -125,7 +127,8 @@ const BEHIND_LEFT: [Call; 4] = [
 
 pub(crate) const ONE: [Call; 1] = [(7, (5, 9), 3, None, (5, 9))];
 
-// The end of that sector: a unit behind its entries, the entry, the close entry and the empty entry.
+// The end of that sector: a unit behind its entries, the entry, the close entry and the empty
+// entry.
 pub(crate) const ENDS: [u8; 64] = [
     0x6F, 0, 0, 0, 0, 0, 0, 0, 0, 0, 0, 0, 0, 0, 0, 0, 0x69, 1, 9, 0, 7, 0, 0, 0, 0, 0, 0, 0, 0, 0,
     0, 0, 0x1E, 1, 0, 0, 0xFF, 0xFF, 0xFF, 0xFF, 0xD0, 1, 0, 0, 1, 0, 0, 0, 0x61, 1, 0xFF, 0xFF,
@@ -268,7 +271,8 @@ fn erases<B: Bench, L: Ledger, R: Abort>(
     Ok(())
 }
 
-// What is on the flash behind one write and the close of its sector; and a close that is cut, with the mount after it.
+// What is on the flash behind one write and the close of its sector; and a close that is cut, with
+// the mount after it.
 fn lays<B: Bench, L: Ledger, R: Abort>(
     rt: &R,
     alloc: Global,

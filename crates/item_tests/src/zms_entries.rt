@@ -41,7 +41,8 @@ fn entry_bytes(rt: HostRuntime) {
     }
 }
 
-// A sector of six units: the empty entry, an entry in slot 2, and the same under an erased unit, where it counts for nothing.
+// A sector of six units: the empty entry, an entry in slot 2, and the same under an erased unit,
+// where it counts for nothing.
 #[test]
 fn one_sector_read(rt: HostRuntime) {
     let mut sector = [0xFF; 96];

@@ -1,5 +1,5 @@
-// Steps in two sectors of ZMS, by the calls that read the sector's list. What they spend and leave was written by another reading
-// of the same rules.
+// Steps in two sectors of ZMS, by the calls that read the sector's list. What they spend and leave
+// was written by another reading of the same rules.
 ghost use Rattle.std.specs.Prelude.{◌≡◌, ◌<◌, ◌∷◌, [], OnOk};
 ghost use Rattle.flash_sim.specs.declared.flash.Kind.{Kind};
 ghost use Rattle.zms_cycle.specs.Areas.{IsZmsSector};
@@ -18,7 +18,8 @@ use zms_cycle::{SectorState, close, copy_entry, empty_sector, put_done, put_entr
 
 const NINE: [u8; 9] = [1, 2, 3, 4, 5, 6, 7, 8, 9];
 
-// The end of the first sector, from the second entry up to the empty entry; and of the second one, from gc-done.
+// The end of the first sector, from the second entry up to the empty entry; and of the second one,
+// from gc-done.
 const CLOSED: [u8; 64] = [
     0x9D, 1, 2, 0, 8, 0, 0, 0, 5, 6, 0, 0, 0, 0, 0, 0, 0x69, 1, 9, 0, 7, 0, 0, 0, 0, 0, 0, 0, 0, 0,
     0, 0, 0x29, 1, 0, 0, 0xFF, 0xFF, 0xFF, 0xFF, 0xC0, 1, 0, 0, 1, 0, 0, 0, 0x61, 1, 0xFF, 0xFF,

@@ -1,5 +1,5 @@
-// The same calls on three sectors by the store of ZMS. What each spends, answers and leaves was written by another reading of
-// the same rules.
+// The same calls on three sectors by the store of ZMS. What each spends, answers and leaves was
+// written by another reading of the same rules.
 ghost use Rattle.std.specs.Prelude.{◌≡◌, ◌<◌, ◌∷◌, [], IfOk, OnOk};
 ghost use Rattle.zms_store.specs.Standing.{StandsOn};
 
@@ -21,7 +21,8 @@ const SEVEN: [u8; 16] = [112, 1, 1, 0, 7, 0, 0, 0, 17, 0, 0, 0, 0, 0, 0, 0];
 
 const EIGHT: [u8; 16] = [55, 1, 1, 0, 8, 0, 0, 0, 18, 0, 0, 0, 0, 0, 0, 0];
 
-// An entry under a slot 2 that is not valid, which makes no sector open; and one under the guard slot of the open sector.
+// An entry under a slot 2 that is not valid, which makes no sector open; and one under the guard
+// slot of the open sector.
 const STALE: [Put; 5] = [
     (496, EMPTY),
     (448, SEVEN),
@@ -172,7 +173,8 @@ fn ids<B: Bench, L: Ledger, R: Abort>(rt: &R, bench: &B, zms: &Zms, steps: &mut 
     assert_eq!(rt; (end, zms.live_cost(bench, steps)), (None, 64));
 }
 
-// An item by its bytes, none by bytes that were overwritten; and the least bytes behind others, of ids up to 8.
+// An item by its bytes, none by bytes that were overwritten; and the least bytes behind others, of
+// ids up to 8.
 fn asks<B: Bench, L: Ledger, R: Abort>(rt: &R, bench: &B, zms: &Zms, steps: &mut Steps<L>)
     requires stands { StandsOn (B.device bench.now) zms.now }
 {

@@ -15,11 +15,13 @@ use std::alloc::{AllocError, Global};
 pub enum Answer {
     /// Done, with so many units and erases.
     Done { units: u64 },
-    /// A record was appended, with so many units and erases, and so many records that check were dropped for it.
+    /// A record was appended, with so many units and erases, and so many records that check were
+    /// dropped for it.
     Appended { units: u64, dropped: u32 },
     /// The bodies of all records, the oldest first.
     Log { bodies: Bodies },
-    /// Power was lost after so many units and erases, and whether a record that was cut checks by chance.
+    /// Power was lost after so many units and erases, and whether a record that was cut checks by
+    /// chance.
     Lost { units: u64, chance: bool },
     /// Power is off.
     Off,
@@ -92,8 +94,8 @@ fn written(alloc: Global, answer: &Answer) -> Result<Vec<u8>, AllocError>
     Ok(text.into_bytes())
 }
 
-/// The bytes of an answer's text: each line with its LF, numbers in decimal, bytes in lower-case hexadecimal digits, an
-/// empty body as `-`.
+/// The bytes of an answer's text: each line with its LF, numbers in decimal, bytes in lower-case
+/// hexadecimal digits, an empty body as `-`.
 ///
 /// # Errors
 /// Want of memory alone.

@@ -8,7 +8,8 @@ pub enum Line {
     Put { body: Bytes },
     /// Asks for all records.
     Records,
-    /// Plans a loss of power after so many further units and erases, fewer than `script_lines::UNITS_END`.
+    /// Plans a loss of power after so many further units and erases, fewer than
+    /// `script_lines::UNITS_END`.
     Cut { units: u64 },
     /// Drops that plan.
     Uncut,

@@ -23,10 +23,10 @@ impl ScriptLine for Line {
 
 /// The lines of a script on a log.
 ///
-/// Lines end with LF, which the last may lack. An empty line and one that begins with `#` are skipped, and counted. A
-/// line's words are separated by one space. The lines are `put HEX`, `all`, `cut N`, `uncut` and `mount`, where HEX is one
-/// byte at least and no more than the limit, in digits of either case, and N is below 2^32, in decimal without a sign or
-/// leading zeros.
+/// Lines end with LF, which the last may lack. An empty line and one that begins with `#` are
+/// skipped, and counted. A line's words are separated by one space. The lines are `put HEX`, `all`,
+/// `cut N`, `uncut` and `mount`, where HEX is one byte at least and no more than the limit, in
+/// digits of either case, and N is below 2^32, in decimal without a sign or leading zeros.
 ///
 /// # Errors
 /// `BadLine` where a line is no line of these: the first such line, with its first cause. `NoMemory`.

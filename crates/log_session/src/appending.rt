@@ -15,7 +15,8 @@ use flash_sim::{Bench, Flash, Steps};
 use log_lines::{Answer, Bytes};
 use std::sync::ledger::Ledger;
 
-// Whether the units that were put before the last loss spell, by chance, another record in the area.
+// Whether the units that were put before the last loss spell, by chance, another record in the
+// area.
 fn spells_another<B: Bench, L: Ledger>(bench: &B, area: &Area, steps: &mut Steps<L>) -> bool
     requires { IsRingArea (B.device bench.now).banks area.now }
     ensures { (loss : loss_type) → (B.device bench.now).last_loss ≡ Some loss

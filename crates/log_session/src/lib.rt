@@ -1,4 +1,5 @@
-//! The lines of a script on an application log, carried out on a flash that may lose power at any unit.
+//! The lines of a script on an application log, carried out on a flash that may lose power at any
+//! unit.
 #![tactic(auto)]
 
 mod answers;

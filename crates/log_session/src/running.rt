@@ -15,9 +15,9 @@ use log_lines::Line;
 use std::alloc::Global;
 use std::sync::ledger::Ledger;
 
-/// Mounts the log of an area, carries out lines one after another, and gives the answers to the mount and to each line. With
-/// power on after the lines a mount of the area would have nothing to do. An area without damage has none afterwards,
-/// whatever the result.
+/// Mounts the log of an area, carries out lines one after another, and gives the answers to the
+/// mount and to each line. With power on after the lines a mount of the area would have nothing to
+/// do. An area without damage has none afterwards, whatever the result.
 ///
 /// # Errors
 /// `Damaged` with the damage that the area shows; the bench is then as before, but that power is on. `NoMemory`; the bench is

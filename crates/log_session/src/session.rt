@@ -27,8 +27,8 @@ pub struct LogSession {
 }
 
 impl LogSession {
-    /// Turns power on, mounts the log of an area, and gives the session with the answer to that mount. A mount of an area at
-    /// rest spends nothing. It takes no memory.
+    /// Turns power on, mounts the log of an area, and gives the session with the answer to that
+    /// mount. A mount of an area at rest spends nothing. It takes no memory.
     ///
     /// # Errors
     /// The damage that the area shows; the bench is then as before, but that power is on.
@@ -61,8 +61,8 @@ impl LogSession {
         }
     }
 
-    /// Carries out a line. With power off `put` and `all` answer `off`. A mount of an area at rest spends nothing, and each mount
-    /// that is not cut succeeds.
+    /// Carries out a line. With power off `put` and `all` answer `off`. A mount of an area at rest
+    /// spends nothing, and each mount that is not cut succeeds.
     ///
     /// # Errors
     /// `NoMemory`, where the line is `all` and power is on; nothing changed then.

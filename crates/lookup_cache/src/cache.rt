@@ -6,8 +6,8 @@ use flash_sim::NoMemory;
 use std::alloc::Global;
 use std::marker::Model;
 
-/// For each cache slot the sector and the slot where an entry was put. Ids share a cache slot where they leave the same
-/// remainder by the number of cache slots.
+/// For each cache slot the sector and the slot where an entry was put. Ids share a cache slot where
+/// they leave the same remainder by the number of cache slots.
 #[derive(Debug, Drop)]
 pub struct Cache {
     places: Vec<Option<(u32, u32)>>,
@@ -46,7 +46,8 @@ impl Cache {
         self.places[index] = Some((sector, slot));
     }
 
-    /// The sector and the slot that were noted last for the id's cache slot, where they were not forgotten since.
+    /// The sector and the slot that were noted last for the id's cache slot, where they were not
+    /// forgotten since.
     pub fn start_of(&self, id: u32) -> Option<(u32, u32)>
         ensures { result ≡ place_of self.now id }
     {

@@ -39,7 +39,8 @@ pub(crate) fn first_store(map: &FlashMap) -> usize
     store_from(map, 0, map.len()).unwrap_or(0)
 }
 
-/// The store area behind this one in the order of the map, round its end. None exactly where there is no other.
+/// The store area behind this one in the order of the map, round its end. None exactly where there
+/// is no other.
 pub fn target(map: &FlashMap, active: usize) -> Option<usize>
     requires { active < length map.now }
     ensures target { result ≡ target map.now active }

@@ -20,8 +20,8 @@ use flash_sim::{Flash, Steps};
 use setting_name::Name;
 use std::sync::ledger::Ledger;
 
-/// What was put when it is the turn of a name are the settings of all lesser names. The function does nothing; its contract
-/// is the law.
+/// What was put when it is the turn of a name are the settings of all lesser names. The function
+/// does nothing; its contract is the law.
 pub fn put_in_order()
     ensures { (settings : settings_type) → PutsInOrder settings }
 {}

@@ -1,4 +1,5 @@
-//! Which of several stores is active, by the records of a selector, and how all settings go from one to another.
+//! Which of several stores is active, by the records of a selector, and how all settings go from
+//! one to another.
 #![tactic(auto)]
 
 mod areas;

@@ -27,7 +27,8 @@ use std::sync::ledger::Ledger;
 pub enum MigrateFault {
     /// There is no other store area.
     NoTarget,
-    /// A setting finds no room in the target: the bytes that it needs, and those that the settings before it cost.
+    /// A setting finds no room in the target: the bytes that it needs, and those that the settings
+    /// before it cost.
     NoSpace { need: u64, live: u64 },
     /// A name would be one too many for the target.
     TooManyNames,
@@ -117,9 +118,9 @@ fn moved_as<K: Backend>(
     }
 }
 
-/// Erases an area, mounts a store on it, and puts all settings of another store into it, in the byte order of their names. The
-/// source stays as it is. Whatever the result, it spends at most so many units and erases as the area's geometry and the count of the
-/// settings say (`fill_units`).
+/// Erases an area, mounts a store on it, and puts all settings of another store into it, in the
+/// byte order of their names. The source stays as it is. Whatever the result, it spends at most so
+/// many units and erases as the area's geometry and the count of the settings say (`fill_units`).
 ///
 /// # Errors
 /// `TooManyNames` and `NoSpace` where the area has no place for a setting beside those of lesser names, `NoMemory`, `PowerLost`:
@@ -215,9 +216,10 @@ fn move_to<F: Flash, K: Backend, L: Ledger>(
     moved_as(to, index as usize, chosen)
 }
 
-/// Moves all settings to the next store area of the map, which is then the active one. It gives a store on that area, and
-/// the area's index. The source's sectors stay as they are, and whatever happens the active area reads as the same settings. Whatever
-/// the result, it spends at most the units and erases of filling that area once and of choosing it (`migrate_units`).
+/// Moves all settings to the next store area of the map, which is then the active one. It gives a
+/// store on that area, and the area's index. The source's sectors stay as they are, and whatever
+/// happens the active area reads as the same settings. Whatever the result, it spends at most the
+/// units and erases of filling that area once and of choosing it (`migrate_units`).
 ///
 /// # Errors
 /// `NoTarget` exactly where there is no other store area, and then nothing changed. `TooManyNames` and `NoSpace` where the

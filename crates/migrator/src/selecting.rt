@@ -1,4 +1,5 @@
-// The selector: a ring of records, the last of which that names a store area tells which one is active.
+// The selector: a ring of records, the last of which that names a store area tells which one is
+// active.
 ghost use Rattle.std.specs.Prelude.{◌≡◌, ℕ, ◌+◌, ◌≤◌, ◌<◌, ◌∷◌, [], List, true, false, is_err, length, None, Some, OnOk, OnErr};
 ghost use Rattle.std.specs.Option.{option_map, option_or, ForSome};
 ghost use Rattle.flash_map.specs.declared.area.Area.{Area as area_type};
@@ -215,7 +216,8 @@ fn collect_and_put<F: Flash, L: Ledger>(
 }
 
 impl Selector {
-    /// Mounts the selector on its area. The records and the active area stay, also where power is lost. It takes no memory.
+    /// Mounts the selector on its area. The records and the active area stay, also where power is
+    /// lost. It takes no memory.
     ///
     /// # Errors
     /// `Damaged` exactly where the area's records are damaged, and then nothing was programmed; `PowerLost`. Never `NoMemory`.
@@ -275,9 +277,9 @@ impl Selector {
         }
     }
 
-    /// Makes a store area the active one: one record more names it, also where it is active already. Only where that does
-    /// not fit and no sector but the scratch one is free, the oldest sector is collected first; the last record that names
-    /// a store area is kept.
+    /// Makes a store area the active one: one record more names it, also where it is active
+    /// already. Only where that does not fit and no sector but the scratch one is free, the oldest
+    /// sector is collected first; the last record that names a store area is kept.
     ///
     /// # Errors
     /// `PowerLost`. The active area is then as before, or the one that was chosen, and the selector is down. It spends at most so

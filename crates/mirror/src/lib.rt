@@ -1,5 +1,5 @@
-//! Two areas that hold one map of settings: each command goes to the trusted area first, and then to the other one. A mount
-//! trusts the area that the selector names, and repairs the other one.
+//! Two areas that hold one map of settings: each command goes to the trusted area first, and then
+//! to the other one. A mount trusts the area that the selector names, and repairs the other one.
 #![tactic(auto)]
 
 mod areas;

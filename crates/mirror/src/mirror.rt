@@ -165,7 +165,8 @@ impl<K: Priced> Mirror<K> {
         self.trusted.store.is_up() && self.other.store.is_up()
     }
 
-    /// The value of a name, as long as the areas allow; none where it has no value. It is read from the trusted area.
+    /// The value of a name, as long as the areas allow; none where it has no value. It is read from
+    /// the trusted area.
     pub fn get<'a, F: Flash, L: Ledger>(
         &self,
         flash: &'a F,
@@ -197,8 +198,9 @@ impl<K: Priced> Mirror<K> {
         self.trusted.store.next_name(flash, after, steps)
     }
 
-    /// Gives a name a value that is not empty and no longer than the areas allow, in the trusted area and then in the other one.
-    /// An equal value programs nothing. It takes no memory, and spends at most the units and erases of one command in each area.
+    /// Gives a name a value that is not empty and no longer than the areas allow, in the trusted
+    /// area and then in the other one. An equal value programs nothing. It takes no memory, and
+    /// spends at most the units and erases of one command in each area.
     ///
     /// # Errors
     /// `TooManyNames` exactly where the name would be one too many in one of the areas. `NoSpace` exactly where it would not, the
@@ -243,8 +245,9 @@ impl<K: Priced> Mirror<K> {
         }
     }
 
-    /// Takes a name's value away, in the trusted area and then in the other one. An absent name programs nothing. It never answers
-    /// for room, takes no memory, and spends at most the units and erases of one command in each area.
+    /// Takes a name's value away, in the trusted area and then in the other one. An absent name
+    /// programs nothing. It never answers for room, takes no memory, and spends at most the units
+    /// and erases of one command in each area.
     ///
     /// # Errors
     /// `PowerLost`: the mirror is down; the trusted area is as before or without the name, and so is the other one, which is

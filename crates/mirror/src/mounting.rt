@@ -162,7 +162,8 @@ fn if_same<K: Priced, F: Flash, L: Ledger>(
     }
 }
 
-// Mounts the other area. None exactly where it is damaged, or holds another map than the trusted one.
+// Mounts the other area. None exactly where it is damaged, or holds another map than the trusted
+// one.
 fn mount_other<K: Priced, F: Flash, L: Ledger>(
     alloc: Global,
     trusted: &K,
@@ -377,12 +378,15 @@ fn mount_both<K: Priced, F: Flash, L: Ledger>(
 }
 
 impl<K: Priced> Mirror<K> {
-    /// Mounts the selector, trusts the area that it names, or the other one where that is all FF and the other is not, which the
-    /// selector then names; mounts the trusted area, and then the other one. Where the other one is damaged or holds another map,
-    /// and only there, it is erased, and all settings are put into it.
+    /// Mounts the selector, trusts the area that it names, or the other one where that is all FF
+    /// and the other is not, which the selector then names; mounts the trusted area, and then the
+    /// other one. Where the other one is damaged or holds another map, and only there, it is
+    /// erased, and all settings are put into it.
     ///
-    /// Whatever the result, the same area is trusted afterwards, and the mirror reads as the same map. A mount spends at most so many units and erases as a mount of
-    /// each of the three areas, a choice of the selector, and a repair of the map's names do; and none where nothing is to do.
+    /// Whatever the result, the same area is trusted afterwards, and the mirror reads as the same
+    /// map. A mount spends at most so many units and erases as a mount of each of the three areas,
+    /// a choice of the selector, and a repair of the map's names do; and none where nothing is to
+    /// do.
     ///
     /// # Errors
     /// `Damaged` exactly where the selector or the trusted area is damaged; no byte of an area for settings changed then. `Unfit`

@@ -1,4 +1,5 @@
-// Walks over the names of a store's map, for the numbers of room of an area, which may be another one than the store's.
+// Walks over the names of a store's map, for the numbers of room of an area, which may be another
+// one than the store's.
 ghost use Rattle.std.specs.Prelude.{◌≡◌, ◌+◌, ◌<◌, ◌≤◌, ◌^◌, ℕ, List, true, length, map, IfOk, if◌then◌else◌};
 ghost use Rattle.std.specs.FinMap as finite;
 ghost use Rattle.flash_map.specs.Area.{geometry_of};

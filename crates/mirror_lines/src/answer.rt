@@ -61,9 +61,9 @@ fn bytes_of(alloc: Global, text: &str) -> Result<Vec<u8>, NoMemory>
     }
 }
 
-/// The bytes of an answer's text: each line with its LF, numbers in decimal, bytes in lower-case hexadecimal digits.
-/// In a `Names` answer the label is one of 1 to 8 bytes of `a` to `z` and `0` to `9`, and the names rise in the order of
-/// their bytes.
+/// The bytes of an answer's text: each line with its LF, numbers in decimal, bytes in lower-case
+/// hexadecimal digits. In a `Names` answer the label is one of 1 to 8 bytes of `a` to `z` and `0`
+/// to `9`, and the names rise in the order of their bytes.
 ///
 /// # Errors
 /// Want of memory alone.

@@ -15,10 +15,12 @@ pub enum Line {
     Names,
     /// Restores power and mounts.
     Mount,
-    /// Plans a loss of power after so many further units and erases, fewer than `script_lines::UNITS_END`.
+    /// Plans a loss of power after so many further units and erases, fewer than
+    /// `script_lines::UNITS_END`.
     Cut { units: u64 },
     /// Drops that plan.
     Uncut,
-    /// Puts a blank area in the place of the one with this label, which has 1 to 8 bytes of `a` to `z` and `0` to `9`.
+    /// Puts a blank area in the place of the one with this label, which has 1 to 8 bytes of `a` to
+    /// `z` and `0` to `9`.
     Blank { label: Label },
 }

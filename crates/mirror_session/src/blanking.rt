@@ -39,7 +39,8 @@ fn copied(alloc: Global, banks: &[Bank]) -> Result<Vec<Bank>, NoMemory>
     }
 }
 
-// Loads the flash with the bytes that it has, but for those of the area, which are FF then. That drops a planned loss.
+// Loads the flash with the bytes that it has, but for those of the area, which are FF then. That
+// drops a planned loss.
 //
 // # Errors
 // `NoMemory`, and the flash is as before.

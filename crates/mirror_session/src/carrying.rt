@@ -32,7 +32,8 @@ pub struct MirrorSession<K: Priced> {
 }
 
 impl<K: Priced> MirrorSession<K> {
-    /// Turns power on, mounts the mirror of a map, and gives the session with the answer to that mount.
+    /// Turns power on, mounts the mirror of a map, and gives the session with the answer to that
+    /// mount.
     ///
     /// # Errors
     /// `Damaged` with the damage that the map shows: the selector's, or that of the area that is read. `Unfit` where its
@@ -70,8 +71,9 @@ impl<K: Priced> MirrorSession<K> {
         }
     }
 
-    /// Carries out a line. With power off `set`, `get`, `del` and `names` answer `off`; and power is off from a line in which
-    /// it was lost, or in which an area was replaced, to the next mount that answers `ok`.
+    /// Carries out a line. With power off `set`, `get`, `del` and `names` answer `off`; and power
+    /// is off from a line in which it was lost, or in which an area was replaced, to the next mount
+    /// that answers `ok`.
     ///
     /// # Errors
     /// `Damaged` and `Unfit` where the line is a mount, as `open` has them. `NoMemory` where the line takes memory, as `get`,
@@ -150,8 +152,8 @@ impl<K: Priced> MirrorSession<K> {
         }
     }
 
-    // Puts a blank area in the place of the store area with the label, where power is off and each area is as a whole mount
-    // and the lines behind it left it.
+    // Puts a blank area in the place of the store area with the label, where power is off and each
+    // area is as a whole mount and the lines behind it left it.
     fn replace<B: Bench>(
         &mut self,
         alloc: Global,

@@ -1,8 +1,9 @@
 // Laws of the table. The functions do nothing: their contracts are the laws.
 ghost use Rattle.mirror_session.specs.Laws.{HoldsAcknowledged, KeepsNamed, LinesAreServed, LinesMakeRuns, LosesPower, RunsInRow, StaysMirrored};
 
-/// Wherever power is lost and an area is replaced, the settings are those after commands of the lines in their order: all of
-/// each line that was done, and each one in which power was lost or not.
+/// Wherever power is lost and an area is replaced, the settings are those after commands of the
+/// lines in their order: all of each line that was done, and each one in which power was lost or
+/// not.
 pub fn acknowledged_commands_stand()
     ensures { HoldsAcknowledged }
 {}
@@ -17,7 +18,8 @@ pub fn power_follows_losses()
     ensures { LosesPower }
 {}
 
-/// The selector names another area only behind a mount that found the one of before all FF, and the other one not.
+/// The selector names another area only behind a mount that found the one of before all FF, and the
+/// other one not.
 pub fn named_area_stays()
     ensures { KeepsNamed }
 {}
@@ -27,8 +29,8 @@ pub fn two_runs()
     ensures { RunsInRow }
 {}
 
-/// Lines that are carried out one by one make a run: it follows the table, the counts and the plan are those that the answers
-/// say, and no byte changed outside the areas of the map.
+/// Lines that are carried out one by one make a run: it follows the table, the counts and the plan
+/// are those that the answers say, and no byte changed outside the areas of the map.
 pub fn line_by_line()
     ensures { LinesMakeRuns }
 {}

@@ -17,7 +17,8 @@ use mirror_lines::Line;
 use std::alloc::Global;
 use std::sync::ledger::Ledger;
 
-/// Mounts the mirror of a map, carries out lines one after another, and gives the answers to the mount and to each line.
+/// Mounts the mirror of a map, carries out lines one after another, and gives the answers to the
+/// mount and to each line.
 ///
 /// # Errors
 /// `Damaged` and `Unfit` where the opening mount or another one finds damage, or settings that do not fit one of the areas;

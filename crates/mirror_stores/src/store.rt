@@ -20,7 +20,8 @@ use zms_cycle::{capacity as zms_capacity, cost as zms_cost};
 // How many names an NVS area may have.
 const NVS_NAMES: u32 = 511;
 
-/// A store of settings on an area, which is the one for the area's role, with what names and values cost there.
+/// A store of settings on an area, which is the one for the area's role, with what names and values
+/// cost there.
 #[derive(Debug, Drop)]
 pub struct MirrorStore {
     backend: AnyBackend,

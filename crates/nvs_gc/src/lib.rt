@@ -1,6 +1,6 @@
-//! A store of items in the sectors of NVS: it mounts, collects garbage, and reads, writes and deletes
-//! items. It is the one store over any sectors, with ids of 16 bits. Wherever power is lost, the items are
-//! those from before the call or those after it.
+//! A store of items in the sectors of NVS: it mounts, collects garbage, and reads, writes and
+//! deletes items. It is the one store over any sectors, with ids of 16 bits. Wherever power is
+//! lost, the items are those from before the call or those after it.
 #![tactic(auto)]
 
 mod nvs;

@@ -52,10 +52,11 @@ fn narrowed(id: Option<u32>) -> Option<u16>
 }
 
 impl Nvs {
-    /// Reads the area and carries out what a loss of power left undone: the erase of a collected sector, or
-    /// a whole collection. The items stay, and the newest versions of each, also where power is lost.
-    /// Whatever the result, it spends no more units and erases than a sector has units. At rest nothing
-    /// changes; an area in which anything changed is not all FF then, also where power is lost.
+    /// Reads the area and carries out what a loss of power left undone: the erase of a collected
+    /// sector, or a whole collection. The items stay, and the newest versions of each, also where
+    /// power is lost. Whatever the result, it spends no more units and erases than a sector has
+    /// units. At rest nothing changes; an area in which anything changed is not all FF then, also
+    /// where power is lost.
     ///
     /// # Errors
     /// `Damaged`, and then nothing was programmed; `PowerLost`; `NoMemory`, and then nothing was programmed.
@@ -101,9 +102,9 @@ impl Nvs {
         self.store.is_up()
     }
 
-    /// Closes the open sector and collects the oldest one, where that is not blank. The items stay, also
-    /// where power is lost. What does not fit then is kept out by the copied items alone, and a delete
-    /// fits. Where the open sector is blank, nothing is programmed.
+    /// Closes the open sector and collects the oldest one, where that is not blank. The items stay,
+    /// also where power is lost. What does not fit then is kept out by the copied items alone, and
+    /// a delete fits. Where the open sector is blank, nothing is programmed.
     ///
     /// # Errors
     /// `PowerLost`. The store is then down.
@@ -131,9 +132,9 @@ impl Nvs {
         self.store.close_and_collect(flash, steps)
     }
 
-    /// The bytes of an item: none where the id has no entry, or its last one is a delete. Where no entry of the
-    /// list has an id of the same slot of the cache it takes no view of the flash, and at most two where the
-    /// last such entry has this id.
+    /// The bytes of an item: none where the id has no entry, or its last one is a delete. Where no
+    /// entry of the list has an id of the same slot of the cache it takes no view of the flash, and
+    /// at most two where the last such entry has this id.
     pub fn get<'a, F: Flash, L: Ledger>(
         &self,
         flash: &'a F,
@@ -152,8 +153,8 @@ impl Nvs {
         self.store.get(flash, id as u32, steps)
     }
 
-    /// Whether an item may be there: `true` exactly where an entry of the list has an id of the same slot of
-    /// the cache. Else the id has none. It looks at the cache alone.
+    /// Whether an item may be there: `true` exactly where an entry of the list has an id of the
+    /// same slot of the cache. Else the id has none. It looks at the cache alone.
     pub fn may_hold(&self, id: u16) -> bool
         ensures exactly { (d : Device) → StandsOn d self.now
             → result ≡ is_some (latest_on kind d self.now.store.area id) }
@@ -163,9 +164,9 @@ impl Nvs {
         self.store.may_hold(id as u32)
     }
 
-    /// Makes a table of the last entries of ids, by one walk over the list: of 800 ids at most, the least that
-    /// have bytes. It tells of each id where no more than 800 ids ever had bytes in the list. It does so as long
-    /// as the area stays as it is.
+    /// Makes a table of the last entries of ids, by one walk over the list: of 800 ids at most, the
+    /// least that have bytes. It tells of each id where no more than 800 ids ever had bytes in the
+    /// list. It does so as long as the area stays as it is.
     pub fn tell_last_slots<F: Flash, L: Ledger>(
         &self,
         flash: &F,
@@ -178,8 +179,8 @@ impl Nvs {
         self.store.tell_last_slots(flash, last, steps)
     }
 
-    /// The bytes of an item, as `get` gives them, by a table of last entries. Where the table tells of the id,
-    /// it is one step at most; else it is what `get` does.
+    /// The bytes of an item, as `get` gives them, by a table of last entries. Where the table tells
+    /// of the id, it is one step at most; else it is what `get` does.
     pub fn get_by<'a, F: Flash, L: Ledger>(
         &self,
         flash: &'a F,
@@ -210,9 +211,9 @@ impl Nvs {
         narrowed(self.store.next_id(flash, widened(after), steps))
     }
 
-    /// The least id behind this one that has a value, or the least of all, as `next_id` gives it, by a table of
-    /// last entries. Where the table has one, or tells of all ids, nothing is looked at; else the list is
-    /// searched.
+    /// The least id behind this one that has a value, or the least of all, as `next_id` gives it,
+    /// by a table of last entries. Where the table has one, or tells of all ids, nothing is looked
+    /// at; else the list is searched.
     pub fn next_by<F: Flash, L: Ledger>(
         &self,
         flash: &F,
@@ -230,8 +231,9 @@ impl Nvs {
         narrowed(self.store.next_by(flash, last, widened(after), steps))
     }
 
-    /// The next older entry of the list: the one before the entry in this sector and slot, or the newest one
-    /// where no place is given. Deletes are among them. `None` comes exactly at the front of the list.
+    /// The next older entry of the list: the one before the entry in this sector and slot, or the
+    /// newest one where no place is given. Deletes are among them. `None` comes exactly at the
+    /// front of the list.
     pub fn walk<F: Flash, L: Ledger>(
         &self,
         flash: &F,
@@ -251,8 +253,8 @@ impl Nvs {
         self.store.walk(flash, after, steps)
     }
 
-    /// The id of an item that has these bytes, of the ids from `least` to `most`; any of them where several have.
-    /// It is one walk over the list at most, from its newest entry back.
+    /// The id of an item that has these bytes, of the ids from `least` to `most`; any of them where
+    /// several have. It is one walk over the list at most, from its newest entry back.
     pub fn id_of<F: Flash, L: Ledger>(
         &self,
         flash: &F,
@@ -329,8 +331,8 @@ impl Nvs {
         self.store.write(flash, id as u32, bytes, steps)
     }
 
-    /// Deletes an item. Where the id has none, as the reserved id FFFF never has, nothing is programmed. It
-    /// always finds room.
+    /// Deletes an item. Where the id has none, as the reserved id FFFF never has, nothing is
+    /// programmed. It always finds room.
     ///
     /// # Errors
     /// `PowerLost`: the items are as before, or without this one, and the store is down.

@@ -111,7 +111,8 @@ fn bytes_in(bytes: &[u8], unit: u32, slot: u32) -> &[u8]
     }
 }
 
-// The id that the bytes from this place on have where an entry there has its own. Their CRC is not looked at.
+// The id that the bytes from this place on have where an entry there has its own. Their CRC is not
+// looked at.
 fn id_at(bytes: &[u8], start: usize) -> u32
     requires { start + 8 ≤ length bytes.now }
     ensures value { result ≡ (fields_of (slice_range bytes.now start (start + 8))).id }
@@ -132,8 +133,8 @@ fn named_id(bytes: &[u8], unit: u32, slot: u32) -> u32
     id_at(bytes, bytes.len() - ((slot + 1) * size) as usize)
 }
 
-// How many of the first so many slots of a sector with these bytes have to be looked at for the ids from `least` to `most`. The
-// ids that slots name are read, from the last slot up.
+// How many of the first so many slots of a sector with these bytes have to be looked at for the ids
+// from `least` to `most`. The ids that slots name are read, from the last slot up.
 fn reach_in(bytes: &[u8], unit: u32, slots: u32, least: u32, most: u32) -> u32
     requires unit { IsUnit unit }
     requires short { length bytes.now ≤ 2 ^ 15 }

@@ -21,8 +21,8 @@ use flash_map::{Area, Source, copy_padded, geometry, padded, program_padded};
 use flash_sim::{Flash, PowerLost, Steps};
 use std::sync::ledger::Ledger;
 
-/// Appends a pair to the list: the data is programmed, padded to the unit with FF and in calls of at most `PIECE` bytes,
-/// and then its entry, in the next slot. No bytes are a delete.
+/// Appends a pair to the list: the data is programmed, padded to the unit with FF and in calls of
+/// at most `PIECE` bytes, and then its entry, in the next slot. No bytes are a delete.
 ///
 /// # Errors
 /// `PowerLost`: the list is as before, or with the pair. No more room is used up than the pair takes, and the scan may
@@ -86,8 +86,9 @@ pub fn append<F: Flash>(
     Ok(())
 }
 
-/// Appends the pair of an entry of another sector to the open sector's part of the list: the data is copied, padded to
-/// the unit with FF and in calls of at most `PIECE` bytes, and then its entry is programmed, in the next slot.
+/// Appends the pair of an entry of another sector to the open sector's part of the list: the data
+/// is copied, padded to the unit with FF and in calls of at most `PIECE` bytes, and then its entry
+/// is programmed, in the next slot.
 ///
 /// # Errors
 /// `PowerLost`: the open sector's part is as before, or with the pair. No other sector changed. The scan may not be that
@@ -170,8 +171,8 @@ fn special(place: u32) -> Entry
     }
 }
 
-/// Programs gc-done in the next slot; it names the data end. From it on the open sector counts, and the next one, where
-/// that is closed, does not.
+/// Programs gc-done in the next slot; it names the data end. From it on the open sector counts, and
+/// the next one, where that is closed, does not.
 ///
 /// # Errors
 /// `PowerLost`: the open sector's part of the list is as before, and so is whether gc-done stands. A slot may be used
@@ -213,8 +214,8 @@ pub fn put_done<F: Flash>(flash: &mut F, area: &Area, scan: &mut Scan) -> Result
     Ok(())
 }
 
-/// Programs the close entry in slot 0; it names the start of the lowest used slot. The sector is closed from its first
-/// unit on.
+/// Programs the close entry in slot 0; it names the start of the lowest used slot. The sector is
+/// closed from its first unit on.
 ///
 /// # Errors
 /// `PowerLost`: no byte of the area changed, or the sector is closed. The area is to be mounted again.

@@ -5,8 +5,8 @@ ghost use Rattle.nvs_store.specs.Entries.{encoded, decoded};
 
 use crc8_entry::{START, checks, crc8};
 
-/// What stands in a slot. Its data, of `len` bytes, starts at `offset` bytes from the sector's start. No bytes are a
-/// delete.
+/// What stands in a slot. Its data, of `len` bytes, starts at `offset` bytes from the sector's
+/// start. No bytes are a delete.
 #[derive(Clone, Copy, Debug, PartialEq, Eq)]
 pub struct Entry {
     pub id: u16,

@@ -7,7 +7,8 @@ ghost use Rattle.nvs_store.specs.Scans.{fits};
 use crate::scan::Scan;
 use flash_map::Geometry;
 
-/// The bytes of a slot: an entry's eight, rounded up to the unit. A search asks for it at each slot, so it does not divide.
+/// The bytes of a slot: an entry's eight, rounded up to the unit. A search asks for it at each
+/// slot, so it does not divide.
 pub fn slot_size(unit: u32) -> u32
     requires { IsUnit unit }
     ensures size { result ≡ slot_size unit }
@@ -36,7 +37,8 @@ pub fn capacity(unit: u32, sector: u32) -> u32
     sector.saturating_sub(4 * slot_size(unit))
 }
 
-/// Whether data of `len` bytes and its entry fit the sector that was scanned. A `len` of 0 is a delete.
+/// Whether data of `len` bytes and its entry fit the sector that was scanned. A `len` of 0 is a
+/// delete.
 pub fn fits(g: &Geometry, scan: &Scan, len: u32) -> bool
     requires unit { IsUnit g.now.unit }
     requires at_least { 512 ≤ g.now.sector }

@@ -51,7 +51,8 @@ fn find_at<F: Flash, L: Ledger>(
     }
 }
 
-/// The last entry that is looked for in the sectors from `first` to the one before `end`, of those that count.
+/// The last entry that is looked for in the sectors from `first` to the one before `end`, of those
+/// that count.
 fn find_among<F: Flash, L: Ledger>(
     flash: &F,
     area: &Area,
@@ -175,8 +176,8 @@ fn newest_up_to<F: Flash, L: Ledger>(
     newest_before(flash, area, scan, place, steps)
 }
 
-/// The next older entry of the list: the one before the entry in this sector and slot, or the newest one where no
-/// place is given. `None` comes exactly at the front of the list.
+/// The next older entry of the list: the one before the entry in this sector and slot, or the
+/// newest one where no place is given. `None` comes exactly at the front of the list.
 pub fn walk<F: Flash, L: Ledger>(
     flash: &F,
     area: &Area,

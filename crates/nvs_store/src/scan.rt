@@ -7,7 +7,8 @@ ghost use Rattle.nvs_store.specs.Scans.{reading, scan_of, placed_at, marked_redo
 use crate::entry::Entry;
 use flash_map::Area;
 
-/// An entry that counts, and its slot. Slots of entries are numbered from 1, downward from the sector's end.
+/// An entry that counts, and its slot. Slots of entries are numbered from 1, downward from the
+/// sector's end.
 #[derive(Clone, Copy, Debug, PartialEq, Eq)]
 pub struct SlotEntry {
     pub slot: u32,

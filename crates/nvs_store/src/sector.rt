@@ -104,8 +104,8 @@ pub fn is_closed(bytes: &[u8], unit: u32) -> bool
     !is_erased(slot_of(bytes, unit, 0))
 }
 
-/// Whether a slot's bytes have the id that is looked for where an entry has its own; where none is given, each has. Their
-/// CRC is not looked at.
+/// Whether a slot's bytes have the id that is looked for where an entry has its own; where none is
+/// given, each has. Their CRC is not looked at.
 fn names(wanted: Option<u16>, slot: &[u8]) -> bool
     requires { 8 ≤ length slot.now }
     ensures { result ≡ is_wanted wanted (entry_of slot.now) }
@@ -116,7 +116,8 @@ fn names(wanted: Option<u16>, slot: &[u8]) -> bool
     }
 }
 
-/// The entry in a slot, if it counts and is looked for. Most slots are of other ids, so the id is read before the CRC.
+/// The entry in a slot, if it counts and is looked for. Most slots are of other ids, so the id is
+/// read before the CRC.
 fn wanted_entry(bytes: &[u8], unit: u32, index: u32, wanted: Option<u16>) -> Option<SlotEntry>
     requires unit { IsUnit unit }
     requires short { length bytes.now ≤ 2 ^ 15 }
@@ -130,7 +131,8 @@ fn wanted_entry(bytes: &[u8], unit: u32, index: u32, wanted: Option<u16>) -> Opt
     }
 }
 
-/// The last entry that is looked for in the first so many slots, a delete too. The sector has this number.
+/// The last entry that is looked for in the first so many slots, a delete too. The sector has this
+/// number.
 pub fn find_in(
     bytes: &[u8],
     unit: u32,

@@ -62,7 +62,8 @@ fn entry_in(bytes: &[u8], unit: u32, index: u32) -> Option<Entry>
     decode_entry(slot_of(bytes, unit, index))
 }
 
-/// Whether an offset is at the start of a unit. A division by a number that is known here takes no time.
+/// Whether an offset is at the start of a unit. A division by a number that is known here takes no
+/// time.
 fn is_aligned(offset: u32, unit: u32) -> bool
     requires { IsUnit unit }
     ensures { result ≡ (offset % unit == 0) }

@@ -11,8 +11,9 @@ pub fn one_pair_more()
         → last (pairs ++ pair ∷ []) id ≡ (if pair.0 == id then value_of pair.1 else last pairs id) }
 {}
 
-/// The other sectors and the live pairs of the victim stand for the same items as the victim and the others. An id
-/// that the victim's last mark deletes is named by no pair that is left, where the others do not name it.
+/// The other sectors and the live pairs of the victim stand for the same items as the victim and
+/// the others. An id that the victim's last mark deletes is named by no pair that is left, where
+/// the others do not name it.
 pub fn collect_pairs()
     ensures items { (victim others : List (ℕ × List ℕ))
         → SameItems (others ++ live_pairs victim others) (victim ++ others) }
@@ -20,8 +21,8 @@ pub fn collect_pairs()
         → last victim id ≡ None → names id (others ++ live_pairs victim others) ≡ false }
 {}
 
-/// The map that a list stands for has the last value of each id; a list with one pair more stands for the map with
-/// it, and lists that agree on each last pair stand for one map.
+/// The map that a list stands for has the last value of each id; a list with one pair more stands
+/// for the map with it, and lists that agree on each last pair stand for one map.
 pub fn map_of_list()
     ensures last { (pairs : List (ℕ × List ℕ)) (id : ℕ) → get (items_of pairs) id ≡ last pairs id }
     ensures more { (pairs : List (ℕ × List ℕ)) (pair : ℕ × List ℕ)

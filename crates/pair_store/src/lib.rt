@@ -1,5 +1,5 @@
-//! Settings: what the backends over a store of items share. A setting is a pair of items, its name and its value, and a
-//! backend says by a type of its own (`Numbers`) at which ids they stand.
+//! Settings: what the backends over a store of items share. A setting is a pair of items, its name
+//! and its value, and a backend says by a type of its own (`Numbers`) at which ids they stand.
 #![tactic(auto)]
 
 mod homes;

@@ -40,7 +40,8 @@ pub fn is_value(found: Option<&[u8]>, longest: u32) -> bool
     }
 }
 
-/// Whether one item is the name and the other a value. It looks at the value only where the name is there.
+/// Whether one item is the name and the other a value. It looks at the value only where the name is
+/// there.
 pub fn is_at<S: ItemStore, F: Flash, L: Ledger>(
     store: &S,
     flash: &F,
@@ -95,8 +96,8 @@ pub fn is_free<S: ItemStore, F: Flash, L: Ledger>(
     store.get_by(flash, index, second, steps).is_none()
 }
 
-/// Where the setting of a name stands, if the name has a value. No item may be a stray. It is one walk over the store's entries at
-/// most, and makes no index.
+/// Where the setting of a name stands, if the name has a value. No item may be a stray. It is one
+/// walk over the store's entries at most, and makes no index.
 pub fn standing_place<N: Numbers, S: ItemStore, F: Flash, L: Ledger>(
     store: &S,
     flash: &F,
@@ -115,8 +116,8 @@ pub fn standing_place<N: Numbers, S: ItemStore, F: Flash, L: Ledger>(
     store.id_of(flash, ids.least, ids.most, name.bytes(), steps)
 }
 
-/// The value of a name; none where it has no value. No item may be a stray. Where the name can have no item by what the store
-/// keeps in memory, the entries are not gone over. No index is made.
+/// The value of a name; none where it has no value. No item may be a stray. Where the name can have
+/// no item by what the store keeps in memory, the entries are not gone over. No index is made.
 pub fn standing_value<'a, N: Numbers, S: ItemStore, F: Flash, L: Ledger>(
     store: &S,
     flash: &'a F,
@@ -168,7 +169,8 @@ fn counts_at<N: Numbers, S: ItemStore, F: Flash, L: Ledger>(
     N::is_kept(store, flash, index, place, steps)
 }
 
-// Where the setting of a name stands, if the name has a value, also where items are strays. It looks at each id of the name.
+// Where the setting of a name stands, if the name has a value, also where items are strays. It
+// looks at each id of the name.
 fn place_among<N: Numbers, S: ItemStore, F: Flash, L: Ledger>(
     store: &S,
     flash: &F,
@@ -192,9 +194,10 @@ fn place_among<N: Numbers, S: ItemStore, F: Flash, L: Ledger>(
     None
 }
 
-/// The value of a name; none where it has no value. Items may be strays, as before a mount has removed them: none of them is told
-/// as a value. Where the name can have no item by what the store keeps in memory, the entries are not gone over. Else an index is
-/// made, and each id of the name looked at: where no item is a stray, `standing_value` is faster and tells the same.
+/// The value of a name; none where it has no value. Items may be strays, as before a mount has
+/// removed them: none of them is told as a value. Where the name can have no item by what the store
+/// keeps in memory, the entries are not gone over. Else an index is made, and each id of the name
+/// looked at: where no item is a stray, `standing_value` is faster and tells the same.
 pub fn value_of<'a, N: Numbers, S: ItemStore, F: Flash, L: Ledger>(
     store: &S,
     flash: &'a F,

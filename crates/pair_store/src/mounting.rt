@@ -21,9 +21,10 @@ use item_store::ItemStore;
 use std::alloc::Global;
 use std::sync::ledger::Ledger;
 
-/// Mounts a store, and deletes the items that belong to no setting. The settings stay, and each item that is kept, also where
-/// power is lost; no item is new or has other bytes. Whatever the result, it spends at most so many units and erases as the
-/// area's geometry says (`mount_units`). The area is all FF afterwards only where it was so before.
+/// Mounts a store, and deletes the items that belong to no setting. The settings stay, and each
+/// item that is kept, also where power is lost; no item is new or has other bytes. Whatever the
+/// result, it spends at most so many units and erases as the area's geometry says (`mount_units`).
+/// The area is all FF afterwards only where it was so before.
 ///
 /// # Errors
 /// `Damaged` exactly where the area shows damage, and then nothing was programmed; `PowerLost`; `NoMemory`, and then nothing was

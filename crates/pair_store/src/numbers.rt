@@ -49,7 +49,8 @@ pub trait Numbers {
         ensures homes { (area : area_type) → HasAllHomes (numbers area) result }
         ensures only { (area : area_type) → HasOnlyPlaces (numbers area) result };
 
-    /// Whether a name may have a value: where it answers `false`, the name has none. It makes no index.
+    /// Whether a name may have a value: where it answers `false`, the name has none. It makes no
+    /// index.
     fn may_have<S: ItemStore, F: Flash, L: Ledger>(
         store: &S,
         flash: &F,
@@ -98,7 +99,8 @@ pub trait Numbers {
             ≡ (room_in counted too_many S.price S.cap (geometry_of d area)).cost
             (settings_in (numbers area) (on S.contents d area)) };
 
-    // The count, the names and the values have ids of their own, and all of them are ids of the store.
+    // The count, the names and the values have ids of their own, and all of them are ids of the
+    // store.
     ghost is_numbering: { (area : area_type) → IsNumbering (numbers area) };
 
     ghost within: { (area : area_type) (count : Option (List ℕ)) → (numbers area).first + (numbers area).count_of count + (numbers area).step ≤ top };

@@ -131,8 +131,8 @@ pub fn price_of_pair<S: ItemStore, F: Flash>(store: &S, flash: &F, name: &Name, 
     store.price_of(flash, value.len() as u32) + store.price_of(flash, text.len() as u32)
 }
 
-/// Puts a new name and its value at two ids that are free. `need` is what they need together, in bytes. All
-/// other items stay.
+/// Puts a new name and its value at two ids that are free. `need` is what they need together, in
+/// bytes. All other items stay.
 ///
 /// # Errors
 /// `NoSpace`: the settings are as before. `PowerLost`: they are as before, or with the value.

@@ -17,9 +17,10 @@ use flash_sim::{Flash, PowerLost, Steps};
 use item_store::ItemStore;
 use std::sync::ledger::Ledger;
 
-/// Deletes an item, unless it is a count or a part of a setting that counts: then nothing is programmed. The index then tells of
-/// the items that are left. No other item changes, whatever the result. It spends at most the units and erases of one removal,
-/// and none where the item stays. The area is all FF afterwards only where it was so before.
+/// Deletes an item, unless it is a count or a part of a setting that counts: then nothing is
+/// programmed. The index then tells of the items that are left. No other item changes, whatever the
+/// result. It spends at most the units and erases of one removal, and none where the item stays.
+/// The area is all FF afterwards only where it was so before.
 ///
 /// # Errors
 /// `PowerLost`, only where the id has an item: it is as before, or gone. The settings are as before, and each item that is kept.
@@ -91,9 +92,9 @@ pub fn remove_if_stray<N: Numbers, S: ItemStore, F: Flash, L: Ledger>(
     Ok(())
 }
 
-/// Deletes every item that is no count and belongs to no setting that counts, in rising order of ids. All others stay, and
-/// none is new. It spends at most the units and erases of one removal for each item that there is. The area is all FF afterwards
-/// only where it was so before.
+/// Deletes every item that is no count and belongs to no setting that counts, in rising order of
+/// ids. All others stay, and none is new. It spends at most the units and erases of one removal for
+/// each item that there is. The area is all FF afterwards only where it was so before.
 ///
 /// # Errors
 /// `PowerLost`: the settings are as before, and each item that is kept. There is an id below which no stray is left, and above

@@ -38,8 +38,8 @@ pub fn name_in<S: ItemStore, F: Flash, L: Ledger>(
     }
 }
 
-/// The least name of a setting that is greater than this one, or the least of all. No item may be a stray. It is one walk over the
-/// store's entries, and makes no index.
+/// The least name of a setting that is greater than this one, or the least of all. No item may be a
+/// stray. It is one walk over the store's entries, and makes no index.
 pub fn next_name<N: Numbers, S: ItemStore, F: Flash, L: Ledger>(
     store: &S,
     flash: &F,

@@ -106,7 +106,8 @@ pub fn delete_name<N: Numbers, S: ItemStore, F: Flash, L: Ledger>(
     }
 }
 
-/// Writes the value of a new name, and then the name. Where the name is refused, the value is deleted again.
+/// Writes the value of a new name, and then the name. Where the name is refused, the value is
+/// deleted again.
 ///
 /// # Errors
 /// `TooLong`: one of the two and its entry cost more than a sector has for them. `NoSpace`: the items cost too much for one

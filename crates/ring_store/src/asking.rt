@@ -58,8 +58,9 @@ impl<T: SlotSectors> Store<T> {
         }
     }
 
-    /// The id of an item that has these bytes, of the ids from `least` to `most`, no more than 0x1_0020; any of them
-    /// where several have. It is one walk over the list at most, from its newest entry back.
+    /// The id of an item that has these bytes, of the ids from `least` to `most`, no more than
+    /// 0x1_0020; any of them where several have. It is one walk over the list at most, from its
+    /// newest entry back.
     pub fn id_of<F: Flash, L: Ledger>(
         &self,
         flash: &F,
@@ -90,7 +91,8 @@ impl<T: SlotSectors> Store<T> {
         None
     }
 
-    // The bytes of an entry, where they are greater than some and less than the least so far; else the least so far.
+    // The bytes of an entry, where they are greater than some and less than the least so far; else
+    // the least so far.
     fn lesser_bytes<'a, F: Flash, L: Ledger>(
         &self,
         flash: &'a F,
@@ -121,8 +123,8 @@ impl<T: SlotSectors> Store<T> {
         }
     }
 
-    /// The least bytes of an item that are greater than `after`, or the least of all, of the ids from `least` to `most`, no more
-    /// than 0x1_0020. It is one walk over the list.
+    /// The least bytes of an item that are greater than `after`, or the least of all, of the ids
+    /// from `least` to `most`, no more than 0x1_0020. It is one walk over the list.
     pub fn next_of<'a, F: Flash, L: Ledger>(
         &self,
         flash: &'a F,

@@ -56,9 +56,10 @@ pub fn fill<T: SlotSectors, F: Flash, L: Ledger>(
     note_among(flash, area, opened, current, 0, older, cache, steps);
 }
 
-/// Keeps it the cache of the list behind a round by which this sector became the open one. What stood in the sector after
-/// it, the victim, is forgotten, and the entries of the open one are noted, which stand last. Where the round had no
-/// victim, no entry of the list stood in that sector.
+/// Keeps it the cache of the list behind a round by which this sector became the open one. What
+/// stood in the sector after it, the victim, is forgotten, and the entries of the open one are
+/// noted, which stand last. Where the round had no victim, no entry of the list stood in that
+/// sector.
 pub fn follow_round<T: SlotSectors, F: Flash, L: Ledger>(
     flash: &F,
     area: &Area,

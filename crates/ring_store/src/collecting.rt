@@ -346,8 +346,9 @@ pub fn redo<T: SlotSectors, F: Flash, L: Ledger>(
     }
 }
 
-// What a round does with the next sector, which has no entry, once it is the open one. Where the sector after it is
-// closed, that is collected into it; else it is made ready for entries, where sectors are so as soon as they open.
+// What a round does with the next sector, which has no entry, once it is the open one. Where the
+// sector after it is closed, that is collected into it; else it is made ready for entries, where
+// sectors are so as soon as they open.
 fn open_next<T: SlotSectors, F: Flash, L: Ledger>(
     flash: &mut F,
     area: &Area,
@@ -402,8 +403,8 @@ fn open_next<T: SlotSectors, F: Flash, L: Ledger>(
     Ok(())
 }
 
-// Closes the open sector, which is not clean, and opens the next one; collects the one behind that, where it is closed then. Gives
-// the sector that is open then.
+// Closes the open sector, which is not clean, and opens the next one; collects the one behind that,
+// where it is closed then. Gives the sector that is open then.
 pub fn round<T: SlotSectors, F: Flash, L: Ledger>(
     flash: &mut F,
     area: &Area,

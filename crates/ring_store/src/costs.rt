@@ -75,7 +75,8 @@ fn sector_cost<T: SlotSectors, F: Flash, L: Ledger>(
 }
 
 impl<T: SlotSectors> Store<T> {
-    // What the items in one sector cost, by what was seen behind it. The ids of its entries are noted.
+    // What the items in one sector cost, by what was seen behind it. The ids of its entries are
+    // noted.
     #[inline(never)]
     fn cost_in<F: Flash, L: Ledger>(
         &self,
@@ -113,8 +114,8 @@ impl<T: SlotSectors> Store<T> {
         sector_cost::<T, F, L>(flash, &self.area, place, &live, steps)
     }
 
-    /// What all items cost, in bytes: the bytes of each with its entry. The list is walked over once, from its newest sector to
-    /// its oldest.
+    /// What all items cost, in bytes: the bytes of each with its entry. The list is walked over
+    /// once, from its newest sector to its oldest.
     #[inline(never)]
     pub fn live_cost<F: Flash, L: Ledger>(&self, flash: &F, steps: &mut Steps<L>) -> u64
         requires { StandsOn T.role T.kind T.kept (F.device flash.now) self.now }

@@ -13,9 +13,10 @@ use flash_sim::{Flash, Steps};
 use std::sync::ledger::Ledger;
 
 impl<T: SlotSectors> Store<T> {
-    /// Makes a table of the last entries of ids, by one walk over the list, and by a search for each id that shares its key: of 800
-    /// ids at most, the least that have bytes. It tells of each id where no more than 800 ids ever had bytes in the list. It does
-    /// so as long as the area stays as it is.
+    /// Makes a table of the last entries of ids, by one walk over the list, and by a search for
+    /// each id that shares its key: of 800 ids at most, the least that have bytes. It tells of each
+    /// id where no more than 800 ids ever had bytes in the list. It does so as long as the area
+    /// stays as it is.
     pub fn tell_last_slots<F: Flash, L: Ledger>(
         &self,
         flash: &F,
@@ -28,8 +29,8 @@ impl<T: SlotSectors> Store<T> {
         tell_last_slots(flash, &self.area, &self.opened, self.current, last, steps)
     }
 
-    /// The bytes of an item, as `get` gives them, by a table of last entries. Where the table tells of the id, it is one step at
-    /// most; else it is what `get` does.
+    /// The bytes of an item, as `get` gives them, by a table of last entries. Where the table tells
+    /// of the id, it is one step at most; else it is what `get` does.
     pub fn get_by<'a, F: Flash, L: Ledger>(
         &self,
         flash: &'a F,
@@ -52,8 +53,9 @@ impl<T: SlotSectors> Store<T> {
         }
     }
 
-    /// The least id behind this one that has a value, or the least of all, as `next_id` gives it, by a table of last entries.
-    /// Where the table has one, or tells of all ids, nothing is looked at; else the list is searched.
+    /// The least id behind this one that has a value, or the least of all, as `next_id` gives it,
+    /// by a table of last entries. Where the table has one, or tells of all ids, nothing is looked
+    /// at; else the list is searched.
     pub fn next_by<F: Flash, L: Ledger>(
         &self,
         flash: &F,

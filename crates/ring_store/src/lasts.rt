@@ -122,7 +122,8 @@ impl Lasts {
         true
     }
 
-    // Looks at the last one of the slots that are left. Its entry is the next one where its id is in the range and was not noted.
+    // Looks at the last one of the slots that are left. Its entry is the next one where its id is
+    // in the range and was not noted.
     fn look_at_slot<T: SlotSectors, F: Flash, L: Ledger>(
         &mut self,
         flash: &F,

@@ -1,5 +1,6 @@
-// The last entries of ids, by one walk over the list of an area, from its newest entry to its oldest. Where ids neither all have 16
-// bits nor are all the usual ones of their keys, the list is searched besides for those whose keys were seen.
+// The last entries of ids, by one walk over the list of an area, from its newest entry to its
+// oldest. Where ids neither all have 16 bits nor are all the usual ones of their keys, the list is
+// searched besides for those whose keys were seen.
 ghost use Rattle.std.specs.Prelude.{◌≡◌, ◌+◌, ◌<◌, ◌≤◌, ◌++◌, ◌∷◌, ◌^◌, ◌&&◌, ◌==◌, ℕ, List, [], true, false, None, Some, is_some, length};
 ghost use Rattle.std.specs.Option.{option_map, option_to_list};
 ghost use Rattle.std.specs.List.Sorted.{IsSearchInRange};
@@ -29,8 +30,8 @@ use std::sync::ledger::Ledger;
 // A table has so many entries at most, of 16 bytes each.
 const ENTRIES: usize = 800;
 
-/// Of each id below a bound the last one of some entries, where that has bytes. There is a bound only where more ids than the
-/// table has places had bytes.
+/// Of each id below a bound the last one of some entries, where that has bytes. There is a bound
+/// only where more ids than the table has places had bytes.
 #[derive(Drop)]
 pub struct LastSlots {
     // in the order of their ids
@@ -139,8 +140,8 @@ impl LastSlots {
         }
     }
 
-    // Puts an entry with bytes at its place, as the last one of an id of which the table has none. Where the table is full, the
-    // greatest id goes out of it, this one or another.
+    // Puts an entry with bytes at its place, as the last one of an id of which the table has none.
+    // Where the table is full, the greatest id goes out of it, this one or another.
     fn put_new(&mut self, at: usize, placed: &Placed)
         requires inside { at ≤ length self.old.entries.items }
         ensures { (limit : ℕ) (before : List PlacedEntry) → placed.now.id < limit
@@ -238,7 +239,8 @@ fn share_place(one: &Placed, other: &Placed) -> bool
     one.sector == other.sector && one.slot == other.slot
 }
 
-// Whether an entry behind this one has its id. The list is searched only where one was seen that may have it.
+// Whether an entry behind this one has its id. The list is searched only where one was seen that
+// may have it.
 fn has_later<T: SlotSectors, F: Flash, L: Ledger>(
     flash: &F,
     area: &Area,
@@ -289,8 +291,8 @@ fn tell_entry<T: SlotSectors, F: Flash, L: Ledger>(
     seen.add(placed.id);
 }
 
-// Tells of the entry in a slot, if there is one, in front of those that were told. The id is read first: where one of this id
-// was told, the slot is passed over, and its CRC is not looked at.
+// Tells of the entry in a slot, if there is one, in front of those that were told. The id is read
+// first: where one of this id was told, the slot is passed over, and its CRC is not looked at.
 fn tell_slot<T: SlotSectors, F: Flash, L: Ledger>(
     flash: &F,
     area: &Area,
@@ -412,8 +414,8 @@ fn tell_all<T: SlotSectors, F: Flash, L: Ledger>(
     tell_counting(flash, area, opened, current, oldest, last, &mut seen, steps);
 }
 
-/// Makes a table of the last entry of each id in the list, as far as it has room for them. What it told before is gone. Each sector
-/// that counts is looked at once.
+/// Makes a table of the last entry of each id in the list, as far as it has room for them. What it
+/// told before is gone. Each sector that counts is looked at once.
 pub fn tell_last_slots<T: SlotSectors, F: Flash, L: Ledger>(
     flash: &F,
     area: &Area,

@@ -20,8 +20,8 @@ pub fn newest_version()
         → last pairs id ≡ option_and_then value_of (slice_get (versions pairs id) 0) }
 {}
 
-/// Where the newest versions stay, the items do. They stay in one step after another, and with one pair more behind both
-/// lists. A collection keeps them, and so does a round.
+/// Where the newest versions stay, the items do. They stay in one step after another, and with one
+/// pair more behind both lists. A collection keeps them, and so does a round.
 pub fn versions_stay()
     ensures items { (old new : List (ℕ × List ℕ)) → KeepsVersions old new → SameItems new old }
     ensures again { (a b c : List (ℕ × List ℕ)) → KeepsVersions a b → KeepsVersions b c

@@ -78,7 +78,8 @@ pub fn is_live<T: SlotSectors, F: Flash, L: Ledger>(
     }
 }
 
-// The same by what was seen behind it. The list is searched only where an id of the same key was seen that may be another one.
+// The same by what was seen behind it. The list is searched only where an id of the same key was
+// seen that may be another one.
 fn is_live_by<T: SlotSectors, F: Flash, L: Ledger>(
     flash: &F,
     area: &Area,
@@ -150,8 +151,8 @@ fn look_at<T: SlotSectors, F: Flash, L: Ledger>(
     }
 }
 
-/// Notes the live entries of a sector that counts, by what was seen behind it; none was noted so far. The ids of its own entries are
-/// noted too.
+/// Notes the live entries of a sector that counts, by what was seen behind it; none was noted so
+/// far. The ids of its own entries are noted too.
 pub fn live_by<T: SlotSectors, F: Flash, L: Ledger>(
     flash: &F,
     area: &Area,

@@ -64,7 +64,8 @@ fn find_at<T: SlotSectors, F: Flash, L: Ledger>(
     }
 }
 
-/// The last entry of the id in the sectors from `first` to the one before `end`, of those that count.
+/// The last entry of the id in the sectors from `first` to the one before `end`, of those that
+/// count.
 pub fn find_among<T: SlotSectors, F: Flash, L: Ledger>(
     flash: &F,
     area: &Area,

@@ -30,9 +30,9 @@ fn is_between(id: u32, after: Option<u32>, least: Option<u32>) -> bool
 }
 
 impl<T: SlotSectors> Store<T> {
-    /// The bytes of an item: none where the id has no entry, or its last one is a delete. Where no entry has an id of the
-    /// same cache slot there is no step, and where the latest such entry has this id there are at most two; else the list
-    /// is searched.
+    /// The bytes of an item: none where the id has no entry, or its last one is a delete. Where no
+    /// entry has an id of the same cache slot there is no step, and where the latest such entry has
+    /// this id there are at most two; else the list is searched.
     pub fn get<'a, F: Flash, L: Ledger>(
         &self,
         flash: &'a F,
@@ -54,8 +54,8 @@ impl<T: SlotSectors> Store<T> {
         self.search(flash, &latest, id, steps)
     }
 
-    /// Whether an item may be there: `true` exactly where an entry of the list has an id of the same cache slot. Else the id
-    /// has none. It looks at the cache alone.
+    /// Whether an item may be there: `true` exactly where an entry of the list has an id of the
+    /// same cache slot. Else the id has none. It looks at the cache alone.
     pub fn may_hold(&self, id: u32) -> bool
         ensures exactly { (d : Device) → StandsOn T.role T.kind T.kept d self.now
             → result ≡ is_some (latest_on T.kind d self.now.area id) }
@@ -82,7 +82,8 @@ impl<T: SlotSectors> Store<T> {
         T::entry_in(flash, &self.area, sector, slot, steps)
     }
 
-    // The bytes of an item, by its last entry: no entry behind the sector of the latest one of its cache slot has the id.
+    // The bytes of an item, by its last entry: no entry behind the sector of the latest one of its
+    // cache slot has the id.
     fn search<'a, F: Flash, L: Ledger>(
         &self,
         flash: &'a F,
@@ -194,7 +195,8 @@ impl<T: SlotSectors> Store<T> {
         }
     }
 
-    // The least of `least` and of the ids that the entries of a sector have, are behind `after` and have a value.
+    // The least of `least` and of the ids that the entries of a sector have, are behind `after` and
+    // have a value.
     fn next_in<F: Flash, L: Ledger>(
         &self,
         flash: &F,
@@ -248,9 +250,10 @@ impl<T: SlotSectors> Store<T> {
         least
     }
 
-    /// The next older entry of the list: the one before the entry in this sector and slot, or the newest one where no
-    /// place is given. Deletes are among them. `None` comes exactly at the front of the list. From a place without an entry
-    /// it is the newest of the entries before that place, in the round to the open sector.
+    /// The next older entry of the list: the one before the entry in this sector and slot, or the
+    /// newest one where no place is given. Deletes are among them. `None` comes exactly at the
+    /// front of the list. From a place without an entry it is the newest of the entries before that
+    /// place, in the round to the open sector.
     pub fn walk<F: Flash, L: Ledger>(
         &self,
         flash: &F,

@@ -20,7 +20,8 @@ use flash_sim::{Flash, PowerLost, Steps};
 use lookup_cache::Cache;
 use std::sync::ledger::Ledger;
 
-/// Whether a value of this length and its entry cost more than a sector of this geometry has for them.
+/// Whether a value of this length and its entry cost more than a sector of this geometry has for
+/// them.
 pub fn is_too_long<T: SlotSectors>(geometry: &Geometry, len: usize) -> bool
     requires unit { IsUnit geometry.now.unit }
     requires size { geometry.now.sector ≤ 32768 }
@@ -56,8 +57,8 @@ pub fn fits<T: SlotSectors, F: Flash, L: Ledger>(
     T::cost(&geometry, len) + spare * slot <= free
 }
 
-/// Closes and collects, round after round, until a value of this length fits the open sector. Says whether it does. The
-/// items stay, also where power is lost, and the cache follows each round.
+/// Closes and collects, round after round, until a value of this length fits the open sector. Says
+/// whether it does. The items stay, also where power is lost, and the cache follows each round.
 ///
 /// # Errors
 /// `PowerLost`.

@@ -20,7 +20,8 @@ use flash_map::{Area, Damaged, Geometry};
 use flash_sim::{Flash, PowerLost, Steps};
 use std::sync::ledger::Ledger;
 
-/// What a store keeps of its open sector, and the calls on sectors. An item's bytes and their entry go into one sector.
+/// What a store keeps of its open sector, and the calls on sectors. An item's bytes and their entry
+/// go into one sector.
 pub trait SlotSectors: Copy {
     /// The role of the areas that it serves.
     ghost role: { role_type };
@@ -158,8 +159,8 @@ pub trait SlotSectors: Copy {
         ensures short { IfSome result (λ p. p.len < 2 ^ 16) }
         ensures step { steps.new ≤ steps.old + 1 };
 
-    /// The id that a slot of a sector's list has where an entry has its own, whether it has an entry or not. It is one step at
-    /// most.
+    /// The id that a slot of a sector's list has where an entry has its own, whether it has an
+    /// entry or not. It is one step at most.
     fn id_in<F: Flash, L: Ledger>(
         flash: &F,
         area: &Area,
@@ -207,8 +208,8 @@ pub trait SlotSectors: Copy {
             ≡ option_map (placed_at place)
             (last_in (slots k) place id ((slots k).entries (sector_on d area.now place))) };
 
-    /// How many slots of a sector's list have to be looked at for the ids from `least` to `most`: those behind them have no
-    /// entry of these.
+    /// How many slots of a sector's list have to be looked at for the ids from `least` to `most`:
+    /// those behind them have no entry of these.
     fn reach<F: Flash, L: Ledger>(
         flash: &F,
         area: &Area,

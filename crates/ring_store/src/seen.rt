@@ -68,8 +68,8 @@ impl Seen {
         has_bit(&self.bits, key_of(id))
     }
 
-    /// Whether this id and each one that was noted are the usual ones of their keys, where ids are long, or all have 16 bits. Then
-    /// one that has the key of this id is this id.
+    /// Whether this id and each one that was noted are the usual ones of their keys, where ids are
+    /// long, or all have 16 bits. Then one that has the key of this id is this id.
     pub fn is_exact(&self, id: u32) -> bool
         ensures { IsTrue result → IsExact self.now id }
     {
@@ -101,7 +101,8 @@ impl Notes for Seen {
     }
 }
 
-/// Adds the ids of the entries in the sectors behind a place, in the round to the open one. Each is looked at once.
+/// Adds the ids of the entries in the sectors behind a place, in the round to the open one. Each is
+/// looked at once.
 pub fn note_behind<T: SlotSectors, F: Flash, L: Ledger>(
     flash: &F,
     area: &Area,

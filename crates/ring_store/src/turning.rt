@@ -22,8 +22,9 @@ use std::alloc::Global;
 use std::sync::ledger::Ledger;
 
 impl<T: SlotSectors> Store<T> {
-    /// Reads the area and carries out what a loss of power left undone. The items stay, also where power is lost. At
-    /// rest nothing changes; an area in which anything changed is not blank then, also where power is lost.
+    /// Reads the area and carries out what a loss of power left undone. The items stay, also where
+    /// power is lost. At rest nothing changes; an area in which anything changed is not blank then,
+    /// also where power is lost.
     ///
     /// # Errors
     /// `NoMemory`, before anything else; `Damaged`; in both nothing was programmed. `PowerLost`.
@@ -115,8 +116,9 @@ impl<T: SlotSectors> Store<T> {
         self.current
     }
 
-    /// Closes the open sector and collects the oldest one, unless the open one is clean. The items stay, also where power
-    /// is lost. What does not fit then is kept out by the copied items alone, and a delete fits.
+    /// Closes the open sector and collects the oldest one, unless the open one is clean. The items
+    /// stay, also where power is lost. What does not fit then is kept out by the copied items
+    /// alone, and a delete fits.
     ///
     /// # Errors
     /// `PowerLost`, only where the open sector is not clean. The list is as before or as after the collection, and the store is

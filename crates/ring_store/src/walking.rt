@@ -48,7 +48,8 @@ fn newest_in<T: SlotSectors, F: Flash, L: Ledger>(
     None
 }
 
-// The newest entry in the first so many slots of a sector's list, where that counts with `current` open.
+// The newest entry in the first so many slots of a sector's list, where that counts with `current`
+// open.
 fn newest_at<T: SlotSectors, F: Flash, L: Ledger>(
     flash: &F,
     area: &Area,
@@ -198,9 +199,10 @@ fn newest_up_to<T: SlotSectors, F: Flash, L: Ledger>(
     newest_before(flash, area, opened, current, place, steps)
 }
 
-/// The next older entry of the list: the one before the entry in this sector and slot, or the newest one where no
-/// place is given. `None` comes exactly at the front of the list. From a place without an entry it is the newest of the
-/// entries before that place, in the round to the open sector.
+/// The next older entry of the list: the one before the entry in this sector and slot, or the
+/// newest one where no place is given. `None` comes exactly at the front of the list. From a place
+/// without an entry it is the newest of the entries before that place, in the round to the open
+/// sector.
 pub fn walk<T: SlotSectors, F: Flash, L: Ledger>(
     flash: &F,
     area: &Area,

@@ -37,15 +37,16 @@ pub enum Answer {
     },
     /// There is no value.
     Absent,
-    /// Power was lost after so many units and erases, and whether a record that was cut checks by chance.
+    /// Power was lost after so many units and erases, and whether a record that was cut checks by
+    /// chance.
     Lost {
         units: u64,
         chance: bool,
     },
     /// Power is off.
     Off,
-    /// There is no room for the setting, after so many units and erases: the bytes that it needs, and those of all
-    /// settings.
+    /// There is no room for the setting, after so many units and erases: the bytes that it needs,
+    /// and those of all settings.
     NoSpace {
         units: u64,
         need: u64,
@@ -304,9 +305,9 @@ fn written(alloc: Global, answer: &Answer) -> Result<Vec<u8>, AllocError>
     Ok(text.into_bytes())
 }
 
-/// The bytes of an answer's text: each line with its LF, numbers in decimal, bytes in lower-case hexadecimal digits.
-/// In a `Names` answer the label is one of 1 to 8 bytes of `a` to `z` and `0` to `9`, and the names rise in the order of
-/// their bytes.
+/// The bytes of an answer's text: each line with its LF, numbers in decimal, bytes in lower-case
+/// hexadecimal digits. In a `Names` answer the label is one of 1 to 8 bytes of `a` to `z` and `0`
+/// to `9`, and the names rise in the order of their bytes.
 ///
 /// # Errors
 /// Want of memory alone.
@@ -320,8 +321,9 @@ pub fn answer_text(alloc: Global, answer: &Answer) -> Result<Vec<u8>, NoMemory>
     }
 }
 
-/// A transcript, which is the texts of answers in a row, is one list of lines for each answer; and it is one list of
-/// answers, but for what they do not show: the bytes that were needed and used, and whether an empty rest was `-`.
+/// A transcript, which is the texts of answers in a row, is one list of lines for each answer; and
+/// it is one list of answers, but for what they do not show: the bytes that were needed and used,
+/// and whether an empty rest was `-`.
 pub fn one_transcript()
     ensures lines { OneListOfLines }
     ensures answers { OneTranscript }

@@ -80,7 +80,8 @@ pub fn read_kind(word: &[u8]) -> Result<HandlerKind, LineFault>
     }
 }
 
-/// The bytes that a word is in hexadecimal digits of either case: one at least, and no more than the limit.
+/// The bytes that a word is in hexadecimal digits of either case: one at least, and no more than
+/// the limit.
 ///
 /// # Errors
 /// `Hex` where it is no such digits, `Long` where there are more bytes. Want of memory.

@@ -63,8 +63,8 @@ fn lines_by(alloc: Global, n: u32) -> Result<Vec<Line>, AllocError>
     Ok(lines)
 }
 
-/// The generated script of so many lines: each sets, asks for or deletes one of 40 names, by a generator that starts
-/// at that number.
+/// The generated script of so many lines: each sets, asks for or deletes one of 40 names, by a
+/// generator that starts at that number.
 ///
 /// # Errors
 /// Want of memory alone.

@@ -70,8 +70,9 @@ fn take_text<L: ScriptLine>(
 
 /// The lines of a script.
 ///
-/// Lines end with LF, which the last may lack. An empty line and one that begins with `#` are skipped, and counted.
-/// A line's words are separated by one space. No value has more bytes than the limit.
+/// Lines end with LF, which the last may lack. An empty line and one that begins with `#` are
+/// skipped, and counted. A line's words are separated by one space. No value has more bytes than
+/// the limit.
 ///
 /// # Errors
 /// `BadLine` where a line is no line of the table: the first such line, with its first cause. `NoMemory`.

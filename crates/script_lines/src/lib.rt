@@ -1,4 +1,5 @@
-//! Scripts by tables of forms: the lines of a script on settings, the texts of their answers, and the generated script.
+//! Scripts by tables of forms: the lines of a script on settings, the texts of their answers, and
+//! the generated script.
 #![tactic(auto)]
 
 mod answer;

@@ -114,8 +114,8 @@ impl Pairs {
     }
 }
 
-/// A setting that a load gave to the handler of a subtree: what is left of the name, the value, and whether it was
-/// taken.
+/// A setting that a load gave to the handler of a subtree: what is left of the name, the value, and
+/// whether it was taken.
 #[derive(Debug, Drop)]
 pub struct Give {
     pub subtree: Name,

@@ -28,7 +28,8 @@ pub fn is_lost(answer: &Answer) -> bool
     }
 }
 
-/// Plans go through lines part by part. With no plan at first, power is lost only where a line plans it.
+/// Plans go through lines part by part. With no plan at first, power is lost only where a line
+/// plans it.
 pub fn plans_of_lines()
     ensures parts { PlannedInParts }
     ensures unplanned { NoLossUnplanned }

@@ -35,9 +35,9 @@ pub fn read_script(alloc: Global, bytes: &[u8], limit: usize) -> Result<Vec<Line
     read_lines(alloc, bytes, limit)
 }
 
-/// By any table, words are one line at most, and then they are not refused; they are refused for one cause at most. A
-/// text is one script at most, and then none of its lines is refused; it has one first refused line at most, with one
-/// cause. No two lines on settings say the same.
+/// By any table, words are one line at most, and then they are not refused; they are refused for
+/// one cause at most. A text is one script at most, and then none of its lines is refused; it has
+/// one first refused line at most, with one cause. No two lines on settings say the same.
 pub fn one_reading()
     ensures line { OneLine }
     ensures cause { OneCause }
@@ -46,8 +46,8 @@ pub fn one_reading()
     ensures meaning { OneMeaning }
 {}
 
-/// Words are a line or are refused for some cause, by any table whose numbers have at most 64 bits, as that of the lines
-/// on settings is.
+/// Words are a line or are refused for some cause, by any table whose numbers have at most 64 bits,
+/// as that of the lines on settings is.
 pub fn each_is_read()
     ensures read { EachIsRead }
     ensures settings { TableFits settings_forms }

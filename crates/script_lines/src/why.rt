@@ -11,7 +11,8 @@ pub enum LineWhy {
     Name,
     /// There is no such kind of handler.
     Kind,
-    /// Bytes are not an even number of hexadecimal digits, two at least, nor the `-` of a line that may have none.
+    /// Bytes are not an even number of hexadecimal digits, two at least, nor the `-` of a line that
+    /// may have none.
     Hex,
     /// A value has more bytes than the limit.
     Long,

@@ -15,7 +15,8 @@ use setting_name::Name;
 use settings_core::{DeleteFault, SaveFault, Settings};
 use std::sync::ledger::Ledger;
 
-// Whether the units that were put before the last loss spell, by chance, another record in the area.
+// Whether the units that were put before the last loss spell, by chance, another record in the
+// area.
 pub(crate) fn spells_another<K: Backend, B: Bench, L: Ledger>(
     bench: &B,
     area: &Area,

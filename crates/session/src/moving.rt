@@ -64,7 +64,8 @@ pub(crate) fn move_settings<K: Backend, B: Bench, L: Ledger>(
     }
 }
 
-// The answer where the settings were not moved, by the units that were spent; none for want of memory.
+// The answer where the settings were not moved, by the units that were spent; none for want of
+// memory.
 fn answer_to(fault: MigrateFault, units: u64) -> Option<Answer>
     ensures { result ≡ answer_to fault units }
 {

@@ -17,9 +17,10 @@ use script_lines::Line;
 use std::alloc::Global;
 use std::sync::ledger::Ledger;
 
-/// Mounts a map, carries out lines one after another, and gives the answers to the mount and to each line. The handlers of the
-/// pool hold nothing; those that lines register go from it into the registry. With power on after the lines a mount of the map
-/// would have nothing to do. A map without damage has none afterwards, whatever the result.
+/// Mounts a map, carries out lines one after another, and gives the answers to the mount and to
+/// each line. The handlers of the pool hold nothing; those that lines register go from it into the
+/// registry. With power on after the lines a mount of the map would have nothing to do. A map
+/// without damage has none afterwards, whatever the result.
 ///
 /// # Errors
 /// `Damaged` with the damage that a mount found, which a map without damage does not show. `NoMemory`. The bench is then what the

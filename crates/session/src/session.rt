@@ -53,9 +53,11 @@ impl<K: Backend> Session<K> {
         }
     }
 
-    /// Turns power on, mounts the selector, where the map has one, and settings on the active area, and gives the session with the
-    /// answer to that mount. It spends nothing where the map is at rest, and else at most the erases that are due in the selector and
-    /// the most units of a mount of the active area (`mount_bound`). A map without damage has none afterwards, whatever the result.
+    /// Turns power on, mounts the selector, where the map has one, and settings on the active area,
+    /// and gives the session with the answer to that mount. It spends nothing where the map is at
+    /// rest, and else at most the erases that are due in the selector and the most units of a mount
+    /// of the active area (`mount_bound`). A map without damage has none afterwards, whatever the
+    /// result.
     ///
     /// # Errors
     /// `Damaged` with the damage that the map shows. `NoMemory`. The bench is then as before, but that power is on, and that the
@@ -88,9 +90,10 @@ impl<K: Backend> Session<K> {
         answered(units, mounted)
     }
 
-    /// Carries out a line. With power off every line but `mount`, `cut` and `uncut` answers `off`. A mount of a map at rest
-    /// spends nothing, and no mount, save or migration spends more than its bound (`mount_bound`, `save_bound`, `move_bound`). A map
-    /// without damage has none afterwards, whatever the result.
+    /// Carries out a line. With power off every line but `mount`, `cut` and `uncut` answers `off`.
+    /// A mount of a map at rest spends nothing, and no mount, save or migration spends more than
+    /// its bound (`mount_bound`, `save_bound`, `move_bound`). A map without damage has none
+    /// afterwards, whatever the result.
     ///
     /// # Errors
     /// `Damaged` where the line is a mount, with the damage that the map shows. `NoMemory` where a line that takes memory was begun,

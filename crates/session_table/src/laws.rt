@@ -9,8 +9,8 @@ ghost use Rattle.session_table.specs.Laws.{LeavesUnitsOpen, HoldsAcknowledged, T
 
 use backend_api::Backend;
 
-/// Where no power is lost and nothing is refused for want of room, the answers and the state after them are a function of
-/// the lines and the state before, but for units.
+/// Where no power is lost and nothing is refused for want of room, the answers and the state after
+/// them are a function of the lines and the state before, but for units.
 pub fn units_are_open<K: Backend>()
     ensures { (areas : List Area) (banks : List Bank) (last : ℕ)
         → LeavesUnitsOpen
@@ -19,9 +19,9 @@ pub fn units_are_open<K: Backend>()
         banks last) }
 {}
 
-/// Wherever power is lost, the settings are those after commands of the lines in their order: all of each line that was
-/// done, as many as a refused save tells, and the first so many of each line in which power was lost; but where units spelt
-/// another record by chance.
+/// Wherever power is lost, the settings are those after commands of the lines in their order: all
+/// of each line that was done, as many as a refused save tells, and the first so many of each line
+/// in which power was lost; but where units spelt another record by chance.
 pub fn acknowledged_commands_stand<K: Backend>()
     ensures { (areas : List Area) (banks : List Bank) (last : ℕ)
         → HoldsAcknowledged
@@ -30,9 +30,9 @@ pub fn acknowledged_commands_stand<K: Backend>()
         banks last) }
 {}
 
-/// Wherever power is lost, the settings are those after what became of the commands of the lines, in their order: all of
-/// each line that was done, as many as a refused save tells, and the first so many of each line in which power was lost; by
-/// chance the one behind these was torn.
+/// Wherever power is lost, the settings are those after what became of the commands of the lines,
+/// in their order: all of each line that was done, as many as a refused save tells, and the first
+/// so many of each line in which power was lost; by chance the one behind these was torn.
 pub fn torn_commands_tell<K: Backend>()
     ensures { (areas : List Area) (banks : List Bank) (last : ℕ)
         → TellsDeeds
@@ -59,8 +59,8 @@ pub fn two_runs<K: Backend>()
         banks last) }
 {}
 
-/// Lines that are carried out one by one make a run: it follows the table, the counts and the plan are those that the answers
-/// say, and no byte changed outside the areas that the lines work on.
+/// Lines that are carried out one by one make a run: it follows the table, the counts and the plan
+/// are those that the answers say, and no byte changed outside the areas that the lines work on.
 pub fn line_by_line<K: Backend>()
     ensures { (areas : List Area)
         → LinesMakeRuns

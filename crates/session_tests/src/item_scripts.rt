@@ -1,4 +1,5 @@
-// Scripts on the items of two small sectors, of NVS and of ZMS. Answers are those of an independent reading of the same scripts.
+// Scripts on the items of two small sectors, of NVS and of ZMS. Answers are those of an independent
+// reading of the same scripts.
 ghost use Rattle.std.specs.Prelude.{◌≡◌, ◌<◌, ◌∷◌, [], OnOk};
 ghost use Rattle.flash_map.specs.declared.area.Role.TheVariants.{Nvs as nvs_role, Zms as zms_role};
 ghost use Rattle.flash_map.specs.Area.{geometry_of};

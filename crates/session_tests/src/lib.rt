@@ -1,4 +1,5 @@
-//! Tests of lines and texts of answers, of scripts on items, on a log and on a map of areas, and of migrations.
+//! Tests of lines and texts of answers, of scripts on items, on a log and on a map of areas, and of
+//! migrations.
 #![tactic(auto)]
 
 #[cfg(test)]

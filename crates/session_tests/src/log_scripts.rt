@@ -1,4 +1,5 @@
-// Scripts on the log of three small sectors. Answers and refusals are those of an independent reading of the same scripts.
+// Scripts on the log of three small sectors. Answers and refusals are those of an independent
+// reading of the same scripts.
 ghost use Rattle.std.specs.Prelude.{◌≡◌, ◌<◌, ◌∷◌, [], IfOk, OnOk, vec_len};
 ghost use Rattle.fcb_ring.specs.Standing.{IsRingArea};
 
@@ -75,7 +76,8 @@ fn nine_puts(alloc: Global, before: &str, behind: &str) -> Result<String, Fail> 
     Ok(script)
 }
 
-// The answers to the opening mount and to the first eight of them; then others, and a log of records of 100 bytes each.
+// The answers to the opening mount and to the first eight of them; then others, and a log of
+// records of 100 bytes each.
 fn nine_answers(alloc: Global, others: &str, log: &[&str], count: &str) -> Result<String, Fail> {
     let mut text = String::from_str(alloc, "ok 0\nok 29 0\nok 27 0\nok 27 0\nok 27 0\n")?;
     text.push_str("ok 29 0\nok 27 0\nok 27 0\nok 27 0\n")?;
@@ -100,7 +102,8 @@ fn refused(alloc: Global, line: u64, why: LineWhy) -> Result<String, Fail> {
     Ok(format!(in alloc; "{line} {why:?}")?)
 }
 
-// The texts of all answers to a script on a blank area, or the number of its first refused line and the cause.
+// The texts of all answers to a script on a blank area, or the number of its first refused line and
+// the cause.
 fn transcript<B: Bench, L: Ledger>(
     alloc: Global,
     bench: &mut B,
@@ -123,7 +126,8 @@ fn transcript<B: Bench, L: Ledger>(
 
 // ---- the rows
 
-// What stands before the ninth record, and behind it; the answers to these and to it; the records that are told, and how many.
+// What stands before the ninth record, and behind it; the answers to these and to it; the records
+// that are told, and how many.
 const PUTS: [(&str, &str, &str, (usize, usize), &str); 4] = [
     ("", "all\n", "ok 30 4\n", (4, 9), "log 5\n"),
     (

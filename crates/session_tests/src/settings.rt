@@ -180,7 +180,8 @@ fn names_of(alloc: Global, name: &[u8]) -> Result<Answer, Fail>
     Ok(Answer::Names { active, pairs })
 }
 
-// Saves that end otherwise than whole, and a name whose bytes are escaped; the tests of commands print each other answer.
+// Saves that end otherwise than whole, and a name whose bytes are escaped; the tests of commands
+// print each other answer.
 #[test]
 fn texts(rt: HostRuntime) -> Result<(), Fail> {
     let alloc = rt.alloc();

@@ -4,7 +4,8 @@ ghost use Rattle.std.specs.Prelude.{◌≡◌, ◌≢◌, ◌↔◌, ◌<◌, �
 ghost use Rattle.setting_name.specs.Name.{IsName, HasWholeParts, parts_of};
 ghost use Rattle.setting_name.specs.Match.{Matches, matched_rest, joined_text};
 
-/// A rest is there exactly where the parts of the key are the first parts of the name, and it is the other parts.
+/// A rest is there exactly where the parts of the key are the first parts of the name, and it is
+/// the other parts.
 pub fn matches_by_parts()
     ensures rest { (name key rest : List ℕ)
         → (matched_rest name key ≡ Some rest) ↔ Matches name key rest }
@@ -23,8 +24,9 @@ pub fn join_of_match()
         → name ≡ joined_text key rest }
 {}
 
-/// Of two keys that one name matches, the one with more parts is the longer one, and with equally many they are the
-/// same key. So the longest key is the one with the most parts, and there is at most one.
+/// Of two keys that one name matches, the one with more parts is the longer one, and with equally
+/// many they are the same key. So the longest key is the one with the most parts, and there is at
+/// most one.
 pub fn keys_of_one_name()
     ensures longer { (name key other rest left : List ℕ) → matched_rest name key ≡ Some rest
         → matched_rest name other ≡ Some left → length (parts_of key) < length (parts_of other)

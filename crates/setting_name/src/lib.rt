@@ -1,4 +1,5 @@
-//! Names of settings: parts with a slash between each two, as `bt/mesh/iv`, and how a name matches a subtree.
+//! Names of settings: parts with a slash between each two, as `bt/mesh/iv`, and how a name matches
+//! a subtree.
 #![tactic(auto)]
 
 pub mod laws;

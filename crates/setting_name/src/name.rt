@@ -38,7 +38,8 @@ pub enum NameFault {
     TooDeep,
 }
 
-/// A name of a setting or of a subtree: 1 to 64 bytes, with a slash between each two of its 1 to 8 parts.
+/// A name of a setting or of a subtree: 1 to 64 bytes, with a slash between each two of its 1 to 8
+/// parts.
 #[derive(Debug, Drop)]
 pub struct Name {
     text: ArrayVec<u8, MAX_LEN>,

@@ -6,7 +6,8 @@ ghost use Rattle.settings_core.specs.Committing.{is_under, commit_all};
 use crate::placed::PlacedHandlers;
 use setting_name::Name;
 
-/// Commits, in the order of registration, each handler whose own subtree matches the given one; all without one.
+/// Commits, in the order of registration, each handler whose own subtree matches the given one; all
+/// without one.
 pub fn commit<H: PlacedHandlers>(registry: &mut H, subtree: Option<&Name>)
     ensures { H.placed registry.new
         ≡ commit_all (option_map (λ name. name.now) subtree.entry) (H.placed registry.old) }

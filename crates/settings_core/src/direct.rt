@@ -29,7 +29,8 @@ pub trait Each {
 }
 
 impl<K: Backend> Settings<K> {
-    /// Tells each name that matches the subtree with its value, in byte order of the names, and how many they are.
+    /// Tells each name that matches the subtree with its value, in byte order of the names, and how
+    /// many they are.
     ///
     /// # Errors
     /// `Off` exactly where an earlier call answered that power was lost; `NoMemory`.

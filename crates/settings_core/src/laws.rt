@@ -20,29 +20,30 @@ pub fn due_commands()
     ensures one { (settings : Map) (c : Command) → OneCommand settings c }
 {}
 
-/// A call that was cut leaves the settings after the first of its commands, but where what was put spells another record by
-/// chance.
+/// A call that was cut leaves the settings after the first of its commands, but where what was put
+/// spells another record by chance.
 pub fn cut_commands<K: Backend>()
     ensures { (area : area_type) (geometry : Geometry) (room : Room) (chance : Loss → Bool)
         (old new : Device) (before after : Map) (commands : List Command) (count : ℕ)
         → LeavesPart room chance (K.tears area geometry) old new before after commands count }
 {}
 
-/// After a load each handler holds its earlier values, overlaid in order with those of its deliveries that it accepts.
+/// After a load each handler holds its earlier values, overlaid in order with those of its
+/// deliveries that it accepts.
 pub fn each_delivery()
     ensures { (handlers : List Registered) (deliveries : List Delivery) (i : ℕ)
         → IsDelivered handlers deliveries i }
 {}
 
-/// A handler that held nothing holds, after a load of all settings, just the stored values of the names whose best handler it
-/// is, as far as it accepts them.
+/// A handler that held nothing holds, after a load of all settings, just the stored values of the
+/// names whose best handler it is, as far as it accepts them.
 pub fn stored_values()
     ensures { (limit : ℕ) (handlers : List Registered) (settings : Map) (place : ℕ)
         → HoldsStored limit handlers settings place }
 {}
 
-/// The handlers of a registry hold lawful settings as long as they were new when they were registered, and hold what loads
-/// and sets at run time gave them.
+/// The handlers of a registry hold lawful settings as long as they were new when they were
+/// registered, and hold what loads and sets at run time gave them.
 pub fn lawful_registry()
     ensures { (limit : ℕ) (handlers : List Registered) → AreLawful limit handlers
         → StaysLawful limit handlers }

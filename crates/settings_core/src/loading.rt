@@ -34,7 +34,8 @@ pub enum LoadFault {
 }
 
 impl<K: Backend> Settings<K> {
-    /// Gives each stored value whose name matches the subtree to the best handler for it, in byte order of the names, and commits.
+    /// Gives each stored value whose name matches the subtree to the best handler for it, in byte
+    /// order of the names, and commits.
     ///
     /// # Errors
     /// `Off` exactly where the backend is down; `NoMemory`.

@@ -7,7 +7,8 @@ use handlers::{Handler, Registry, SetRefusal, ValueView};
 use setting_name::Name;
 use std::alloc::Global;
 
-/// Handlers with their subtrees, each at a place, as a registry has them. What is generic over it makes no boxes of its own.
+/// Handlers with their subtrees, each at a place, as a registry has them. What is generic over it
+/// makes no boxes of its own.
 pub trait PlacedHandlers {
     /// The handlers, by their places.
     ghost placed: { Self → List Registered };
@@ -46,8 +47,8 @@ pub trait PlacedHandlers {
         ensures { placed self.new ≡ commit_at (placed self.old) i };
 }
 
-// Each method that changes handlers repeats its `requires`: callers of generic functions in other crates are then not said to
-// hide boxes.
+// Each method that changes handlers repeats its `requires`: callers of generic functions in other
+// crates are then not said to hide boxes.
 impl PlacedHandlers for Registry {
     ghost placed = { λ registry. registered (λ b. (Handler-box b).state b.value) registry };
 

@@ -34,9 +34,10 @@ pub struct Saved {
 }
 
 impl<K: Backend> Settings<K> {
-    /// Stores the pairs of each handler whose own subtree matches the given one, all without one, in the order of
-    /// registration and then in byte order of the rests. It ends at the first refusal. Whatever the result, it spends at most the units
-    /// and erases of one set for each pair that differs (`due_units`).
+    /// Stores the pairs of each handler whose own subtree matches the given one, all without one,
+    /// in the order of registration and then in byte order of the rests. It ends at the first
+    /// refusal. Whatever the result, it spends at most the units and erases of one set for each
+    /// pair that differs (`due_units`).
     pub fn save<F: Flash, L: Ledger>(
         &mut self,
         flash: &mut F,

@@ -28,7 +28,8 @@ pub struct Settings<K: Backend> {
 }
 
 impl<K: Backend> Settings<K> {
-    /// Mounts a backend on an area. The map stays, also where power is lost. Units and erases are those of `Backend::mount`.
+    /// Mounts a backend on an area. The map stays, also where power is lost. Units and erases are
+    /// those of `Backend::mount`.
     ///
     /// # Errors
     /// Those of `Backend::mount`.

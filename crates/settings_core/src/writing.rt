@@ -20,7 +20,8 @@ use std::sync::ledger::Ledger;
 pub enum SaveFault {
     /// An earlier call answered that power was lost.
     Off,
-    /// There is no room by the backend's numbers: the bytes that the put needs, and those that all settings cost.
+    /// There is no room by the backend's numbers: the bytes that the put needs, and those that all
+    /// settings cost.
     NoSpace { need: u64, live: u64 },
     /// The name would be one too many.
     TooManyNames,
@@ -126,8 +127,8 @@ impl<K: Backend> Settings<K> {
     }
 }
 
-// Gives a name a value that is not empty, by a backend that is up. The backend leaves an equal value as it is, so that the name is
-// looked up once.
+// Gives a name a value that is not empty, by a backend that is up. The backend leaves an equal
+// value as it is, so that the name is looked up once.
 fn store<K: Backend, F: Flash, L: Ledger>(
     backend: &mut K,
     flash: &mut F,
@@ -168,7 +169,8 @@ fn store<K: Backend, F: Flash, L: Ledger>(
     }
 }
 
-// Gives a name a value that is not empty, by a backend that is up, and tells whether it had another one before, or none.
+// Gives a name a value that is not empty, by a backend that is up, and tells whether it had another
+// one before, or none.
 pub(crate) fn put<K: Backend, F: Flash, L: Ledger>(
     backend: &mut K,
     flash: &mut F,

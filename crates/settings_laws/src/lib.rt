@@ -1,5 +1,5 @@
-//! Settings as a list of records: what the bodies of records say, which of them a collection keeps, and what they cost.
-//! It has definitions and laws alone.
+//! Settings as a list of records: what the bodies of records say, which of them a collection keeps,
+//! and what they cost. It has definitions and laws alone.
 #![tactic(auto)]
 
 ghost use Rattle.std.specs.Prelude.{◌≡◌, ◌≤◌, ◌++◌, ℕ, List, length};
@@ -13,18 +13,19 @@ ghost use Rattle.settings_laws.specs.Torn.{torn_body, IsTornOf};
 /// The most bytes of a name.
 pub const NAME_LIMIT: u32 = 64;
 
-/// A collection leaves the settings: the records of the other sectors and the copies of the live records of the victim,
-/// the oldest sector, say what the records of the victim and those of the others say. The function does nothing; its
-/// contract is the law.
+/// A collection leaves the settings: the records of the other sectors and the copies of the live
+/// records of the victim, the oldest sector, say what the records of the victim and those of the
+/// others say. The function does nothing; its contract is the law.
 pub fn collect_records()
     ensures { (limit : ℕ) (victim others : List (List ℕ))
         → settings_of limit (others ++ live_bodies limit victim others)
         ≡ settings_of limit (victim ++ others) }
 {}
 
-/// A body of which only the first bytes were put, with FF behind them, says nothing, or gives the same name a value of the same
-/// length (`torn`); and so does a record, in units of this many bytes, that was cut and checks by chance (`spelled`). The
-/// function does nothing; its contract is the law.
+/// A body of which only the first bytes were put, with FF behind them, says nothing, or gives the
+/// same name a value of the same length (`torn`); and so does a record, in units of this many
+/// bytes, that was cut and checks by chance (`spelled`). The function does nothing; its contract is
+/// the law.
 pub fn tear_record()
     ensures torn { (limit : ℕ) (body : List ℕ) (put : ℕ)
         → IsTornOf (setting_of limit body) (setting_of limit (torn_body body put)) }

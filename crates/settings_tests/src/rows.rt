@@ -1,13 +1,14 @@
 // What another reading of the same rules says of calls on two sectors of 512 bytes.
 
-// A name; the byte and the length of the value that it is given, a delete where the length is 0; the units that are spent;
-// need and live where there is no space.
+// A name; the byte and the length of the value that it is given, a delete where the length is 0;
+// the units that are spent; need and live where there is no space.
 pub(crate) type Call = (&'static [u8], u8, usize, u64, Option<(u64, u64)>);
 
 // A name, and the byte and the length of its value.
 pub(crate) type Left = (&'static [u8], u8, usize);
 
-// Calls on an area that is erased but for these bytes from a place on, and the names that are left, in order.
+// Calls on an area that is erased but for these bytes from a place on, and the names that are left,
+// in order.
 pub(crate) struct Play {
     pub(crate) at: usize,
     pub(crate) bytes: &'static [u8],
@@ -15,9 +16,9 @@ pub(crate) struct Play {
     pub(crate) left: &'static [Left],
 }
 
-// Behind these calls on a blank area power is lost in a set. After how many of its units, and how many the next mount spends
-// then, each time on a new area; whether such a loss spells another record by chance, and the value that the name has then, none
-// where it is empty.
+// Behind these calls on a blank area power is lost in a set. After how many of its units, and how
+// many the next mount spends then, each time on a new area; whether such a loss spells another
+// record by chance, and the value that the name has then, none where it is empty.
 pub(crate) struct Cut {
     pub(crate) calls: &'static [Call],
     pub(crate) name: &'static [u8],
@@ -226,7 +227,8 @@ pub(crate) static ZMS_ERASING: [Play; 7] = [
         ],
         left: &[(b"a", 0x44, 100)],
     },
-    // the open sector has no entry, and a unit right under them: there is no room, and a close with a collection makes some
+    // the open sector has no entry, and a unit right under them: there is no room, and a close with
+    // a collection makes some
     Play {
         at: 448,
         bytes: b"\0\0\0\0\0\0\0\0\0\0\0\0\0\0\0\0\
@@ -254,7 +256,8 @@ pub(crate) static ZMS_ERASING_CUTS: [Cut; 2] = [
         chance: false,
         left: b"",
     },
-    // in a close and a collection: before the new sector is open, in its copies, and before the victim is emptied
+    // in a close and a collection: before the new sector is open, in its copies, and before the
+    // victim is emptied
     Cut {
         calls: &[
             (b"a", 0x11, 100, 10, None),

@@ -391,7 +391,8 @@ fn cuts_of_role<B: Bench, L: Ledger, R: Abort>(
     Ok(())
 }
 
-// A name that was never set, on an area where `a` has so many bytes: that is told with no view of the flash.
+// A name that was never set, on an area where `a` has so many bytes: that is told with no view of
+// the flash.
 fn is_absent<B: Views, L: Ledger, R: Abort>(
     rt: &R,
     alloc: Global,

@@ -5,8 +5,8 @@ ghost use Rattle.text_parts.specs.Numbers.{IsNoNumber};
 
 use std::alloc::{AllocError, Global};
 
-/// The number below the limit that the word is, in decimal without a sign or leading zeros; none where it is no such
-/// number.
+/// The number below the limit that the word is, in decimal without a sign or leading zeros; none
+/// where it is no such number.
 ///
 /// # Errors
 /// Want of memory alone.

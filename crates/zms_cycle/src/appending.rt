@@ -138,8 +138,9 @@ fn put_value<F: Flash>(
     put_bytes(flash, area, sector, at, bytes)
 }
 
-/// Puts a value, in calls of at most `PIECE` bytes, and then its entry, under which the guard is set first on a bank that is
-/// never erased. No bytes are a delete. What it has to know of the sector is handed to it, so its list is not read.
+/// Puts a value, in calls of at most `PIECE` bytes, and then its entry, under which the guard is
+/// set first on a bank that is never erased. No bytes are a delete. What it has to know of the
+/// sector is handed to it, so its list is not read.
 ///
 /// # Errors
 /// `PowerLost`: the sector's list and marks are as before. On a bank that is erased, the units of the value that were put are
@@ -181,8 +182,8 @@ pub fn put_entry_at<F: Flash, L: Ledger>(
     put_slot(flash, area, sector, opened.slots + FIRST, &entry, steps)
 }
 
-/// Puts a value, in calls of at most `PIECE` bytes, and then its entry, under which the guard is set first on a bank that is
-/// never erased. No bytes are a delete.
+/// Puts a value, in calls of at most `PIECE` bytes, and then its entry, under which the guard is
+/// set first on a bank that is never erased. No bytes are a delete.
 ///
 /// # Errors
 /// `PowerLost`: the sector's list and marks are as before. On a bank that is erased, the units of the value that were put are
@@ -235,8 +236,9 @@ fn done_entry(cycle: u8, data_end: u32) -> ZEntry
     }
 }
 
-/// Marks a sector into which a collection has copied all that it keeps: gc-done in the guard slot, under which the guard
-/// is set first on a bank that is never erased. What it has to know of the sector is handed to it, so its list is not read.
+/// Marks a sector into which a collection has copied all that it keeps: gc-done in the guard slot,
+/// under which the guard is set first on a bank that is never erased. What it has to know of the
+/// sector is handed to it, so its list is not read.
 ///
 /// # Errors
 /// `PowerLost`: the sector's list and marks are as before.
@@ -270,8 +272,8 @@ pub fn put_done_at<F: Flash, L: Ledger>(
     put_slot(flash, area, sector, opened.slots + FIRST, &entry, steps)
 }
 
-/// Marks a sector into which a collection has copied all that it keeps: gc-done in the guard slot, under which the guard
-/// is set first on a bank that is never erased.
+/// Marks a sector into which a collection has copied all that it keeps: gc-done in the guard slot,
+/// under which the guard is set first on a bank that is never erased.
 ///
 /// # Errors
 /// `PowerLost`: the sector's list and marks are as before.

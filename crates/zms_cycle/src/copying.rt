@@ -148,9 +148,9 @@ fn copy_value<F: Flash, L: Ledger>(
     copy_bytes(flash, area, sector, to, source, steps)
 }
 
-/// Copies an entry of another sector's list, its value in calls of at most `COPY_PIECE` bytes and then the entry, under
-/// which the guard is set first on a bank that is never erased. What it has to know of the sector that it copies to is handed
-/// to it, so the list of that is not read.
+/// Copies an entry of another sector's list, its value in calls of at most `COPY_PIECE` bytes and
+/// then the entry, under which the guard is set first on a bank that is never erased. What it has
+/// to know of the sector that it copies to is handed to it, so the list of that is not read.
 ///
 /// # Errors
 /// `PowerLost`: the list and marks of the sector that is copied to are as before. On a bank that is erased, the units of the value
@@ -213,8 +213,8 @@ pub fn copy_entry_at<F: Flash, L: Ledger>(
     put_slot(flash, area, sector, opened.slots + FIRST, &entry, steps)
 }
 
-/// Copies an entry of another sector's list, its value in calls of at most `COPY_PIECE` bytes and then the entry, under
-/// which the guard is set first on a bank that is never erased.
+/// Copies an entry of another sector's list, its value in calls of at most `COPY_PIECE` bytes and
+/// then the entry, under which the guard is set first on a bank that is never erased.
 ///
 /// # Errors
 /// `PowerLost`: the list and marks of the sector that is copied to are as before. On a bank that is erased, the units of the value

@@ -4,8 +4,9 @@ ghost use Rattle.zms_cycle.specs.Entries.{entry_of, encoded, decoded, fill};
 
 use crc8_entry::{START, checks, crc8};
 
-/// An entry: the sector's cycle when it was put, the length of the value in bytes (0 for a delete), the id, and a tail.
-/// The tail is the value itself where it has at most 8 bytes, else the offset of the value in the sector, and four bytes 00.
+/// An entry: the sector's cycle when it was put, the length of the value in bytes (0 for a delete),
+/// the id, and a tail. The tail is the value itself where it has at most 8 bytes, else the offset
+/// of the value in the sector, and four bytes 00.
 #[derive(Clone, Copy, Debug, PartialEq, Eq)]
 pub struct ZEntry {
     pub cycle: u8,

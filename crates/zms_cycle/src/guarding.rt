@@ -56,8 +56,8 @@ pub fn put_unit<F: Flash>(
     area_program(flash, area, sector, start, bytes)
 }
 
-/// On a bank that is never erased, programs the fill unit exactly where the slot is valid under the cycle. On one that is
-/// erased it programs nothing.
+/// On a bank that is never erased, programs the fill unit exactly where the slot is valid under the
+/// cycle. On one that is erased it programs nothing.
 ///
 /// # Errors
 /// `PowerLost`: no byte changed.

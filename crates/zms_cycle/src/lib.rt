@@ -1,4 +1,5 @@
-//! One sector of a ZMS store: entries of sixteen bytes that hold under the sector's cycle, and the steps that change them.
+//! One sector of a ZMS store: entries of sixteen bytes that hold under the sector's cycle, and the
+//! steps that change them.
 #![tactic(auto)]
 
 #[tactic(auto, using(flash_map::proofs::Touches::then))]

@@ -51,8 +51,8 @@ fn next_cycle(cycle: Option<u8>) -> u8
     }
 }
 
-// Empties a sector of a bank that is never erased, by the empty entry of the next cycle, once slots 1 and 2 are not valid
-// under that cycle.
+// Empties a sector of a bank that is never erased, by the empty entry of the next cycle, once slots
+// 1 and 2 are not valid under that cycle.
 fn empty_by_guards<F: Flash, L: Ledger>(
     flash: &mut F,
     area: &Area,
@@ -82,7 +82,8 @@ fn empty_by_guards<F: Flash, L: Ledger>(
     put_unit(flash, area, sector, 0, &encode_zentry(&empty_entry(cycle)))
 }
 
-// Empties a sector of a bank that is erased: it is erased where a byte is not FF, and then the empty entry of this cycle is put.
+// Empties a sector of a bank that is erased: it is erased where a byte is not FF, and then the
+// empty entry of this cycle is put.
 fn empty_by_erasing<F: Flash, L: Ledger>(
     flash: &mut F,
     area: &Area,
@@ -112,9 +113,10 @@ fn empty_by_erasing<F: Flash, L: Ledger>(
     put_unit(flash, area, sector, 0, &encode_zentry(&empty_entry(cycle)))
 }
 
-/// Empties a sector by the empty entry of the next cycle. On a bank that is never erased, slots 1 and 2 are made not valid
-/// under that cycle first; on one that is erased, the sector is erased first, unless it is all FF. What the guard of the first
-/// entry takes then is known before: slot 3 is not changed where it may be due.
+/// Empties a sector by the empty entry of the next cycle. On a bank that is never erased, slots 1
+/// and 2 are made not valid under that cycle first; on one that is erased, the sector is erased
+/// first, unless it is all FF. What the guard of the first entry takes then is known before: slot 3
+/// is not changed where it may be due.
 ///
 /// # Errors
 /// `PowerLost`. On a bank that is never erased: the sector's being closed, its gc-done and its list are as before, or it is not
@@ -219,8 +221,8 @@ fn fill_slots<F: Flash, L: Ledger>(
     Ok(())
 }
 
-// On a bank that is never erased, makes every unit between the values of a sector and its slots the fill unit. On one that is
-// erased there is nothing to do.
+// On a bank that is never erased, makes every unit between the values of a sector and its slots the
+// fill unit. On one that is erased there is nothing to do.
 fn fill_free<F: Flash, L: Ledger>(
     flash: &mut F,
     area: &Area,
@@ -257,9 +259,9 @@ fn fill_free<F: Flash, L: Ledger>(
     }
 }
 
-/// Closes a sector by the close entry, which names the start of the lowest used slot. On a bank that is never erased, every unit
-/// between its values and its slots becomes the fill unit first. What it has to know of the sector is handed to it, so its list
-/// is not read.
+/// Closes a sector by the close entry, which names the start of the lowest used slot. On a bank
+/// that is never erased, every unit between its values and its slots becomes the fill unit first.
+/// What it has to know of the sector is handed to it, so its list is not read.
 ///
 /// # Errors
 /// `PowerLost`: the sector's list and marks are as before. On a bank that is erased no byte changed.
@@ -304,8 +306,8 @@ pub fn close_at<F: Flash, L: Ledger>(
     )
 }
 
-/// Closes a sector by the close entry, which names the start of the lowest used slot. On a bank that is never erased, every unit
-/// between its values and its slots becomes the fill unit first.
+/// Closes a sector by the close entry, which names the start of the lowest used slot. On a bank
+/// that is never erased, every unit between its values and its slots becomes the fill unit first.
 ///
 /// # Errors
 /// `PowerLost`: the sector's list and marks are as before. On a bank that is erased no byte changed.

@@ -29,10 +29,12 @@ pub(crate) const SPECIAL_ID: u32 = 0xFFFF_FFFF;
 /// The slot in which entries begin.
 pub const FIRST: u32 = 2;
 
-// The slots that values and their entries leave: for empty, close, gc-done, one delete and the guard.
+// The slots that values and their entries leave: for empty, close, gc-done, one delete and the
+// guard.
 const KEPT_SLOTS: u32 = 5;
 
-/// A sector: blank, or used in a cycle, with the number of valid slots from slot 2 on and where the next value goes, in bytes.
+/// A sector: blank, or used in a cycle, with the number of valid slots from slot 2 on and where the
+/// next value goes, in bytes.
 #[derive(Clone, Copy, Debug, PartialEq, Eq)]
 pub enum SectorState {
     Blank,
@@ -144,7 +146,8 @@ pub(crate) fn is_closed(sector: &[u8], cycle: u8) -> bool
     }
 }
 
-// How many of the first so many slots from slot 2 on are valid under the cycle, before the first that is not.
+// How many of the first so many slots from slot 2 on are valid under the cycle, before the first
+// that is not.
 pub(crate) fn valid_within(sector: &[u8], cycle: u8, limit: u32) -> u32
     requires short { length sector.now ≤ 2 ^ 15 }
     requires inside { (limit + 2) * 16 ≤ length sector.now }
@@ -188,7 +191,8 @@ pub fn entry_in(sector: &[u8], slot: u32) -> Option<SlotEntry>
     ordinary(entry_at(sector, slot), slot)
 }
 
-// The entry in a slot of a sector's list. Its CRC has made it one of the list, so it is not made again.
+// The entry in a slot of a sector's list. Its CRC has made it one of the list, so it is not made
+// again.
 fn listed_at(sector: &[u8], slot: u32) -> ZEntry
     requires from { 2 ≤ slot }
     requires listed { slot < length (valid_slots sector.now) + 2 }
@@ -285,7 +289,8 @@ fn len_of(found: &Option<SlotEntry>) -> u64
     }
 }
 
-// The end of what is written under the slots of a used sector with so many of them, by the kind of its bank.
+// The end of what is written under the slots of a used sector with so many of them, by the kind of
+// its bank.
 fn written(sector: &[u8], slots: u32, kind: Kind) -> u32
     requires long { 48 ≤ length sector.now }
     requires short { length sector.now ≤ 2 ^ 15 }
@@ -401,8 +406,8 @@ pub(crate) fn sector_cycle<F: Flash, L: Ledger>(
     cycle_of(area_view(flash, area, sector, 0, size, steps))
 }
 
-/// What a step has to know of a used sector: its cycle, the number of its valid slots from slot 2 on, and where the next value
-/// goes, in bytes. The last number of 32 bits stands for all above it.
+/// What a step has to know of a used sector: its cycle, the number of its valid slots from slot 2
+/// on, and where the next value goes, in bytes. The last number of 32 bits stands for all above it.
 #[derive(Clone, Copy, Debug, PartialEq, Eq)]
 pub struct Opened {
     pub cycle: u8,

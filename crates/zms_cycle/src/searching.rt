@@ -1,5 +1,5 @@
-// What a look-up reads of a sector: how long its list is, whether it is closed, and how far it has to be read for the ids of a
-// range.
+// What a look-up reads of a sector: how long its list is, whether it is closed, and how far it has
+// to be read for the ids of a range.
 ghost use Rattle.std.specs.Prelude.{◌≡◌, ℕ, ◌+◌, ◌*◌, ◌^◌, ◌<◌, ◌≤◌, ◌&&◌, nat_le, false, length, Some, if◌then◌else◌};
 ghost use Rattle.ring_laws.specs.Slots.{used_slots};
 ghost use Rattle.zms_cycle.specs.Entries.{entry_of};
@@ -31,7 +31,8 @@ pub fn listed_slots(sector: &[u8]) -> u32
     }
 }
 
-// Whether a slot's bytes have an id from `least` to `most` where an entry has its own. Their CRC is not looked at.
+// Whether a slot's bytes have an id from `least` to `most` where an entry has its own. Their CRC is
+// not looked at.
 fn names(slot: &[u8], least: u32, most: u32) -> bool
     requires { length slot.now ≡ 16 }
     ensures { result ≡ (nat_le least (entry_of slot.now).id && nat_le (entry_of slot.now).id most) }
@@ -47,8 +48,8 @@ fn newer(is_one: bool, newer: u32, older: u32) -> u32
     if is_one { newer } else { older }
 }
 
-// How many slots from slot 2 on have to be read for the ids from `least` to `most`: up to the last one that names one of
-// them, above the first that names another cycle. No CRC is looked at.
+// How many slots from slot 2 on have to be read for the ids from `least` to `most`: up to the last
+// one that names one of them, above the first that names another cycle. No CRC is looked at.
 fn reach_of(sector: &[u8], cycle: u8, least: u32, most: u32) -> u32
     requires long { 48 ≤ length sector.now }
     requires short { length sector.now ≤ 2 ^ 15 }
@@ -69,7 +70,8 @@ fn reach_of(sector: &[u8], cycle: u8, least: u32, most: u32) -> u32
     reach
 }
 
-/// How many slots of a sector's list have to be read for the ids from `least` to `most`: those behind them name other ids.
+/// How many slots of a sector's list have to be read for the ids from `least` to `most`: those
+/// behind them name other ids.
 pub fn reach_in(sector: &[u8], least: u32, most: u32) -> u32
     requires long { 48 ≤ length sector.now }
     requires short { length sector.now ≤ 2 ^ 15 }
@@ -83,8 +85,8 @@ pub fn reach_in(sector: &[u8], least: u32, most: u32) -> u32
     }
 }
 
-/// How many of the first so many slots from slot 2 on have to be read for the ids from `least` to `most`: those behind them
-/// name other ids. It looks from the last one back, at no CRC.
+/// How many of the first so many slots from slot 2 on have to be read for the ids from `least` to
+/// `most`: those behind them name other ids. It looks from the last one back, at no CRC.
 pub fn reach_within(sector: &[u8], slots: u32, least: u32, most: u32) -> u32
     requires short { length sector.now ≤ 2 ^ 15 }
     requires inside { (slots + 2) * 16 ≤ length sector.now }

@@ -12,8 +12,8 @@ use flash_map::{Area, Damaged, Why};
 use flash_sim::{Flash, Steps};
 use std::sync::ledger::Ledger;
 
-/// The open sector: the first that is not closed after a closed one; where none is, the first in use, or
-/// sector 0.
+/// The open sector: the first that is not closed after a closed one; where none is, the first in
+/// use, or sector 0.
 fn open_place<F: Flash, L: Ledger>(flash: &F, area: &Area, steps: &mut Steps<L>) -> u32
     requires lawful { IsLawfulFor (F.device flash.now).banks area.now }
     requires role { area.now.role ≡ Zms }

@@ -104,7 +104,8 @@ fn is_full<F: Flash, L: Ledger>(
     sector::holds_too_much(bytes, marks.slots)
 }
 
-/// Whether a sector counts and is neither closed nor blank, but the close entry cannot be put, with this one open.
+/// Whether a sector counts and is neither closed nor blank, but the close entry cannot be put, with
+/// this one open.
 fn is_dirty<F: Flash, L: Ledger>(
     flash: &F,
     area: &Area,

@@ -94,8 +94,8 @@ pub fn may_close(sector: &[u8], marks: &Marks, kind: Kind) -> bool
     can_close(sector, kind)
 }
 
-/// Whether nothing has to be done to a sector before a collection into it is begun, but to empty a blank one, on a bank of
-/// this kind.
+/// Whether nothing has to be done to a sector before a collection into it is begun, but to empty a
+/// blank one, on a bank of this kind.
 #[tactic(auto, unfolding(crate::specs::Area::is_clean))]
 pub fn is_clean(sector: &[u8], kind: Kind) -> bool
     requires long { 48 ≤ length sector.now }

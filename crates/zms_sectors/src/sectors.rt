@@ -19,7 +19,8 @@ use zms_cycle::{
 };
 use zms_kind::{find_in, is_clean, scan};
 
-/// What is kept of an open sector: what is free in it, and where its next entry goes, is known with no look at its list.
+/// What is kept of an open sector: what is free in it, and where its next entry goes, is known with
+/// no look at its list.
 #[derive(Clone, Copy, Debug, PartialEq, Eq)]
 pub struct ZmsOpen {
     gc_done: bool,

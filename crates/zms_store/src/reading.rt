@@ -46,9 +46,9 @@ fn entry_at<F: Flash, L: Ledger>(
 }
 
 impl Zms {
-    /// The bytes of an item: none where the id has no entry, or its last one is a delete. Where no entry of
-    /// the list has an id of the same slot of the cache it takes no view of the flash, and at most two where
-    /// the last such entry has this id.
+    /// The bytes of an item: none where the id has no entry, or its last one is a delete. Where no
+    /// entry of the list has an id of the same slot of the cache it takes no view of the flash, and
+    /// at most two where the last such entry has this id.
     pub fn get<'a, F: Flash, L: Ledger>(
         &self,
         flash: &'a F,
@@ -67,8 +67,8 @@ impl Zms {
         self.store.get(flash, id, steps)
     }
 
-    /// Whether an item may be there: `true` exactly where an entry of the list has an id of the same slot of
-    /// the cache. Else the id has none. It looks at the cache alone.
+    /// Whether an item may be there: `true` exactly where an entry of the list has an id of the
+    /// same slot of the cache. Else the id has none. It looks at the cache alone.
     pub fn may_hold(&self, id: u32) -> bool
         ensures exactly { (d : Device) → StandsOn d self.now
             → result ≡ is_some (latest_on kind d self.now.store.area id) }
@@ -78,9 +78,10 @@ impl Zms {
         self.store.may_hold(id)
     }
 
-    /// Makes a table of the last entries of ids, by one walk over the list, and by a search for each id that shares its
-    /// key: of 800 ids at most, the least that have bytes. It tells of each id where no more than 800 ids ever had bytes in the list. It does so as long
-    /// as the area stays as it is.
+    /// Makes a table of the last entries of ids, by one walk over the list, and by a search for
+    /// each id that shares its key: of 800 ids at most, the least that have bytes. It tells of each
+    /// id where no more than 800 ids ever had bytes in the list. It does so as long as the area
+    /// stays as it is.
     pub fn tell_last_slots<F: Flash, L: Ledger>(
         &self,
         flash: &F,
@@ -93,8 +94,8 @@ impl Zms {
         self.store.tell_last_slots(flash, last, steps)
     }
 
-    /// The bytes of an item, as `get` gives them, by a table of last entries. Where the table tells of the id,
-    /// it is one step at most; else it is what `get` does.
+    /// The bytes of an item, as `get` gives them, by a table of last entries. Where the table tells
+    /// of the id, it is one step at most; else it is what `get` does.
     pub fn get_by<'a, F: Flash, L: Ledger>(
         &self,
         flash: &'a F,
@@ -111,8 +112,8 @@ impl Zms {
         self.store.get_by(flash, last, id, steps)
     }
 
-    /// The least id behind this one that has a value, or the least of all. It is never the reserved id
-    /// FFFFFFFF.
+    /// The least id behind this one that has a value, or the least of all. It is never the reserved
+    /// id FFFFFFFF.
     pub fn next_id<F: Flash, L: Ledger>(
         &self,
         flash: &F,
@@ -126,9 +127,9 @@ impl Zms {
         self.store.next_id(flash, after, steps)
     }
 
-    /// The least id behind this one that has a value, or the least of all, as `next_id` gives it, by a table of
-    /// last entries. Where the table has one, or tells of all ids, nothing is looked at; else the list is
-    /// searched.
+    /// The least id behind this one that has a value, or the least of all, as `next_id` gives it,
+    /// by a table of last entries. Where the table has one, or tells of all ids, nothing is looked
+    /// at; else the list is searched.
     pub fn next_by<F: Flash, L: Ledger>(
         &self,
         flash: &F,
@@ -191,9 +192,10 @@ impl Zms {
         self.store.live_cost(flash, steps)
     }
 
-    /// The next older entry of the list: the one before the entry in this sector and slot, or the newest one
-    /// where no place is given. Where no entry stands at the place, it is the newest one before the place, in
-    /// the round to the open sector. Deletes are among them. `None` comes exactly at the front of the list.
+    /// The next older entry of the list: the one before the entry in this sector and slot, or the
+    /// newest one where no place is given. Where no entry stands at the place, it is the newest one
+    /// before the place, in the round to the open sector. Deletes are among them. `None` comes
+    /// exactly at the front of the list.
     pub fn walk<F: Flash, L: Ledger>(
         &self,
         flash: &F,

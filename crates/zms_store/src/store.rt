@@ -21,11 +21,12 @@ pub struct Zms {
 }
 
 impl Zms {
-    /// Reads the area and carries out what a loss of power left undone: the emptying of a collected sector,
-    /// which takes one to three units (one or two on a bank that is erased), or a whole collection. Where neither was cut, nothing is programmed.
-    /// The items stay, and the newest versions of each, also where power is lost. Whatever the result, it
-    /// programs at most twice the units of a sector. An area in which anything changed has a sector in use
-    /// then, also where power is lost.
+    /// Reads the area and carries out what a loss of power left undone: the emptying of a collected
+    /// sector, which takes one to three units (one or two on a bank that is erased), or a whole
+    /// collection. Where neither was cut, nothing is programmed. The items stay, and the newest
+    /// versions of each, also where power is lost. Whatever the result, it programs at most twice
+    /// the units of a sector. An area in which anything changed has a sector in use then, also
+    /// where power is lost.
     ///
     /// # Errors
     /// `Damaged`, and then nothing was programmed; `PowerLost`; `NoMemory`, and then nothing was programmed
@@ -72,11 +73,11 @@ impl Zms {
         self.store.is_up()
     }
 
-    /// Closes the open sector and collects the oldest one, where that is in use; where it is not, the next
-    /// sector is made ready on a bank that is erased. The items stay, also where power is lost. What does not
-    /// fit then is kept out by the copied items alone, and a delete fits. Where the open sector is clean,
-    /// nothing is programmed: on a bank that is never erased where its slot 2 is not valid, on one that is
-    /// erased where it is blank or fresh.
+    /// Closes the open sector and collects the oldest one, where that is in use; where it is not,
+    /// the next sector is made ready on a bank that is erased. The items stay, also where power is
+    /// lost. What does not fit then is kept out by the copied items alone, and a delete fits. Where
+    /// the open sector is clean, nothing is programmed: on a bank that is never erased where its
+    /// slot 2 is not valid, on one that is erased where it is blank or fresh.
     ///
     /// # Errors
     /// `PowerLost`. The store is then down.

@@ -43,8 +43,8 @@ impl Zms {
         self.store.write(flash, id, bytes, steps)
     }
 
-    /// Deletes an item. Where the id has none, nothing is programmed; the reserved id FFFFFFFF never has one.
-    /// It always finds room.
+    /// Deletes an item. Where the id has none, nothing is programmed; the reserved id FFFFFFFF
+    /// never has one. It always finds room.
     ///
     /// # Errors
     /// `PowerLost`: the items are as before, or without this one, and the store is down.

@@ -10,8 +10,9 @@ use std::fs;
 use std::io::{self, ErrorKind};
 use std::rt::Files;
 
-/// Files of the system, and standard output. It tells nothing of what they hold. A file is written under its name with `.part`
-/// behind it and then renamed, so that a full disk does not cost what stood there.
+/// Files of the system, and standard output. It tells nothing of what they hold. A file is written
+/// under its name with `.part` behind it and then renamed, so that a full disk does not cost what
+/// stood there.
 #[derive(Drop)]
 pub struct RealHost<'a, R> {
     rt: &'a R,
@@ -41,8 +42,8 @@ fn part_of(alloc: Global, name: &str) -> Result<String, AllocError> {
     format!(in alloc; "{name}.part")
 }
 
-// Whether a file was written under the first name and then given the second. Where it was not, what stood under the second
-// name stands there still.
+// Whether a file was written under the first name and then given the second. Where it was not, what
+// stood under the second name stands there still.
 fn store<R: Files>(rt: &R, part: &str, name: &str, bytes: &[u8]) -> bool {
     let whole = match fs::create(rt, part) {
         Ok(mut file) => write_all(&mut file, bytes),

@@ -32,7 +32,8 @@ pub fn read_to_end<F: Read>(alloc: Global, file: &mut F, limit: usize) -> Result
     Err(HostFault::Failed)
 }
 
-/// Whether all the bytes were written; where not, a prefix of them was. A write that takes nothing ends it.
+/// Whether all the bytes were written; where not, a prefix of them was. A write that takes nothing
+/// ends it.
 pub fn write_all<W: Write>(writer: &mut W, bytes: &[u8]) -> bool
     ensures all { OnTrue result
         (Appends (W.contents writer.old) (W.contents writer.new) bytes.now) }

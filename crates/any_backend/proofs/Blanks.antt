@@ -18,16 +18,16 @@ use Rattle.flash_map.specs.declared.area.Area.{Area}
 use Rattle.flash_map.specs.declared.area.Role.{Role}
 use Rattle.flash_map.specs.declared.area.Role.TheVariants.{Nvs, Zms, Fcb, Sel}
 use Rattle.flash_map.proofs.ErasedBytes.{erased_from}
-use Rattle.pair_laws.specs.Items.{Items}
-use Rattle.ring_laws.specs.Area.{next, is_closed_at, open_sector}
-use Rattle.ring_laws.specs.Reading.{Reading}
-use Rattle.ring_laws.proofs.Stays.{open_within}
+use Rattle.item_laws.specs.Items.{Items}
+use Rattle.item_laws.specs.Area.{next, is_closed_at, open_sector}
+use Rattle.item_laws.specs.Reading.{Reading}
+use Rattle.item_laws.proofs.Stays.{open_within}
 use Rattle.nvs_store.specs.Scans as nvs
 use Rattle.nvs_store.proofs.Blank.{reads-blank}
 use Rattle.flash_sim.specs.declared.flash.Kind.{Kind as BankKind}
-use Rattle.zms_kind.specs.Area as zms
-use Rattle.zms_kind.proofs.Erased.{erased-unused}
-use Rattle.zms_kind.proofs.Sectors.{laws}
+use Rattle.zms_format.specs.Area as zms
+use Rattle.zms_format.proofs.Erased.{erased-unused}
+use Rattle.zms_format.proofs.Sectors.{laws}
 use Rattle.fcb_ring.specs.declared.sector.SectorState.{SectorState}
 use Rattle.fcb_ring.specs.Entries.{states, entries, bodies, HasEntries}
 use Rattle.fcb_ring.specs.Rings.{is_full}
@@ -35,15 +35,15 @@ use Rattle.fcb_ring.specs.SectorStates.{state_of}
 use Rattle.fcb_ring.specs.Standing.{erases_due}
 use Rattle.fcb_ring.proofs.PlaceLemmas.{find_nothing}
 use Rattle.fcb_ring.proofs.StandLemmas.{blank-free, blank-untorn}
-use Rattle.settings_laws.specs.Numbers.{cap}
-use Rattle.settings_laws.specs.Settings.{settings_of}
-use Rattle.settings_laws.proofs.BodyLemmas.{settings-none}
-use Rattle.item_pairs.specs.Numbering.{Numbering}
-use Rattle.item_pairs.specs.Pairs.{HasNoStrays}
-use Rattle.item_store.specs.Blank.{nvs-undamaged, nvs-empty, zms-undamaged, zms-empty}
-use Rattle.item_store.specs.NvsStore.{nvs_items}
-use Rattle.item_store.specs.ZmsStore.{zms_items}
-use Rattle.pair_store.proofs.EmptySteps.{no-settings}
+use Rattle.backend_fcb.specs.Numbers.{cap}
+use Rattle.backend_fcb.specs.Settings.{settings_of}
+use Rattle.backend_fcb.proofs.BodyLemmas.{settings-none}
+use Rattle.named_items.specs.Numbering.{Numbering}
+use Rattle.named_items.specs.Pairs.{HasNoStrays}
+use Rattle.named_items.specs.Blank.{nvs-undamaged, nvs-empty, zms-undamaged, zms-empty}
+use Rattle.named_items.specs.NvsStore.{nvs_items}
+use Rattle.named_items.specs.ZmsStore.{zms_items}
+use Rattle.named_items.proofs.EmptySteps.{no-settings}
 use Rattle.backend_nvs.specs.Numbers.{numbers_in as nvs_numbers}
 use Rattle.backend_zms.specs.Numbers.{numbers_in as zms_numbers}
 use Rattle.backend_fcb.specs.Reading.{puts_cost, first_overfull, damage_of, settings_in}

@@ -12,9 +12,9 @@ use Rattle.fcb_ring.specs.Standing.{StandsOn, entries_on, uncounted}
 use Rattle.fcb_ring.proofs.PlaceLemmas.{All-map}
 use Rattle.fcb_ring.proofs.RingLemmas.{by_distance, turned-within}
 use Rattle.backend_fcb.specs.Changing.{parts_on}
-use Rattle.settings_laws.specs.Numbers.{cap, put_cost}
+use Rattle.backend_fcb.specs.Numbers.{cap, put_cost}
 use Rattle.backend_fcb.specs.Reading.{puts_cost}
-use Rattle.pair_laws.specs.Rounds.{joined}
+use Rattle.item_laws.specs.PairRounds.{joined}
 use Rattle.backend_fcb.specs.Standing.{bodies_on}
 use Rattle.backend_fcb.proofs.PutsCosts.{CostsFit, costs-at, costs-from, puts-of, puts-none}
 use Rattle.backend_fcb.proofs.RingLists.{part_at, entries-parts, of-part, of-other, within}

@@ -3,23 +3,23 @@ use Rattle.std.proofs.Common.{◌≡◌, ℕ, ◌+◌, ◌-◌, ◌*◌, ◌<◌
 use Rattle.std.specs.Prelude.{◌==◌, nat_le, sum_by}
 use Rattle.std.specs.FinMap.{get, insert, contains_key, len, entries}
 use Rattle.std.proofs.lemmas.Bool.Decides.{nat_tests}
-use Rattle.pair_laws.specs.Costs.{items_cost}
-use Rattle.pair_laws.specs.Items.{Items}
+use Rattle.item_laws.specs.Costs.{items_cost}
+use Rattle.item_laws.specs.Items.{Items}
 use Rattle.backend_api.specs.Map.{Map, IsStored}
 use Rattle.backend_api.specs.Ends.{FindsNoSpace}
-use Rattle.item_store.specs.Ends as stored
-use Rattle.item_pairs.specs.PairRoom.{pair_room}
-use Rattle.pair_store.specs.Ends.{IsFree}
+use Rattle.named_items.specs.StoreEnds as stored
+use Rattle.named_items.specs.PairRoom.{pair_room}
+use Rattle.named_items.specs.Ends.{IsFree}
 use Rattle.backend_nvs.specs.Numbers.{nvs_numbering, nvs-numbers, nvs-counts, count_of, count-few, is_count, too_many, IsFreePlace}
-use Rattle.item_pairs.specs.Cost.{item_cost, pair_cost, settings_cost}
-use Rattle.item_pairs.specs.Numbering.{Numbering, IsNumbering}
-use Rattle.item_pairs.specs.Pairs.{count_in, pair_at, settings_in, IsInside, IsPlaceOf, HasNoStrays}
-use Rattle.item_pairs.proofs.CostLemmas.{get-put, get-put_other, clean-cost, clean-distinct, map-sum}
-use Rattle.item_pairs.proofs.PairLemmas.{no-name, count-raised, settings-on}
-use Rattle.item_pairs.proofs.RangePairs.{pairs_on}
-use Rattle.item_pairs.proofs.NameLemmas.{get-nowhere, clean-len, on-few, on-full, on-free, used-name, used-value}
-use Rattle.item_pairs.proofs.RoomLemmas.{refused-room, new-need, count-small, items-within}
-use Rattle.item_pairs.proofs.StrayLemmas.{raised-clean}
+use Rattle.named_items.specs.Cost.{item_cost, pair_cost, settings_cost}
+use Rattle.named_items.specs.Numbering.{Numbering, IsNumbering}
+use Rattle.named_items.specs.Pairs.{count_in, pair_at, settings_in, IsInside, IsPlaceOf, HasNoStrays}
+use Rattle.named_items.proofs.CostLemmas.{get-put, get-put_other, clean-cost, clean-distinct, map-sum}
+use Rattle.named_items.proofs.PairLemmas.{no-name, count-raised, settings-on}
+use Rattle.named_items.proofs.RangePairs.{pairs_on}
+use Rattle.named_items.proofs.NameLemmas.{get-nowhere, clean-len, on-few, on-full, on-free, used-name, used-value}
+use Rattle.named_items.proofs.RoomLemmas.{refused-room, new-need, count-small, items-within}
+use Rattle.named_items.proofs.StrayLemmas.{raised-clean}
 
 none_some : {A : Type 0} (x : A) → None ≡ Some x → ⊥
 none_some x e = cc

@@ -7,12 +7,12 @@ use Rattle.flash_map.specs.Area.{geometry_of, sector_size, sectors_of}
 use Rattle.flash_map.specs.Lawful.{IsLawfulFor}
 use Rattle.flash_map.specs.On.{on}
 use Rattle.flash_map.specs.declared.area.Area.{Area}
-use Rattle.item_pairs.specs.Pairs.{count_in, pair_at}
-use Rattle.item_pairs.specs.Numbering.{Numbering}
-use Rattle.item_pairs.proofs.PairLemmas.{settings-on}
-use Rattle.item_pairs.proofs.RangePairs.{map_on}
-use Rattle.item_store.specs.Blank.{nvs-undamaged, nvs-empty}
-use Rattle.item_store.specs.NvsStore.{nvs_damage, nvs_items}
+use Rattle.named_items.specs.Pairs.{count_in, pair_at}
+use Rattle.named_items.specs.Numbering.{Numbering}
+use Rattle.named_items.proofs.PairLemmas.{settings-on}
+use Rattle.named_items.proofs.RangePairs.{map_on}
+use Rattle.named_items.specs.Blank.{nvs-undamaged, nvs-empty}
+use Rattle.named_items.specs.NvsStore.{nvs_damage, nvs_items}
 use Rattle.backend_nvs.specs.Numbers.{count_of, numbers_in, settings_of}
 
 nothing : (area : Area) → map_on (pair_at (numbers_in area) empty) 0x8001 0 ≡ empty

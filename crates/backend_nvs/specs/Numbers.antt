@@ -8,14 +8,14 @@ use Rattle.std.specs.FinMap.{contains_key, len}
 use Rattle.flash_map.specs.declared.area.Area.{Area}
 use Rattle.flash_map.specs.declared.area.Geometry.{Geometry}
 use Rattle.flash_map.specs.Area.{value_limit}
-use Rattle.pair_laws.specs.Items.{Items}
+use Rattle.item_laws.specs.Items.{Items}
 use Rattle.backend_api.specs.Map.{Map}
 use Rattle.backend_api.specs.Room.{Room}
-use Rattle.item_pairs.specs.Numbering.{Numbering, IsNumbering}
-use Rattle.item_pairs.specs.PairRoom.{IsCountCost}
-use Rattle.item_pairs.specs.Pairs.{settings_in, IsInside}
-use Rattle.pair_store.specs.Ends.{IsFree}
-use Rattle.pair_store.specs.Putting.{room_in}
+use Rattle.named_items.specs.Numbering.{Numbering, IsNumbering}
+use Rattle.named_items.specs.PairRoom.{IsCountCost}
+use Rattle.named_items.specs.Pairs.{settings_in, IsInside}
+use Rattle.named_items.specs.Ends.{IsFree}
+use Rattle.named_items.specs.Putting.{room_in}
 use Rattle.backend_nvs.specs.declared.lookup.TheConstants.{COUNT, FIRST, STEP, LIMIT}
 
 -- an absent count is 0, as is one that is not two bytes

@@ -10,9 +10,9 @@ use Rattle.flash_map.specs.declared.area.Area.{Area}
 use Rattle.flash_map.specs.declared.area.Geometry.{Geometry}
 use Rattle.flash_map.specs.declared.area.Role.TheVariants.{Nvs as NvsRole}
 use Rattle.backend_api.specs.Map.{IsSettings}
-use Rattle.item_pairs.specs.Pairs.{HasNoStrays}
-use Rattle.item_pairs.proofs.LawfulLemmas.{settings-lawful}
-use Rattle.item_store.specs.NvsStore.{nvs_damage, nvs_items, nvs_rests, NvsStands, nvs-rested}
+use Rattle.named_items.specs.Pairs.{HasNoStrays}
+use Rattle.named_items.proofs.LawfulLemmas.{settings-lawful}
+use Rattle.named_items.specs.NvsStore.{nvs_damage, nvs_items, nvs_rests, NvsStands, nvs-rested}
 use Rattle.backend_nvs.specs.declared.backend.NvsBackend.{NvsBackend}
 use Rattle.backend_nvs.specs.Numbers.{numbers_in, nvs-numbers, settings_of}
 

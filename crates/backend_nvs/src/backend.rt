@@ -1,7 +1,7 @@
 // The backend over NVS.
 ghost use Rattle.std.specs.Prelude.{◌≡◌, false};
 ghost use Rattle.flash_map.specs.declared.area.Role.TheVariants.{Nvs as NvsRole};
-ghost use Rattle.item_store.specs.NvsStore.{nvs_damage, nvs_items, nvs_price, nvs_cap};
+ghost use Rattle.named_items.specs.NvsStore.{nvs_damage, nvs_items, nvs_price, nvs_cap};
 ghost use Rattle.backend_nvs.specs.Numbers.{settings_of, nvs_room};
 ghost use Rattle.backend_nvs.specs.Standing.{Stands, Rests, stands-rest, reads_settings};
 
@@ -10,9 +10,8 @@ use crate::putting::set_value;
 use backend_api::{Backend, SetFault};
 use flash_map::{Area, MountFault, area_format};
 use flash_sim::{Flash, Loss, PowerLost, Steps};
-use item_store::ItemStore;
+use named_items::{ItemStore, delete_name, mount_store, next_name, standing_value};
 use nvs_gc::Nvs;
-use pair_store::{delete_name, mount_store, next_name, standing_value};
 use setting_name::Name;
 use std::alloc::Global;
 use std::sync::ledger::Ledger;

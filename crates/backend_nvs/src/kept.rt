@@ -2,14 +2,14 @@
 ghost use Rattle.std.specs.Prelude.{◌≡◌, ◌<◌, ℕ, List, true, false, option_map};
 ghost use Rattle.flash_map.specs.Lawful.{IsLawfulFor};
 ghost use Rattle.flash_map.specs.On.{on, HoldsOn, StandsOn};
-ghost use Rattle.item_pairs.specs.Pairs.{IsAt, IsKept};
-ghost use Rattle.pair_store.specs.Looking.{HasIds};
+ghost use Rattle.named_items.specs.Pairs.{IsAt, IsKept};
+ghost use Rattle.named_items.specs.Looking.{HasIds};
 ghost use Rattle.backend_nvs.specs.Numbers.{is_count, numbers_in};
 ghost use Rattle.backend_nvs.specs.declared.lookup.TheConstants.{TOP};
 
 use crate::lookup::{COUNT, FIRST, STEP, place_of};
 use flash_sim::{Flash, Steps};
-use item_store::ItemStore;
+use named_items::ItemStore;
 use setting_name::Name;
 use std::sync::ledger::Ledger;
 

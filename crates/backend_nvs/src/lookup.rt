@@ -3,13 +3,12 @@ ghost use Rattle.std.specs.Prelude.{◌≡◌, ◌+◌, ◌<◌, ◌≤◌, fals
 ghost use Rattle.std.specs.Bool.{MatchBool};
 ghost use Rattle.flash_map.specs.Lawful.{IsLawfulFor};
 ghost use Rattle.flash_map.specs.On.{on, HoldsOn, StandsOn};
-ghost use Rattle.item_pairs.specs.Pairs.{count_in, pair_at, HasName, IsPlaceOf};
-ghost use Rattle.pair_store.specs.Looking.{HasIds};
+ghost use Rattle.named_items.specs.Pairs.{count_in, pair_at, HasName, IsPlaceOf};
+ghost use Rattle.named_items.specs.Looking.{HasIds};
 ghost use Rattle.backend_nvs.specs.Numbers.{number_of, numbers_in, IsFreePlace};
 
 use flash_sim::{Flash, Steps};
-use item_store::ItemStore;
-use pair_store::{is_at, is_free};
+use named_items::{ItemStore, is_at, is_free};
 use setting_name::Name;
 use std::sync::ledger::Ledger;
 

@@ -7,8 +7,7 @@ ghost use Rattle.backend_nvs.specs.declared.lookup.TheConstants.{TOP};
 use crate::lookup::{FIRST, LIMIT, STEP};
 use crate::{kept, lookup, putting};
 use flash_sim::{Flash, Steps};
-use item_store::ItemStore;
-use pair_store::{Ids, Numbers};
+use named_items::{Ids, ItemStore, Numbers};
 use setting_name::Name;
 use std::sync::ledger::Ledger;
 

@@ -8,9 +8,9 @@ ghost use Rattle.flash_map.specs.Spending.{SpendsAtMost};
 ghost use Rattle.flash_map.specs.Touches.{Touches};
 ghost use Rattle.backend_api.specs.Ends.{set_lost, SetEnds};
 ghost use Rattle.backend_api.specs.Room.{most_units};
-ghost use Rattle.item_pairs.specs.Pairs.{count_in, HasNoStrays, IsPlaceOf};
-ghost use Rattle.pair_store.specs.Looking.{HasIds};
-ghost use Rattle.pair_store.specs.Putting.{IsPut, Fits};
+ghost use Rattle.named_items.specs.Pairs.{count_in, HasNoStrays, IsPlaceOf};
+ghost use Rattle.named_items.specs.Looking.{HasIds};
+ghost use Rattle.named_items.specs.Putting.{IsPut, Fits};
 ghost use Rattle.backend_nvs.specs.Numbers.{number_of, numbers_in, settings_of, nvs_room};
 ghost use Rattle.backend_nvs.specs.declared.lookup.TheConstants.{TOP};
 
@@ -19,8 +19,7 @@ use crate::numbers::NvsNumbers;
 use backend_api::SetFault;
 use flash_map::WriteFault;
 use flash_sim::{Flash, Steps};
-use item_store::ItemStore;
-use pair_store::{change_value, price_of_pair, put_new, refused, standing_place};
+use named_items::{ItemStore, change_value, price_of_pair, put_new, refused, standing_place};
 use setting_name::Name;
 use std::sync::ledger::Ledger;
 

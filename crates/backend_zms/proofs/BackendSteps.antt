@@ -9,11 +9,11 @@ use Rattle.flash_map.specs.Area.{geometry_of, sector_size, sectors_of, value_lim
 use Rattle.flash_map.specs.Lawful.{IsLawfulFor}
 use Rattle.flash_map.specs.On.{on}
 use Rattle.flash_map.specs.Sectors.{blanked}
-use Rattle.item_store.specs.Blank.{zms-undamaged, zms-empty}
-use Rattle.item_store.specs.ZmsStore.{zms_damage, zms_items, zms_price, zms_cap, zms-fits}
-use Rattle.pair_store.specs.Putting.{Fits}
-use Rattle.pair_store.proofs.EmptySteps.{no-settings}
-use Rattle.pair_store.proofs.FormatSteps.{blanked-on}
+use Rattle.named_items.specs.Blank.{zms-undamaged, zms-empty}
+use Rattle.named_items.specs.ZmsStore.{zms_damage, zms_items, zms_price, zms_cap, zms-fits}
+use Rattle.named_items.specs.Putting.{Fits}
+use Rattle.named_items.proofs.EmptySteps.{no-settings}
+use Rattle.named_items.proofs.FormatSteps.{blanked-on}
 use Rattle.backend_zms.specs.Numbers.{numbers_in}
 use Rattle.backend_zms.specs.Standing.{IsServed, settings_of}
 

@@ -5,12 +5,12 @@ use Rattle.std.specs.FinMap as maps
 use Rattle.std.proofs.lemmas.Bool.{and_from}
 use Rattle.std.proofs.lemmas.Bool.Decides.{nat_tests}
 use Rattle.std.proofs.lemmas.Nat.Bits.{and_high}
-use Rattle.pair_laws.specs.Items.{Items}
-use Rattle.item_pairs.specs.Homes.{IsFreeHome, HomesAre}
-use Rattle.item_pairs.specs.Pairs.{pair_at, settings_in, IsPlaceOf, HasNoStrays}
-use Rattle.item_pairs.proofs.HomeLemmas.{homes-full, homes-few, homes-count}
-use Rattle.item_pairs.proofs.NameLemmas.{get-nowhere}
-use Rattle.item_pairs.proofs.RangePairs.{pairs_on}
+use Rattle.item_laws.specs.Items.{Items}
+use Rattle.named_items.specs.Homes.{IsFreeHome, HomesAre}
+use Rattle.named_items.specs.Pairs.{pair_at, settings_in, IsPlaceOf, HasNoStrays}
+use Rattle.named_items.proofs.HomeLemmas.{homes-full, homes-few, homes-count}
+use Rattle.named_items.proofs.NameLemmas.{get-nowhere}
+use Rattle.named_items.proofs.RangePairs.{pairs_on}
 use Rattle.backend_zms.specs.Hash.{fnv, group_of, first_of}
 use Rattle.backend_zms.specs.Numbers.{places, is_place_of, zms_numbering, zms-numbers, too_many}
 

@@ -3,19 +3,19 @@ use Rattle.std.proofs.Common.{◌≡◌, ◌⊎◌, ℕ, ◌+◌, ◌-◌, ◌<�
 use Rattle.std.specs.FinMap.{get}
 use Rattle.std.proofs.lemmas.Bool.{false≢true}
 use Rattle.setting_name.specs.Name.{IsName}
-use Rattle.pair_laws.specs.Costs.{items_cost}
-use Rattle.pair_laws.specs.Items.{Items}
-use Rattle.item_pairs.specs.Cost.{item_cost, settings_cost}
-use Rattle.item_pairs.specs.Homes.{IsBare, IsFreeHome, HomesAre}
-use Rattle.item_pairs.specs.Numbering.{Numbering}
-use Rattle.item_pairs.specs.Pairs.{pair_at, settings_in, HasName, IsAt, IsKept, IsPlaceOf, HasNoStrays}
-use Rattle.item_pairs.proofs.CostLemmas.{clean-cost}
-use Rattle.item_pairs.proofs.HomeLemmas.{least-home, free-here, nowhere-home}
-use Rattle.item_pairs.proofs.PairLemmas.{pair-made}
-use Rattle.pair_store.specs.Ends.{IsFree}
-use Rattle.pair_store.specs.Looking.{StandsHere}
-use Rattle.pair_store.proofs.LookupSteps.{at-lawful, here-has}
-use Rattle.pair_store.proofs.StraySteps.{named-at}
+use Rattle.item_laws.specs.Costs.{items_cost}
+use Rattle.item_laws.specs.Items.{Items}
+use Rattle.named_items.specs.Cost.{item_cost, settings_cost}
+use Rattle.named_items.specs.Homes.{IsBare, IsFreeHome, HomesAre}
+use Rattle.named_items.specs.Numbering.{Numbering}
+use Rattle.named_items.specs.Pairs.{pair_at, settings_in, HasName, IsAt, IsKept, IsPlaceOf, HasNoStrays}
+use Rattle.named_items.proofs.CostLemmas.{clean-cost}
+use Rattle.named_items.proofs.HomeLemmas.{least-home, free-here, nowhere-home}
+use Rattle.named_items.proofs.PairLemmas.{pair-made}
+use Rattle.named_items.specs.Ends.{IsFree}
+use Rattle.named_items.specs.Looking.{StandsHere}
+use Rattle.named_items.proofs.LookupSteps.{at-lawful, here-has}
+use Rattle.named_items.proofs.StraySteps.{named-at}
 use Rattle.backend_zms.specs.Hash.{first_of}
 use Rattle.backend_zms.specs.Numbers.{places, zms_numbering, zms-numbers}
 use Rattle.backend_zms.proofs.GroupLemmas.{all-places, group-homes}

@@ -9,9 +9,9 @@ use Rattle.flash_map.specs.declared.area.Geometry.{Geometry}
 use Rattle.flash_map.specs.Area.{value_limit}
 use Rattle.backend_api.specs.Map.{Map}
 use Rattle.backend_api.specs.Room.{Room}
-use Rattle.item_pairs.specs.Cost.{item_cost}
-use Rattle.item_pairs.specs.Numbering.{Numbering, IsNumbering}
-use Rattle.pair_store.specs.Putting.{room_in}
+use Rattle.named_items.specs.Cost.{item_cost}
+use Rattle.named_items.specs.Numbering.{Numbering, IsNumbering}
+use Rattle.named_items.specs.Putting.{room_in}
 use Rattle.backend_zms.specs.declared.hash.TheConstants.{FIRST, STEP, GROUP_BITS, GROUP_SIZE}
 use Rattle.backend_zms.specs.Hash.{group_of, first_of}
 

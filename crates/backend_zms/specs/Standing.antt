@@ -9,9 +9,9 @@ use Rattle.flash_map.specs.Area.{geometry_of, sectors_of, value_limit}
 use Rattle.flash_map.specs.Lawful.{IsLawfulFor}
 use Rattle.flash_map.specs.On.{on}
 use Rattle.backend_api.specs.Map.{Map, IsSettings}
-use Rattle.item_pairs.specs.Pairs.{settings_in, HasNoStrays}
-use Rattle.item_pairs.proofs.LawfulLemmas.{settings-lawful}
-use Rattle.item_store.specs.ZmsStore.{zms_damage, zms_items, zms_rests, ZmsStands, zms-rested}
+use Rattle.named_items.specs.Pairs.{settings_in, HasNoStrays}
+use Rattle.named_items.proofs.LawfulLemmas.{settings-lawful}
+use Rattle.named_items.specs.ZmsStore.{zms_damage, zms_items, zms_rests, ZmsStands, zms-rested}
 use Rattle.backend_zms.specs.declared.backend.ZmsBackend.{ZmsBackend}
 use Rattle.backend_zms.specs.Numbers.{numbers_in, zms-numbers, step-small}
 

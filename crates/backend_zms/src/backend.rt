@@ -1,6 +1,6 @@
 // The backend over ZMS.
 ghost use Rattle.std.specs.Prelude.{◌≡◌, false, refl};
-ghost use Rattle.item_store.specs.ZmsStore.{zms_damage, zms_price, zms_cap};
+ghost use Rattle.named_items.specs.ZmsStore.{zms_damage, zms_price, zms_cap};
 ghost use Rattle.backend_zms.specs.Numbers.{zms_room};
 ghost use Rattle.backend_zms.specs.Standing.{IsServed, settings_of, Rests, Stands, stands-rest, reads_settings};
 
@@ -9,8 +9,7 @@ use crate::putting::set_value;
 use backend_api::{Backend, SetFault};
 use flash_map::{Area, MountFault, area_format};
 use flash_sim::{Flash, Loss, PowerLost, Steps};
-use item_store::ItemStore;
-use pair_store::{delete_name, mount_store, next_name, standing_value};
+use named_items::{ItemStore, delete_name, mount_store, next_name, standing_value};
 use setting_name::Name;
 use std::alloc::Global;
 use std::sync::ledger::Ledger;

@@ -6,16 +6,15 @@ ghost use Rattle.flash_sim.specs.Device.{Device};
 ghost use Rattle.flash_map.specs.Area.{value_limit};
 ghost use Rattle.flash_map.specs.Lawful.{IsLawfulFor};
 ghost use Rattle.flash_map.specs.On.{on, HoldsOn, StandsOn};
-ghost use Rattle.item_pairs.specs.Homes.{IsFreeHome};
-ghost use Rattle.item_pairs.specs.Pairs.{IsAt, IsPlaceOf};
-ghost use Rattle.pair_store.specs.Looking.{HasIds};
+ghost use Rattle.named_items.specs.Homes.{IsFreeHome};
+ghost use Rattle.named_items.specs.Pairs.{IsAt, IsPlaceOf};
+ghost use Rattle.named_items.specs.Looking.{HasIds};
 ghost use Rattle.backend_zms.specs.declared.hash.TheConstants.{GROUP_BITS};
 ghost use Rattle.backend_zms.specs.Numbers.{numbers_in, top, too_many, zms-numbers, zms-within, no-count, stored-one};
 
 use crate::hash::{FIRST, GROUP_BITS, GROUP_SIZE, STEP, first_of};
 use flash_sim::{Flash, Steps};
-use item_store::ItemStore;
-use pair_store::{Ids, Numbers, is_at, is_free, name_in};
+use named_items::{Ids, ItemStore, Numbers, is_at, is_free, name_in};
 use setting_name::Name;
 use std::sync::ledger::Ledger;
 

@@ -7,18 +7,17 @@ ghost use Rattle.flash_map.specs.Spending.{SpendsAtMost};
 ghost use Rattle.flash_map.specs.Touches.{Touches};
 ghost use Rattle.backend_api.specs.Ends.{set_lost, SetEnds};
 ghost use Rattle.backend_api.specs.Room.{most_units};
-ghost use Rattle.item_pairs.specs.Pairs.{settings_in, HasNoStrays, IsPlaceOf};
+ghost use Rattle.named_items.specs.Pairs.{settings_in, HasNoStrays, IsPlaceOf};
 ghost use Rattle.setting_name.specs.Name.{IsName};
-ghost use Rattle.pair_store.specs.Looking.{HasIds};
-ghost use Rattle.pair_store.specs.Putting.{IsPut, Fits};
+ghost use Rattle.named_items.specs.Looking.{HasIds};
+ghost use Rattle.named_items.specs.Putting.{IsPut, Fits};
 ghost use Rattle.backend_zms.specs.Numbers.{numbers_in, top, zms_room};
 
 use crate::hash::STEP;
 use crate::numbers::{ZmsNumbers, free_place};
 use backend_api::SetFault;
 use flash_sim::{Flash, Steps};
-use item_store::ItemStore;
-use pair_store::{change_value, price_of_pair, put_new, standing_place};
+use named_items::{ItemStore, change_value, price_of_pair, put_new, standing_place};
 use setting_name::Name;
 use std::sync::ledger::Ledger;
 

@@ -19,7 +19,7 @@ use Rattle.image_file.specs.Format.{Plain}
 use Rattle.image_file.specs.Lawful.{HasNeeded, IsImage, IsImageArea, IsImageBank, StandsOn, area_at, is_sel, is_selector}
 use Rattle.image_file.specs.Spec.{AddsAll, IsSpec, area_words, bank_words, nothing_listed}
 use Rattle.image_file.proofs.OneSpecLemmas.{no_bad_item}
-use Rattle.image_plays.specs.Inputs.{blank_spec}
+use Rattle.image_jobs.specs.Inputs.{blank_spec}
 use Rattle.image_tool.specs.Complete.{BlanksAreLawful, BlanksAreNotRefused}
 
 -- four sectors of 4,096 bytes

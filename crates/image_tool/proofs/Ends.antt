@@ -3,25 +3,25 @@ use Rattle.std.proofs.Common.{◌≡◌, ℕ, List, [], ◌∷◌, arith, Option
 use Rattle.std.specs.Prelude.{MatchOption, slice_index}
 use Rattle.zs_host.specs.Outside.{Outside, Files, SameBut, printed_more}
 use Rattle.handlers.specs.declared.handler.HandlerKind.{HandlerKind}
-use Rattle.image_plays.specs.declared.plays.Output.{Output}
-use Rattle.image_plays.specs.declared.plays.Output.TheVariants.{Nowhere, Into}
-use Rattle.image_plays.specs.declared.stops.Refusal.{Refusal}
-use Rattle.image_plays.specs.declared.stops.Refusal.TheVariants.{BadSpec, NoFile, BadFile, NoLog, NoItems, NoMirror, BadArea, Unfit, BadScript}
-use Rattle.image_plays.specs.Inputs.{out_of}
+use Rattle.image_jobs.specs.declared.plays.Output.{Output}
+use Rattle.image_jobs.specs.declared.plays.Output.TheVariants.{Nowhere, Into}
+use Rattle.image_jobs.specs.declared.stops.Refusal.{Refusal}
+use Rattle.image_jobs.specs.declared.stops.Refusal.TheVariants.{BadSpec, NoFile, BadFile, NoLog, NoItems, NoMirror, BadArea, Unfit, BadScript}
+use Rattle.image_jobs.specs.Inputs.{out_of}
 use Rattle.command_words.specs.Commands.{IsCommand, IsNoCommand, name_of, operands_of}
 use Rattle.command_words.specs.declared.commands.Command.TheVariants as command
 use Rattle.command_words.specs.declared.commands.Command.{Command}
-use Rattle.image_plays.specs.declared.outcome.Outcome.{Outcome}
-use Rattle.image_plays.specs.declared.stops.Stop.{Stop}
-use Rattle.image_plays.specs.declared.stops.Stop.TheVariants.{Refused, HostFailed, NoMemory}
+use Rattle.image_jobs.specs.declared.outcome.Outcome.{Outcome}
+use Rattle.image_jobs.specs.declared.stops.Stop.{Stop}
+use Rattle.image_jobs.specs.declared.stops.Stop.TheVariants.{Refused, HostFailed, NoMemory}
 use Rattle.std.specs.Borrow.{Bor}
-use Rattle.image_items.specs.Plays.{ItemPlayEnds}
-use Rattle.image_logs.specs.Plays.{LogPlayEnds}
-use Rattle.image_mirrors.specs.Plays.{MirrorPlayEnds}
-use Rattle.image_plays.specs.Plays.{File, WritesLeft, file_of}
+use Rattle.session_jobs.specs.ItemPlays.{ItemPlayEnds}
+use Rattle.session_jobs.specs.LogPlays.{LogPlayEnds}
+use Rattle.session_jobs.specs.MirrorPlays.{MirrorPlayEnds}
+use Rattle.image_jobs.specs.Plays.{File, WritesLeft, file_of}
 use Rattle.image_file.specs.Format.{Plain}
-use Rattle.image_plays.specs.Refusals.{line_of}
-use Rattle.image_plays.specs.Stages.{Stage, Stores}
+use Rattle.image_jobs.specs.Refusals.{line_of}
+use Rattle.image_jobs.specs.Stages.{Stage, Stores}
 use Rattle.image_tool.specs.declared.status.Status.{Status}
 use Rattle.image_tool.specs.declared.status.Status.TheVariants as status
 use Rattle.image_tool.specs.declared.tasks.Task.{Task}

@@ -12,18 +12,18 @@ use Rattle.command_words.specs.declared.commands.StoreKind.{StoreKind}
 use Rattle.image_file.specs.Format.{Plain, plain_area}
 use Rattle.image_file.specs.Lawful.{IsImage}
 use Rattle.image_file.specs.Spec.{IsSpec}
-use Rattle.image_maps.specs.Blank.{HoldsNothing}
-use Rattle.image_maps.specs.Held.{held}
-use Rattle.image_maps.proofs.BlankLemmas.{holds_nothing}
-use Rattle.image_plays.specs.declared.plays.Play.{Play}
-use Rattle.image_plays.specs.declared.plays.Start.{Start}
-use Rattle.image_plays.specs.declared.plays.Start.TheVariants.{Blank}
-use Rattle.image_plays.specs.declared.stops.Refusal.{Refusal}
-use Rattle.image_plays.specs.declared.stops.Refusal.TheVariants.{BadSpec, NoFile, BadFile, NoLog, NoItems, NoMirror, BadArea, Unfit, BadScript}
-use Rattle.image_plays.specs.Images.{HasAreas, flash_of}
-use Rattle.image_plays.specs.Inputs.{BeginsWith, LacksStart, blank_spec}
-use Rattle.image_plays.specs.Plays.{IsDamage, LacksLines, Refuses}
-use Rattle.image_plays.specs.Stages.{Stage}
+use Rattle.image_jobs.specs.Blank.{HoldsNothing}
+use Rattle.image_jobs.specs.Held.{held}
+use Rattle.image_jobs.proofs.BlankLemmas.{holds_nothing}
+use Rattle.image_jobs.specs.declared.plays.Play.{Play}
+use Rattle.image_jobs.specs.declared.plays.Start.{Start}
+use Rattle.image_jobs.specs.declared.plays.Start.TheVariants.{Blank}
+use Rattle.image_jobs.specs.declared.stops.Refusal.{Refusal}
+use Rattle.image_jobs.specs.declared.stops.Refusal.TheVariants.{BadSpec, NoFile, BadFile, NoLog, NoItems, NoMirror, BadArea, Unfit, BadScript}
+use Rattle.image_jobs.specs.Images.{HasAreas, flash_of}
+use Rattle.image_jobs.specs.Inputs.{BeginsWith, LacksStart, blank_spec}
+use Rattle.image_jobs.specs.Plays.{IsDamage, LacksLines, Refuses}
+use Rattle.image_jobs.specs.Stages.{Stage}
 use Rattle.image_tool.specs.declared.status.Status.{Status}
 use Rattle.image_tool.specs.declared.status.Status.TheVariants as status
 use Rattle.image_tool.specs.Blank.{BlanksLackLinesAlone, GenIsCarriedOut, SpecsAreEmpty}

@@ -6,7 +6,7 @@ use Rattle.flash_sim.specs.Device.{Device}
 use Rattle.zs_host.specs.Outside.{Outside}
 use Rattle.handlers.specs.declared.handler.HandlerKind.{HandlerKind}
 use Rattle.handlers.specs.Registry.{Registered}
-use Rattle.image_plays.specs.Stages.{Stage, stage}
+use Rattle.image_jobs.specs.Stages.{Stage, stage}
 use Rattle.image_tool.specs.declared.status.Status.{Status}
 use Rattle.image_tool.specs.Exits.{Exits, ExitsOr, ProcessExits, no_flash, program_kinds, real_host}
 use Rattle.image_tool.specs.Tool.{ToolEnds, any_stores, exit_code}

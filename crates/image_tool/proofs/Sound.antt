@@ -10,18 +10,18 @@ use Rattle.script_lines.specs.Script.{IsBadLine}
 use Rattle.script_lines.proofs.ScriptLaws.{one_script}
 use Rattle.image_file.specs.Format.{Plain}
 use Rattle.image_file.proofs.OneSpecLemmas.{no_bad_item, one_blank_image}
-use Rattle.image_plays.specs.declared.plays.Play.{Play}
-use Rattle.image_plays.specs.declared.plays.Source.{Source}
-use Rattle.image_plays.specs.declared.plays.Source.TheVariants.{Script, Names, Migration, Generated}
-use Rattle.image_plays.specs.declared.plays.Start.{Start}
-use Rattle.image_plays.specs.declared.plays.Start.TheVariants.{File, Blank}
-use Rattle.image_plays.specs.declared.stops.Refusal.{Refusal}
-use Rattle.image_plays.specs.declared.stops.Refusal.TheVariants.{BadSpec, NoFile, BadFile, NoLog, NoItems, NoMirror, BadArea, Unfit, BadScript}
-use Rattle.image_plays.specs.Images.{HasAreas, damage_of}
-use Rattle.image_plays.specs.Inputs.{BeginsWith, LacksSource, LacksStart, PlaysLines, blank_spec}
-use Rattle.image_plays.specs.Plays.{IsDamage, LacksLines, Refuses}
-use Rattle.image_plays.specs.Reading.{HasScript, LacksScript}
-use Rattle.image_plays.specs.Stages.{Stage, Stores}
+use Rattle.image_jobs.specs.declared.plays.Play.{Play}
+use Rattle.image_jobs.specs.declared.plays.Source.{Source}
+use Rattle.image_jobs.specs.declared.plays.Source.TheVariants.{Script, Names, Migration, Generated}
+use Rattle.image_jobs.specs.declared.plays.Start.{Start}
+use Rattle.image_jobs.specs.declared.plays.Start.TheVariants.{File, Blank}
+use Rattle.image_jobs.specs.declared.stops.Refusal.{Refusal}
+use Rattle.image_jobs.specs.declared.stops.Refusal.TheVariants.{BadSpec, NoFile, BadFile, NoLog, NoItems, NoMirror, BadArea, Unfit, BadScript}
+use Rattle.image_jobs.specs.Images.{HasAreas, damage_of}
+use Rattle.image_jobs.specs.Inputs.{BeginsWith, LacksSource, LacksStart, PlaysLines, blank_spec}
+use Rattle.image_jobs.specs.Plays.{IsDamage, LacksLines, Refuses}
+use Rattle.image_jobs.specs.Reading.{HasScript, LacksScript}
+use Rattle.image_jobs.specs.Stages.{Stage, Stores}
 use Rattle.image_tool.specs.declared.status.Status.{Status}
 use Rattle.image_tool.specs.declared.status.Status.TheVariants as status
 use Rattle.image_tool.specs.declared.tasks.Task.{Task}

@@ -9,15 +9,15 @@ use Rattle.image_file.specs.Format.{Plain, plain_area}
 use Rattle.script_lines.specs.declared.why.LineWhy.{LineWhy}
 use Rattle.script_lines.specs.Script.{IsBadLine}
 use Rattle.script_lines.proofs.ScriptLaws.{one_script}
-use Rattle.item_lines.specs.declared.ids.Ids.{Ids}
-use Rattle.item_lines.specs.declared.line.Line.{Line}
-use Rattle.item_lines.specs.Line.{ids_end, item_forms}
-use Rattle.image_plays.specs.declared.stops.Refusal.{Refusal}
-use Rattle.image_plays.specs.declared.stops.Refusal.TheVariants.{BadSpec, NoFile, BadFile, NoLog, NoItems, NoMirror, BadArea, Unfit, BadScript}
-use Rattle.image_plays.specs.Images.{HasAreas}
-use Rattle.image_plays.specs.Reading.{HasImage, LacksText}
-use Rattle.image_items.specs.Inputs.{HasBadLine, HasLines, IsItemArea, LacksItems, LacksLines, ids_of}
-use Rattle.image_items.specs.Plays.{FindsItemDamage, LacksItemLines, RefusesItems, damage_in}
+use Rattle.item_session.specs.declared.ids.Ids.{Ids}
+use Rattle.item_session.specs.declared.line.Line.{Line}
+use Rattle.item_session.specs.Line.{ids_end, item_forms}
+use Rattle.image_jobs.specs.declared.stops.Refusal.{Refusal}
+use Rattle.image_jobs.specs.declared.stops.Refusal.TheVariants.{BadSpec, NoFile, BadFile, NoLog, NoItems, NoMirror, BadArea, Unfit, BadScript}
+use Rattle.image_jobs.specs.Images.{HasAreas}
+use Rattle.image_jobs.specs.Reading.{HasImage, LacksText}
+use Rattle.session_jobs.specs.ItemInputs.{HasBadLine, HasLines, IsItemArea, LacksItems, LacksLines, ids_of}
+use Rattle.session_jobs.specs.ItemPlays.{FindsItemDamage, LacksItemLines, RefusesItems, damage_in}
 use Rattle.image_tool.specs.Complete.{IsSoundItems}
 use Rattle.image_tool.proofs.SoundFiles.{has_image, never_long, never_missing, same_file, same_image, some_none}
 

@@ -9,14 +9,14 @@ use Rattle.image_file.specs.Format.{Plain, plain_area}
 use Rattle.script_lines.specs.declared.why.LineWhy.{LineWhy}
 use Rattle.script_lines.specs.Script.{IsBadLine}
 use Rattle.script_lines.proofs.ScriptLaws.{one_script}
-use Rattle.log_lines.specs.declared.line.Line.{Line}
-use Rattle.log_lines.specs.Line.{log_forms}
-use Rattle.image_plays.specs.declared.stops.Refusal.{Refusal}
-use Rattle.image_plays.specs.declared.stops.Refusal.TheVariants.{BadSpec, NoFile, BadFile, NoLog, NoItems, NoMirror, BadArea, Unfit, BadScript}
-use Rattle.image_plays.specs.Images.{HasAreas}
-use Rattle.image_plays.specs.Reading.{HasImage, LacksText}
-use Rattle.image_logs.specs.Inputs.{HasBadLine, HasLines, IsLogArea, LacksLines, LacksLog}
-use Rattle.image_logs.specs.Plays.{FindsLogDamage, LacksLogLines, RefusesLog, damage_in}
+use Rattle.log_session.specs.declared.line.Line.{Line}
+use Rattle.log_session.specs.Line.{log_forms}
+use Rattle.image_jobs.specs.declared.stops.Refusal.{Refusal}
+use Rattle.image_jobs.specs.declared.stops.Refusal.TheVariants.{BadSpec, NoFile, BadFile, NoLog, NoItems, NoMirror, BadArea, Unfit, BadScript}
+use Rattle.image_jobs.specs.Images.{HasAreas}
+use Rattle.image_jobs.specs.Reading.{HasImage, LacksText}
+use Rattle.session_jobs.specs.LogInputs.{HasBadLine, HasLines, IsLogArea, LacksLines, LacksLog}
+use Rattle.session_jobs.specs.LogPlays.{FindsLogDamage, LacksLogLines, RefusesLog, damage_in}
 use Rattle.image_tool.specs.Complete.{IsSoundLog}
 use Rattle.image_tool.proofs.SoundFiles.{has_image, never_long, never_missing, same_file, same_image, some_none}
 

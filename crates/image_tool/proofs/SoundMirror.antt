@@ -9,18 +9,18 @@ use Rattle.script_lines.specs.declared.why.LineWhy.{LineWhy}
 use Rattle.script_lines.specs.Script.{IsBadLine}
 use Rattle.script_lines.proofs.ScriptLaws.{one_script}
 use Rattle.image_file.specs.Format.{Plain}
-use Rattle.mirror_lines.specs.declared.line.Line.{Line}
-use Rattle.mirror_lines.specs.Line.{mirror_forms}
+use Rattle.mirror_session.specs.declared.line.Line.{Line}
+use Rattle.mirror_session.specs.Line.{mirror_forms}
 use Rattle.mirror_session.specs.declared.fault.SessionFault.{SessionFault}
 use Rattle.mirror_session.specs.declared.fault.SessionFault.TheVariants.{Damaged as IsDamaged, Unfit as IsUnfit, NoMemory as WantsMemory}
 use Rattle.mirror_session.specs.Running.{TellsUnfit}
-use Rattle.image_plays.specs.declared.stops.Refusal.{Refusal}
-use Rattle.image_plays.specs.declared.stops.Refusal.TheVariants.{BadSpec, NoFile, BadFile, NoLog, NoItems, NoMirror, BadArea, Unfit, BadScript}
-use Rattle.image_plays.specs.declared.stops.Stop.TheVariants.{Refused}
-use Rattle.image_plays.specs.Images.{HasAreas}
-use Rattle.image_plays.specs.Reading.{HasImage, LacksText}
-use Rattle.image_mirrors.specs.Inputs.{AreMirrored, HasBadLine, HasLines, LacksLines, LacksMirror}
-use Rattle.image_mirrors.specs.Plays.{FitsImage, IsStop, LacksMirrorLines, RefusesMirror, StopsAtMount, TellsDamage, damage_in}
+use Rattle.image_jobs.specs.declared.stops.Refusal.{Refusal}
+use Rattle.image_jobs.specs.declared.stops.Refusal.TheVariants.{BadSpec, NoFile, BadFile, NoLog, NoItems, NoMirror, BadArea, Unfit, BadScript}
+use Rattle.image_jobs.specs.declared.stops.Stop.TheVariants.{Refused}
+use Rattle.image_jobs.specs.Images.{HasAreas}
+use Rattle.image_jobs.specs.Reading.{HasImage, LacksText}
+use Rattle.session_jobs.specs.MirrorInputs.{AreMirrored, HasBadLine, HasLines, LacksLines, LacksMirror}
+use Rattle.session_jobs.specs.MirrorPlays.{FitsImage, IsStop, LacksMirrorLines, RefusesMirror, StopsAtMount, TellsDamage, damage_in}
 use Rattle.image_tool.specs.Complete.{IsSoundMirror}
 use Rattle.image_tool.proofs.SoundFiles.{has_image, never_long, never_missing, same_file, same_image}
 

@@ -11,12 +11,12 @@ use Rattle.command_words.specs.declared.commands.StoreKind.{StoreKind}
 use Rattle.image_file.specs.Format.{Plain}
 use Rattle.image_file.specs.Spec.{IsSpec}
 use Rattle.migrator.specs.Areas.{first_store}
-use Rattle.image_plays.specs.declared.plays.Play.{Play}
-use Rattle.image_plays.specs.declared.plays.Start.TheVariants.{Blank}
-use Rattle.image_plays.specs.declared.stops.Refusal.{Refusal}
-use Rattle.image_plays.specs.Images.{HasAreas, active_of, damage_of, settings_of}
-use Rattle.image_plays.specs.Plays.{LacksLines, Refuses}
-use Rattle.image_plays.specs.Stages.{Stage}
+use Rattle.image_jobs.specs.declared.plays.Play.{Play}
+use Rattle.image_jobs.specs.declared.plays.Start.TheVariants.{Blank}
+use Rattle.image_jobs.specs.declared.stops.Refusal.{Refusal}
+use Rattle.image_jobs.specs.Images.{HasAreas, active_of, damage_of, settings_of}
+use Rattle.image_jobs.specs.Plays.{LacksLines, Refuses}
+use Rattle.image_jobs.specs.Stages.{Stage}
 use Rattle.image_tool.specs.declared.status.Status.{Status}
 use Rattle.image_tool.specs.Complete.{IsCarriedOut}
 use Rattle.image_tool.specs.Tool.{ToolEnds, any_stores}

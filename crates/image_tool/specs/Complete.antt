@@ -11,22 +11,22 @@ use Rattle.script_lines.specs.declared.line.Line.{Line}
 use Rattle.image_file.specs.Format.{Plain}
 use Rattle.image_file.specs.Spec.{IsSpec}
 use Rattle.flash_map.specs.Area.{value_limit}
-use Rattle.item_lines.specs.declared.line.Line.{Line as ItemLine}
-use Rattle.log_lines.specs.declared.line.Line.{Line as LogLine}
-use Rattle.image_items.specs.Inputs.{HasLines as HasItemLines, ids_of}
-use Rattle.image_items.specs.Plays.{OpensItems, damage_in as item_damage_in}
-use Rattle.image_logs.specs.Inputs.{HasLines}
-use Rattle.image_logs.specs.Plays.{OpensLog, damage_in}
-use Rattle.mirror_lines.specs.declared.line.Line.{Line as MirrorLine}
-use Rattle.image_mirrors.specs.Inputs.{AreMirrored, HasLines as HasMirrorLines}
-use Rattle.image_mirrors.specs.Plays.{FitsImage, damage_in as mirror_damage}
-use Rattle.image_plays.specs.declared.plays.Play.{Play}
-use Rattle.image_plays.specs.declared.plays.Start.TheVariants.{Blank}
-use Rattle.image_plays.specs.declared.stops.Refusal.{Refusal}
-use Rattle.image_plays.specs.Images.{HasAreas, damage_of}
-use Rattle.image_plays.specs.Reading.{HasImage}
-use Rattle.image_plays.specs.Inputs.{BeginsWith, LacksStart, PlaysLines, blank_spec}
-use Rattle.image_plays.specs.Stages.{Stage, Stores}
+use Rattle.item_session.specs.declared.line.Line.{Line as ItemLine}
+use Rattle.log_session.specs.declared.line.Line.{Line as LogLine}
+use Rattle.session_jobs.specs.ItemInputs.{HasLines as HasItemLines, ids_of}
+use Rattle.session_jobs.specs.ItemPlays.{OpensItems, damage_in as item_damage_in}
+use Rattle.session_jobs.specs.LogInputs.{HasLines}
+use Rattle.session_jobs.specs.LogPlays.{OpensLog, damage_in}
+use Rattle.mirror_session.specs.declared.line.Line.{Line as MirrorLine}
+use Rattle.session_jobs.specs.MirrorInputs.{AreMirrored, HasLines as HasMirrorLines}
+use Rattle.session_jobs.specs.MirrorPlays.{FitsImage, damage_in as mirror_damage}
+use Rattle.image_jobs.specs.declared.plays.Play.{Play}
+use Rattle.image_jobs.specs.declared.plays.Start.TheVariants.{Blank}
+use Rattle.image_jobs.specs.declared.stops.Refusal.{Refusal}
+use Rattle.image_jobs.specs.Images.{HasAreas, damage_of}
+use Rattle.image_jobs.specs.Reading.{HasImage}
+use Rattle.image_jobs.specs.Inputs.{BeginsWith, LacksStart, PlaysLines, blank_spec}
+use Rattle.image_jobs.specs.Stages.{Stage, Stores}
 use Rattle.image_tool.specs.declared.status.Status.{Status}
 use Rattle.image_tool.specs.declared.status.Status.TheVariants as status
 use Rattle.image_tool.specs.declared.tasks.Task.{Task}

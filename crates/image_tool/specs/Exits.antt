@@ -6,7 +6,7 @@ use Rattle.zs_host.specs.Outside.{Outside}
 use Rattle.handlers.specs.declared.handler.HandlerKind.{HandlerKind}
 use Rattle.handlers.specs.declared.handler.HandlerKind.TheVariants.{Table, Counter, Level}
 use Rattle.handlers.specs.Registry.{Registered}
-use Rattle.image_plays.specs.Stages.{stage}
+use Rattle.image_jobs.specs.Stages.{stage}
 use Rattle.image_tool.specs.declared.status.Status.{Status}
 use Rattle.image_tool.specs.declared.status.Status.TheVariants as status
 use Rattle.image_tool.specs.Tool.{NoCommandEnds, ToolEnds, any_stores, exit_code}

@@ -4,20 +4,20 @@ use Rattle.zs_host.specs.Outside.{Outside, failed}
 use Rattle.handlers.specs.declared.handler.HandlerKind.{HandlerKind}
 use Rattle.command_words.specs.declared.commands.Command.{Command}
 use Rattle.command_words.specs.declared.commands.Command.TheVariants as command
-use Rattle.image_items.specs.Plays.{PlaysItems, RefusesItems, StopsItems}
-use Rattle.image_logs.specs.Plays.{PlaysLog, RefusesLog, StopsLog}
-use Rattle.image_mirrors.specs.Plays.{PlaysMirror, RefusesMirror, StopsMirror}
-use Rattle.image_plays.specs.declared.outcome.Outcome.{Outcome}
-use Rattle.image_plays.specs.declared.plays.Start.TheVariants.{File as FromFile, Blank}
-use Rattle.image_plays.specs.declared.plays.Source.TheVariants.{Script, Names, Migration, Generated}
-use Rattle.image_plays.specs.declared.plays.Telling.TheVariants.{All, Last, Summary}
-use Rattle.image_plays.specs.declared.plays.Output.TheVariants.{Nowhere, Into}
-use Rattle.image_plays.specs.declared.stops.Refusal.{Refusal}
-use Rattle.image_plays.specs.declared.stops.Stop.{Stop}
-use Rattle.image_plays.specs.declared.stops.Stop.TheVariants.{Refused, HostFailed, NoMemory}
-use Rattle.image_plays.specs.Inputs.{LacksSpec}
-use Rattle.image_plays.specs.Plays.{Builds, File, Plays, Refuses, Stops, file_of}
-use Rattle.image_plays.specs.Stages.{Stage, Stores}
+use Rattle.session_jobs.specs.ItemPlays.{PlaysItems, RefusesItems, StopsItems}
+use Rattle.session_jobs.specs.LogPlays.{PlaysLog, RefusesLog, StopsLog}
+use Rattle.session_jobs.specs.MirrorPlays.{PlaysMirror, RefusesMirror, StopsMirror}
+use Rattle.image_jobs.specs.declared.outcome.Outcome.{Outcome}
+use Rattle.image_jobs.specs.declared.plays.Start.TheVariants.{File as FromFile, Blank}
+use Rattle.image_jobs.specs.declared.plays.Source.TheVariants.{Script, Names, Migration, Generated}
+use Rattle.image_jobs.specs.declared.plays.Telling.TheVariants.{All, Last, Summary}
+use Rattle.image_jobs.specs.declared.plays.Output.TheVariants.{Nowhere, Into}
+use Rattle.image_jobs.specs.declared.stops.Refusal.{Refusal}
+use Rattle.image_jobs.specs.declared.stops.Stop.{Stop}
+use Rattle.image_jobs.specs.declared.stops.Stop.TheVariants.{Refused, HostFailed, NoMemory}
+use Rattle.image_jobs.specs.Inputs.{LacksSpec}
+use Rattle.image_jobs.specs.Plays.{Builds, File, Plays, Refuses, Stops, file_of}
+use Rattle.image_jobs.specs.Stages.{Stage, Stores}
 use Rattle.image_tool.specs.declared.tasks.Task.{Task}
 use Rattle.image_tool.specs.declared.tasks.Task.TheVariants.{Build, Plays as ToPlay, Log, Items, Mirror}
 

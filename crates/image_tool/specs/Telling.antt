@@ -1,7 +1,7 @@
 -- Printing a text, and then writing a file.
 use Rattle.std.specs.Prelude.{◌≡◌, ◌⊎◌, ℕ, Option, Some, None, List, take}
 use Rattle.zs_host.specs.Outside.{Outside, SameBut, failed, printed_more, written}
-use Rattle.image_plays.specs.Plays.{File}
+use Rattle.image_jobs.specs.Plays.{File}
 use Rattle.image_tool.specs.declared.status.Status.{Status}
 use Rattle.image_tool.specs.declared.status.Status.TheVariants as status
 

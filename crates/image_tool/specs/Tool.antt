@@ -4,13 +4,13 @@ use Rattle.zs_host.specs.Outside.{Outside, SameBut, failed, printed_more}
 use Rattle.handlers.specs.declared.handler.HandlerKind.{HandlerKind}
 use Rattle.command_words.specs.Commands.{IsCommand, IsNoCommand}
 use Rattle.command_words.specs.declared.commands.Command.{Command}
-use Rattle.image_plays.specs.declared.stops.Refusal.{Refusal}
-use Rattle.image_plays.specs.declared.stops.Refusal.TheVariants.{BadSpec, NoFile, BadFile, NoLog, NoItems, NoMirror, BadArea, Unfit, BadScript}
-use Rattle.image_plays.specs.Inputs.{out_of}
-use Rattle.image_plays.specs.Plays.{File}
-use Rattle.image_plays.specs.Refusals.{line_of, usage_line}
+use Rattle.image_jobs.specs.declared.stops.Refusal.{Refusal}
+use Rattle.image_jobs.specs.declared.stops.Refusal.TheVariants.{BadSpec, NoFile, BadFile, NoLog, NoItems, NoMirror, BadArea, Unfit, BadScript}
+use Rattle.image_jobs.specs.Inputs.{out_of}
+use Rattle.image_jobs.specs.Plays.{File}
+use Rattle.image_jobs.specs.Refusals.{line_of, usage_line}
 use Rattle.any_backend.specs.ByRole.{any_chance, any_contents, any_damage, any_rests, any_room, any_tears}
-use Rattle.image_plays.specs.Stages.{Stage, Stores, stores}
+use Rattle.image_jobs.specs.Stages.{Stage, Stores, stores}
 use Rattle.image_tool.specs.declared.status.Status.{Status}
 use Rattle.image_tool.specs.declared.status.Status.TheVariants as status
 use Rattle.image_tool.specs.declared.tasks.Task.{Task}

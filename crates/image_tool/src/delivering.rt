@@ -1,12 +1,12 @@
 // Printing and writing.
 ghost use Rattle.std.specs.Prelude.{◌≡◌};
-ghost use Rattle.image_plays.specs.Plays.{file_of};
-ghost use Rattle.image_plays.specs.Refusals.{line_of};
+ghost use Rattle.image_jobs.specs.Plays.{file_of};
+ghost use Rattle.image_jobs.specs.Refusals.{line_of};
 ghost use Rattle.image_tool.specs.Telling.{Delivers, DeliversOnly, Reports};
 ghost use Rattle.image_tool.specs.Tool.{status_of};
 
 use crate::status::Status;
-use image_plays::{Outcome, Refusal, refusal_line};
+use image_jobs::{Outcome, Refusal, refusal_line};
 use std::alloc::Global;
 use zs_host::{Host, HostFault};
 

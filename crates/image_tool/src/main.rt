@@ -7,7 +7,7 @@ ghost use Rattle.std.specs.Process.{exit_status};
 ghost use Rattle.handlers.specs.Held.{fresh};
 ghost use Rattle.handlers.specs.Registry.{registered};
 ghost use Rattle.session.specs.OnMap.{IsFresh, kinds};
-ghost use Rattle.image_plays.specs.Stages.{stage};
+ghost use Rattle.image_jobs.specs.Stages.{stage};
 ghost use Rattle.image_tool.specs.declared.status.Status.{Status as status};
 ghost use Rattle.image_tool.specs.Exits.{ExitsOr, ProcessExits};
 ghost use Rattle.image_tool.specs.Tool.{NoCommandEnds, ToolEnds, any_stores, exit_code};

@@ -3,7 +3,7 @@ ghost use Rattle.std.specs.Prelude.{◌≡◌};
 ghost use Rattle.image_tool.specs.Tasks.{task_of};
 
 use command_words::Command;
-use image_plays::{Output, Play, Source, Start, Telling};
+use image_jobs::{Output, Play, Source, Start, Telling};
 
 /// What a command is to do.
 #[derive(Clone, Copy, Debug, PartialEq, Eq)]

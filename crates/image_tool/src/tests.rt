@@ -1,7 +1,7 @@
 // Rows: commands on image files in memory, what they print and what they leave.
 use super::*;
 use flash_sim::FlatSim;
-use image_plays::USAGE;
+use image_jobs::USAGE;
 use std::test::Fail;
 use zs_host::MemHost;
 

@@ -8,8 +8,8 @@ ghost use Rattle.image_file.specs.Lawful.{IsImage};
 ghost use Rattle.session.specs.OnMap.{IsFresh, IsServedMap, kinds};
 ghost use Rattle.command_words.specs.Commands.{IsCommand};
 ghost use Rattle.command_words.specs.declared.commands.Command.{Command as command};
-ghost use Rattle.image_maps.specs.Held.{held};
-ghost use Rattle.image_plays.specs.Stages.{stage, stores};
+ghost use Rattle.image_jobs.specs.Held.{held};
+ghost use Rattle.image_jobs.specs.Stages.{stage, stores};
 ghost use Rattle.image_tool.specs.Tasks.{Prepares};
 ghost use Rattle.image_tool.specs.Tool.{TaskEnds, NoCommandEnds, ToolEnds, MayWrite, OnlyFile, any_stores, out_file};
 
@@ -21,10 +21,8 @@ use backend_api::Backend;
 use command_words::read_words;
 use flash_sim::Bench;
 use handlers::{Handler, Registry};
-use image_items::play_items;
-use image_logs::play_log;
-use image_mirrors::play_mirror;
-use image_plays::{Outcome, Stop, USAGE, build, play};
+use image_jobs::{Outcome, Stop, USAGE, build, play};
+use session_jobs::{play_items, play_log, play_mirror};
 use std::alloc::Global;
 use zs_host::Host;
 

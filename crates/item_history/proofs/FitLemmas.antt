@@ -5,13 +5,13 @@ use Rattle.std.proofs.lemmas.List.Concat.{flat_map-cons}
 use Rattle.std.proofs.lemmas.List.Elements.{All-nil, All-cons, All-head, All-tail, All-append, All-map, All-weaker}
 use Rattle.std.proofs.lemmas.List.Sums.{sum_by-append}
 use Rattle.flash_map.specs.Area.{sector_at}
-use Rattle.pair_laws.specs.Rounds.{joined, live_cost, stored_cost}
-use Rattle.ring_laws.specs.Area.{open_sector}
-use Rattle.ring_laws.specs.Forms.{pairs_at, rest}
-use Rattle.ring_laws.specs.Rounds.{parts}
-use Rattle.ring_laws.proofs.LiveCost.{live-le}
-use Rattle.ring_laws.proofs.Parts.{parts-count, parts-list}
-use Rattle.ring_laws.proofs.Places.{IsFar, split}
+use Rattle.item_laws.specs.PairRounds.{joined, live_cost, stored_cost}
+use Rattle.item_laws.specs.Area.{open_sector}
+use Rattle.item_laws.specs.Forms.{pairs_at, rest}
+use Rattle.item_laws.specs.Rounds.{parts}
+use Rattle.item_laws.proofs.LiveCost.{live-le}
+use Rattle.item_laws.proofs.Parts.{parts-count, parts-list}
+use Rattle.item_laws.proofs.Places.{IsFar, split}
 use Rattle.item_history.specs.Laws.{ItemsFit}
 
 -- parts that cost at most so much each

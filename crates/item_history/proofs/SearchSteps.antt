@@ -9,17 +9,17 @@ use Rattle.std.proofs.lemmas.List.Elements.{filter_map-append}
 use Rattle.std.proofs.lemmas.List.Sums.{fold-append}
 use Rattle.std.proofs.lemmas.Option.{none-some, same_Some, slice_get_past}
 use Rattle.flash_map.specs.Area.{sector_at}
-use Rattle.ring_laws.specs.Area.{round, counts_at, open_sector}
-use Rattle.ring_laws.specs.Live.{counted_in, all_placed}
-use Rattle.ring_laws.specs.RoundParts.{places_before, places_after}
-use Rattle.ring_laws.specs.Walk.{entries_from}
-use Rattle.ring_laws.proofs.Places.{after, range-append, range_from}
-use Rattle.ring_laws.proofs.RoundAt.{round-at}
-use Rattle.ring_store.specs.declared.entry.Entry.{Entry}
-use Rattle.ring_store.specs.declared.entry.Placed.{Placed}
-use Rattle.ring_store.specs.Kind.{Kind, placed_at, slots, entries}
-use Rattle.ring_store.specs.Seen.{behind}
-use Rattle.ring_store.proofs.CostSteps.{round-oldest}
+use Rattle.item_laws.specs.Area.{round, counts_at, open_sector}
+use Rattle.item_laws.specs.Live.{counted_in, all_placed}
+use Rattle.item_laws.specs.RoundParts.{places_before, places_after}
+use Rattle.item_laws.specs.Walk.{entries_from}
+use Rattle.item_laws.proofs.Places.{after, range-append, range_from}
+use Rattle.item_laws.proofs.RoundAt.{round-at}
+use Rattle.item_store.specs.declared.entry.Entry.{Entry}
+use Rattle.item_store.specs.declared.entry.Placed.{Placed}
+use Rattle.item_store.specs.Kind.{Kind, placed_at, slots, entries}
+use Rattle.item_store.specs.Seen.{behind}
+use Rattle.item_store.proofs.CostSteps.{round-oldest}
 use Rattle.item_history.specs.declared.searches.Search.{Search}
 use Rattle.item_history.specs.declared.searches.Search.TheVariants.{Found, Left}
 use Rattle.item_history.specs.Searches.{of_id, EndsIn, IfFound}

@@ -8,23 +8,23 @@ use Rattle.std.proofs.lemmas.List.Concat.{flat_map-cons}
 use Rattle.std.proofs.lemmas.List.Elements.{All-head, All-tail, All-weaker}
 use Rattle.std.proofs.lemmas.List.Sums.{sum_by-append, sum_by-cons}
 use Rattle.flash_map.specs.Area.{sector_at}
-use Rattle.pair_laws.specs.Live.{names, live_pairs}
-use Rattle.pair_laws.specs.Rounds.{copies_cost, live_cost}
-use Rattle.ring_laws.specs.Area.{round, counts_at, open_sector}
-use Rattle.ring_laws.specs.Forms.{AtRest}
-use Rattle.ring_laws.specs.Live.{counted_in, all_placed, bytes_of, pair_of, cost_of}
-use Rattle.ring_laws.proofs.LastLemmas.{list-found}
-use Rattle.ring_laws.proofs.Lists.{counts-at_rest}
-use Rattle.ring_laws.proofs.Places.{range-append, range_one}
-use Rattle.ring_store.specs.declared.entry.Entry.{Entry}
-use Rattle.ring_store.specs.declared.entry.Placed.{Placed}
-use Rattle.ring_store.specs.Kind.{Kind, IsKind, placed_at, slots, entries}
-use Rattle.ring_store.specs.Listed.{IsPlaced}
-use Rattle.ring_store.specs.Standing.{list_of}
-use Rattle.ring_store.proofs.CopyLoop.{are}
-use Rattle.ring_store.proofs.CostSteps.{round-sum}
-use Rattle.ring_store.proofs.OlderSteps.{placed_to, to_more}
-use Rattle.ring_store.proofs.Placings.{all-are_placed, entry_long}
+use Rattle.item_laws.specs.LivePairs.{names, live_pairs}
+use Rattle.item_laws.specs.PairRounds.{copies_cost, live_cost}
+use Rattle.item_laws.specs.Area.{round, counts_at, open_sector}
+use Rattle.item_laws.specs.Forms.{AtRest}
+use Rattle.item_laws.specs.Live.{counted_in, all_placed, bytes_of, pair_of, cost_of}
+use Rattle.item_laws.proofs.LastLemmas.{list-found}
+use Rattle.item_laws.proofs.Lists.{counts-at_rest}
+use Rattle.item_laws.proofs.Places.{range-append, range_one}
+use Rattle.item_store.specs.declared.entry.Entry.{Entry}
+use Rattle.item_store.specs.declared.entry.Placed.{Placed}
+use Rattle.item_store.specs.Kind.{Kind, IsKind, placed_at, slots, entries}
+use Rattle.item_store.specs.Listed.{IsPlaced}
+use Rattle.item_store.specs.Standing.{list_of}
+use Rattle.item_store.proofs.CopyLoop.{are}
+use Rattle.item_store.proofs.CostSteps.{round-sum}
+use Rattle.item_store.proofs.OlderSteps.{placed_to, to_more}
+use Rattle.item_store.proofs.Placings.{all-are_placed, entry_long}
 use Rattle.item_history.specs.declared.usage.Space.{Space}
 use Rattle.item_history.specs.Usage.{stale_pairs, stale_cost}
 

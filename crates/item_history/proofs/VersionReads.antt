@@ -3,13 +3,13 @@ use Rattle.std.proofs.Common.{◌≡◌, ℕ, ◌≤◌, Bool, true, false, cond
 use Rattle.std.specs.Prelude.{fold, slice_get}
 use Rattle.std.specs.Option.{option_map}
 use Rattle.std.proofs.lemmas.Option.{slice_get-map}
-use Rattle.ring_laws.specs.Live.{all_placed, bytes_of, pair_of}
-use Rattle.ring_laws.proofs.LastLemmas.{list-found}
-use Rattle.ring_store.specs.declared.entry.Placed.{Placed}
-use Rattle.ring_store.specs.Kind.{Kind, IsKind, slots}
-use Rattle.ring_store.specs.Standing.{list_of}
-use Rattle.ring_store.specs.Versions.{versions}
-use Rattle.ring_store.proofs.CopyLoop.{are}
+use Rattle.item_laws.specs.Live.{all_placed, bytes_of, pair_of}
+use Rattle.item_laws.proofs.LastLemmas.{list-found}
+use Rattle.item_store.specs.declared.entry.Placed.{Placed}
+use Rattle.item_store.specs.Kind.{Kind, IsKind, slots}
+use Rattle.item_store.specs.Standing.{list_of}
+use Rattle.item_store.specs.Versions.{versions}
+use Rattle.item_store.proofs.CopyLoop.{are}
 use Rattle.item_history.specs.declared.history.Older.{Older}
 use Rattle.item_history.specs.declared.history.Older.TheVariants.{Value, Deleted, Gone}
 use Rattle.item_history.specs.History.{IsVersion}

@@ -1,11 +1,11 @@
 -- What holds of the room of every area.
 use Rattle.std.specs.Prelude.{◌≡◌, ℕ, ◌-◌, ◌*◌, ◌<◌, ◌≤◌, List, length}
 use Rattle.flash_map.specs.Area.{sector_at}
-use Rattle.pair_laws.specs.Rounds.{live_cost}
-use Rattle.ring_laws.specs.Area.{open_sector}
-use Rattle.ring_laws.specs.Forms.{AtRest}
-use Rattle.ring_store.specs.Kind.{Kind, IsKind}
-use Rattle.ring_store.specs.Standing.{list_of}
+use Rattle.item_laws.specs.PairRounds.{live_cost}
+use Rattle.item_laws.specs.Area.{open_sector}
+use Rattle.item_laws.specs.Forms.{AtRest}
+use Rattle.item_store.specs.Kind.{Kind, IsKind}
+use Rattle.item_store.specs.Standing.{list_of}
 
 -- At rest the items cost no more than all sectors but one have room for, so what is told as free is never cut
 -- off at 0.

@@ -1,6 +1,6 @@
 -- The entries of one id, and how a search for one of them ends.
 use Rattle.std.specs.Prelude.{◌≡◌, ℕ, ◌+◌, List, [], ◌∷◌, length, fold, slice_get, Some, ◌==◌, if◌then◌else◌}
-use Rattle.ring_store.specs.declared.entry.Placed.{Placed}
+use Rattle.item_store.specs.declared.entry.Placed.{Placed}
 use Rattle.item_history.specs.declared.searches.Search.{Search}
 use Rattle.item_history.specs.declared.searches.Search.TheVariants.{Found, Left}
 

@@ -1,8 +1,8 @@
 -- What the pairs of a list take up, and what room is left in an area.
 use Rattle.std.specs.Prelude.{ℕ, ◌-◌, ◌*◌, List, [], ◌∷◌, length, ◌||◌, ◌==◌, if◌then◌else◌}
-use Rattle.pair_laws.specs.Live.{names}
-use Rattle.pair_laws.specs.Rounds.{copies_cost, live_cost}
-use Rattle.ring_store.specs.Kind.{Kind}
+use Rattle.item_laws.specs.LivePairs.{names}
+use Rattle.item_laws.specs.PairRounds.{copies_cost, live_cost}
+use Rattle.item_store.specs.Kind.{Kind}
 use Rattle.item_history.specs.declared.usage.Space.{Space}
 
 -- The pairs that are no item: deletes, and those behind which stands another of their id.

@@ -2,19 +2,19 @@
 ghost use Rattle.std.specs.Prelude.{◌≡◌, ◌∷◌, []};
 ghost use Rattle.item_history.specs.History.{IsVersion};
 ghost use Rattle.flash_map.specs.Area.{sectors_of};
-ghost use Rattle.ring_laws.specs.Area.{open_sector};
-ghost use Rattle.ring_laws.specs.Forms.{AtRest};
-ghost use Rattle.ring_laws.specs.Live.{bytes_of};
-ghost use Rattle.ring_store.specs.Kind.{slots};
-ghost use Rattle.ring_store.specs.Listed.{kind_on, list_on, IsListedOn, IsWithinOn};
-ghost use Rattle.ring_store.specs.Standing.{IsStoreArea};
-ghost use Rattle.ring_store.specs.Stands.{StandsOn};
-ghost use Rattle.ring_store.specs.Versions.{versions};
+ghost use Rattle.item_laws.specs.Area.{open_sector};
+ghost use Rattle.item_laws.specs.Forms.{AtRest};
+ghost use Rattle.item_laws.specs.Live.{bytes_of};
+ghost use Rattle.item_store.specs.Kind.{slots};
+ghost use Rattle.item_store.specs.Listed.{kind_on, list_on, IsListedOn, IsWithinOn};
+ghost use Rattle.item_store.specs.Standing.{IsStoreArea};
+ghost use Rattle.item_store.specs.Stands.{StandsOn};
+ghost use Rattle.item_store.specs.Versions.{versions};
 
 use crate::searches::nth_entry;
 use flash_map::Area;
 use flash_sim::{Flash, Steps};
-use ring_store::{Placed, SlotSectors, Store};
+use item_store::{Placed, SlotSectors, Store};
 use std::sync::ledger::Ledger;
 
 /// A version of an item.

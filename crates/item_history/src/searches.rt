@@ -3,15 +3,15 @@ ghost use Rattle.std.specs.Prelude.{◌≡◌, ◌∷◌, [], ◌<◌, map, IfSo
 ghost use Rattle.std.specs.List.{filter_map};
 ghost use Rattle.flash_map.specs.Area.{sectors_of, sector_at};
 ghost use Rattle.item_history.specs.Searches.{of_id, EndsIn, IfFound};
-ghost use Rattle.ring_laws.specs.Area.{open_sector};
-ghost use Rattle.ring_laws.specs.Forms.{AtRest};
-ghost use Rattle.ring_store.specs.Kind.{entries, placed_at};
-ghost use Rattle.ring_store.specs.Listed.{kind_on, entries_on, HasSlotOn, IsListedOn};
-ghost use Rattle.ring_store.specs.Standing.{IsStoreArea};
+ghost use Rattle.item_laws.specs.Area.{open_sector};
+ghost use Rattle.item_laws.specs.Forms.{AtRest};
+ghost use Rattle.item_store.specs.Kind.{entries, placed_at};
+ghost use Rattle.item_store.specs.Listed.{kind_on, entries_on, HasSlotOn, IsListedOn};
+ghost use Rattle.item_store.specs.Standing.{IsStoreArea};
 
 use flash_map::Area;
 use flash_sim::{Flash, Steps};
-use ring_store::{Placed, SlotSectors};
+use item_store::{Placed, SlotSectors};
 use std::sync::ledger::Ledger;
 
 // How a search in some entries ends.

@@ -4,7 +4,7 @@ ghost use Rattle.flash_map.specs.Area.{sector_size};
 ghost use Rattle.item_history.specs.History.{IsVersion};
 ghost use Rattle.item_history.specs.Usage.{space_of};
 ghost use Rattle.nvs_gc.specs.Standing as nvs;
-ghost use Rattle.ring_store.specs.Versions.{versions};
+ghost use Rattle.item_store.specs.Versions.{versions};
 ghost use Rattle.zms_store.specs.Standing as zms;
 
 use crate::history::{Older, store_older};

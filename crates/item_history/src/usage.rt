@@ -3,18 +3,18 @@ ghost use Rattle.std.specs.Prelude.{◌≡◌, ◌+◌, ◌-◌, ◌*◌, ◌^�
 ghost use Rattle.std.specs.Option.{option_map};
 ghost use Rattle.flash_map.specs.Area.{sector_size, sectors_of, sector_at};
 ghost use Rattle.item_history.specs.Usage.{space_of};
-ghost use Rattle.pair_laws.specs.Rounds.{copies_cost};
-ghost use Rattle.ring_laws.specs.Area.{open_sector};
-ghost use Rattle.ring_laws.specs.Forms.{AtRest};
-ghost use Rattle.ring_laws.specs.Live.{cost_of};
-ghost use Rattle.ring_store.specs.Kind.{entries, placed_at, slots};
-ghost use Rattle.ring_store.specs.Listed.{kind_on, list_on, HasSlotOn};
-ghost use Rattle.ring_store.specs.Standing.{IsStoreArea};
-ghost use Rattle.ring_store.specs.Stands.{StandsOn};
+ghost use Rattle.item_laws.specs.PairRounds.{copies_cost};
+ghost use Rattle.item_laws.specs.Area.{open_sector};
+ghost use Rattle.item_laws.specs.Forms.{AtRest};
+ghost use Rattle.item_laws.specs.Live.{cost_of};
+ghost use Rattle.item_store.specs.Kind.{entries, placed_at, slots};
+ghost use Rattle.item_store.specs.Listed.{kind_on, list_on, HasSlotOn};
+ghost use Rattle.item_store.specs.Standing.{IsStoreArea};
+ghost use Rattle.item_store.specs.Stands.{StandsOn};
 
 use flash_map::{Area, geometry};
 use flash_sim::{Flash, Steps};
-use ring_store::{SlotSectors, Store};
+use item_store::{SlotSectors, Store};
 use std::sync::ledger::Ledger;
 
 /// What the entries of an area take up, in bytes, each with its value.

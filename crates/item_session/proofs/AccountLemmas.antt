@@ -5,9 +5,9 @@ use Rattle.flash_map.specs.declared.area.Area.{Area}
 use Rattle.flash_map.specs.Touches.{Touches}
 use Rattle.script_lines.specs.Plan.{Replan}
 use Rattle.script_lines.specs.Plan.Replan.{keeps}
-use Rattle.item_lines.specs.declared.line.Line.{Line}
-use Rattle.item_lines.specs.declared.answer.Answer.{Answer}
-use Rattle.item_lines.specs.Plan.{units_of, is_lost, replan, plan_by}
+use Rattle.item_session.specs.declared.line.Line.{Line}
+use Rattle.item_session.specs.declared.answer.Answer.{Answer}
+use Rattle.item_session.specs.Plan.{units_of, is_lost, replan, plan_by}
 use Rattle.item_session.specs.LineDone.{Accounts}
 
 spent_is : (spent spent' more : ℕ) → spent' ≡ counted spent more → spent + (spent' - spent) ≡ spent'

@@ -10,24 +10,24 @@ use Rattle.flash_map.specs.declared.area.Role.{Role}
 use Rattle.flash_map.specs.declared.area.Role.TheVariants.{Nvs, Zms}
 use Rattle.flash_map.specs.Area.{geometry_of, sector_at, sector_size, sectors_of, unit_of}
 use Rattle.flash_map.specs.Units.{is_erased}
-use Rattle.ring_laws.specs.Area.{is_blank_at, open_sector}
-use Rattle.ring_laws.proofs.AreaReads.{length-sectors}
-use Rattle.nvs_kind.specs.Kinds as nvs
-use Rattle.nvs_kind.proofs.KindLemmas.{nvs_is_kind}
-use Rattle.ring_store.specs.Kind.{IsKind, Kind, is_clean_at}
-use Rattle.ring_store.specs.Listed.{kind_on}
-use Rattle.ring_store.specs.Standing.{IsStoreArea}
-use Rattle.ring_store.specs.Writing.{open_at}
-use Rattle.ring_store.proofs.Areas.{large_there, open_inside, size_there, unit_is}
-use Rattle.ring_store.proofs.BlankAreas.{blank-empty, blank-rests}
-use Rattle.zms_kind.specs.Kinds as zms
-use Rattle.zms_kind.proofs.Erased.{cycle_none, erased-unused}
-use Rattle.zms_kind.specs.Area.{is_clean}
+use Rattle.item_laws.specs.Area.{is_blank_at, open_sector}
+use Rattle.item_laws.proofs.AreaReads.{length-sectors}
+use Rattle.nvs_format.specs.Kinds as nvs
+use Rattle.nvs_format.proofs.KindLemmas.{nvs_is_kind}
+use Rattle.item_store.specs.Kind.{IsKind, Kind, is_clean_at}
+use Rattle.item_store.specs.Listed.{kind_on}
+use Rattle.item_store.specs.Standing.{IsStoreArea}
+use Rattle.item_store.specs.Writing.{open_at}
+use Rattle.item_store.proofs.Areas.{large_there, open_inside, size_there, unit_is}
+use Rattle.item_store.proofs.BlankAreas.{blank-empty, blank-rests}
+use Rattle.zms_format.specs.Kinds as zms
+use Rattle.zms_format.proofs.Erased.{cycle_none, erased-unused}
+use Rattle.zms_format.specs.Area.{is_clean}
 use Rattle.zms_cycle.specs.Sector.{cycle_of, is_fresh}
 use Rattle.flash_map.proofs.ErasedBytes.{erased_is}
 use Rattle.flash_sim.specs.declared.flash.Kind.{Kind as BankKind}
 use Rattle.flash_sim.specs.declared.flash.Kind.TheVariants.{Erasing, Rewritable}
-use Rattle.zms_kind.proofs.KindLemmas.{zms_is_kind}
+use Rattle.zms_format.proofs.KindLemmas.{zms_is_kind}
 use Rattle.item_session.specs.Laws.{NvsBlankIsFresh, ZmsBlankIsFresh}
 use Rattle.item_session.specs.Whole.{IsBlankOn, IsFresh, cap_on, free_on, spare_on}
 

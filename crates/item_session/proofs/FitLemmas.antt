@@ -5,16 +5,16 @@ use Rattle.flash_sim.specs.Device.{Device}
 use Rattle.flash_map.specs.declared.area.Area.{Area}
 use Rattle.flash_map.specs.declared.area.Geometry.{Geometry}
 use Rattle.flash_map.specs.Area.{sector_size, sectors_of}
-use Rattle.item_lines.specs.declared.line.Line.{Line}
-use Rattle.item_lines.specs.declared.line.Line.TheVariants.{Set, Get, Delete, Older, Space, Cut, Uncut, Mount}
-use Rattle.item_lines.specs.declared.answer.Answer.{Answer}
-use Rattle.item_lines.specs.declared.answer.Answer.TheVariants as answers
-use Rattle.ring_store.specs.Kind.{IsKind, Kind}
-use Rattle.ring_store.specs.Listed.{kind_on, list_on}
-use Rattle.ring_store.specs.Room.{MakesRoom, Rounds, StopsMakingRoom, has_room, has_room_at}
-use Rattle.ring_store.specs.Standing.{list_at}
-use Rattle.ring_store.specs.Writing.{Appends, StopsAppending}
-use Rattle.ring_store.proofs.RoomSteps.{rounds-none}
+use Rattle.item_session.specs.declared.line.Line.{Line}
+use Rattle.item_session.specs.declared.line.Line.TheVariants.{Set, Get, Delete, Older, Space, Cut, Uncut, Mount}
+use Rattle.item_session.specs.declared.answer.Answer.{Answer}
+use Rattle.item_session.specs.declared.answer.Answer.TheVariants as answers
+use Rattle.item_store.specs.Kind.{IsKind, Kind}
+use Rattle.item_store.specs.Listed.{kind_on, list_on}
+use Rattle.item_store.specs.Room.{MakesRoom, Rounds, StopsMakingRoom, has_room, has_room_at}
+use Rattle.item_store.specs.Standing.{list_at}
+use Rattle.item_store.specs.Writing.{Appends, StopsAppending}
+use Rattle.item_store.proofs.RoomSteps.{rounds-none}
 use Rattle.item_session.specs.Fits.{ForgetsNone}
 use Rattle.item_session.specs.History.{Adds}
 use Rattle.item_session.specs.Laws.{ForgetsForRoom}

@@ -6,16 +6,16 @@ use Rattle.flash_map.specs.declared.area.Area.{Area}
 use Rattle.flash_map.specs.declared.area.Geometry.{Geometry}
 use Rattle.session_table.specs.Follows.{Follows}
 use Rattle.session_table.proofs.FollowsLemmas.{last, one}
-use Rattle.item_lines.specs.declared.line.Line.{Line}
-use Rattle.item_lines.specs.declared.line.Line.TheVariants.{Set, Get, Delete, Older, Space, Cut, Uncut, Mount}
-use Rattle.item_lines.specs.declared.answer.Answer.{Answer}
-use Rattle.ring_store.specs.Kind.{Kind}
+use Rattle.item_session.specs.declared.line.Line.{Line}
+use Rattle.item_session.specs.declared.line.Line.TheVariants.{Set, Get, Delete, Older, Space, Cut, Uncut, Mount}
+use Rattle.item_session.specs.declared.answer.Answer.{Answer}
+use Rattle.item_store.specs.Kind.{Kind}
 use Rattle.flash_map.specs.Area.{value_limit}
 use Rattle.item_session.specs.declared.fault.SessionFault.{SessionFault}
 use Rattle.item_session.specs.declared.fault.SessionFault.TheVariants.{Damaged as IsDamaged, NoMemory}
 use Rattle.item_session.specs.Device.{IsServed, IsServedOn, turned_on}
 use Rattle.item_session.specs.Standing.{damage_on}
-use Rattle.ring_store.proofs.CallFacts.{from_geometry}
+use Rattle.item_store.proofs.CallFacts.{from_geometry}
 use Rattle.item_session.specs.LineDone.{LineDone}
 use Rattle.item_session.specs.Running.{MountStops, Ran, RunEnds, RunStops, WantsMemory}
 use Rattle.item_session.proofs.RunLemmas.{runs_of}

@@ -6,14 +6,14 @@ use Rattle.std.specs.Option.{option_and_then}
 use Rattle.std.proofs.lemmas.Bool.{false≢true}
 use Rattle.std.proofs.lemmas.List.{get_or_append_left}
 use Rattle.std.proofs.lemmas.Option.{get_or_from_slice_get, slice_get-get_or, slice_get_past, slice_get_within}
-use Rattle.pair_laws.specs.Items.{Items, items_of, value_of}
-use Rattle.pair_laws.proofs.ItemLemmas.{get-items_of, same_map}
-use Rattle.item_lines.specs.declared.line.Line.{Line}
-use Rattle.item_lines.specs.declared.line.Line.TheVariants.{Set, Get, Delete, Older, Space, Cut, Uncut, Mount}
-use Rattle.item_lines.specs.declared.answer.Answer.{Answer}
-use Rattle.item_lines.specs.declared.answer.Answer.TheVariants as answers
-use Rattle.ring_store.specs.Versions.{versions, AddsVersion, KeepsVersions}
-use Rattle.ring_store.proofs.VersionLemmas.{keeps_all, keeps_more, keeps-push, newest-is, versions-items}
+use Rattle.item_laws.specs.Items.{Items, items_of, value_of}
+use Rattle.item_laws.proofs.ItemLemmas.{get-items_of, same_map}
+use Rattle.item_session.specs.declared.line.Line.{Line}
+use Rattle.item_session.specs.declared.line.Line.TheVariants.{Set, Get, Delete, Older, Space, Cut, Uncut, Mount}
+use Rattle.item_session.specs.declared.answer.Answer.{Answer}
+use Rattle.item_session.specs.declared.answer.Answer.TheVariants as answers
+use Rattle.item_store.specs.Versions.{versions, AddsVersion, KeepsVersions}
+use Rattle.item_store.proofs.VersionLemmas.{keeps_all, keeps_more, keeps-push, newest-is, versions-items}
 use Rattle.session_table.specs.Follows.{Follows}
 use Rattle.session_table.proofs.FollowsLemmas.{seen, then}
 use Rattle.item_session.specs.History.{Adds, HistoryStep, IsKept, PowerStep, Recorded, TellsHistory}

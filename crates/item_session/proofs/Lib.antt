@@ -6,11 +6,14 @@ pub mod HistoryLemmas
 mod LineLemmas
 mod MemoryLemmas
 mod MountLemmas
+mod NumberPairs
 mod RestLemmas
 mod RoomLemmas
 mod RunLemmas
 pub mod ServedLemmas
 mod StateLemmas
+mod TableFacts
+mod TableLaws
 pub mod ValueLemmas
 pub mod WholeLemmas
 mod WriteLemmas

@@ -15,22 +15,22 @@ use Rattle.flash_map.proofs.Plans.{Lasts-zero}
 use Rattle.flash_map.proofs.Touches.{untouched}
 use Rattle.item_history.specs.Usage.{space_of}
 use Rattle.item_history.specs.declared.usage.Space.{Space as TheSpace}
-use Rattle.item_lines.specs.declared.line.Line.{Line}
-use Rattle.item_lines.specs.declared.line.Line.TheVariants.{Set, Get, Delete, Older, Space, Cut, Uncut, Mount}
-use Rattle.item_lines.specs.declared.answer.Answer.{Answer}
-use Rattle.item_lines.specs.declared.answer.Answer.TheVariants as answers
-use Rattle.item_lines.specs.Plan.{units_of, is_lost, replan}
-use Rattle.pair_laws.specs.Items.{items_of}
-use Rattle.ring_store.specs.Kind.{Kind}
-use Rattle.ring_store.specs.Listed.{kind_on, list_on}
-use Rattle.ring_store.specs.Standing.{KeepsItems}
-use Rattle.ring_store.specs.Versions.{versions}
+use Rattle.item_session.specs.declared.line.Line.{Line}
+use Rattle.item_session.specs.declared.line.Line.TheVariants.{Set, Get, Delete, Older, Space, Cut, Uncut, Mount}
+use Rattle.item_session.specs.declared.answer.Answer.{Answer}
+use Rattle.item_session.specs.declared.answer.Answer.TheVariants as answers
+use Rattle.item_session.specs.Plan.{units_of, is_lost, replan}
+use Rattle.item_laws.specs.Items.{items_of}
+use Rattle.item_store.specs.Kind.{Kind}
+use Rattle.item_store.specs.Listed.{kind_on, list_on}
+use Rattle.item_store.specs.Standing.{KeepsItems}
+use Rattle.item_store.specs.Versions.{versions}
 use Rattle.script_lines.specs.Plan.Replan.{keeps}
 use Rattle.item_session.specs.Device.{RestsOn, rules_on, state_of, turned_on}
 use Rattle.item_session.specs.LineDone.{Keeps, LineDone, Redoes, WritesBy, powered_for}
 use Rattle.item_session.specs.Step.{Step}
 use Rattle.item_session.proofs.AccountLemmas.{at_most, kept, lost, units_most}
-use Rattle.pair_laws.proofs.ItemsCost.{items_cost-is}
+use Rattle.item_laws.proofs.ItemsCost.{items_cost-is}
 use Rattle.item_session.proofs.StateLemmas.{stays_there}
 
 none_spent : (units spent : ℕ) → units ≡ 0 → units ≡ spent - spent

@@ -6,11 +6,11 @@ use Rattle.flash_sim.specs.Device.{Device}
 use Rattle.flash_sim.specs.declared.flash.NoMemory.{NoMemory}
 use Rattle.flash_map.specs.declared.area.Area.{Area}
 use Rattle.flash_map.specs.declared.area.Geometry.{Geometry}
-use Rattle.item_lines.specs.declared.line.Line.TheVariants.{Get, Older}
-use Rattle.item_lines.specs.declared.answer.Answer.{Answer}
-use Rattle.ring_store.specs.Kind.{Kind}
-use Rattle.ring_store.specs.Listed.{items_on, list_on}
-use Rattle.ring_store.specs.Versions.{versions}
+use Rattle.item_session.specs.declared.line.Line.TheVariants.{Get, Older}
+use Rattle.item_session.specs.declared.answer.Answer.{Answer}
+use Rattle.item_store.specs.Kind.{Kind}
+use Rattle.item_store.specs.Listed.{items_on, list_on}
+use Rattle.item_store.specs.Versions.{versions}
 use Rattle.item_session.specs.Running.{WantsMemory}
 use Rattle.item_session.proofs.LineLemmas.{some_bytes}
 

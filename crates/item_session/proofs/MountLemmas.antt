@@ -11,12 +11,12 @@ use Rattle.flash_map.specs.Area.{sector_size}
 use Rattle.flash_map.specs.Faults.{mount_lost}
 use Rattle.flash_map.specs.Spending.{SpendsBetween}
 use Rattle.flash_map.specs.Touches.{Touches}
-use Rattle.item_lines.specs.declared.line.Line.TheVariants.{Mount}
-use Rattle.item_lines.specs.declared.answer.Answer.TheVariants as answers
-use Rattle.ring_store.specs.declared.store.Store.{Store}
-use Rattle.ring_store.specs.Kind.{Kind}
-use Rattle.ring_store.specs.Listed.{kind_on}
-use Rattle.ring_store.specs.Stands.{MountEnds}
+use Rattle.item_session.specs.declared.line.Line.TheVariants.{Mount}
+use Rattle.item_session.specs.declared.answer.Answer.TheVariants as answers
+use Rattle.item_store.specs.declared.store.Store.{Store}
+use Rattle.item_store.specs.Kind.{Kind}
+use Rattle.item_store.specs.Listed.{kind_on}
+use Rattle.item_store.specs.Stands.{MountEnds}
 use Rattle.item_session.specs.Device.{turned_on}
 use Rattle.item_session.specs.LineDone.{LineDone}
 use Rattle.item_session.specs.Standing.{IsMounted, ShowsDamage, damage_on}

@@ -8,11 +8,11 @@ use Rattle.flash_map.specs.declared.area.Geometry.{Geometry}
 use Rattle.flash_map.specs.declared.area.Role.{Role}
 use Rattle.flash_map.specs.Area.{geometry_of, sectors_of}
 use Rattle.flash_map.specs.Units.{IsUnit}
-use Rattle.ring_laws.specs.Forms.{AtRest}
-use Rattle.ring_store.specs.declared.store.Store.{Store}
-use Rattle.ring_store.specs.Kind.{IsKind, Kind}
-use Rattle.ring_store.proofs.Areas.{unit_is}
-use Rattle.ring_store.proofs.ReadFacts.{rest_on}
+use Rattle.item_laws.specs.Forms.{AtRest}
+use Rattle.item_store.specs.declared.store.Store.{Store}
+use Rattle.item_store.specs.Kind.{IsKind, Kind}
+use Rattle.item_store.proofs.Areas.{unit_is}
+use Rattle.item_store.proofs.ReadFacts.{rest_on}
 use Rattle.item_session.specs.declared.session.ItemSession.{ItemSession}
 use Rattle.item_session.specs.Device.{RestsOn}
 use Rattle.item_session.specs.Standing.{IsMounted, IsReady}

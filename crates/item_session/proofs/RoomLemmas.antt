@@ -5,15 +5,15 @@ use Rattle.std.proofs.lemmas.Bool.{false≢true}
 use Rattle.flash_sim.specs.Device.{Device}
 use Rattle.flash_map.specs.declared.area.Area.{Area}
 use Rattle.flash_map.specs.declared.area.Geometry.{Geometry}
-use Rattle.item_lines.specs.declared.line.Line.TheVariants.{Set, Delete}
-use Rattle.item_lines.specs.declared.answer.Answer.{Answer}
-use Rattle.item_lines.specs.declared.answer.Answer.TheVariants as answers
-use Rattle.ring_store.specs.Kind.{IsKind, Kind}
-use Rattle.ring_store.specs.Listed.{kind_on}
-use Rattle.ring_store.specs.Room.{has_room_at}
-use Rattle.ring_store.specs.Standing.{RestsAt}
-use Rattle.ring_store.specs.Writing.{Appends, StopsAppending, open_at}
-use Rattle.ring_store.proofs.CallFacts.{from_geometry}
+use Rattle.item_session.specs.declared.line.Line.TheVariants.{Set, Delete}
+use Rattle.item_session.specs.declared.answer.Answer.{Answer}
+use Rattle.item_session.specs.declared.answer.Answer.TheVariants as answers
+use Rattle.item_store.specs.Kind.{IsKind, Kind}
+use Rattle.item_store.specs.Listed.{kind_on}
+use Rattle.item_store.specs.Room.{has_room_at}
+use Rattle.item_store.specs.Standing.{RestsAt}
+use Rattle.item_store.specs.Writing.{Appends, StopsAppending, open_at}
+use Rattle.item_store.proofs.CallFacts.{from_geometry}
 use Rattle.item_session.specs.Device.{RestsOn}
 use Rattle.item_session.specs.LineDone.{LineDone}
 use Rattle.item_session.specs.Whole.{free_on}

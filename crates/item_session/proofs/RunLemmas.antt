@@ -7,16 +7,16 @@ use Rattle.flash_sim.specs.Device.{Device, Plan, counted}
 use Rattle.flash_sim.specs.declared.flash.Bank.{Bank}
 use Rattle.flash_sim.specs.Bank.{bank_at}
 use Rattle.flash_map.specs.declared.area.Area.{Area}
-use Rattle.ring_store.proofs.Areas.{same_geometry}
+use Rattle.item_store.proofs.Areas.{same_geometry}
 use Rattle.flash_map.specs.declared.area.Geometry.{Geometry}
 use Rattle.flash_map.specs.Touches.{IsInSome}
 use Rattle.flash_map.proofs.Plans.{counted_counted}
 use Rattle.session_table.specs.Follows.{Follows}
 use Rattle.session_table.proofs.FollowsLemmas.{kept, summed}
-use Rattle.item_lines.specs.declared.line.Line.{Line}
-use Rattle.item_lines.specs.declared.answer.Answer.{Answer}
-use Rattle.item_lines.specs.Plan.{units_of, is_lost, losses_in, Planned, plan_through, PlansNoLoss}
-use Rattle.ring_store.specs.Kind.{Kind}
+use Rattle.item_session.specs.declared.line.Line.{Line}
+use Rattle.item_session.specs.declared.answer.Answer.{Answer}
+use Rattle.item_session.specs.Plan.{units_of, is_lost, losses_in, Planned, plan_through, PlansNoLoss}
+use Rattle.item_store.specs.Kind.{Kind}
 use Rattle.item_session.specs.LineDone.{Keeps, LineDone, Runs, StaysUnplanned}
 use Rattle.item_session.specs.Laws.{LinesMakeRuns}
 use Rattle.item_session.specs.Device.{rules_of, rules_on, state_of}

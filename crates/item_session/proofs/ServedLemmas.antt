@@ -6,10 +6,10 @@ use Rattle.script_lines.specs.Forms.{Form, Field, Said, SaysAll, Spells, form, f
 use Rattle.script_lines.specs.Forms.Field.{below, some_bytes}
 use Rattle.script_lines.specs.Forms.Said.{bytes, number}
 use Rattle.script_lines.specs.Script.{SpellsAll, told}
-use Rattle.item_lines.specs.Line.{item_forms, row_of}
-use Rattle.item_lines.specs.declared.line.Line.{Line}
-use Rattle.item_lines.specs.declared.line.Line.TheVariants.{Set, Get, Delete, Older, Space, Cut, Uncut, Mount}
-use Rattle.item_lines.specs.declared.line.TheConstants.{VERSIONS_END}
+use Rattle.item_session.specs.Line.{item_forms, row_of}
+use Rattle.item_session.specs.declared.line.Line.{Line}
+use Rattle.item_session.specs.declared.line.Line.TheVariants.{Set, Get, Delete, Older, Space, Cut, Uncut, Mount}
+use Rattle.item_session.specs.declared.line.TheConstants.{VERSIONS_END}
 use Rattle.item_session.specs.Device.{IsServed}
 use Rattle.item_session.specs.Laws.{LinesAreServed}
 

@@ -12,14 +12,14 @@ use Rattle.flash_sim.specs.declared.flash.Bank.{Bank}
 use Rattle.flash_map.specs.declared.area.Area.{Area}
 use Rattle.flash_map.specs.declared.area.Geometry.{Geometry}
 use Rattle.flash_map.specs.Area.{sectors_of}
-use Rattle.pair_laws.specs.Items.{Items, items_of, with_pair}
-use Rattle.pair_laws.proofs.ItemLemmas.{items_of-push, same_map}
-use Rattle.ring_store.specs.Kind.{Kind}
-use Rattle.ring_store.specs.Listed.{kind_on, list_on}
-use Rattle.ring_store.specs.Standing.{KeepsItems, list_at}
-use Rattle.ring_store.specs.Versions.{AddsVersion, KeepsVersions}
-use Rattle.ring_store.proofs.CallFacts.{from_geometry}
-use Rattle.ring_store.proofs.VersionLemmas.{versions-items}
+use Rattle.item_laws.specs.Items.{Items, items_of, with_pair}
+use Rattle.item_laws.proofs.ItemLemmas.{items_of-push, same_map}
+use Rattle.item_store.specs.Kind.{Kind}
+use Rattle.item_store.specs.Listed.{kind_on, list_on}
+use Rattle.item_store.specs.Standing.{KeepsItems, list_at}
+use Rattle.item_store.specs.Versions.{AddsVersion, KeepsVersions}
+use Rattle.item_store.proofs.CallFacts.{from_geometry}
+use Rattle.item_store.proofs.VersionLemmas.{versions-items}
 use Rattle.item_session.specs.Device.{state_of}
 use Rattle.item_session.specs.Standing.{damage_on}
 use Rattle.item_session.specs.Step.{Gets, IsAbsent, IsStored, Loses, State, Stays, items}

@@ -5,18 +5,18 @@ use Rattle.flash_sim.specs.Bank.{bank_at}
 use Rattle.flash_sim.specs.Device.{Device}
 use Rattle.flash_sim.specs.declared.flash.Bank.{Bank}
 use Rattle.flash_map.specs.declared.area.Area.{Area}
-use Rattle.ring_store.proofs.Areas.{same_geometry}
+use Rattle.item_store.proofs.Areas.{same_geometry}
 use Rattle.flash_map.specs.declared.area.Geometry.{Geometry}
-use Rattle.item_lines.specs.declared.line.Line.{Line}
-use Rattle.item_lines.specs.declared.line.Line.TheVariants.{Set, Get, Delete, Older, Space, Cut, Uncut, Mount}
-use Rattle.item_lines.specs.declared.answer.Answer.{Answer}
-use Rattle.item_lines.specs.declared.answer.Answer.TheVariants as answers
-use Rattle.ring_store.specs.Kind.{IsKind, Kind, fits}
-use Rattle.ring_store.specs.Listed.{kind_on, list_on}
-use Rattle.ring_store.specs.Versions.{versions}
-use Rattle.ring_store.specs.Writing.{open_at}
-use Rattle.ring_store.proofs.CallFacts.{from_geometry}
-use Rattle.ring_store.proofs.VersionLemmas.{keeps_all}
+use Rattle.item_session.specs.declared.line.Line.{Line}
+use Rattle.item_session.specs.declared.line.Line.TheVariants.{Set, Get, Delete, Older, Space, Cut, Uncut, Mount}
+use Rattle.item_session.specs.declared.answer.Answer.{Answer}
+use Rattle.item_session.specs.declared.answer.Answer.TheVariants as answers
+use Rattle.item_store.specs.Kind.{IsKind, Kind, fits}
+use Rattle.item_store.specs.Listed.{kind_on, list_on}
+use Rattle.item_store.specs.Versions.{versions}
+use Rattle.item_store.specs.Writing.{open_at}
+use Rattle.item_store.proofs.CallFacts.{from_geometry}
+use Rattle.item_store.proofs.VersionLemmas.{keeps_all}
 use Rattle.session_table.specs.Follows.{Follows}
 use Rattle.item_session.specs.Device.{RestsOn, rules_on, state_of, turned_on}
 use Rattle.item_session.specs.Fits.{FitsOpen}

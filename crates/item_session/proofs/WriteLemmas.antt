@@ -10,17 +10,17 @@ use Rattle.flash_map.specs.declared.faults.WriteFault.TheVariants.{NoSpace, TooL
 use Rattle.flash_map.specs.Area.{sectors_of, value_limit}
 use Rattle.flash_map.specs.Faults.{write_lost}
 use Rattle.flash_map.specs.Touches.{Touches}
-use Rattle.item_lines.specs.declared.line.Line.TheVariants.{Set, Delete}
-use Rattle.item_lines.specs.declared.answer.Answer.TheVariants as answers
-use Rattle.ring_store.specs.Kind.{Kind}
-use Rattle.ring_store.specs.Listed.{kind_on, list_on}
-use Rattle.ring_store.specs.Writing.{DeleteEnds, Deletes, FindsNoSpace, StopsDeleting, StopsWriting, WriteEnds, Writes}
+use Rattle.item_session.specs.declared.line.Line.TheVariants.{Set, Delete}
+use Rattle.item_session.specs.declared.answer.Answer.TheVariants as answers
+use Rattle.item_store.specs.Kind.{Kind}
+use Rattle.item_store.specs.Listed.{kind_on, list_on}
+use Rattle.item_store.specs.Writing.{DeleteEnds, Deletes, FindsNoSpace, StopsDeleting, StopsWriting, WriteEnds, Writes}
 use Rattle.item_session.specs.Device.{TakesValues, rules_on, state_of}
 use Rattle.item_session.specs.LineDone.{LineDone}
 use Rattle.item_session.specs.Standing.{damage_on}
 use Rattle.item_session.specs.Step.{IsCounted, State}
 use Rattle.item_session.proofs.AccountLemmas.{kept, lost, units_are}
-use Rattle.pair_laws.proofs.ItemsCost.{items_cost-is}
+use Rattle.item_laws.proofs.ItemsCost.{items_cost-is}
 use Rattle.item_session.proofs.LineLemmas.{delete_no_mount, few_units, kept_beside, set_no_mount}
 use Rattle.item_session.proofs.StateLemmas.{absent_or_not, adds_there, gets_changes, gets_if, keeps_there, list_same, loses_changes, loses_if, sound_there, stays_if, stays_there, stored_or_not}
 

@@ -3,12 +3,12 @@ use Rattle.std.specs.Prelude.{◌≡◌, ℕ, ⊤, true, List, ◌++◌, length}
 use Rattle.flash_sim.specs.Device.{Device}
 use Rattle.flash_map.specs.declared.area.Area.{Area}
 use Rattle.flash_map.specs.declared.area.Geometry.{Geometry}
-use Rattle.item_lines.specs.declared.line.Line.{Line}
-use Rattle.item_lines.specs.declared.line.Line.TheVariants.{Set, Delete, Mount}
-use Rattle.item_lines.specs.declared.answer.Answer.{Answer}
-use Rattle.ring_store.specs.Kind.{Kind}
-use Rattle.ring_store.specs.Listed.{kind_on, list_on}
-use Rattle.ring_store.specs.Room.{has_room_at}
+use Rattle.item_session.specs.declared.line.Line.{Line}
+use Rattle.item_session.specs.declared.line.Line.TheVariants.{Set, Delete, Mount}
+use Rattle.item_session.specs.declared.answer.Answer.{Answer}
+use Rattle.item_store.specs.Kind.{Kind}
+use Rattle.item_store.specs.Listed.{kind_on, list_on}
+use Rattle.item_store.specs.Room.{has_room_at}
 use Rattle.item_session.specs.Device.{RestsOn}
 use Rattle.item_session.specs.History.{Adds}
 

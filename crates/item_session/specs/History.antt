@@ -1,13 +1,13 @@
 -- The whole history of each id, and what is kept of it.
 use Rattle.std.specs.Prelude.{◌≡◌, ◌⊎◌, ℕ, ◌<◌, ⊤, Bool, true, false, List, [], ◌∷◌, ◌++◌, slice_get, Some, None, if◌then◌else◌}
 use Rattle.std.specs.FinMap.{get}
-use Rattle.pair_laws.specs.Items.{Items, items_of}
-use Rattle.item_lines.specs.declared.line.Line.{Line}
-use Rattle.item_lines.specs.declared.line.Line.TheVariants.{Set, Get, Delete, Older, Mount}
-use Rattle.item_lines.specs.declared.answer.Answer.{Answer}
-use Rattle.item_lines.specs.declared.answer.Answer.TheVariants as answers
-use Rattle.item_lines.specs.Plan.{is_lost}
-use Rattle.ring_store.specs.Versions.{versions, KeepsVersions}
+use Rattle.item_laws.specs.Items.{Items, items_of}
+use Rattle.item_session.specs.declared.line.Line.{Line}
+use Rattle.item_session.specs.declared.line.Line.TheVariants.{Set, Get, Delete, Older, Mount}
+use Rattle.item_session.specs.declared.answer.Answer.{Answer}
+use Rattle.item_session.specs.declared.answer.Answer.TheVariants as answers
+use Rattle.item_session.specs.Plan.{is_lost}
+use Rattle.item_store.specs.Versions.{versions, KeepsVersions}
 use Rattle.session_table.specs.Follows.{Follows}
 use Rattle.item_session.specs.Step.{IsCounted, Rules, State, Step, items}
 

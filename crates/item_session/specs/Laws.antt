@@ -9,14 +9,14 @@ use Rattle.flash_map.specs.declared.area.Role.{Role}
 use Rattle.flash_map.specs.declared.area.Role.TheVariants.{Nvs, Zms}
 use Rattle.script_lines.specs.Script.{IsScript}
 use Rattle.session_table.specs.Follows.{Follows}
-use Rattle.item_lines.specs.Line.{item_forms, row_of}
-use Rattle.item_lines.specs.declared.line.Line.{Line}
-use Rattle.item_lines.specs.declared.answer.Answer.{Answer}
-use Rattle.nvs_kind.specs.Kinds as nvs
-use Rattle.ring_store.specs.Kind.{IsKind, Kind}
-use Rattle.ring_store.specs.Listed.{kind_on}
-use Rattle.ring_store.specs.Standing.{IsStoreArea}
-use Rattle.zms_kind.specs.Kinds as zms
+use Rattle.item_session.specs.Line.{item_forms, row_of}
+use Rattle.item_session.specs.declared.line.Line.{Line}
+use Rattle.item_session.specs.declared.answer.Answer.{Answer}
+use Rattle.nvs_format.specs.Kinds as nvs
+use Rattle.item_store.specs.Kind.{IsKind, Kind}
+use Rattle.item_store.specs.Listed.{kind_on}
+use Rattle.item_store.specs.Standing.{IsStoreArea}
+use Rattle.zms_format.specs.Kinds as zms
 use Rattle.item_session.specs.Device.{IsServed, TakesValues}
 use Rattle.item_session.specs.Fits.{FitsOpen, ForgetsNone}
 use Rattle.item_session.specs.History.{HasHistory, PowerStep}

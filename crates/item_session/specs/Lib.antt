@@ -1,8 +1,12 @@
+pub mod Answer
 pub mod Device
 pub mod Fits
 pub mod History
 pub mod Laws
+pub mod Line
 pub mod LineDone
+pub mod LineLaws
+pub mod Plan
 pub mod Running
 pub mod Standing
 pub mod Step

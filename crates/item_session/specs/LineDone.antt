@@ -7,17 +7,17 @@ use Rattle.flash_map.specs.Area.{sectors_of}
 use Rattle.flash_map.specs.Touches.{SameOutside, Touches}
 use Rattle.script_lines.specs.Plan.Replan.{keeps as keeps_plan}
 use Rattle.session_table.specs.Follows.{Follows}
-use Rattle.item_lines.specs.declared.line.Line.{Line}
-use Rattle.item_lines.specs.declared.line.Line.TheVariants.{Set, Get, Delete, Older, Space, Mount}
-use Rattle.item_lines.specs.declared.answer.Answer.{Answer}
-use Rattle.item_lines.specs.declared.answer.Answer.TheVariants as answers
-use Rattle.item_lines.specs.Plan.{units_of, is_lost, units_in, losses_in, replan, Allows, plan_after, Planned, plan_through, PlansNoLoss}
-use Rattle.ring_laws.specs.Area.{open_sector}
-use Rattle.ring_store.specs.Collecting.{redo_of, redo_list, redo_units, KeepsOrRedoes}
-use Rattle.ring_store.specs.Kind.{Kind}
-use Rattle.ring_store.specs.Listed.{kind_on}
-use Rattle.ring_store.specs.Standing.{list_at, KeepsItems, SpendsIn, SpendsUpTo}
-use Rattle.ring_store.specs.Writing.{Deletes, FindsNoSpace, StopsDeleting, StopsWriting, Writes}
+use Rattle.item_session.specs.declared.line.Line.{Line}
+use Rattle.item_session.specs.declared.line.Line.TheVariants.{Set, Get, Delete, Older, Space, Mount}
+use Rattle.item_session.specs.declared.answer.Answer.{Answer}
+use Rattle.item_session.specs.declared.answer.Answer.TheVariants as answers
+use Rattle.item_session.specs.Plan.{units_of, is_lost, units_in, losses_in, replan, Allows, plan_after, Planned, plan_through, PlansNoLoss}
+use Rattle.item_laws.specs.Area.{open_sector}
+use Rattle.item_store.specs.Collecting.{redo_of, redo_list, redo_units, KeepsOrRedoes}
+use Rattle.item_store.specs.Kind.{Kind}
+use Rattle.item_store.specs.Listed.{kind_on}
+use Rattle.item_store.specs.Standing.{list_at, KeepsItems, SpendsIn, SpendsUpTo}
+use Rattle.item_store.specs.Writing.{Deletes, FindsNoSpace, StopsDeleting, StopsWriting, Writes}
 use Rattle.item_session.specs.Device.{RestsOn, rules_on, state_of, turned_on}
 use Rattle.item_session.specs.Step.{IsCounted, Step}
 

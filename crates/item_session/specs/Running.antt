@@ -4,10 +4,10 @@ use Rattle.flash_sim.specs.Device.{Device}
 use Rattle.flash_map.specs.declared.area.Area.{Area}
 use Rattle.flash_map.specs.declared.area.Geometry.{Geometry}
 use Rattle.session_table.specs.Follows.{Follows}
-use Rattle.item_lines.specs.declared.line.Line.{Line}
-use Rattle.item_lines.specs.declared.line.Line.TheVariants.{Get, Older, Mount}
-use Rattle.item_lines.specs.declared.answer.Answer.{Answer}
-use Rattle.ring_store.specs.Kind.{Kind}
+use Rattle.item_session.specs.declared.line.Line.{Line}
+use Rattle.item_session.specs.declared.line.Line.TheVariants.{Get, Older, Mount}
+use Rattle.item_session.specs.declared.answer.Answer.{Answer}
+use Rattle.item_store.specs.Kind.{Kind}
 use Rattle.item_session.specs.declared.fault.SessionFault.{SessionFault}
 use Rattle.item_session.specs.declared.fault.SessionFault.TheVariants.{Damaged as IsDamaged, NoMemory}
 use Rattle.item_session.specs.Device.{state_of, turned_on}

@@ -6,11 +6,11 @@ use Rattle.flash_map.specs.declared.area.Geometry.{Geometry}
 use Rattle.flash_map.specs.declared.area.Role.{Role}
 use Rattle.flash_map.specs.declared.faults.Damaged.{Damaged}
 use Rattle.flash_map.specs.Area.{sectors_of}
-use Rattle.ring_store.specs.declared.store.Store.{Store}
-use Rattle.ring_store.specs.Kind.{Kind}
-use Rattle.ring_store.specs.Listed.{kind_on}
-use Rattle.ring_store.specs.Standing.{IsStoreArea}
-use Rattle.ring_store.specs.Stands.{StandsOn}
+use Rattle.item_store.specs.declared.store.Store.{Store}
+use Rattle.item_store.specs.Kind.{Kind}
+use Rattle.item_store.specs.Listed.{kind_on}
+use Rattle.item_store.specs.Standing.{IsStoreArea}
+use Rattle.item_store.specs.Stands.{StandsOn}
 use Rattle.item_session.specs.declared.session.ItemSession.{ItemSession}
 use Rattle.item_session.specs.Device.{TakesValues, turned_on}
 

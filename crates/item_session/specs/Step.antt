@@ -3,14 +3,14 @@
 -- many of the oldest versions are kept no more, and the units.
 use Rattle.std.specs.Prelude.{◌≡◌, ◌⊎◌, ℕ, ◌+◌, ◌-◌, ◌*◌, ◌^◌, ◌<◌, ◌≤◌, Bool, true, false, List, [], length, slice_get, Some, None}
 use Rattle.std.specs.FinMap.{get, insert, remove}
-use Rattle.pair_laws.specs.Costs.{items_cost}
-use Rattle.pair_laws.specs.Items.{Items, items_of}
+use Rattle.item_laws.specs.Costs.{items_cost}
+use Rattle.item_laws.specs.Items.{Items, items_of}
 use Rattle.item_history.specs.Usage.{stale_cost}
-use Rattle.item_lines.specs.declared.line.Line.{Line}
-use Rattle.item_lines.specs.declared.line.Line.TheVariants.{Set, Get, Delete, Older, Space, Cut, Uncut, Mount}
-use Rattle.item_lines.specs.declared.answer.Answer.{Answer}
-use Rattle.item_lines.specs.declared.answer.Answer.TheVariants as answers
-use Rattle.ring_store.specs.Versions.{versions, AddsVersion, KeepsVersions}
+use Rattle.item_session.specs.declared.line.Line.{Line}
+use Rattle.item_session.specs.declared.line.Line.TheVariants.{Set, Get, Delete, Older, Space, Cut, Uncut, Mount}
+use Rattle.item_session.specs.declared.answer.Answer.{Answer}
+use Rattle.item_session.specs.declared.answer.Answer.TheVariants as answers
+use Rattle.item_store.specs.Versions.{versions, AddsVersion, KeepsVersions}
 
 pub record State : Type 0 where
   -- what the area says of items, from the oldest pair to the newest: an id with its bytes, none where

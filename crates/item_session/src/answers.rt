@@ -1,8 +1,8 @@
 // Answers that contracts see as a list.
 ghost use Rattle.std.specs.Prelude.{◌≡◌, [], ◌∷◌, ◌++◌, OnOk, OnErr};
 
+use crate::answer::Answer;
 use flash_sim::NoMemory;
-use item_lines::Answer;
 use std::alloc::Global;
 use std::marker::Model;
 
@@ -14,7 +14,7 @@ pub struct Answers {
 
 impl Model for Answers {
     ghost use Rattle.std.specs.Prelude.{List};
-    ghost use Rattle.item_lines.specs.declared.answer.Answer.{Answer};
+    ghost use Rattle.item_session.specs.declared.answer.Answer.{Answer};
 
     ghost Value = { List Answer };
 

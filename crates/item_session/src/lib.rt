@@ -1,22 +1,37 @@
 //! The lines of a script on numbered items, carried out on a flash that may lose power at any unit,
 //! by a store over any kind of sector.
+//!
+//! The lines of a script on numbered items, the texts of their answers, and the plan of a loss
+//! through them.
 #![tactic(auto)]
 
+mod answer;
 mod answers;
 mod fault;
+mod ids;
 mod laws;
+mod line;
 mod mounting;
+mod plan;
 mod planning;
+mod reading;
 mod running;
+mod script;
 mod session;
 mod telling;
 mod writing;
 
+pub use answer::{Answer, answer_text};
 pub use answers::Answers;
 pub use fault::SessionFault;
+pub use ids::Ids;
 pub use laws::{
     acknowledged_items_stand, areas_take_values, blank_areas_are_fresh, history_stays_whole,
     line_by_line, lines_fit, power_follows_losses, two_runs, versions_go_for_room,
 };
+pub use line::Line;
+pub use plan::{is_lost, units_of};
 pub use running::run_lines;
+pub use script::{each_is_read, one_meaning, read_script};
+pub use script_lines::{Bytes, LineWhy, ScriptFault};
 pub use session::ItemSession;

@@ -1,16 +1,16 @@
 // Mounting a store.
 ghost use Rattle.std.specs.Prelude.{◌≡◌, None, Some, IfOk, IfErr, OnOk};
-ghost use Rattle.ring_store.specs.Standing.{IsStoreArea};
-ghost use Rattle.item_lines.specs.declared.line.Line.TheVariants.{Mount};
+ghost use Rattle.item_store.specs.Standing.{IsStoreArea};
+ghost use Rattle.item_session.specs.declared.line.Line.TheVariants.{Mount};
 ghost use Rattle.item_session.specs.LineDone.{LineDone};
 ghost use Rattle.item_session.specs.Running.{MountStops};
 ghost use Rattle.item_session.specs.Standing.{IsMounted, damage_on};
 
+use crate::answer::Answer;
 use crate::fault::SessionFault;
 use flash_map::{Area, MountFault};
 use flash_sim::{Bench, Flash, Steps};
-use item_lines::Answer;
-use ring_store::{SlotSectors, Store};
+use item_store::{SlotSectors, Store};
 use std::alloc::Global;
 use std::sync::ledger::Ledger;
 

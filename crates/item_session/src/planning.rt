@@ -1,12 +1,12 @@
 // Plans of losses.
 ghost use Rattle.std.specs.Prelude.{◌≡◌};
-ghost use Rattle.item_lines.specs.declared.line.Line.TheVariants.{Cut, Uncut};
+ghost use Rattle.item_session.specs.declared.line.Line.TheVariants.{Cut, Uncut};
 ghost use Rattle.item_session.specs.LineDone.{LineDone};
 
+use crate::answer::Answer;
 use flash_map::Area;
 use flash_sim::{Bench, Flash};
-use item_lines::Answer;
-use ring_store::SlotSectors;
+use item_store::SlotSectors;
 
 // Plans a loss of power.
 pub(crate) fn plan_loss<T: SlotSectors, B: Bench>(bench: &mut B, area: &Area, units: u64) -> Answer

@@ -1,18 +1,18 @@
 // All lines of a script.
 ghost use Rattle.std.specs.Prelude.{◌≡◌, ◌∷◌, true, All, None, OnOk};
-ghost use Rattle.ring_store.specs.Standing.{IsStoreArea};
-ghost use Rattle.item_lines.specs.declared.line.Line.TheVariants.{Mount};
+ghost use Rattle.item_store.specs.Standing.{IsStoreArea};
+ghost use Rattle.item_session.specs.declared.line.Line.TheVariants.{Mount};
 ghost use Rattle.item_session.specs.Device.{IsServedOn, RestsOn, TakesValues};
 ghost use Rattle.item_session.specs.Running.{RunEnds};
 ghost use Rattle.item_session.specs.Standing.{damage_on};
 
 use crate::answers::Answers;
 use crate::fault::SessionFault;
+use crate::line::Line;
 use crate::session::ItemSession;
 use flash_map::Area;
 use flash_sim::{Bench, Flash, Steps};
-use item_lines::Line;
-use ring_store::SlotSectors;
+use item_store::SlotSectors;
 use std::alloc::Global;
 use std::sync::ledger::Ledger;
 

@@ -1,21 +1,22 @@
 // A session, and carrying out one line in it.
 ghost use Rattle.std.specs.Prelude.{◌≡◌, ◌⊎◌, true, None, IfOk, IfErr, OnErr, OnOk};
-ghost use Rattle.ring_store.specs.Standing.{IsStoreArea};
-ghost use Rattle.item_lines.specs.declared.line.Line.TheVariants.{Mount};
+ghost use Rattle.item_store.specs.Standing.{IsStoreArea};
+ghost use Rattle.item_session.specs.declared.line.Line.TheVariants.{Mount};
 ghost use Rattle.item_session.specs.Device.{IsServedOn, TakesValues};
 ghost use Rattle.item_session.specs.LineDone.{LineDone};
 ghost use Rattle.item_session.specs.Running.{MountStops, WantsMemory};
 ghost use Rattle.item_session.specs.Standing.{IsMounted, IsReady, IsSound, damage_on};
 
+use crate::answer::Answer;
 use crate::fault::SessionFault;
+use crate::line::Line;
 use crate::mounting::mount;
 use crate::planning::{drop_plan, plan_loss};
 use crate::telling::{tell_item, tell_older, tell_space};
 use crate::writing::{delete_item, set_item};
 use flash_map::Area;
 use flash_sim::{Bench, Flash, NoMemory, Steps};
-use item_lines::{Answer, Line};
-use ring_store::{SlotSectors, Store};
+use item_store::{SlotSectors, Store};
 use std::alloc::Global;
 use std::sync::ledger::Ledger;
 

@@ -1,16 +1,17 @@
 // Telling items, their versions and what they take up, with power on.
 ghost use Rattle.std.specs.Prelude.{◌≡◌, true, IfOk, OnErr};
-ghost use Rattle.ring_store.specs.Stands.{StandsOn};
-ghost use Rattle.item_lines.specs.declared.answer.Answer.TheVariants.{Value};
-ghost use Rattle.item_lines.specs.declared.line.Line.TheVariants.{Get, Older as OlderLine, Space as SpaceLine};
+ghost use Rattle.item_store.specs.Stands.{StandsOn};
+ghost use Rattle.item_session.specs.declared.answer.Answer.TheVariants.{Value};
+ghost use Rattle.item_session.specs.declared.line.Line.TheVariants.{Get, Older as OlderLine, Space as SpaceLine};
 ghost use Rattle.item_session.specs.LineDone.{LineDone};
 ghost use Rattle.item_session.specs.Running.{WantsMemory};
 
+use crate::answer::Answer;
 use flash_map::Area;
 use flash_sim::{Bench, Flash, NoMemory, Steps};
 use item_history::{Older, store_older, store_space};
-use item_lines::{Answer, Bytes};
-use ring_store::{SlotSectors, Store};
+use item_store::{SlotSectors, Store};
+use script_lines::Bytes;
 use std::alloc::Global;
 use std::sync::ledger::Ledger;
 

@@ -1,15 +1,16 @@
 // Setting and deleting items, with power on.
 ghost use Rattle.std.specs.Prelude.{◌≡◌, true, None};
-ghost use Rattle.ring_store.specs.Stands.{StandsOn};
-ghost use Rattle.item_lines.specs.declared.line.Line.TheVariants.{Delete, Set};
+ghost use Rattle.item_store.specs.Stands.{StandsOn};
+ghost use Rattle.item_session.specs.declared.line.Line.TheVariants.{Delete, Set};
 ghost use Rattle.item_session.specs.Device.{IsServedOn, TakesValues};
 ghost use Rattle.item_session.specs.LineDone.{LineDone};
 ghost use Rattle.item_session.specs.Standing.{damage_on};
 
+use crate::answer::Answer;
 use flash_map::{Area, WriteFault};
 use flash_sim::{Bench, Flash, Steps};
-use item_lines::{Answer, Bytes};
-use ring_store::{SlotSectors, Store};
+use item_store::{SlotSectors, Store};
+use script_lines::Bytes;
 use std::sync::ledger::Ledger;
 
 // Sets an item.

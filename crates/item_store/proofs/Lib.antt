@@ -1,4 +1,46 @@
-mod MostUnits
-mod NvsSteps
-mod RingSteps
-mod ZmsSteps
+mod AppendFacts
+pub mod Areas
+mod AskingSteps
+pub mod BlankAreas
+mod CacheSteps
+pub mod CallFacts
+pub mod ClosingSteps
+pub mod CollectSteps
+pub mod CopyLoop
+pub mod CostSteps
+mod EntrySteps
+mod LastIds
+mod LastTables
+mod LastsSlots
+mod LastsWalk
+mod ListSteps
+mod LiveSteps
+mod MountSteps
+mod NextSteps
+pub mod OlderSteps
+mod OpenFacts
+pub mod Placings
+mod PutFacts
+mod PutSteps
+mod Ranges
+pub mod ReadFacts
+pub mod ReadLemmas
+mod Reserved
+mod RoomFacts
+pub mod RoomSteps
+mod RoundFacts
+mod RoundSteps
+mod SearchSteps
+mod SeenSteps
+mod SlotFacts
+mod Standings
+mod TableFacts
+mod TablePlaces
+mod TellSteps
+mod TurnSteps
+pub mod VersionLemmas
+mod VersionSteps
+mod VersionWrites
+mod WriteSteps
+mod WrittenFacts
+mod WrittenSteps

@@ -13,8 +13,8 @@ use Rattle.flash_map.specs.Area.{sector_bytes, OthersStay}
 use Rattle.flash_map.specs.Lawful.{IsLawfulFor}
 use Rattle.flash_map.specs.Units.{is_erased}
 use Rattle.flash_map.proofs.Places.{length-sector}
-use Rattle.ring_laws.specs.Slots.{Slot}
-use Rattle.ring_laws.proofs.SlotCounts.{slots_to_used}
+use Rattle.item_laws.specs.Slots.{Slot}
+use Rattle.item_laws.proofs.SlotCounts.{slots_to_used}
 use Rattle.zms_cycle.specs.declared.reading.SlotEntry.{SlotEntry}
 use Rattle.zms_cycle.specs.Areas.{IsZmsSector, kind_on}
 use Rattle.zms_cycle.specs.Changes.{AddsPair, Closes, Empties}

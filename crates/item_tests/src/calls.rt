@@ -1,14 +1,14 @@
 // Calls of a store over any sectors, and what they answer, spend and leave.
 ghost use Rattle.std.specs.Prelude.{◌≡◌, ◌<◌, ◌≤◌, length, IfOk, OnOk};
 ghost use Rattle.flash_map.specs.declared.area.Geometry.{Geometry};
-ghost use Rattle.ring_store.specs.Listed.{kind_on};
-ghost use Rattle.ring_store.specs.Standing.{IsStoreArea};
-ghost use Rattle.ring_store.specs.Stands.{StandsOn};
+ghost use Rattle.item_store.specs.Listed.{kind_on};
+ghost use Rattle.item_store.specs.Standing.{IsStoreArea};
+ghost use Rattle.item_store.specs.Stands.{StandsOn};
 
 use crate::counted::Views;
 use flash_map::{Area, WriteFault};
 use flash_sim::{Bench, PowerLost, Steps};
-use ring_store::{LastSlots, Placed, SlotSectors, Store};
+use item_store::{LastSlots, Placed, SlotSectors, Store};
 use std::alloc::Global;
 use std::process::Abort;
 use std::sync::ledger::Ledger;

@@ -1,9 +1,9 @@
 // What is told of versions of items, and of the room of an area.
-ghost use Rattle.ring_store.specs.Stands.{StandsOn};
+ghost use Rattle.item_store.specs.Stands.{StandsOn};
 
 use flash_sim::{Bench, Steps};
 use item_history::{Older, Space, store_older, store_space};
-use ring_store::{SlotSectors, Store};
+use item_store::{SlotSectors, Store};
 use std::process::Abort;
 use std::sync::ledger::Ledger;
 

@@ -2,7 +2,7 @@
 // of the same rules.
 ghost use Rattle.std.specs.Prelude.{◌≡◌, ◌<◌, ◌∷◌, [], OnOk};
 ghost use Rattle.flash_map.specs.declared.area.Role.TheVariants.{Nvs as nvs_role};
-ghost use Rattle.ring_store.specs.Standing.{IsStoreArea};
+ghost use Rattle.item_store.specs.Standing.{IsStoreArea};
 
 use crate::calls::{
     Call, asks, close_is_cut, closes, looks_up, mounted, plays, shows, walks, write_is_cut,
@@ -13,7 +13,7 @@ use arrayvec::ArrayString;
 use flash_map::{Area, Role, sector_view};
 use flash_sim::{Bank, Bench, FlatSim, Kind, Steps};
 use item_history::Space;
-use nvs_sectors::NvsOpen;
+use nvs_gc::NvsOpen;
 use std::alloc::Global;
 use std::marker::Brand;
 use std::process::Abort;

@@ -2,7 +2,7 @@
 // written by another reading of the same rules.
 ghost use Rattle.std.specs.Prelude.{◌≡◌, ◌+◌, ◌<◌, ◌≤◌, ◌∷◌, [], length, IfOk, OnOk};
 ghost use Rattle.flash_map.specs.declared.area.Role.TheVariants.{Zms as zms_role};
-ghost use Rattle.ring_store.specs.Standing.{IsStoreArea};
+ghost use Rattle.item_store.specs.Standing.{IsStoreArea};
 
 use crate::calls::{Call, asks, close_is_cut, closes, mounted, plays, shows, walks, write_is_cut};
 use crate::history::{Told, tells};
@@ -15,7 +15,7 @@ use std::marker::Brand;
 use std::process::Abort;
 use std::sync::ledger::{Blank, Ledger};
 use std::test::Fail;
-use zms_sectors::ZmsOpen;
+use zms_store::ZmsOpen;
 
 // A unit, and where it stands in the bank, in bytes.
 pub(crate) type Put = (usize, [u8; 16]);

@@ -9,7 +9,7 @@ use arrayvec::ArrayString;
 use flash_map::{Area, Damaged, MountFault, Role, Why, WriteFault, sector_view};
 use flash_sim::{Bench, FlatSim, Kind, Steps};
 use item_history::{Older, Space, zms_older, zms_space};
-use ring_store::LastSlots;
+use item_store::LastSlots;
 use std::alloc::Global;
 use std::marker::Brand;
 use std::process::Abort;

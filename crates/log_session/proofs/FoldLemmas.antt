@@ -6,9 +6,9 @@ use Rattle.flash_map.specs.declared.area.Area.{Area}
 use Rattle.fcb_ring.specs.Standing.{erases_on, ring_damage}
 use Rattle.session_table.specs.Follows.{Follows}
 use Rattle.session_table.proofs.FollowsLemmas.{last, one}
-use Rattle.log_lines.specs.declared.line.Line.{Line}
-use Rattle.log_lines.specs.declared.line.Line.TheVariants.{Mount}
-use Rattle.log_lines.specs.declared.answer.Answer.{Answer}
+use Rattle.log_session.specs.declared.line.Line.{Line}
+use Rattle.log_session.specs.declared.line.Line.TheVariants.{Mount}
+use Rattle.log_session.specs.declared.answer.Answer.{Answer}
 use Rattle.log_session.specs.LineDone.{LineDone}
 use Rattle.log_session.specs.declared.session.LogSession.{LogSession}
 use Rattle.log_session.specs.Running.{Ran, RunStops}

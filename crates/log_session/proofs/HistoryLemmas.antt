@@ -5,10 +5,10 @@ use Rattle.flash_map.specs.declared.area.Geometry.{Geometry}
 use Rattle.event_ring.specs.Appending.{LeavesLog, torn_body}
 use Rattle.session_table.specs.Follows.{Follows}
 use Rattle.session_table.proofs.FollowsLemmas.{seen, then}
-use Rattle.log_lines.specs.declared.line.Line.{Line}
-use Rattle.log_lines.specs.declared.line.Line.TheVariants.{Put, Records as AllRecords, Cut, Uncut, Mount}
-use Rattle.log_lines.specs.declared.answer.Answer.{Answer}
-use Rattle.log_lines.specs.declared.answer.Answer.TheVariants.{Done, Appended, Log, Lost, Off}
+use Rattle.log_session.specs.declared.line.Line.{Line}
+use Rattle.log_session.specs.declared.line.Line.TheVariants.{Put, Records as AllRecords, Cut, Uncut, Mount}
+use Rattle.log_session.specs.declared.answer.Answer.{Answer}
+use Rattle.log_session.specs.declared.answer.Answer.TheVariants.{Done, Appended, Log, Lost, Off}
 use Rattle.log_session.specs.History.{HoldsRest, Leaves, LogStep, Logged, PowerStep, Takes, TakesFront}
 use Rattle.log_session.specs.Laws.{HoldsAcknowledged, LosesPower, RunsInRow}
 use Rattle.log_session.specs.Step.{Answers, Appends, Arms, Drops, Mounts, State, Step, Tells}

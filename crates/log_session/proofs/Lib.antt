@@ -7,4 +7,6 @@ mod PutLemmas
 mod ReachLemmas
 mod RunLemmas
 pub mod ServedLemmas
+mod TableFacts
+mod TableLaws
 mod WalkSteps

@@ -14,11 +14,11 @@ use Rattle.event_ring.specs.declared.event_log.EventLog.{EventLog}
 use Rattle.event_ring.specs.Items.{items_on, log_of, log_on}
 use Rattle.event_ring.specs.Standing.{KeepsItems}
 use Rattle.script_lines.specs.Plan.Replan.{keeps}
-use Rattle.log_lines.specs.declared.line.Line.{Line}
-use Rattle.log_lines.specs.declared.line.Line.TheVariants.{Put, Records, Cut, Uncut, Mount}
-use Rattle.log_lines.specs.declared.answer.Answer.{Answer}
-use Rattle.log_lines.specs.declared.answer.Answer.TheVariants.{Done, Log, Lost, Off}
-use Rattle.log_lines.specs.Plan.{units_of, is_lost, replan}
+use Rattle.log_session.specs.declared.line.Line.{Line}
+use Rattle.log_session.specs.declared.line.Line.TheVariants.{Put, Records, Cut, Uncut, Mount}
+use Rattle.log_session.specs.declared.answer.Answer.{Answer}
+use Rattle.log_session.specs.declared.answer.Answer.TheVariants.{Done, Log, Lost, Off}
+use Rattle.log_session.specs.Plan.{units_of, is_lost, replan}
 use Rattle.log_session.specs.LineDone.{Keeps, LineDone, MountsBy, PutsBy, TellsChance, powered_for, state_of, turned_on}
 use Rattle.log_session.specs.Standing.{IsMounted}
 use Rattle.log_session.specs.Step.{Step, IsCounted}

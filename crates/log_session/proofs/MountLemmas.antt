@@ -11,8 +11,8 @@ use Rattle.flash_map.specs.Touches.{Touches}
 use Rattle.fcb_ring.specs.Standing.{erases_on, ring_damage}
 use Rattle.event_ring.specs.declared.event_log.EventLog.{EventLog}
 use Rattle.event_ring.specs.Standing.{LogMounts}
-use Rattle.log_lines.specs.declared.line.Line.TheVariants.{Mount}
-use Rattle.log_lines.specs.declared.answer.Answer.TheVariants.{Done, Lost}
+use Rattle.log_session.specs.declared.line.Line.TheVariants.{Mount}
+use Rattle.log_session.specs.declared.answer.Answer.TheVariants.{Done, Lost}
 use Rattle.log_session.specs.LineDone.{LineDone, turned_on}
 use Rattle.log_session.specs.Standing.{IsMounted, ShowsDamage}
 use Rattle.log_session.proofs.LineLemmas.{mount_done, mount_lost as mount_cut}

@@ -21,8 +21,8 @@ use Rattle.event_ring.specs.Standing.{IsOpen}
 use Rattle.event_ring.specs.Items.{Item, Whole, Torn, items_cost, items_in, items_on, item_cost, log_of, log_on}
 use Rattle.event_ring.proofs.ItemLemmas.{log-append}
 use Rattle.event_ring.proofs.LogSteps.{items-tell}
-use Rattle.log_lines.specs.declared.line.Line.TheVariants.{Put}
-use Rattle.log_lines.specs.declared.answer.Answer.TheVariants.{Appended, Lost}
+use Rattle.log_session.specs.declared.line.Line.TheVariants.{Put}
+use Rattle.log_session.specs.declared.answer.Answer.TheVariants.{Appended, Lost}
 use Rattle.log_session.specs.LineDone.{AppendsOn, LineDone}
 use Rattle.log_session.specs.Step.{Drops, PutUnits, header_units, most_to_put, record_units, records_cost}
 use Rattle.log_session.proofs.AccountLemmas.{at_most, kept, lost, units_are, units_most}

@@ -12,11 +12,11 @@ use Rattle.event_ring.specs.Room.{room_on, longest_on}
 use Rattle.event_ring.specs.Scripts.{IsReached, Mounts, Appends, Stays}
 use Rattle.event_ring.proofs.ScriptLemmas.{drops-reached}
 use Rattle.session_table.proofs.FollowsLemmas.{kept}
-use Rattle.log_lines.specs.declared.line.Line.{Line}
-use Rattle.log_lines.specs.declared.line.Line.TheVariants.{Put, Records, Cut, Uncut, Mount}
-use Rattle.log_lines.specs.declared.answer.Answer.{Answer}
-use Rattle.log_lines.specs.declared.answer.Answer.TheVariants.{Done, Appended, Log, Lost, Off}
-use Rattle.log_lines.specs.Plan.{units_of}
+use Rattle.log_session.specs.declared.line.Line.{Line}
+use Rattle.log_session.specs.declared.line.Line.TheVariants.{Put, Records, Cut, Uncut, Mount}
+use Rattle.log_session.specs.declared.answer.Answer.{Answer}
+use Rattle.log_session.specs.declared.answer.Answer.TheVariants.{Done, Appended, Log, Lost, Off}
+use Rattle.log_session.specs.Plan.{units_of}
 use Rattle.log_session.specs.Laws.{DropsWhereFull, RunsReach}
 use Rattle.log_session.specs.LineDone.{AppendsOn, LineDone, SameButPlan}
 use Rattle.log_session.proofs.LineLemmas.{no_keeping, no_dropping}

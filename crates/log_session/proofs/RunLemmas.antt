@@ -13,9 +13,9 @@ use Rattle.flash_map.specs.Touches.{IsInSome}
 use Rattle.flash_map.proofs.Plans.{counted_counted}
 use Rattle.session_table.specs.Follows.{Follows}
 use Rattle.session_table.proofs.FollowsLemmas.{kept, summed}
-use Rattle.log_lines.specs.declared.line.Line.{Line}
-use Rattle.log_lines.specs.declared.answer.Answer.{Answer}
-use Rattle.log_lines.specs.Plan.{units_of, is_lost, losses_in, Planned, plan_through, PlansNoLoss}
+use Rattle.log_session.specs.declared.line.Line.{Line}
+use Rattle.log_session.specs.declared.answer.Answer.{Answer}
+use Rattle.log_session.specs.Plan.{units_of, is_lost, losses_in, Planned, plan_through, PlansNoLoss}
 use Rattle.log_session.specs.LineDone.{Keeps, LineDone, Runs, StaysUnplanned, TellsChance, TellsLastChance, state_of}
 use Rattle.log_session.specs.Laws.{LinesMakeRuns}
 use Rattle.log_session.specs.Step.{IsCounted, Step}

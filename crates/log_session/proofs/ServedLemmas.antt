@@ -6,9 +6,9 @@ use Rattle.script_lines.specs.Forms.{Form, Field, Said, SaysAll, Spells, form, f
 use Rattle.script_lines.specs.Forms.Field.{some_bytes}
 use Rattle.script_lines.specs.Forms.Said.{bytes}
 use Rattle.script_lines.specs.Script.{SpellsAll, told}
-use Rattle.log_lines.specs.Line.{log_forms, row_of}
-use Rattle.log_lines.specs.declared.line.Line.{Line}
-use Rattle.log_lines.specs.declared.line.Line.TheVariants.{Put, Records, Cut, Uncut, Mount}
+use Rattle.log_session.specs.Line.{log_forms, row_of}
+use Rattle.log_session.specs.declared.line.Line.{Line}
+use Rattle.log_session.specs.declared.line.Line.TheVariants.{Put, Records, Cut, Uncut, Mount}
 use Rattle.log_session.specs.Laws.{LinesAreServed}
 use Rattle.log_session.specs.LineDone.{IsServed}
 

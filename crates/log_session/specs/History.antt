@@ -3,11 +3,11 @@ use Rattle.std.specs.Prelude.{◌≡◌, ◌⊎◌, ℕ, ◌+◌, ◌<◌, Bool,
 use Rattle.flash_map.specs.declared.area.Geometry.{Geometry}
 use Rattle.event_ring.specs.Appending.{torn_body}
 use Rattle.session_table.specs.Follows.{Follows}
-use Rattle.log_lines.specs.declared.line.Line.{Line}
-use Rattle.log_lines.specs.declared.line.Line.TheVariants.{Put, Mount}
-use Rattle.log_lines.specs.declared.answer.Answer.{Answer}
-use Rattle.log_lines.specs.declared.answer.Answer.TheVariants.{Appended, Lost}
-use Rattle.log_lines.specs.Plan.{is_lost}
+use Rattle.log_session.specs.declared.line.Line.{Line}
+use Rattle.log_session.specs.declared.line.Line.TheVariants.{Put, Mount}
+use Rattle.log_session.specs.declared.answer.Answer.{Answer}
+use Rattle.log_session.specs.declared.answer.Answer.TheVariants.{Appended, Lost}
+use Rattle.log_session.specs.Plan.{is_lost}
 use Rattle.log_session.specs.Step.{Drops, State, Step}
 
 -- What an append leaves behind the log: its record; where power was lost, its record or none, or by chance

@@ -10,11 +10,11 @@ use Rattle.event_ring.specs.Room.{room_on, longest_on}
 use Rattle.event_ring.specs.Scripts.{IsReached}
 use Rattle.script_lines.specs.Script.{IsScript}
 use Rattle.session_table.specs.Follows.{Follows}
-use Rattle.log_lines.specs.Line.{log_forms, row_of}
-use Rattle.log_lines.specs.declared.line.Line.{Line}
-use Rattle.log_lines.specs.declared.line.Line.TheVariants.{Put}
-use Rattle.log_lines.specs.declared.answer.Answer.{Answer}
-use Rattle.log_lines.specs.declared.answer.Answer.TheVariants.{Appended}
+use Rattle.log_session.specs.Line.{log_forms, row_of}
+use Rattle.log_session.specs.declared.line.Line.{Line}
+use Rattle.log_session.specs.declared.line.Line.TheVariants.{Put}
+use Rattle.log_session.specs.declared.answer.Answer.{Answer}
+use Rattle.log_session.specs.declared.answer.Answer.TheVariants.{Appended}
 use Rattle.log_session.specs.History.{IsAfterDrops, PowerStep}
 use Rattle.log_session.specs.LineDone.{IsServed, LineDone, Runs}
 use Rattle.log_session.specs.Step.{State, Step}

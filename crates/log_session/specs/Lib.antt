@@ -1,6 +1,10 @@
-pub mod Step
-pub mod LineDone
-pub mod Standing
-pub mod Running
+pub mod Answer
 pub mod History
 pub mod Laws
+pub mod Line
+pub mod LineDone
+pub mod LineLaws
+pub mod Plan
+pub mod Running
+pub mod Standing
+pub mod Step

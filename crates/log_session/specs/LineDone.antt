@@ -15,11 +15,11 @@ use Rattle.event_ring.specs.Items.{log_on}
 use Rattle.event_ring.specs.Standing.{IsOpen, KeepsItems}
 use Rattle.script_lines.specs.Plan.Replan.{keeps as keeps_plan}
 use Rattle.session_table.specs.Follows.{Follows}
-use Rattle.log_lines.specs.declared.line.Line.{Line}
-use Rattle.log_lines.specs.declared.line.Line.TheVariants.{Put, Records, Mount}
-use Rattle.log_lines.specs.declared.answer.Answer.{Answer}
-use Rattle.log_lines.specs.declared.answer.Answer.TheVariants.{Appended, Lost}
-use Rattle.log_lines.specs.Plan.{units_of, is_lost, units_in, losses_in, replan, Allows, plan_after, Planned, plan_through, PlansNoLoss}
+use Rattle.log_session.specs.declared.line.Line.{Line}
+use Rattle.log_session.specs.declared.line.Line.TheVariants.{Put, Records, Mount}
+use Rattle.log_session.specs.declared.answer.Answer.{Answer}
+use Rattle.log_session.specs.declared.answer.Answer.TheVariants.{Appended, Lost}
+use Rattle.log_session.specs.Plan.{units_of, is_lost, units_in, losses_in, replan, Allows, plan_after, Planned, plan_through, PlansNoLoss}
 use Rattle.log_session.specs.Step.{State, Step, IsCounted}
 
 -- the state that the flash's bytes and power are

@@ -4,8 +4,8 @@ use Rattle.flash_sim.specs.Device.{Device}
 use Rattle.flash_map.specs.declared.area.Area.{Area}
 use Rattle.fcb_ring.specs.Standing.{ring_damage}
 use Rattle.session_table.specs.Follows.{Follows}
-use Rattle.log_lines.specs.declared.line.Line.{Line}
-use Rattle.log_lines.specs.declared.answer.Answer.{Answer}
+use Rattle.log_session.specs.declared.line.Line.{Line}
+use Rattle.log_session.specs.declared.answer.Answer.{Answer}
 use Rattle.log_session.specs.declared.fault.SessionFault.{SessionFault}
 use Rattle.log_session.specs.declared.fault.SessionFault.TheVariants.{Damaged as IsDamaged, NoMemory}
 use Rattle.log_session.specs.LineDone.{LineDone, Runs}

@@ -6,10 +6,10 @@ use Rattle.flash_map.specs.declared.area.Geometry.{Geometry}
 use Rattle.flash_map.specs.Units.{padded}
 use Rattle.fcb_ring.specs.Writing.{record_cost}
 use Rattle.event_ring.specs.Appending.{LeavesLog}
-use Rattle.log_lines.specs.declared.line.Line.{Line}
-use Rattle.log_lines.specs.declared.line.Line.TheVariants.{Put, Records, Cut, Uncut, Mount}
-use Rattle.log_lines.specs.declared.answer.Answer.{Answer}
-use Rattle.log_lines.specs.declared.answer.Answer.TheVariants.{Done, Appended, Log, Lost, Off}
+use Rattle.log_session.specs.declared.line.Line.{Line}
+use Rattle.log_session.specs.declared.line.Line.TheVariants.{Put, Records, Cut, Uncut, Mount}
+use Rattle.log_session.specs.declared.answer.Answer.{Answer}
+use Rattle.log_session.specs.declared.answer.Answer.TheVariants.{Done, Appended, Log, Lost, Off}
 
 pub record State : Type 0 where
   -- the bodies of the records, the oldest first

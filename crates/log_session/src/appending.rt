@@ -5,14 +5,15 @@ ghost use Rattle.fcb_ring.specs.Chance.{chance_on};
 ghost use Rattle.fcb_ring.specs.Standing.{IsRingArea, ring_damage};
 ghost use Rattle.flash_map.specs.Area.{value_limit};
 ghost use Rattle.flash_sim.specs.declared.flash.Loss.{Loss as loss_type};
-ghost use Rattle.log_lines.specs.declared.line.Line.TheVariants.{Put};
+ghost use Rattle.log_session.specs.declared.line.Line.TheVariants.{Put};
 ghost use Rattle.log_session.specs.LineDone.{IsServed, LineDone};
 
+use crate::answer::Answer;
 use event_ring::{EventLog, LogFault};
 use fcb_ring::chance;
 use flash_map::Area;
 use flash_sim::{Bench, Flash, Steps};
-use log_lines::{Answer, Bytes};
+use script_lines::Bytes;
 use std::sync::ledger::Ledger;
 
 // Whether the units that were put before the last loss spell, by chance, another record in the

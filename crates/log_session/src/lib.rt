@@ -1,22 +1,37 @@
 //! The lines of a script on an application log, carried out on a flash that may lose power at any
 //! unit.
+//!
+//! The lines of a script on an application log, the texts of their answers, and the plan of a loss
+//! through them.
 #![tactic(auto)]
 
+mod answer;
 mod answers;
 mod appending;
+mod bodies;
 mod fault;
 mod laws;
+mod line;
 mod mounting;
+mod plan;
 mod planning;
+mod reading;
 mod running;
+mod script;
 mod session;
 mod telling;
 
+pub use answer::{Answer, answer_text};
 pub use answers::Answers;
+pub use bodies::Bodies;
 pub use fault::SessionFault;
 pub use laws::{
     acknowledged_records_stand, line_by_line, lines_drop_where_full, lines_fit,
     power_follows_losses, runs_reach, two_runs,
 };
+pub use line::Line;
+pub use plan::{is_lost, units_of};
 pub use running::run_lines;
+pub use script::{each_is_read, one_meaning, read_script};
+pub use script_lines::{Bytes, LineWhy, ScriptFault};
 pub use session::LogSession;

@@ -1,15 +1,15 @@
 // Mounting a log.
 ghost use Rattle.std.specs.Prelude.{◌≡◌, None, Some, IfOk, IfErr, OnOk};
 ghost use Rattle.fcb_ring.specs.Standing.{IsRingArea, erases_on, ring_damage};
-ghost use Rattle.log_lines.specs.declared.answer.Answer.TheVariants.{Done};
-ghost use Rattle.log_lines.specs.declared.line.Line.TheVariants.{Mount};
+ghost use Rattle.log_session.specs.declared.answer.Answer.TheVariants.{Done};
+ghost use Rattle.log_session.specs.declared.line.Line.TheVariants.{Mount};
 ghost use Rattle.log_session.specs.LineDone.{LineDone, turned_on};
 ghost use Rattle.log_session.specs.Standing.{IsMounted, ShowsDamage};
 
+use crate::answer::Answer;
 use event_ring::EventLog;
 use flash_map::{Area, Damaged, MountFault};
 use flash_sim::{Bench, Flash, Steps};
-use log_lines::Answer;
 use std::sync::ledger::Ledger;
 
 // A mount's answer, and the log that it made: none where power was lost.

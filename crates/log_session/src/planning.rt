@@ -1,11 +1,11 @@
 // Plans of losses.
-ghost use Rattle.log_lines.specs.declared.line.Line.TheVariants.{Cut, Uncut};
+ghost use Rattle.log_session.specs.declared.line.Line.TheVariants.{Cut, Uncut};
 ghost use Rattle.log_session.specs.LineDone.{LineDone};
 ghost use Rattle.std.specs.Prelude.{◌≡◌};
 
+use crate::answer::Answer;
 use flash_map::Area;
 use flash_sim::{Bench, Flash};
-use log_lines::Answer;
 
 // Plans a loss of power.
 pub(crate) fn plan_loss<B: Bench>(bench: &mut B, area: &Area, units: u64) -> Answer

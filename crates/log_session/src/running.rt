@@ -2,16 +2,16 @@
 ghost use Rattle.std.specs.Prelude.{◌≡◌, ◌∷◌, true, All, None, OnOk};
 ghost use Rattle.fcb_ring.specs.Standing.{IsRingArea, erases_on, ring_damage};
 ghost use Rattle.flash_map.specs.Area.{value_limit};
-ghost use Rattle.log_lines.specs.declared.line.Line.TheVariants.{Mount};
+ghost use Rattle.log_session.specs.declared.line.Line.TheVariants.{Mount};
 ghost use Rattle.log_session.specs.LineDone.{IsServed};
 ghost use Rattle.log_session.specs.Running.{RunEnds};
 
 use crate::answers::Answers;
 use crate::fault::SessionFault;
+use crate::line::Line;
 use crate::session::LogSession;
 use flash_map::Area;
 use flash_sim::{Bench, Flash, Steps};
-use log_lines::Line;
 use std::alloc::Global;
 use std::sync::ledger::Ledger;
 

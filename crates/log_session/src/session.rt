@@ -2,19 +2,20 @@
 ghost use Rattle.std.specs.Prelude.{◌≡◌, true, None, IfOk, IfErr, OnErr, OnOk};
 ghost use Rattle.fcb_ring.specs.Standing.{IsRingArea, erases_on, ring_damage};
 ghost use Rattle.flash_map.specs.Area.{value_limit};
-ghost use Rattle.log_lines.specs.declared.answer.Answer.TheVariants.{Done};
-ghost use Rattle.log_lines.specs.declared.line.Line.TheVariants.{Mount, Records};
+ghost use Rattle.log_session.specs.declared.answer.Answer.TheVariants.{Done};
+ghost use Rattle.log_session.specs.declared.line.Line.TheVariants.{Mount, Records};
 ghost use Rattle.log_session.specs.LineDone.{IsServed, LineDone};
 ghost use Rattle.log_session.specs.Standing.{IsMounted, IsReady, IsSound, ShowsDamage};
 
+use crate::answer::Answer;
 use crate::appending::put_record;
+use crate::line::Line;
 use crate::mounting::mount;
 use crate::planning::{drop_plan, plan_loss};
 use crate::telling::tell_records;
 use event_ring::EventLog;
 use flash_map::{Area, Damaged};
 use flash_sim::{Bench, Flash, NoMemory, Steps};
-use log_lines::{Answer, Line};
 use std::alloc::Global;
 use std::sync::ledger::Ledger;
 

@@ -2,13 +2,15 @@
 ghost use Rattle.std.specs.Prelude.{◌≡◌, true, IfOk};
 ghost use Rattle.event_ring.specs.Items.{log_on};
 ghost use Rattle.event_ring.specs.Standing.{IsOpen};
-ghost use Rattle.log_lines.specs.declared.line.Line.TheVariants.{Records};
+ghost use Rattle.log_session.specs.declared.line.Line.TheVariants.{Records};
 ghost use Rattle.log_session.specs.LineDone.{LineDone};
 
+use crate::answer::Answer;
+use crate::bodies::Bodies;
 use event_ring::EventLog;
 use flash_map::Area;
 use flash_sim::{Bench, Flash, NoMemory, Steps};
-use log_lines::{Answer, Bodies, Bytes};
+use script_lines::Bytes;
 use std::alloc::Global;
 use std::sync::ledger::Ledger;
 

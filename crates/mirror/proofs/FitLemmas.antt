@@ -11,12 +11,12 @@ use Rattle.std.proofs.lemmas.List.Folds.{list_all-map}
 use Rattle.std.proofs.lemmas.List.Sums.{sum_by-cons}
 use Rattle.std.proofs.lemmas.Bool.Decides.{nat_tests}
 use Rattle.std.proofs.lemmas.List.{length-replicate}
-use Rattle.settings_laws.specs.declared.TheConstants.{NAME_LIMIT}
+use Rattle.backend_fcb.specs.declared.laws.TheConstants.{NAME_LIMIT}
 use Rattle.backend_api.specs.Map.{Map, IsStored, IsAbsent}
 use Rattle.backend_api.specs.Room.{Room, HasNoRoom}
 use Rattle.backend_api.proofs.LeastLemmas.{cmp}
 use Rattle.backend_api.proofs.MapLemmas.{remove-absent, ties_itself, ties_same}
-use Rattle.item_pairs.specs.Cost.{pair_cost, settings_cost}
+use Rattle.named_items.specs.Cost.{pair_cost, settings_cost}
 use Rattle.migrator.specs.Copying.{before, HasOneTooMany, HasOneWithoutRoom}
 use Rattle.mirror.specs.Room.{Prices, Fits, HasFewNames, have_few, IsRoomBy, IsTight, alike, greatest, mirror_room, room_by, too_many}
 use Rattle.mirror.proofs.Totals.{total, absent-before, before-total, change-total, count-total, insert-total, inserted-key, one_for, remove-total, removed-within}

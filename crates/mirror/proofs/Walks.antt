@@ -10,7 +10,7 @@ use Rattle.std.proofs.lemmas.Option.{none-some, slice_get_within, get_or_from_sl
 use Rattle.backend_api.specs.Laws.{WalksKeys}
 use Rattle.backend_api.specs.Map.{Map, IsStored, next_name}
 use Rattle.backend_api.proofs.CommandLemmas.{walks-keys}
-use Rattle.item_pairs.specs.Cost.{pair_cost}
+use Rattle.named_items.specs.Cost.{pair_cost}
 use Rattle.migrator.proofs.Names.{left, left-smaller}
 use Rattle.migrator.proofs.Puts.{find-at}
 use Rattle.mirror.specs.Room.{Prices, alike, room_by}

@@ -1,4 +1,7 @@
+pub mod Laws
 pub mod Mirrored
 pub mod Mounting
+pub mod Prices
 pub mod Room
+pub mod Standing
 pub mod Trusted

@@ -7,10 +7,10 @@ use Rattle.flash_map.specs.declared.area.Area.{Area}
 use Rattle.flash_map.specs.declared.area.Geometry.{Geometry}
 use Rattle.flash_map.specs.declared.area.Role.TheVariants.{Nvs, Zms}
 use Rattle.flash_map.specs.Area.{geometry_of, value_limit}
-use Rattle.settings_laws.specs.declared.TheConstants.{NAME_LIMIT}
+use Rattle.backend_fcb.specs.declared.laws.TheConstants.{NAME_LIMIT}
 use Rattle.backend_api.specs.Map.{Map}
 use Rattle.backend_api.specs.Room.{Room}
-use Rattle.item_pairs.specs.PairRoom.{pair_room}
+use Rattle.named_items.specs.PairRoom.{pair_room}
 use Rattle.migrator.specs.Migrating.{room_on}
 
 -- What the numbers of room of an area are made of, where a name and its value are an item each.

@@ -14,10 +14,10 @@ ghost use Rattle.mirror.specs.Mirrored.{LooksForRoom};
 use crate::priced::Priced;
 use crate::walking::{alike, classes, map_cost, one_if};
 use backend_api::{Backend, SetFault};
+use backend_fcb::NAME_LIMIT;
 use flash_map::{Area, geometry};
 use flash_sim::{Flash, NoMemory, Steps};
 use setting_name::Name;
-use settings_laws::NAME_LIMIT;
 use std::alloc::Global;
 use std::sync::ledger::Ledger;
 

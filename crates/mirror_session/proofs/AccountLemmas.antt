@@ -5,9 +5,9 @@ use Rattle.flash_map.specs.declared.area.Area.{Area}
 use Rattle.flash_map.specs.Touches.{Touches}
 use Rattle.script_lines.specs.Plan.{Replan, plan_by}
 use Rattle.script_lines.specs.Plan.Replan.{keeps}
-use Rattle.mirror_lines.specs.declared.line.Line.{Line}
-use Rattle.mirror_lines.specs.declared.answer.Answer.{Answer}
-use Rattle.mirror_lines.specs.Plan.{as_told, units_of, is_lost, replan}
+use Rattle.mirror_session.specs.declared.line.Line.{Line}
+use Rattle.mirror_session.specs.declared.answer.Answer.{Answer}
+use Rattle.mirror_session.specs.Plan.{as_told, units_of, is_lost, replan}
 use Rattle.mirror_session.specs.LineDone.{Accounts, Keeps}
 
 spent_is : (spent spent' more : ℕ) → spent' ≡ counted spent more → spent + (spent' - spent) ≡ spent'

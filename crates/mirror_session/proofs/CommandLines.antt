@@ -29,12 +29,12 @@ use Rattle.script_lines.specs.declared.answer.Answer.TheVariants as settings
 use Rattle.script_lines.specs.Plan.Replan.{keeps}
 use Rattle.settings_core.specs.Carrying.{command_of, is_idle}
 use Rattle.session_table.specs.Bench.{area_at}
-use Rattle.mirror_lines.specs.declared.line.Line.{Line}
-use Rattle.mirror_lines.specs.declared.line.Line.TheVariants.{Set, Del}
-use Rattle.mirror_lines.specs.declared.answer.Answer.{Answer}
-use Rattle.mirror_lines.specs.declared.answer.Answer.TheVariants.{Told}
-use Rattle.mirror_lines.specs.Answer.{done, lost}
-use Rattle.mirror_lines.specs.Plan.{units_of, is_lost, replan}
+use Rattle.mirror_session.specs.declared.line.Line.{Line}
+use Rattle.mirror_session.specs.declared.line.Line.TheVariants.{Set, Del}
+use Rattle.mirror_session.specs.declared.answer.Answer.{Answer}
+use Rattle.mirror_session.specs.declared.answer.Answer.TheVariants.{Told}
+use Rattle.mirror_session.specs.Answer.{done, lost}
+use Rattle.mirror_session.specs.Plan.{units_of, is_lost, replan}
 use Rattle.mirror_session.specs.Bench.{Meanings, beside_in, is_gone, moment, rules_of, state_of}
 use Rattle.mirror_session.specs.LineDone.{BothNow, Cuts, CutsBoth, Finds, FitNow, FitsThen, Keeps, LineDone, Replaced, StaysSound, is_quiet, powered_for, replaces, store_areas, worked_on}
 use Rattle.mirror_session.specs.Standing.{IsHeld}

@@ -6,9 +6,9 @@ use Rattle.backend_api.specs.Commands.{Command}
 use Rattle.backend_api.specs.Commands.Command.{Del as Delete}
 use Rattle.settings_core.specs.Carrying.{command_of}
 use Rattle.script_lines.specs.declared.answer.Answer.TheVariants as settings
-use Rattle.mirror_lines.specs.declared.line.Line.TheVariants.{Set, Del}
-use Rattle.mirror_lines.specs.declared.answer.Answer.{Answer}
-use Rattle.mirror_lines.specs.declared.answer.Answer.TheVariants.{Told}
+use Rattle.mirror_session.specs.declared.line.Line.TheVariants.{Set, Del}
+use Rattle.mirror_session.specs.declared.answer.Answer.{Answer}
+use Rattle.mirror_session.specs.declared.answer.Answer.TheVariants.{Told}
 use Rattle.mirror_session.specs.Bench.{Meanings, Moment, rules_of, state_of}
 use Rattle.mirror_session.specs.LineDone.{Cuts, CutsBoth, LineDone}
 use Rattle.mirror_session.specs.State.{Rules, State}

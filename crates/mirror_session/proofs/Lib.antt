@@ -18,4 +18,6 @@ mod SelectorLemmas
 pub mod ServedLemmas
 mod SideLemmas
 pub mod SoundLemmas
+mod TableFacts
+mod TableLaws
 mod TellLemmas

@@ -25,8 +25,8 @@ use Rattle.mirror.specs.Room.{FitsOn}
 use Rattle.mirror.specs.Trusted.{BothRead, IsMirrorMap, MirrorReads, trusted_on}
 use Rattle.session_table.specs.Bench.{area_at}
 use Rattle.session.proofs.ActiveAreas.{area_there, selector_powered, store_there}
-use Rattle.mirror_lines.specs.declared.line.Line.TheVariants.{Mount}
-use Rattle.mirror_lines.specs.Answer.{done, lost}
+use Rattle.mirror_session.specs.declared.line.Line.TheVariants.{Mount}
+use Rattle.mirror_session.specs.Answer.{done, lost}
 use Rattle.mirror_session.specs.declared.fault.SessionFault.TheVariants.{Damaged as SessionDamaged, Unfit as SessionUnfit, NoMemory as SessionMemory}
 use Rattle.mirror_session.specs.Bench.{Meanings, beside_in, is_gone, moment, rules_of, state_of}
 use Rattle.mirror_session.specs.LineDone.{FitNow, FitsBoth, LineDone, MountsWithin, StaysSound}

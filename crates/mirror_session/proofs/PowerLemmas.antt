@@ -7,11 +7,11 @@ use Rattle.backend_api.specs.Commands.{Command}
 use Rattle.backend_api.specs.Commands.Command.{Del as Delete}
 use Rattle.settings_core.specs.Carrying.{command_of}
 use Rattle.session_table.proofs.FollowsLemmas.{kept, seen, then}
-use Rattle.mirror_lines.specs.declared.line.Line.{Line}
-use Rattle.mirror_lines.specs.declared.line.Line.TheVariants.{Set, Get, Del, Names, Mount, Cut, Uncut, Blank}
-use Rattle.mirror_lines.specs.declared.answer.Answer.{Answer}
-use Rattle.mirror_lines.specs.declared.answer.Answer.TheVariants.{Told, On, NoArea, NotYet}
-use Rattle.mirror_lines.specs.Plan.{is_lost}
+use Rattle.mirror_session.specs.declared.line.Line.{Line}
+use Rattle.mirror_session.specs.declared.line.Line.TheVariants.{Set, Get, Del, Names, Mount, Cut, Uncut, Blank}
+use Rattle.mirror_session.specs.declared.answer.Answer.{Answer}
+use Rattle.mirror_session.specs.declared.answer.Answer.TheVariants.{Told, On, NoArea, NotYet}
+use Rattle.mirror_session.specs.Plan.{is_lost}
 use Rattle.mirror_session.specs.History.{IsMirrored, PowerStep}
 use Rattle.mirror_session.specs.Laws.{KeepsNamed, LosesPower, RunsInRow, StaysMirrored}
 use Rattle.mirror_session.specs.State.{State, Rules}

@@ -11,11 +11,11 @@ use Rattle.backend_api.specs.Map.{Map}
 use Rattle.settings_core.specs.Carrying.{command_of, is_idle}
 use Rattle.session_table.specs.Follows.{Follows}
 use Rattle.session_table.specs.Prefix.{Stand}
-use Rattle.mirror_lines.specs.declared.line.Line.{Line}
-use Rattle.mirror_lines.specs.declared.line.Line.TheVariants.{Set, Get, Del, Names, Mount, Cut, Uncut, Blank}
-use Rattle.mirror_lines.specs.declared.answer.Answer.{Answer}
-use Rattle.mirror_lines.specs.declared.answer.Answer.TheVariants.{Told, On, NoArea, NotYet}
-use Rattle.mirror_lines.specs.Plan.{as_told}
+use Rattle.mirror_session.specs.declared.line.Line.{Line}
+use Rattle.mirror_session.specs.declared.line.Line.TheVariants.{Set, Get, Del, Names, Mount, Cut, Uncut, Blank}
+use Rattle.mirror_session.specs.declared.answer.Answer.{Answer}
+use Rattle.mirror_session.specs.declared.answer.Answer.TheVariants.{Told, On, NoArea, NotYet}
+use Rattle.mirror_session.specs.Plan.{as_told}
 use Rattle.mirror_session.specs.History.{IsAfterPrefix, IsMirrored, LogStep}
 use Rattle.mirror_session.specs.Laws.{HoldsAcknowledged}
 use Rattle.mirror_session.specs.State.{State, Rules, IsOn, IsOff, trusted_of}

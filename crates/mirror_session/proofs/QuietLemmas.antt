@@ -17,12 +17,12 @@ use Rattle.script_lines.specs.Plan.Replan.{keeps}
 use Rattle.session.proofs.ActiveAreas.{selector_still}
 use Rattle.session_table.specs.Bench.{area_at}
 use Rattle.session_table.specs.Step.{as_pair}
-use Rattle.mirror_lines.specs.declared.line.Line.{Line}
-use Rattle.mirror_lines.specs.declared.line.Line.TheVariants.{Set, Get, Del, Names, Mount, Cut, Uncut, Blank}
-use Rattle.mirror_lines.specs.declared.answer.Answer.{Answer}
-use Rattle.mirror_lines.specs.declared.answer.Answer.TheVariants.{Told, On, NoArea, NotYet}
-use Rattle.mirror_lines.specs.Answer.{done, off}
-use Rattle.mirror_lines.specs.Plan.{units_of, is_lost, replan}
+use Rattle.mirror_session.specs.declared.line.Line.{Line}
+use Rattle.mirror_session.specs.declared.line.Line.TheVariants.{Set, Get, Del, Names, Mount, Cut, Uncut, Blank}
+use Rattle.mirror_session.specs.declared.answer.Answer.{Answer}
+use Rattle.mirror_session.specs.declared.answer.Answer.TheVariants.{Told, On, NoArea, NotYet}
+use Rattle.mirror_session.specs.Answer.{done, off}
+use Rattle.mirror_session.specs.Plan.{units_of, is_lost, replan}
 use Rattle.mirror_session.specs.Bench.{Meanings, labelled, moment, rules_of, state_of}
 use Rattle.mirror_session.specs.LineDone.{BothNow, Cuts, Finds, FitsThen, Keeps, LineDone, Replaced, StaysSound, powered_for, replaces, worked_on}
 use Rattle.mirror_session.specs.Step.{Step, needs_power}

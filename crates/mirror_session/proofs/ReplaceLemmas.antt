@@ -27,9 +27,9 @@ use Rattle.mirror.specs.Trusted.{IsMirrorMap, damage_shown, is_blank_at, is_blan
 use Rattle.script_lines.specs.Plan.Replan.{keeps}
 use Rattle.session_table.specs.Bench.{area_at}
 use Rattle.session.proofs.ActiveAreas.{active_still, area_there, selector_still, store_there}
-use Rattle.mirror_lines.specs.declared.line.Line.TheVariants.{Blank}
-use Rattle.mirror_lines.specs.Answer.{done}
-use Rattle.mirror_lines.specs.Plan.{replan}
+use Rattle.mirror_session.specs.declared.line.Line.TheVariants.{Blank}
+use Rattle.mirror_session.specs.Answer.{done}
+use Rattle.mirror_session.specs.Plan.{replan}
 use Rattle.mirror_session.specs.Bench.{Meanings, beside_in, is_gone, is_labelled, labelled, moment, rules_of, state_of}
 use Rattle.mirror_session.specs.LineDone.{FitNow, FitsBoth, LineDone, blanked}
 use Rattle.mirror_session.specs.Standing.{IsHeld, IsReady}

@@ -12,11 +12,11 @@ use Rattle.flash_map.proofs.Plans.{counted_counted}
 use Rattle.script_lines.specs.declared.answer.Answer.TheVariants as settings
 use Rattle.session_table.specs.Follows.{Follows}
 use Rattle.session_table.proofs.FollowsLemmas.{kept, summed}
-use Rattle.mirror_lines.specs.declared.line.Line.{Line}
-use Rattle.mirror_lines.specs.declared.line.Line.TheVariants.{Mount}
-use Rattle.mirror_lines.specs.declared.answer.Answer.{Answer}
-use Rattle.mirror_lines.specs.declared.answer.Answer.TheVariants.{Told}
-use Rattle.mirror_lines.specs.Plan.{units_of, is_lost, losses_in, Planned, plan_through, PlansNoLoss}
+use Rattle.mirror_session.specs.declared.line.Line.{Line}
+use Rattle.mirror_session.specs.declared.line.Line.TheVariants.{Mount}
+use Rattle.mirror_session.specs.declared.answer.Answer.{Answer}
+use Rattle.mirror_session.specs.declared.answer.Answer.TheVariants.{Told}
+use Rattle.mirror_session.specs.Plan.{units_of, is_lost, losses_in, Planned, plan_through, PlansNoLoss}
 use Rattle.mirror_session.specs.declared.fault.SessionFault.{SessionFault}
 use Rattle.mirror_session.specs.declared.fault.SessionFault.TheVariants.{Damaged, Unfit, NoMemory}
 use Rattle.mirror_session.specs.Bench.{Meanings, Moment, rules_of, state_of}

@@ -6,9 +6,9 @@ use Rattle.script_lines.specs.Forms.{Form, Field, IsNothing, Said, SaysAll, Says
 use Rattle.script_lines.specs.Forms.Field.{a_name, any_bytes}
 use Rattle.script_lines.specs.Forms.Said.{name, bytes}
 use Rattle.script_lines.specs.Script.{SpellsAll, told}
-use Rattle.mirror_lines.specs.Line.{mirror_forms, row_of}
-use Rattle.mirror_lines.specs.declared.line.Line.{Line}
-use Rattle.mirror_lines.specs.declared.line.Line.TheVariants.{Set, Get, Del, Names, Mount, Cut, Uncut, Blank}
+use Rattle.mirror_session.specs.Line.{mirror_forms, row_of}
+use Rattle.mirror_session.specs.declared.line.Line.{Line}
+use Rattle.mirror_session.specs.declared.line.Line.TheVariants.{Set, Get, Del, Names, Mount, Cut, Uncut, Blank}
 use Rattle.mirror_session.specs.Laws.{LinesAreServed}
 use Rattle.mirror_session.specs.LineDone.{IsServed}
 

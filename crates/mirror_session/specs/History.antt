@@ -5,10 +5,10 @@ use Rattle.backend_api.specs.Commands.{Command, all_applied}
 use Rattle.backend_api.specs.Map.{Map}
 use Rattle.session_table.specs.Follows.{Follows}
 use Rattle.session_table.specs.Prefix.{Stand}
-use Rattle.mirror_lines.specs.declared.line.Line.{Line}
-use Rattle.mirror_lines.specs.declared.line.Line.TheVariants.{Mount}
-use Rattle.mirror_lines.specs.declared.answer.Answer.{Answer}
-use Rattle.mirror_lines.specs.Plan.{as_told, is_lost}
+use Rattle.mirror_session.specs.declared.line.Line.{Line}
+use Rattle.mirror_session.specs.declared.line.Line.TheVariants.{Mount}
+use Rattle.mirror_session.specs.declared.answer.Answer.{Answer}
+use Rattle.mirror_session.specs.Plan.{as_told, is_lost}
 use Rattle.mirror_session.specs.State.{State, Rules, IsOn}
 use Rattle.mirror_session.specs.Step.{Step, commands_of}
 

@@ -3,10 +3,10 @@ use Rattle.std.specs.Prelude.{◌≡◌, ◌⊎◌, ℕ, true, false, List, ◌+
 use Rattle.flash_map.specs.declared.area.Area.{Area}
 use Rattle.script_lines.specs.Script.{IsScript}
 use Rattle.session_table.specs.Follows.{Follows}
-use Rattle.mirror_lines.specs.Line.{mirror_forms, row_of}
-use Rattle.mirror_lines.specs.declared.line.Line.{Line}
-use Rattle.mirror_lines.specs.declared.line.Line.TheVariants.{Mount}
-use Rattle.mirror_lines.specs.declared.answer.Answer.{Answer}
+use Rattle.mirror_session.specs.Line.{mirror_forms, row_of}
+use Rattle.mirror_session.specs.declared.line.Line.{Line}
+use Rattle.mirror_session.specs.declared.line.Line.TheVariants.{Mount}
+use Rattle.mirror_session.specs.declared.answer.Answer.{Answer}
 use Rattle.mirror_session.specs.Bench.{Meanings, Moment}
 use Rattle.mirror_session.specs.LineDone.{IsServed, LineDone}
 use Rattle.mirror_session.specs.Running.{Ran}

@@ -1,8 +1,12 @@
-pub mod State
-pub mod Step
+pub mod Answer
 pub mod Bench
-pub mod LineDone
-pub mod Standing
-pub mod Running
 pub mod History
 pub mod Laws
+pub mod Line
+pub mod LineDone
+pub mod LineLaws
+pub mod Plan
+pub mod Running
+pub mod Standing
+pub mod State
+pub mod Step

@@ -22,11 +22,11 @@ use Rattle.script_lines.specs.declared.answer.Answer.TheVariants as settings
 use Rattle.script_lines.specs.Plan.Replan.{keeps as keeps_plan}
 use Rattle.session.specs.OnMap.{turned_on}
 use Rattle.session_table.specs.Bench.{area_at, geometry_in}
-use Rattle.mirror_lines.specs.declared.line.Line.{Line}
-use Rattle.mirror_lines.specs.declared.line.Line.TheVariants.{Set, Del, Mount, Blank}
-use Rattle.mirror_lines.specs.declared.answer.Answer.{Answer}
-use Rattle.mirror_lines.specs.declared.answer.Answer.TheVariants.{Told}
-use Rattle.mirror_lines.specs.Plan.{units_of, is_lost, replan, Allows, plan_after, PlansNoLoss}
+use Rattle.mirror_session.specs.declared.line.Line.{Line}
+use Rattle.mirror_session.specs.declared.line.Line.TheVariants.{Set, Del, Mount, Blank}
+use Rattle.mirror_session.specs.declared.answer.Answer.{Answer}
+use Rattle.mirror_session.specs.declared.answer.Answer.TheVariants.{Told}
+use Rattle.mirror_session.specs.Plan.{units_of, is_lost, replan, Allows, plan_after, PlansNoLoss}
 use Rattle.mirror_session.specs.Bench.{Meanings, Moment, beside_in, labelled, rules_of, state_of}
 use Rattle.mirror_session.specs.State.{State, IsCounted, IsOn}
 use Rattle.mirror_session.specs.Step.{Step}

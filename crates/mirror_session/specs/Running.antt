@@ -12,11 +12,11 @@ use Rattle.mirror.specs.Trusted.{MirrorReads, damage_shown, trusted_on}
 use Rattle.script_lines.specs.declared.answer.Answer.TheVariants as settings
 use Rattle.session_table.specs.Bench.{area_at}
 use Rattle.session_table.specs.Follows.{Follows}
-use Rattle.mirror_lines.specs.declared.line.Line.{Line}
-use Rattle.mirror_lines.specs.declared.line.Line.TheVariants.{Get, Names, Mount, Blank}
-use Rattle.mirror_lines.specs.declared.answer.Answer.{Answer}
-use Rattle.mirror_lines.specs.declared.answer.Answer.TheVariants.{Told}
-use Rattle.mirror_lines.specs.Plan.{units_in, losses_in, Planned, plan_through, PlansNoLoss}
+use Rattle.mirror_session.specs.declared.line.Line.{Line}
+use Rattle.mirror_session.specs.declared.line.Line.TheVariants.{Get, Names, Mount, Blank}
+use Rattle.mirror_session.specs.declared.answer.Answer.{Answer}
+use Rattle.mirror_session.specs.declared.answer.Answer.TheVariants.{Told}
+use Rattle.mirror_session.specs.Plan.{units_in, losses_in, Planned, plan_through, PlansNoLoss}
 use Rattle.mirror_session.specs.declared.fault.SessionFault.{SessionFault}
 use Rattle.mirror_session.specs.declared.fault.SessionFault.TheVariants.{Damaged, Unfit, NoMemory}
 use Rattle.mirror_session.specs.Bench.{Meanings, Moment, moment, rules_of, state_of}

@@ -9,10 +9,10 @@ use Rattle.backend_api.specs.Commands.Command.{Put, Del as Delete}
 use Rattle.backend_api.specs.Map.{Map, IsStored, IsAbsent}
 use Rattle.settings_core.specs.Carrying.{command_of, is_idle}
 use Rattle.session_table.specs.Step.{as_pair}
-use Rattle.mirror_lines.specs.declared.line.Line.{Line}
-use Rattle.mirror_lines.specs.declared.line.Line.TheVariants.{Set, Get, Del, Names, Mount, Cut, Uncut, Blank}
-use Rattle.mirror_lines.specs.declared.answer.Answer.{Answer}
-use Rattle.mirror_lines.specs.declared.answer.Answer.TheVariants.{Told, On, NoArea, NotYet}
+use Rattle.mirror_session.specs.declared.line.Line.{Line}
+use Rattle.mirror_session.specs.declared.line.Line.TheVariants.{Set, Get, Del, Names, Mount, Cut, Uncut, Blank}
+use Rattle.mirror_session.specs.declared.answer.Answer.{Answer}
+use Rattle.mirror_session.specs.declared.answer.Answer.TheVariants.{Told, On, NoArea, NotYet}
 use Rattle.mirror_session.specs.State.{State, Rules, IsOn, IsOff, IsCounted, trusted_of}
 
 -- ---- changing settings

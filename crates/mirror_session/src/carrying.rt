@@ -1,7 +1,7 @@
 // A session, and carrying out one line in it.
 ghost use Rattle.std.specs.Prelude.{◌≡◌, true, false, is_some, IfErr, IfOk, OnErr, OnOk};
 ghost use Rattle.mirror.specs.Trusted.{IsMirrorMap};
-ghost use Rattle.mirror_lines.specs.declared.line.Line.TheVariants.{Mount, Blank};
+ghost use Rattle.mirror_session.specs.declared.line.Line.TheVariants.{Mount, Blank};
 ghost use Rattle.mirror_session.specs.Bench.{meanings, moment};
 ghost use Rattle.mirror_session.specs.LineDone.{IsServed, LineDone};
 ghost use Rattle.mirror_session.specs.Running.{LineStops, takes_memory};
@@ -9,10 +9,12 @@ ghost use Rattle.mirror_session.specs.Standing.{IsHeld, IsReady};
 ghost use Rattle.mirror_session.specs.Step.{needs_power};
 ghost use Rattle.session.specs.OnMap.{limit_of};
 
+use crate::answer::Answer;
 use crate::areas::labelled;
 use crate::blanking::blank_area;
 use crate::changing::{change_setting, delete_setting};
 use crate::fault::SessionFault;
+use crate::line::Line;
 use crate::mounting::mount;
 use crate::planning::{drop_plan, plan_loss};
 use crate::telling::{get_setting, tell_all};
@@ -20,7 +22,7 @@ use flash_map::FlashMap;
 use flash_sim::{Bench, Flash, NoMemory, Steps};
 use migrator::area_at;
 use mirror::{Mirror, Priced};
-use mirror_lines::{Answer, Label, Line};
+use script_lines::Label;
 use std::alloc::Global;
 use std::sync::ledger::Ledger;
 

@@ -1,17 +1,18 @@
 // Lines that change settings, with power on.
 ghost use Rattle.std.specs.Prelude.{◌≡◌, ◌<◌, ◌≤◌, true, length};
 ghost use Rattle.mirror.specs.Trusted.{IsMirrorMap};
-ghost use Rattle.mirror_lines.specs.declared.line.Line.TheVariants.{Set, Del};
+ghost use Rattle.mirror_session.specs.declared.line.Line.TheVariants.{Set, Del};
 ghost use Rattle.mirror_session.specs.Bench.{meanings, moment};
 ghost use Rattle.mirror_session.specs.LineDone.{IsServed, LineDone};
 ghost use Rattle.mirror_session.specs.Standing.{IsHeld};
 ghost use Rattle.session.specs.OnMap.{limit_of};
 
+use crate::answer::Answer;
 use backend_api::SetFault;
 use flash_map::FlashMap;
 use flash_sim::{Bench, Flash, Steps};
 use mirror::{Mirror, Priced};
-use mirror_lines::{Answer, Bytes, SettingsAnswer};
+use script_lines::{Answer as SettingsAnswer, Bytes};
 use setting_name::Name;
 use std::sync::ledger::Ledger;
 

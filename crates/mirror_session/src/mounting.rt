@@ -1,17 +1,17 @@
 // Mounting a mirror.
 ghost use Rattle.std.specs.Prelude.{◌≡◌, Bool, is_some, IfErr, IfOk};
 ghost use Rattle.mirror.specs.Trusted.{IsMirrorMap};
-ghost use Rattle.mirror_lines.specs.declared.line.Line.TheVariants.{Mount};
+ghost use Rattle.mirror_session.specs.declared.line.Line.TheVariants.{Mount};
 ghost use Rattle.mirror_session.specs.Bench.{meanings, moment};
 ghost use Rattle.mirror_session.specs.LineDone.{LineDone};
 ghost use Rattle.mirror_session.specs.Running.{LineStops};
 ghost use Rattle.mirror_session.specs.Standing.{IsReady};
 
+use crate::answer::Answer;
 use crate::fault::SessionFault;
 use flash_map::FlashMap;
 use flash_sim::{Bench, Flash, Steps};
 use mirror::{Mirror, MirrorMount, Priced};
-use mirror_lines::Answer;
 use std::alloc::Global;
 use std::sync::ledger::Ledger;
 

@@ -1,13 +1,13 @@
 // Plans of losses.
 ghost use Rattle.std.specs.Prelude.{◌≡◌, Bool};
-ghost use Rattle.mirror_lines.specs.declared.line.Line.TheVariants.{Cut, Uncut};
+ghost use Rattle.mirror_session.specs.declared.line.Line.TheVariants.{Cut, Uncut};
 ghost use Rattle.mirror_session.specs.Bench.{meanings, moment};
 ghost use Rattle.mirror_session.specs.LineDone.{LineDone, SameButPlan};
 
+use crate::answer::Answer;
 use flash_map::FlashMap;
 use flash_sim::{Bench, Flash};
 use mirror::Priced;
-use mirror_lines::Answer;
 
 // Plans a loss of power.
 pub(crate) fn plan_loss<K: Priced, B: Bench>(bench: &mut B, map: &FlashMap, units: u64) -> Answer

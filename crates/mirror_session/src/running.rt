@@ -1,7 +1,7 @@
 // All lines of a script.
 ghost use Rattle.std.specs.Prelude.{◌≡◌, ◌∷◌, false, All};
 ghost use Rattle.mirror.specs.Trusted.{IsMirrorMap};
-ghost use Rattle.mirror_lines.specs.declared.line.Line.TheVariants.{Mount};
+ghost use Rattle.mirror_session.specs.declared.line.Line.TheVariants.{Mount};
 ghost use Rattle.mirror_session.specs.Bench.{meanings, moment};
 ghost use Rattle.mirror_session.specs.LineDone.{IsServed};
 ghost use Rattle.mirror_session.specs.Running.{RunEnds};
@@ -10,10 +10,10 @@ ghost use Rattle.session.specs.OnMap.{limit_of};
 use crate::answers::Answers;
 use crate::carrying::MirrorSession;
 use crate::fault::SessionFault;
+use crate::line::Line;
 use flash_map::FlashMap;
 use flash_sim::{Bench, Flash, Steps};
 use mirror::Priced;
-use mirror_lines::Line;
 use std::alloc::Global;
 use std::sync::ledger::Ledger;
 

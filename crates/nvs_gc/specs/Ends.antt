@@ -7,12 +7,12 @@ use Rattle.flash_map.specs.declared.area.Role.TheVariants.{Nvs as NvsRole}
 use Rattle.flash_map.specs.declared.faults.MountFault.{MountFault}
 use Rattle.flash_map.specs.declared.faults.WriteFault.{WriteFault}
 use Rattle.flash_map.specs.Area.{unit_of, sector_size, sectors_of}
-use Rattle.ring_store.specs.Closing as closing
-use Rattle.ring_store.specs.Stands as stands
-use Rattle.ring_store.specs.Wrapped.{store_in}
-use Rattle.ring_store.specs.Writing as writing
-use Rattle.ring_store.specs.Written as written
-use Rattle.nvs_kind.specs.Kinds.{kind}
+use Rattle.item_store.specs.Closing as closing
+use Rattle.item_store.specs.Stands as stands
+use Rattle.item_store.specs.Wrapped.{store_in}
+use Rattle.item_store.specs.Writing as writing
+use Rattle.item_store.specs.Written as written
+use Rattle.nvs_format.specs.Kinds.{kind}
 use Rattle.nvs_gc.specs.declared.nvs.Nvs.{Nvs}
 use Rattle.nvs_gc.specs.Standing.{kind_on, kept}
 

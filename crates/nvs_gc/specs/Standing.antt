@@ -7,16 +7,16 @@ use Rattle.flash_map.specs.declared.area.Area.{Area}
 use Rattle.flash_map.specs.declared.area.Geometry.{Geometry}
 use Rattle.flash_map.specs.declared.area.Role.TheVariants.{Nvs as NvsRole}
 use Rattle.flash_map.specs.Area.{geometry_of, unit_of, sectors_of}
-use Rattle.pair_laws.specs.Items.{Items}
-use Rattle.pair_laws.specs.Rounds.{live_cost}
+use Rattle.item_laws.specs.Items.{Items}
+use Rattle.item_laws.specs.PairRounds.{live_cost}
 use Rattle.nvs_store.specs.Geometry.{cost}
 use Rattle.nvs_store.specs.Sector.{low, data_end, has_gc_done}
-use Rattle.nvs_kind.specs.Kinds.{kind}
-use Rattle.nvs_sectors.specs.declared.sectors.NvsOpen.{NvsOpen}
-use Rattle.ring_store.specs.Kind.{Kind}
-use Rattle.ring_store.specs.Listed as listed
-use Rattle.ring_store.specs.Standing as ring
-use Rattle.ring_store.specs.Stands as stands
+use Rattle.nvs_format.specs.Kinds.{kind}
+use Rattle.nvs_gc.specs.declared.sectors.NvsOpen.{NvsOpen}
+use Rattle.item_store.specs.Kind.{Kind}
+use Rattle.item_store.specs.Listed as listed
+use Rattle.item_store.specs.Standing as ring
+use Rattle.item_store.specs.Stands as stands
 use Rattle.nvs_gc.specs.declared.nvs.Nvs.{Nvs}
 
 -- how its sectors read

@@ -12,9 +12,9 @@ use Rattle.flash_map.specs.Spending.{Spends, SpendsAtMost}
 use Rattle.flash_map.specs.Units.{padded, padded_bytes, is_erased}
 use Rattle.flash_map.proofs.Places.{length-sector}
 use Rattle.flash_map.proofs.Rounding.{padding}
-use Rattle.ring_laws.specs.Area.{next, is_closed_at, open_sector}
-use Rattle.ring_laws.proofs.AreaReads.{length-sectors}
-use Rattle.ring_laws.proofs.Stays.{open_within}
+use Rattle.item_laws.specs.Area.{next, is_closed_at, open_sector}
+use Rattle.item_laws.proofs.AreaReads.{length-sectors}
+use Rattle.item_laws.proofs.Stays.{open_within}
 use Rattle.nvs_store.specs.declared.entry.Entry.{Entry}
 use Rattle.nvs_store.specs.declared.scan.Redo.TheVariants.{Nothing}
 use Rattle.nvs_store.specs.declared.scan.Scan.{Scan}

@@ -4,16 +4,16 @@ use Rattle.std.specs.List.{flat_map}
 use Rattle.std.proofs.lemmas.Bool.{false≢true, cases_eq, cond-true, cond-false, eq-eqb, ne_eqb}
 use Rattle.std.proofs.lemmas.List.{append-nil}
 use Rattle.flash_map.specs.Units.{IsUnit, padded, is_erased}
-use Rattle.ring_laws.specs.Area.{next, is_closed_at, open_sector, area_pairs}
+use Rattle.item_laws.specs.Area.{next, is_closed_at, open_sector, area_pairs}
 use Rattle.flash_map.specs.Area.{sector_at, ChangesOnly}
-use Rattle.ring_laws.specs.Forms.{others, pairs_at}
-use Rattle.ring_laws.specs.Forms as ring_forms
-use Rattle.ring_laws.specs.Steps as ring_steps
-use Rattle.ring_laws.proofs.Collects.{at_rest-put, done-not_blank}
-use Rattle.ring_laws.proofs.RingSteps.{reads}
-use Rattle.ring_laws.proofs.Rings.{next-closed}
-use Rattle.ring_laws.proofs.Stays.{open_kept, next_kept, list-all, list_put}
-use Rattle.ring_laws.proofs.Undamaged.{form-of}
+use Rattle.item_laws.specs.Forms.{others, pairs_at}
+use Rattle.item_laws.specs.Forms as ring_forms
+use Rattle.item_laws.specs.Steps as ring_steps
+use Rattle.item_laws.proofs.Collects.{at_rest-put, done-not_blank}
+use Rattle.item_laws.proofs.RingSteps.{reads}
+use Rattle.item_laws.proofs.Rings.{next-closed}
+use Rattle.item_laws.proofs.Stays.{open_kept, next_kept, list-all, list_put}
+use Rattle.item_laws.proofs.Undamaged.{form-of}
 use Rattle.nvs_store.specs.declared.scan.Redo.{Redo}
 use Rattle.nvs_store.specs.declared.scan.Redo.TheVariants.{Nothing, EraseNext, CollectAgain}
 use Rattle.nvs_store.specs.declared.scan.Scan.{Scan}

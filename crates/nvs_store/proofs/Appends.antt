@@ -11,14 +11,14 @@ use Rattle.flash_map.specs.Units.{IsUnit, padded, is_erased}
 use Rattle.nvs_store.specs.Geometry.{slot_size}
 use Rattle.nvs_store.specs.Entries.{encoded}
 use Rattle.flash_sim.specs.Device.{overwritten}
-use Rattle.ring_laws.specs.Slots.{Slot}
+use Rattle.item_laws.specs.Slots.{Slot}
 use Rattle.flash_map.specs.Units.{written_end}
 use Rattle.nvs_store.specs.Sector.{slot_at, is_used, used_slots, counting_entry, entries, is_gc_done, is_closed, low, data_end, entry_end, pair_of, pairs, KeepsList, AddsPair, counts}
 use Rattle.flash_map.proofs.Rounding.{IsPadding, padding}
-use Rattle.ring_laws.proofs.SlotChanges.{SameFrom, slot_at-from, used_slots-kept, used_slots-more}
-use Rattle.ring_laws.proofs.SlotCosts.{fold_max-ge}
-use Rattle.ring_laws.proofs.SlotLemmas.{HasFence, HasFence-from_low, index-slot_at, slot_within}
-use Rattle.ring_laws.proofs.SlotWalks.{any_push}
+use Rattle.item_laws.proofs.SlotChanges.{SameFrom, slot_at-from, used_slots-kept, used_slots-more}
+use Rattle.item_laws.proofs.SlotCosts.{fold_max-ge}
+use Rattle.item_laws.proofs.SlotLemmas.{HasFence, HasFence-from_low, index-slot_at, slot_within}
+use Rattle.item_laws.proofs.SlotWalks.{any_push}
 use Rattle.nvs_store.proofs.SlotReads.{slot_widths, slot_at-parts}
 use Rattle.flash_map.proofs.Sectors.{length-overwritten}
 use Rattle.flash_map.proofs.Ranges.{range_above, range_below, range_at, drop_at_put, get_or_above, get_or_below}

@@ -5,11 +5,11 @@ use Rattle.std.proofs.lemmas.Bool.{not_from_true}
 use Rattle.std.proofs.lemmas.List.Elements.{All-take, All-drop}
 use Rattle.std.proofs.lemmas.List.Sums.{AllPass-from_list_all, list_all-from_AllPass, prefix_len_is}
 use Rattle.std.proofs.lemmas.List.FromFn.{get_or-map-range_with_len, length-map-range_with_len}
-use Rattle.ring_laws.specs.Slots as shared
-use Rattle.ring_laws.specs.Reading.{IsReading}
+use Rattle.item_laws.specs.Slots as shared
+use Rattle.item_laws.specs.Reading.{IsReading}
 use Rattle.nvs_store.specs.Geometry.{slot_size}
 use Rattle.flash_map.specs.Units.{is_erased}
-use Rattle.ring_laws.specs.Slots.{Slot}
+use Rattle.item_laws.specs.Slots.{Slot}
 use Rattle.nvs_store.specs.Sector.{is_closed, has_gc_done, pairs, pair_of, counting_entry, is_gc_done, slot_at, slots, is_used, used_slots}
 use Rattle.nvs_store.specs.Scans.{reading}
 

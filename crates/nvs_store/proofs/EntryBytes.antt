@@ -9,7 +9,7 @@ use Rattle.nvs_store.specs.declared.entry.Entry.{Entry}
 use Rattle.nvs_store.specs.declared.scan.SlotEntry.{SlotEntry}
 use Rattle.nvs_store.specs.Entries.{fields, encoded, entry_of, decoded}
 use Rattle.flash_map.specs.Units.{is_erased}
-use Rattle.ring_laws.specs.Slots.{Slot}
+use Rattle.item_laws.specs.Slots.{Slot}
 use Rattle.nvs_store.specs.Sector.{counts, counting_entry, is_gc_done, is_used}
 
 pub record IsEntry (e : Entry) : Type 0 where

@@ -4,8 +4,8 @@ use Rattle.crc8_entry.specs.Crc.{crc, extended, bits_of}
 use Rattle.flash_map.specs.Units.{padded}
 use Rattle.flash_map.specs.declared.faults.Damaged.{Damaged}
 use Rattle.flash_map.specs.declared.faults.Why.TheVariants.{AllClosed, TwoOpen, Dirty, NoFence, Overfull}
-use Rattle.ring_laws.specs.Area.{area_pairs, first_damage, open_sector}
-use Rattle.ring_laws.specs.Slots as shared
+use Rattle.item_laws.specs.Area.{area_pairs, first_damage, open_sector}
+use Rattle.item_laws.specs.Slots as shared
 use Rattle.nvs_store.specs.declared.scan.Scan.{Scan}
 use Rattle.nvs_store.specs.declared.scan.Redo.TheVariants.{Nothing, EraseNext, CollectAgain}
 use Rattle.nvs_store.specs.Geometry.{slot_size}

@@ -1,7 +1,7 @@
 -- Which sector counts for nothing, by what a scan says is left to do.
 use Rattle.std.proofs.Common.{◌≡◌, ℕ, Bool, true, false, not, cond, eqb, List, refl, sym, ap}
 use Rattle.flash_map.specs.Area.{sector_at}
-use Rattle.ring_laws.specs.Area.{next, is_closed_at, counts_at}
+use Rattle.item_laws.specs.Area.{next, is_closed_at, counts_at}
 use Rattle.nvs_store.specs.declared.scan.Redo.{Redo}
 use Rattle.nvs_store.specs.declared.scan.Redo.TheVariants.{Nothing, EraseNext, CollectAgain}
 use Rattle.nvs_store.specs.declared.scan.Scan.{Scan}

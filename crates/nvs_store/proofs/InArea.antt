@@ -11,22 +11,22 @@ use Rattle.flash_sim.specs.Device.{Device}
 use Rattle.flash_map.specs.declared.area.Area.{Area}
 use Rattle.flash_map.specs.Area.{IsLawfulArea, sector_at, sector_size, sectors_of, unit_of}
 use Rattle.flash_map.proofs.Places.{length-sector}
-use Rattle.ring_laws.proofs.SlotLemmas.{start-slot_at}
-use Rattle.pair_laws.specs.Items.{last, value_of}
-use Rattle.ring_laws.specs.Slots.{Slot}
-use Rattle.ring_laws.specs.Area.{round, counts_at, open_sector}
-use Rattle.ring_laws.proofs.Newest.{last-all}
-use Rattle.ring_laws.proofs.Places.{All-range}
-use Rattle.ring_laws.proofs.Stays.{open_within}
+use Rattle.item_laws.proofs.SlotLemmas.{start-slot_at}
+use Rattle.item_laws.specs.Items.{last, value_of}
+use Rattle.item_laws.specs.Slots.{Slot}
+use Rattle.item_laws.specs.Area.{round, counts_at, open_sector}
+use Rattle.item_laws.proofs.Newest.{last-all}
+use Rattle.item_laws.proofs.Places.{All-range}
+use Rattle.item_laws.proofs.Stays.{open_within}
 use Rattle.nvs_store.specs.declared.scan.SlotEntry.{SlotEntry}
 use Rattle.nvs_store.specs.declared.scan.Found.{Found}
 use Rattle.nvs_store.specs.Geometry.{slot_size}
 use Rattle.nvs_store.specs.Sector.{counts, counting_entry, is_used, is_wanted, entries, slot_at, used_slots}
 use Rattle.nvs_store.specs.Scans.{reading, placed_at, placed_bytes, counted_in, all_placed, last_of, last_placed, list_of, IsInArea}
-use Rattle.ring_laws.proofs.SlotCounts.{slots_to_used}
+use Rattle.item_laws.proofs.SlotCounts.{slots_to_used}
 use Rattle.nvs_store.proofs.LastLemmas.{found-value}
 use Rattle.nvs_store.proofs.Marks.{counting_entry_counts}
-use Rattle.ring_laws.proofs.AreaReads.{length-sectors}
+use Rattle.item_laws.proofs.AreaReads.{length-sectors}
 
 -- what an entry that counts says of itself, in a sector of this size
 record IsOrdinary (size : ℕ) (f : SlotEntry) : Type 0 where

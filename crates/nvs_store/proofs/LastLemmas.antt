@@ -6,14 +6,14 @@ use Rattle.std.specs.List.{flat_map, range_with_len}
 use Rattle.std.specs.Option.{option_and_then, option_map}
 use Rattle.std.proofs.Math.Nat.{div-le_self}
 use Rattle.flash_map.specs.Area.{sector_at}
-use Rattle.pair_laws.specs.Items.{last, value_of}
-use Rattle.ring_laws.proofs.SlotCounts.{used_count_fits}
-use Rattle.ring_laws.specs.Area.{round, counts_at, open_sector}
-use Rattle.ring_laws.proofs.Newest as newest
-use Rattle.ring_laws.specs.Walk as walk
-use Rattle.ring_laws.proofs.LastLemmas as live
-use Rattle.ring_laws.proofs.SlotEntries.{read-within}
-use Rattle.ring_laws.proofs.WalkLemmas as walks
+use Rattle.item_laws.specs.Items.{last, value_of}
+use Rattle.item_laws.proofs.SlotCounts.{used_count_fits}
+use Rattle.item_laws.specs.Area.{round, counts_at, open_sector}
+use Rattle.item_laws.proofs.Newest as newest
+use Rattle.item_laws.specs.Walk as walk
+use Rattle.item_laws.proofs.LastLemmas as live
+use Rattle.item_laws.proofs.SlotEntries.{read-within}
+use Rattle.item_laws.proofs.WalkLemmas as walks
 use Rattle.nvs_store.specs.declared.scan.SlotEntry.{SlotEntry}
 use Rattle.nvs_store.specs.declared.scan.Found.{Found}
 use Rattle.nvs_store.specs.Geometry.{slot_size}

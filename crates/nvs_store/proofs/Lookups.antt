@@ -12,13 +12,13 @@ use Rattle.nvs_store.specs.declared.scan.SlotEntry.{SlotEntry}
 use Rattle.flash_map.specs.Units.{padded, is_erased}
 use Rattle.nvs_store.specs.Geometry.{slot_size, capacity}
 use Rattle.nvs_store.specs.Entries.{decoded}
-use Rattle.ring_laws.specs.Slots.{Slot}
+use Rattle.item_laws.specs.Slots.{Slot}
 use Rattle.flash_map.specs.Units.{written_end}
 use Rattle.nvs_store.specs.Sector.{slot_at, slots, is_used, used_slots, counts, counting_entry, entries, entry_end, data_end, low, entries_within, has_fence, is_overfull, entry_cost}
-use Rattle.ring_laws.specs.Slots as shared
-use Rattle.ring_laws.proofs.SlotCounts as counting
-use Rattle.ring_laws.proofs.SlotWalks as walk
-use Rattle.ring_laws.proofs.SlotEntries.{slots_within}
+use Rattle.item_laws.specs.Slots as shared
+use Rattle.item_laws.proofs.SlotCounts as counting
+use Rattle.item_laws.proofs.SlotWalks as walk
+use Rattle.item_laws.proofs.SlotEntries.{slots_within}
 
 -- the three outcomes of reading a slot
 pub counting_entry-none : (unit : ℕ) (slot : Slot) → decoded slot.bytes ≡ None → counting_entry unit slot ≡ None

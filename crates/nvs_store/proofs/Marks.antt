@@ -9,18 +9,18 @@ use Rattle.std.proofs.lemmas.List.Edits.{length-between, get_or-between}
 use Rattle.std.proofs.lemmas.List.Elements.{filter_map-append}
 use Rattle.nvs_store.specs.declared.scan.SlotEntry.{SlotEntry}
 use Rattle.flash_map.specs.Units.{IsUnit, padded, is_erased}
-use Rattle.ring_laws.proofs.SlotLemmas.{start-slot_at}
+use Rattle.item_laws.proofs.SlotLemmas.{start-slot_at}
 use Rattle.nvs_store.specs.Geometry.{slot_size}
 use Rattle.nvs_store.specs.Entries.{encoded, decoded, entry_of}
 use Rattle.flash_sim.specs.Device.{overwritten}
-use Rattle.ring_laws.specs.Slots.{Slot}
+use Rattle.item_laws.specs.Slots.{Slot}
 use Rattle.flash_map.specs.Units.{written_end}
 use Rattle.nvs_store.specs.Sector.{slot_at, is_used, used_slots, counting_entry, entries, is_gc_done, low, data_end, entry_end, pair_of, KeepsList, special_entry, MarksDone, Closes, counts}
 use Rattle.flash_map.proofs.Rounding.{padding, by_unit}
 use Rattle.nvs_store.proofs.SlotReads.{slot_widths, slot_at-parts}
 use Rattle.std.proofs.Math.Nat.{zero-mod}
-use Rattle.ring_laws.proofs.SlotChanges.{used_slots-under}
-use Rattle.ring_laws.proofs.SlotCounts.{slots_to_used}
+use Rattle.item_laws.proofs.SlotChanges.{used_slots-under}
+use Rattle.item_laws.proofs.SlotCounts.{slots_to_used}
 use Rattle.flash_map.proofs.Sectors.{length-overwritten, overwritten_nil}
 use Rattle.flash_map.proofs.Ranges.{get_or_below, range_below, range_at}
 use Rattle.nvs_store.proofs.EntryBytes.{cut_entry, decoded_cases, decoded-encoded, counting_entry-is, is_gc_done-is}

@@ -4,12 +4,12 @@ use Rattle.std.specs.List.{find, list_all, range_with_len, slice_get}
 use Rattle.std.specs.Option.{option_map, option_or}
 use Rattle.flash_map.specs.declared.faults.Damaged.{Damaged}
 use Rattle.flash_map.specs.declared.faults.Why.TheVariants.{AllClosed, TwoOpen, Dirty, NoFence, Overfull}
-use Rattle.ring_laws.specs.Area.{next, previous, places, is_closed_at, is_blank_at, follows_closed, openings, open_sector, counts_at, looked_at, first_of_kind, first_damage}
+use Rattle.item_laws.specs.Area.{next, previous, places, is_closed_at, is_blank_at, follows_closed, openings, open_sector, counts_at, looked_at, first_of_kind, first_damage}
 use Rattle.flash_map.specs.Area.{sector_at}
 -- these stand for any store; here for the crates above
-pub use Rattle.ring_laws.proofs.AreaReads.{length-sectors, next_there, previous_there}
-use Rattle.ring_laws.proofs.AreaReads as ring
-use Rattle.ring_laws.proofs.Searches.{second-filter, second-none, all-found, not_all-found}
+pub use Rattle.item_laws.proofs.AreaReads.{length-sectors, next_there, previous_there}
+use Rattle.item_laws.proofs.AreaReads as ring
+use Rattle.item_laws.proofs.Searches.{second-filter, second-none, all-found, not_all-found}
 use Rattle.nvs_store.specs.declared.places.Sought.{Sought}
 use Rattle.nvs_store.specs.declared.places.Sought.TheVariants as sought
 use Rattle.nvs_store.specs.declared.scan.Redo.TheVariants.{Nothing, EraseNext, CollectAgain}

@@ -2,9 +2,9 @@
 use Rattle.std.proofs.Common.{◌≡◌, ℕ, ◌+◌, ◌-◌, List, length, Some, None, refl, sym, ap, ◌∙◌, inl, inr, arith}
 use Rattle.std.specs.Prelude.{slice_range}
 use Rattle.std.proofs.lemmas.List.Edits.{length-between}
-use Rattle.ring_laws.proofs.SlotLemmas.{index-slot_at, start-slot_at}
-use Rattle.ring_laws.specs.Entries.{AreEntries}
-use Rattle.ring_laws.proofs.SlotEntries.{read-slots}
+use Rattle.item_laws.proofs.SlotLemmas.{index-slot_at, start-slot_at}
+use Rattle.item_laws.specs.Entries.{AreEntries}
+use Rattle.item_laws.proofs.SlotEntries.{read-slots}
 use Rattle.nvs_store.specs.declared.scan.SlotEntry.{SlotEntry}
 use Rattle.nvs_store.specs.Geometry.{slot_size}
 use Rattle.nvs_store.specs.Sector.{slot_at, is_used, counting_entry}

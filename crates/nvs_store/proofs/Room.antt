@@ -12,7 +12,7 @@ use Rattle.nvs_store.specs.declared.scan.SlotEntry.{SlotEntry}
 use Rattle.flash_map.specs.Units.{IsUnit, padded, is_erased}
 use Rattle.nvs_store.specs.Geometry.{slot_size}
 use Rattle.nvs_store.specs.Entries.{entry_of}
-use Rattle.ring_laws.specs.Slots.{Slot}
+use Rattle.item_laws.specs.Slots.{Slot}
 use Rattle.flash_map.specs.Units.{written_end}
 use Rattle.nvs_store.specs.Sector.{counts, counting_entry, entries, used_slots, entry_end, data_end, low}
 use Rattle.flash_map.proofs.Rounding.{IsPadding, padding}

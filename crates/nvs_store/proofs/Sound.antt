@@ -10,19 +10,19 @@ use Rattle.nvs_store.specs.declared.scan.SlotEntry.{SlotEntry}
 use Rattle.flash_map.specs.Units.{IsUnit, padded, is_erased}
 use Rattle.nvs_store.specs.Geometry.{slot_size, cost, capacity}
 use Rattle.nvs_store.specs.Entries.{entry_of}
-use Rattle.ring_laws.specs.Slots.{Slot}
+use Rattle.item_laws.specs.Slots.{Slot}
 use Rattle.nvs_store.specs.Sector.{slot_at, slots, is_used, used_slots, counting_entry, counts, entries, is_gc_done, has_gc_done, low, data_end, entry_end, pairs, KeepsList, AddsPair, MarksDone, Closes}
-use Rattle.ring_laws.specs.Steps.{IsFurther}
+use Rattle.item_laws.specs.Steps.{IsFurther}
 use Rattle.nvs_store.specs.Scans.{reading, fits, free, sector_scan, nvs}
 use Rattle.flash_map.proofs.Rounding.{IsPadding, padding}
 use Rattle.nvs_store.proofs.SlotReads.{slot_widths}
-use Rattle.ring_laws.proofs.SlotLemmas.{HasFence-from_low}
+use Rattle.item_laws.proofs.SlotLemmas.{HasFence-from_low}
 use Rattle.nvs_store.proofs.NvsEntries.{are_nvs}
 use Rattle.nvs_store.proofs.Room.{data_end-above, HasRoom}
 use Rattle.nvs_store.proofs.EntryBytes.{decoded_cases, counting_entry-is, is_gc_done-is}
-use Rattle.ring_laws.proofs.SlotCosts as by_slots
-use Rattle.ring_laws.proofs.SlotCosts.{fold_max-ge}
-use Rattle.ring_laws.proofs.SectorCosts.{costs_are}
+use Rattle.item_laws.proofs.SlotCosts as by_slots
+use Rattle.item_laws.proofs.SlotCosts.{fold_max-ge}
+use Rattle.item_laws.proofs.SectorCosts.{costs_are}
 use Rattle.nvs_store.specs.Sector.{is_used, has_fence, is_overfull, is_sound, entry_cost, pairs_cost}
 use Rattle.nvs_store.proofs.Blank.{blank-pairs, blank-used}
 

@@ -2,9 +2,9 @@
 use Rattle.std.proofs.Common.{◌≡◌, ℕ, ◌-◌, ◌<◌, ◌≤◌, List, length, Option, Some, None, sym, ap, ◌∙◌, arith}
 use Rattle.std.specs.List.{last_or, All}
 use Rattle.flash_map.specs.Area.{sector_at}
-use Rattle.ring_laws.specs.Area.{open_sector}
-use Rattle.ring_laws.proofs.Newest.{last-each}
-use Rattle.ring_laws.proofs.WalkLemmas as walks
+use Rattle.item_laws.specs.Area.{open_sector}
+use Rattle.item_laws.proofs.Newest.{last-each}
+use Rattle.item_laws.proofs.WalkLemmas as walks
 use Rattle.nvs_store.specs.declared.scan.Found.{Found}
 use Rattle.nvs_store.specs.Scans.{reading, placed_up_to, all_placed, last_wanted, IsNextOlder, nvs}
 use Rattle.nvs_store.proofs.LastLemmas.{few_slots}

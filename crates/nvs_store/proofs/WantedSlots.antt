@@ -2,9 +2,9 @@
 use Rattle.std.proofs.Common.{◌≡◌, ℕ, ◌-◌, ◌<◌, Bool, true, false, ◌⊎◌, cond, List, Option, Some, None, refl, sym, ap, ◌∙◌, inl, inr, arith}
 use Rattle.std.proofs.lemmas.Bool.{cases_Bool}
 use Rattle.std.proofs.lemmas.Option.{cond_some, none-some}
-use Rattle.ring_laws.specs.Slots.{Slot}
-use Rattle.ring_laws.proofs.LiveLemmas.{option_cases}
-use Rattle.ring_laws.proofs.SlotWalks.{found_other, found_none}
+use Rattle.item_laws.specs.Slots.{Slot}
+use Rattle.item_laws.proofs.LiveLemmas.{option_cases}
+use Rattle.item_laws.proofs.SlotWalks.{found_other, found_none}
 use Rattle.nvs_store.specs.declared.scan.SlotEntry.{SlotEntry}
 use Rattle.nvs_store.specs.Geometry.{slot_size}
 use Rattle.nvs_store.specs.Entries.{entry_of}

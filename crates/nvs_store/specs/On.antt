@@ -5,8 +5,8 @@ use Rattle.flash_map.specs.declared.area.Area.{Area}
 use Rattle.flash_map.specs.declared.faults.Damaged.{Damaged}
 use Rattle.flash_map.specs.Area.{unit_of, sector_size, sectors_of, sector_bytes}
 use Rattle.flash_map.specs.Units.{is_erased}
-use Rattle.pair_laws.specs.Items.{Items, items_of}
-use Rattle.ring_laws.specs.Area.{is_closed_at, counts_at, open_sector}
+use Rattle.item_laws.specs.Items.{Items, items_of}
+use Rattle.item_laws.specs.Area.{is_closed_at, counts_at, open_sector}
 use Rattle.nvs_store.specs.declared.scan.Found.{Found}
 use Rattle.nvs_store.specs.declared.scan.Redo.{Redo}
 use Rattle.nvs_store.specs.declared.scan.Scan.{Scan}

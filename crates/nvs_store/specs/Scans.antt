@@ -3,12 +3,12 @@ use Rattle.std.specs.Prelude.{◌≡◌, ℕ, ◌+◌, ◌-◌, ◌*◌, ◌<◌
 use Rattle.std.specs.List.{last_or}
 use Rattle.flash_map.specs.declared.faults.Damaged.{Damaged}
 use Rattle.flash_map.specs.Units.{is_erased}
-use Rattle.ring_laws.specs.Area.{next, is_closed_at, open_sector, first_damage}
+use Rattle.item_laws.specs.Area.{next, is_closed_at, open_sector, first_damage}
 use Rattle.flash_map.specs.Area.{sector_at, ChangesOnly}
-use Rattle.ring_laws.specs.Reading.{Reading}
-use Rattle.ring_laws.specs.Entries.{Entries}
-use Rattle.ring_laws.specs.Live as live
-use Rattle.ring_laws.specs.Walk as walk
+use Rattle.item_laws.specs.Reading.{Reading}
+use Rattle.item_laws.specs.Entries.{Entries}
+use Rattle.item_laws.specs.Live as live
+use Rattle.item_laws.specs.Walk as walk
 use Rattle.nvs_store.specs.declared.scan.SlotEntry.{SlotEntry}
 use Rattle.nvs_store.specs.declared.scan.Found.{Found}
 use Rattle.nvs_store.specs.declared.scan.Redo.{Redo}

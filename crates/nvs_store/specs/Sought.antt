@@ -1,6 +1,6 @@
 -- What a mount looks for from sector to sector.
 use Rattle.std.specs.Prelude.{ℕ, Bool, not, ◌&&◌, List, Option, Some, None, ◌==◌}
-use Rattle.ring_laws.specs.Area.{is_closed_at, is_blank_at, follows_closed, looked_at}
+use Rattle.item_laws.specs.Area.{is_closed_at, is_blank_at, follows_closed, looked_at}
 use Rattle.flash_map.specs.Area.{sector_at}
 use Rattle.nvs_store.specs.declared.places.Sought.{Sought}
 use Rattle.nvs_store.specs.declared.places.Sought.TheVariants.{NotClosed, Opening, NotBlank, Dirty, Unfenced, Full}

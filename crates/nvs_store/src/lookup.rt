@@ -5,8 +5,8 @@ ghost use Rattle.std.specs.Option.{option_and_then};
 ghost use Rattle.flash_map.specs.declared.area.Role.TheVariants.{Nvs};
 ghost use Rattle.flash_map.specs.Area.{unit_of, sector_size, sectors_of};
 ghost use Rattle.flash_map.specs.Lawful.{IsLawfulFor};
-ghost use Rattle.pair_laws.specs.Items.{last, value_of};
-ghost use Rattle.ring_laws.specs.RoundParts.{places_before};
+ghost use Rattle.item_laws.specs.Items.{last, value_of};
+ghost use Rattle.item_laws.specs.RoundParts.{places_before};
 ghost use Rattle.nvs_store.specs.Scans.{counted_within, last_wanted, placed_up_to, IsInArea, IsNextOlder};
 ghost use Rattle.nvs_store.specs.On.{bytes_on, counted_on, placed_on, last_placed_on, list_on, scan_on};
 

@@ -3,7 +3,7 @@ ghost use Rattle.std.specs.Prelude.{◌≡◌, ◌<◌, IfOk, IfErr, OnOk};
 ghost use Rattle.flash_map.specs.declared.area.Role.TheVariants.{Nvs};
 ghost use Rattle.flash_map.specs.Area.{unit_of, sectors_of};
 ghost use Rattle.flash_map.specs.Lawful.{IsLawfulFor};
-ghost use Rattle.ring_laws.specs.Area.{openings};
+ghost use Rattle.item_laws.specs.Area.{openings};
 ghost use Rattle.std.specs.List.{slice_get};
 ghost use Rattle.nvs_store.specs.Scans.{reading};
 ghost use Rattle.nvs_store.specs.On.{IsUndamaged, damage_on, open_on, redo_on, scan_on};

@@ -1,7 +1,7 @@
 // What a scan of an area says, and entries at their places.
 
 ghost use Rattle.std.specs.Prelude.{◌≡◌, ℕ, ◌<◌, not, List, length};
-ghost use Rattle.ring_laws.specs.Area.{counts_at};
+ghost use Rattle.item_laws.specs.Area.{counts_at};
 ghost use Rattle.nvs_store.specs.Scans.{reading, scan_of, placed_at, marked_redo};
 
 use crate::entry::Entry;

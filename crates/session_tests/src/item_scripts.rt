@@ -3,23 +3,24 @@
 ghost use Rattle.std.specs.Prelude.{◌≡◌, ◌<◌, ◌∷◌, [], OnOk};
 ghost use Rattle.flash_map.specs.declared.area.Role.TheVariants.{Nvs as nvs_role, Zms as zms_role};
 ghost use Rattle.flash_map.specs.Area.{geometry_of};
-ghost use Rattle.item_lines.specs.Line.{ids_end};
+ghost use Rattle.item_session.specs.Line.{ids_end};
 ghost use Rattle.item_session.specs.Device.{TakesValues};
-ghost use Rattle.ring_store.specs.Standing.{IsStoreArea};
+ghost use Rattle.item_store.specs.Standing.{IsStoreArea};
 
 use arrayvec::ArrayString;
 use flash_map::{Area, Role};
 use flash_sim::{Bank, Bench, FlatSim, Kind, Steps};
-use item_lines::{Answer, Ids, answer_text, read_script};
-use item_session::{SessionFault, areas_take_values, run_lines};
-use nvs_sectors::NvsOpen;
-use ring_store::SlotSectors;
+use item_session::{
+    Answer, Ids, SessionFault, answer_text, areas_take_values, read_script, run_lines,
+};
+use item_store::SlotSectors;
+use nvs_gc::NvsOpen;
 use std::alloc::Global;
 use std::marker::Brand;
 use std::process::Abort;
 use std::sync::ledger::{Blank, Ledger};
 use std::test::Fail;
-use zms_sectors::ZmsOpen;
+use zms_store::ZmsOpen;
 
 const NVS: Bank = Bank {
     kind: Kind::Erasing,

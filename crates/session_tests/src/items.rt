@@ -1,5 +1,5 @@
 // Lines on numbered items and texts of their answers, against the grammar's table.
-use item_lines::{
+use item_session::{
     Answer, Bytes, Ids, Line, LineWhy, ScriptFault, answer_text, is_lost, read_script, units_of,
 };
 use std::test::Fail;

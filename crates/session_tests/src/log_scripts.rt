@@ -6,8 +6,9 @@ ghost use Rattle.fcb_ring.specs.Standing.{IsRingArea};
 use arrayvec::ArrayString;
 use flash_map::{Area, Role};
 use flash_sim::{Bank, Bench, Flash, FlatSim, Kind, Steps};
-use log_lines::{Answer, LineWhy, ScriptFault, answer_text, read_script};
-use log_session::{SessionFault, run_lines};
+use log_session::{
+    Answer, LineWhy, ScriptFault, SessionFault, answer_text, read_script, run_lines,
+};
 use std::alloc::Global;
 use std::marker::Brand;
 use std::process::Abort;

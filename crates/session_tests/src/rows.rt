@@ -10,7 +10,7 @@ use backend_api::Backend;
 use flash_map::{FlashMap, VALUE_LIMIT};
 use flash_sim::{Bench, FlatSim, Steps};
 use handlers::{Handler, Registry};
-use image_maps::lines_fit;
+use image_jobs::lines_fit;
 use script_lines::{Answer, Line, Pair, answer_text, read_script};
 use session::Session;
 use std::alloc::Global;

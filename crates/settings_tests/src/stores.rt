@@ -5,7 +5,7 @@ ghost use Rattle.flash_map.specs.Units.{IsUnit};
 ghost use Rattle.backend_api.specs.Ends.{set_lost};
 ghost use Rattle.any_backend.specs.ByRole.{any_serves, serves_as};
 ghost use Rattle.any_backend.specs.Standing.{IsReady};
-ghost use Rattle.pair_store.specs.Looking.{HasIds};
+ghost use Rattle.named_items.specs.Looking.{HasIds};
 
 use crate::counted::{CountedSim, Views};
 use crate::rows::{
@@ -18,9 +18,8 @@ use backend_api::{Backend, SetFault};
 use backend_nvs::NvsNumbers;
 use flash_map::{Area, Role};
 use flash_sim::{Bank, Bench, Kind, Steps};
-use item_store::ItemStore;
+use named_items::{ItemStore, Numbers, value_of};
 use nvs_gc::Nvs;
-use pair_store::{Numbers, value_of};
 use setting_name::Name;
 use std::alloc::{AllocError, Global};
 use std::marker::Brand;

@@ -9,10 +9,10 @@ use Rattle.std.proofs.lemmas.List.Folds.{list_any-append}
 use Rattle.std.proofs.lemmas.List.Elements.{filter_map-append}
 use Rattle.flash_sim.specs.declared.flash.Kind.{Kind}
 use Rattle.flash_map.specs.Units.{padded}
-use Rattle.ring_laws.proofs.SlotCosts.{fold_max-ge}
-use Rattle.ring_laws.specs.Slots.{Slot, used_slots}
-use Rattle.ring_laws.proofs.SlotChanges.{SameFrom, slot_at-same, slot_at-from, used_slots-more}
-use Rattle.ring_laws.proofs.SlotLemmas.{index-slot_at}
+use Rattle.item_laws.proofs.SlotCosts.{fold_max-ge}
+use Rattle.item_laws.specs.Slots.{Slot, used_slots}
+use Rattle.item_laws.proofs.SlotChanges.{SameFrom, slot_at-same, slot_at-from, used_slots-more}
+use Rattle.item_laws.proofs.SlotLemmas.{index-slot_at}
 use Rattle.zms_cycle.specs.declared.entry.ZEntry.{ZEntry}
 use Rattle.zms_cycle.specs.Entries.{encoded, decoded, offset_of, value_entry, done_entry}
 use Rattle.zms_cycle.specs.declared.reading.SlotEntry.{SlotEntry}

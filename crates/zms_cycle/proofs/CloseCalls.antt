@@ -7,7 +7,7 @@ use Rattle.flash_sim.specs.Device.{overwritten}
 use Rattle.flash_sim.specs.declared.flash.Kind.{Kind}
 use Rattle.flash_sim.specs.declared.flash.Kind.TheVariants.{Erasing, Rewritable}
 use Rattle.flash_map.specs.Units.{is_erased}
-use Rattle.ring_laws.specs.Slots.{Slot}
+use Rattle.item_laws.specs.Slots.{Slot}
 use Rattle.zms_cycle.specs.declared.entry.ZEntry.{ZEntry}
 use Rattle.zms_cycle.specs.Entries.{encoded, fill, close_entry}
 use Rattle.zms_cycle.specs.Sector.{slot_of, cycle_of, valid_slots, low, data_end, free, is_sound, can_close}

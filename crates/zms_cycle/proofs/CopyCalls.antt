@@ -11,8 +11,8 @@ use Rattle.flash_map.specs.Area.{sectors_of, sector_bytes, OthersStay}
 use Rattle.flash_map.specs.Units.{padded_bytes}
 use Rattle.std.specs.Int.{w32, to_le_bytes}
 use Rattle.std.proofs.lemmas.List.FromFn.{get_or-map-range_with_len}
-use Rattle.ring_laws.specs.Slots.{Slot, slot_at}
-use Rattle.ring_laws.proofs.SlotLemmas.{index-slot_at, used_slots-from}
+use Rattle.item_laws.specs.Slots.{Slot, slot_at}
+use Rattle.item_laws.proofs.SlotLemmas.{index-slot_at, used_slots-from}
 use Rattle.zms_cycle.specs.declared.entry.ZEntry.{ZEntry}
 use Rattle.zms_cycle.specs.declared.reading.SlotEntry.{SlotEntry}
 use Rattle.zms_cycle.specs.Changes.{with_value}

@@ -12,8 +12,8 @@ use Rattle.flash_map.specs.Units.{is_erased}
 use Rattle.flash_map.proofs.Ranges.{range_above, range_below, get_or_above, get_or_below}
 use Rattle.flash_map.proofs.Sectors.{length-overwritten}
 use Rattle.flash_map.proofs.WrittenEnds.{written_end-le}
-use Rattle.ring_laws.specs.Slots.{Slot}
-use Rattle.ring_laws.proofs.SlotChanges.{SameFrom, slot_at-from}
+use Rattle.item_laws.specs.Slots.{Slot}
+use Rattle.item_laws.proofs.SlotChanges.{SameFrom, slot_at-from}
 use Rattle.zms_cycle.specs.Entries.{offset_of}
 use Rattle.zms_cycle.specs.declared.reading.SlotEntry.{SlotEntry}
 use Rattle.zms_cycle.specs.Sector.{slot_of, is_valid, cycle_of, valid_slots, entries, data_len, low, value_end, end_of, written, data_end}

@@ -10,8 +10,8 @@ use Rattle.flash_map.specs.Units.{IsUnit, padded, is_erased, written_end}
 use Rattle.flash_map.proofs.ErasedBytes.{erased_is}
 use Rattle.flash_map.proofs.Rounding.{padding}
 use Rattle.flash_map.proofs.WrittenEnds.{erased_above, written_end-le, erased_range}
-use Rattle.ring_laws.specs.Slots.{Slot}
-use Rattle.ring_laws.proofs.SlotLemmas.{bytes-slot_at}
+use Rattle.item_laws.specs.Slots.{Slot}
+use Rattle.item_laws.proofs.SlotLemmas.{bytes-slot_at}
 use Rattle.zms_cycle.specs.Entries.{decoded}
 use Rattle.zms_cycle.specs.Sector.{slot_of, is_valid_under, cycle_of, valid_slots, low, written, data_end}
 use Rattle.zms_cycle.proofs.Bytes.{decoded-erased}

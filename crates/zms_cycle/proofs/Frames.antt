@@ -7,10 +7,10 @@ use Rattle.flash_map.specs.Units.{padded}
 use Rattle.flash_map.proofs.Rounding.{padding}
 use Rattle.flash_sim.specs.declared.flash.Kind.{Kind}
 use Rattle.flash_sim.specs.declared.flash.Kind.TheVariants.{Rewritable}
-use Rattle.ring_laws.specs.Slots.{Slot, used_slots}
-use Rattle.ring_laws.proofs.SlotCosts.{fold_max-ge}
-use Rattle.ring_laws.proofs.SlotLemmas.{HasFence, HasFence-from_low}
-use Rattle.ring_laws.proofs.SlotChanges.{SameFrom, slot_at-from, used_slots-kept}
+use Rattle.item_laws.specs.Slots.{Slot, used_slots}
+use Rattle.item_laws.proofs.SlotCosts.{fold_max-ge}
+use Rattle.item_laws.proofs.SlotLemmas.{HasFence, HasFence-from_low}
+use Rattle.item_laws.proofs.SlotChanges.{SameFrom, slot_at-from, used_slots-kept}
 use Rattle.zms_cycle.specs.Entries.{offset_of, decoded}
 use Rattle.zms_cycle.specs.declared.reading.SlotEntry.{SlotEntry}
 use Rattle.zms_cycle.specs.Sector.{slot_of, is_valid, cycle_of, valid_slots, holds_close, is_closed, entry_in, entries, holds_done, data_len, capacity, low, value_end, end_of, written, data_end, is_under, has_guard, is_sound, entry_cost, holds_too_much, is_overfull, value_of, pair_of, pairs, part_of_list}

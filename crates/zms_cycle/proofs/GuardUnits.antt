@@ -10,8 +10,8 @@ use Rattle.flash_map.specs.Units.{padded_bytes}
 use Rattle.flash_map.proofs.PaddedLemmas.{length-padded_bytes}
 use Rattle.flash_map.proofs.Ranges.{range_above}
 use Rattle.flash_map.proofs.Sectors.{length-overwritten}
-use Rattle.ring_laws.specs.Slots.{Slot}
-use Rattle.ring_laws.proofs.SlotChanges.{SameFrom, slot_at-from}
+use Rattle.item_laws.specs.Slots.{Slot}
+use Rattle.item_laws.proofs.SlotChanges.{SameFrom, slot_at-from}
 use Rattle.zms_cycle.specs.Areas.{kind_on}
 use Rattle.zms_cycle.specs.Sector.{slot_of, is_valid, cycle_of, valid_slots, data_len, low, data_end}
 use Rattle.zms_cycle.specs.Changes.{guarded, guard_units, with_value, next_cycle, Empties, first_guard}

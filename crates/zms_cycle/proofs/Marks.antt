@@ -11,9 +11,9 @@ use Rattle.flash_sim.specs.declared.flash.Kind.TheVariants.{Erasing, Rewritable}
 use Rattle.flash_map.specs.Units.{padded, is_erased, written_end}
 use Rattle.flash_map.proofs.Ranges.{get_or_below}
 use Rattle.flash_map.proofs.WrittenEnds.{erased_range}
-use Rattle.ring_laws.specs.Slots.{Slot, used_slots}
-use Rattle.ring_laws.proofs.SlotChanges.{slot_at-same, slot_at-from, used_slots-under}
-use Rattle.ring_laws.proofs.SlotLemmas.{bytes-slot_at, used_slots-from}
+use Rattle.item_laws.specs.Slots.{Slot, used_slots}
+use Rattle.item_laws.proofs.SlotChanges.{slot_at-same, slot_at-from, used_slots-under}
+use Rattle.item_laws.proofs.SlotLemmas.{bytes-slot_at, used_slots-from}
 use Rattle.zms_cycle.specs.declared.entry.ZEntry.{ZEntry}
 use Rattle.zms_cycle.specs.Entries.{encoded, decoded, fill, offset_of, is_empty, close_entry, empty_entry}
 use Rattle.zms_cycle.specs.declared.reading.SlotEntry.{SlotEntry}

@@ -8,7 +8,7 @@ use Rattle.std.proofs.lemmas.Bool.{cond-true}
 use Rattle.flash_sim.specs.declared.flash.Kind.TheVariants.{Rewritable}
 use Rattle.flash_map.specs.Units.{padded}
 use Rattle.crc8_entry.specs.Crc.{crc, extended, bits_of}
-use Rattle.ring_laws.specs.Slots.{slot_at, used_slots}
+use Rattle.item_laws.specs.Slots.{slot_at, used_slots}
 use Rattle.zms_cycle.specs.Entries.{decoded, fill, is_empty}
 use Rattle.zms_cycle.specs.Sector.{slot_of, is_valid_under, cycle_of, entry_in, is_under, holds_too_much, is_overfull, pairs, part_of_list}
 use Rattle.zms_cycle.specs.Changes.{guarded, next_cycle, reaches_slot_1, guards_over_value}

@@ -10,7 +10,7 @@ use Rattle.flash_map.specs.Units.{padded, padded_bytes}
 use Rattle.std.proofs.lemmas.List.Edits.{length-between}
 use Rattle.flash_map.proofs.Ranges.{range_at}
 use Rattle.flash_map.proofs.PaddedLemmas.{length-padded_bytes}
-use Rattle.ring_laws.proofs.SlotLemmas.{bytes-slot_at}
+use Rattle.item_laws.proofs.SlotLemmas.{bytes-slot_at}
 use Rattle.zms_cycle.specs.declared.entry.ZEntry.{ZEntry}
 use Rattle.zms_cycle.specs.Entries.{encoded, value_entry, done_entry}
 use Rattle.zms_cycle.specs.Sector.{slot_of, is_valid_under, is_valid, cycle_of, valid_slots, has_gc_done, data_len, cost, low, data_end, free, fits}

@@ -4,10 +4,10 @@ use Rattle.std.specs.Prelude.{fold, is_some, sum_by, IsSome}
 use Rattle.std.specs.List.{filter_map, list_any}
 use Rattle.std.specs.Option.{option_and_then, option_map_or}
 use Rattle.flash_sim.specs.declared.flash.Kind.{Kind}
-use Rattle.ring_laws.specs.Slots.{Slot, used_slots}
-use Rattle.ring_laws.proofs.SlotLemmas.{index-slot_at}
-use Rattle.ring_laws.proofs.SlotCounts.{slots_to, slots_to_used, used_count_fits}
-use Rattle.ring_laws.proofs.SlotWalks.{most_step, slot_step, sum_step}
+use Rattle.item_laws.specs.Slots.{Slot, used_slots}
+use Rattle.item_laws.proofs.SlotLemmas.{index-slot_at}
+use Rattle.item_laws.proofs.SlotCounts.{slots_to, slots_to_used, used_count_fits}
+use Rattle.item_laws.proofs.SlotWalks.{most_step, slot_step, sum_step}
 use Rattle.zms_cycle.specs.declared.entry.ZEntry.{ZEntry}
 use Rattle.zms_cycle.specs.declared.reading.SlotEntry.{SlotEntry}
 use Rattle.zms_cycle.specs.declared.reading.SectorState.{SectorState}

@@ -4,9 +4,9 @@ use Rattle.std.specs.Prelude.{slice_index}
 use Rattle.std.proofs.lemmas.Bool.{cases_lt, false≢true, ne_eqb}
 use Rattle.std.proofs.lemmas.List.FromFn.{get_or-map-range_with_len}
 use Rattle.std.proofs.lemmas.List.Sums.{prefix_len_passes}
-use Rattle.ring_laws.specs.Slots.{Slot, slot_at, slots, used_slots}
-use Rattle.ring_laws.proofs.SlotCounts.{used_count_is, used_count_fits}
-use Rattle.ring_laws.proofs.SlotLemmas.{length-used_slots, HasFence-from_low}
+use Rattle.item_laws.specs.Slots.{Slot, slot_at, slots, used_slots}
+use Rattle.item_laws.proofs.SlotCounts.{used_count_is, used_count_fits}
+use Rattle.item_laws.proofs.SlotLemmas.{length-used_slots, HasFence-from_low}
 use Rattle.crc8_entry.specs.Crc.{crc}
 use Rattle.zms_cycle.specs.declared.entry.ZEntry.{ZEntry}
 use Rattle.zms_cycle.specs.declared.reading.SlotEntry.{SlotEntry}

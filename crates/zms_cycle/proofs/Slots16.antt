@@ -8,9 +8,9 @@ use Rattle.flash_sim.specs.declared.flash.Kind.{Kind}
 use Rattle.flash_sim.specs.declared.flash.Kind.TheVariants.{Erasing, Rewritable}
 use Rattle.flash_map.proofs.Ranges.{range_above, range_below, range_at}
 use Rattle.flash_map.proofs.Sectors.{length-overwritten}
-use Rattle.ring_laws.specs.Slots.{Slot}
-use Rattle.ring_laws.proofs.SlotLemmas.{bytes-slot_at}
-use Rattle.ring_laws.proofs.SlotChanges.{SameFrom, slot_at-same, slot_at-from}
+use Rattle.item_laws.specs.Slots.{Slot}
+use Rattle.item_laws.proofs.SlotLemmas.{bytes-slot_at}
+use Rattle.item_laws.proofs.SlotChanges.{SameFrom, slot_at-same, slot_at-from}
 use Rattle.zms_cycle.specs.declared.entry.ZEntry.{ZEntry}
 use Rattle.zms_cycle.specs.Entries.{decoded, fill, is_special, is_empty, is_close, is_done}
 use Rattle.zms_cycle.specs.Sector.{slot_of, is_valid_under, is_valid, cycle_of, holds_close, holds_done, entry_in}

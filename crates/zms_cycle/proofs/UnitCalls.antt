@@ -16,7 +16,7 @@ use Rattle.flash_map.specs.Units.{is_erased}
 use Rattle.flash_map.proofs.AreaCalls.{unwritten}
 use Rattle.flash_map.proofs.ErasedBytes.{erased_is}
 use Rattle.flash_map.proofs.SpendingBounds.{between_program, between_within}
-use Rattle.ring_laws.proofs.SlotLemmas.{bytes-slot_at}
+use Rattle.item_laws.proofs.SlotLemmas.{bytes-slot_at}
 use Rattle.zms_cycle.specs.declared.entry.ZEntry.{ZEntry}
 use Rattle.zms_cycle.specs.Entries.{decoded, fill}
 use Rattle.zms_cycle.specs.Areas.{IsZmsSector, HasSlot, CanPut, kind_on}

@@ -1,6 +1,6 @@
 -- What a search for the ids of a range reads of a slot before its CRC.
 use Rattle.std.specs.Prelude.{ℕ, Bool, ◌&&◌, nat_le}
-use Rattle.ring_laws.specs.Slots.{Slot}
+use Rattle.item_laws.specs.Slots.{Slot}
 use Rattle.zms_cycle.specs.Entries.{entry_of}
 
 -- The slot has an id from `least` to `most` where an entry has its own, whether it checks or not.

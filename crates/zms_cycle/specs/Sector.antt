@@ -7,7 +7,7 @@ use Rattle.std.specs.Option.{option_and_then, option_map_or}
 use Rattle.flash_sim.specs.declared.flash.Kind.{Kind}
 use Rattle.flash_sim.specs.declared.flash.Kind.TheVariants.{Erasing, Rewritable}
 use Rattle.flash_map.specs.Units.{padded, is_erased, written_end}
-use Rattle.ring_laws.specs.Slots.{Slot, slot_at, used_slots, low as low_of}
+use Rattle.item_laws.specs.Slots.{Slot, slot_at, used_slots, low as low_of}
 use Rattle.zms_cycle.specs.declared.entry.ZEntry.{ZEntry}
 use Rattle.zms_cycle.specs.declared.reading.SlotEntry.{SlotEntry}
 use Rattle.zms_cycle.specs.Entries.{decoded, offset_of, is_special, is_empty, is_close, is_done}

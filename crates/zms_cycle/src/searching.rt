@@ -1,7 +1,7 @@
 // What a look-up reads of a sector: how long its list is, whether it is closed, and how far it has
 // to be read for the ids of a range.
 ghost use Rattle.std.specs.Prelude.{◌≡◌, ℕ, ◌+◌, ◌*◌, ◌^◌, ◌<◌, ◌≤◌, ◌&&◌, nat_le, false, length, Some, if◌then◌else◌};
-ghost use Rattle.ring_laws.specs.Slots.{used_slots};
+ghost use Rattle.item_laws.specs.Slots.{used_slots};
 ghost use Rattle.zms_cycle.specs.Entries.{entry_of};
 ghost use Rattle.zms_cycle.specs.Searches.{names};
 ghost use Rattle.zms_cycle.specs.Sector.{slot_of, is_valid, valid_slots, is_closed};

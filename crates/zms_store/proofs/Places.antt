@@ -3,15 +3,15 @@ use Rattle.std.proofs.Common.{◌≡◌, ℕ, ◌<◌, List, length, Option, Som
 use Rattle.std.specs.Option.{option_map}
 use Rattle.flash_map.specs.Area.{sector_at}
 use Rattle.flash_map.specs.declared.area.Geometry.{Geometry}
-use Rattle.ring_laws.specs.Area.{counts_at}
-use Rattle.ring_store.specs.declared.entry.Placed.{Placed}
-use Rattle.ring_store.specs.Kind.{placed_at}
-use Rattle.ring_store.specs.Listed as ring
+use Rattle.item_laws.specs.Area.{counts_at}
+use Rattle.item_store.specs.declared.entry.Placed.{Placed}
+use Rattle.item_store.specs.Kind.{placed_at}
+use Rattle.item_store.specs.Listed as ring
 use Rattle.zms_cycle.specs.declared.reading.SlotEntry.{SlotEntry}
 use Rattle.zms_cycle.specs.Sector.{slot_of, entry_in}
-use Rattle.zms_kind.specs.declared.sector.Found.{Found}
-use Rattle.zms_kind.specs.Area.{plain, IsListed, IsPlaced}
-use Rattle.zms_kind.specs.Kinds.{entry_of, placed_of, kind}
+use Rattle.zms_format.specs.declared.sector.Found.{Found}
+use Rattle.zms_format.specs.Area.{plain, IsListed, IsPlaced}
+use Rattle.zms_format.specs.Kinds.{entry_of, placed_of, kind}
 
 some_same : (x y : Placed) → Some x ≡ Some y → x ≡ y
 some_same x y e = cc

@@ -7,12 +7,12 @@ use Rattle.flash_map.specs.declared.area.Role.TheVariants.{Zms as ZmsRole}
 use Rattle.flash_map.specs.declared.faults.MountFault.{MountFault}
 use Rattle.flash_map.specs.declared.faults.WriteFault.{WriteFault}
 use Rattle.flash_map.specs.Area.{sectors_of}
-use Rattle.ring_store.specs.Closing as closing
-use Rattle.ring_store.specs.Stands as stands
-use Rattle.ring_store.specs.Wrapped.{store_in}
-use Rattle.ring_store.specs.Writing as writing
-use Rattle.ring_store.specs.Written as written
-use Rattle.zms_kind.specs.Kinds.{kind}
+use Rattle.item_store.specs.Closing as closing
+use Rattle.item_store.specs.Stands as stands
+use Rattle.item_store.specs.Wrapped.{store_in}
+use Rattle.item_store.specs.Writing as writing
+use Rattle.item_store.specs.Written as written
+use Rattle.zms_format.specs.Kinds.{kind}
 use Rattle.zms_store.specs.declared.store.Zms.{Zms}
 use Rattle.zms_store.specs.Standing.{kind_on, kept}
 

@@ -7,18 +7,18 @@ use Rattle.flash_map.specs.declared.area.Area.{Area}
 use Rattle.flash_map.specs.declared.area.Geometry.{Geometry}
 use Rattle.flash_map.specs.declared.area.Role.TheVariants.{Zms as ZmsRole}
 use Rattle.flash_map.specs.Area.{geometry_of, sectors_of}
-use Rattle.pair_laws.specs.Items.{Items}
-use Rattle.pair_laws.specs.Rounds.{live_cost}
-use Rattle.ring_store.specs.declared.entry.Placed.{Placed}
-use Rattle.ring_store.specs.Kind.{Kind}
-use Rattle.ring_store.specs.Listed as listed
-use Rattle.ring_store.specs.Standing as ring
-use Rattle.ring_store.specs.Stands as stands
+use Rattle.item_laws.specs.Items.{Items}
+use Rattle.item_laws.specs.PairRounds.{live_cost}
+use Rattle.item_store.specs.declared.entry.Placed.{Placed}
+use Rattle.item_store.specs.Kind.{Kind}
+use Rattle.item_store.specs.Listed as listed
+use Rattle.item_store.specs.Standing as ring
+use Rattle.item_store.specs.Stands as stands
 use Rattle.zms_cycle.specs.Sector.{cost, cycle_of, data_end, has_gc_done, valid_slots}
-use Rattle.zms_kind.specs.declared.sector.Found.{Found}
-use Rattle.zms_kind.specs.Area.{IsPlaced}
-use Rattle.zms_kind.specs.Kinds.{kind}
-use Rattle.zms_sectors.specs.declared.sectors.ZmsOpen.{ZmsOpen}
+use Rattle.zms_format.specs.declared.sector.Found.{Found}
+use Rattle.zms_format.specs.Area.{IsPlaced}
+use Rattle.zms_format.specs.Kinds.{kind}
+use Rattle.zms_store.specs.declared.sectors.ZmsOpen.{ZmsOpen}
 use Rattle.zms_store.specs.declared.store.Zms.{Zms}
 
 -- how its sectors read

@@ -4,29 +4,29 @@ ghost use Rattle.std.specs.FinMap as map;
 ghost use Rattle.flash_sim.specs.Bank.{IsLawful};
 ghost use Rattle.flash_sim.specs.Device.{Device};
 ghost use Rattle.flash_map.specs.Area.{sectors_of, sector_at};
-ghost use Rattle.pair_laws.specs.Bytes.{IsIdOf, IsNextOf};
-ghost use Rattle.ring_laws.specs.NextIds.{IsNextId};
-ghost use Rattle.ring_store.specs.Cached.{latest_on};
-ghost use Rattle.ring_store.specs.Latest.{IsTold, TellsOn};
-ghost use Rattle.ring_store.specs.Listed.{IsListedOn};
-ghost use Rattle.ring_store.specs.Older.{IsNextOlder, newest_before};
-ghost use Rattle.zms_kind.specs.Area.{IsListed};
-ghost use Rattle.zms_kind.specs.Kinds.{kind, placed_of};
+ghost use Rattle.item_laws.specs.Bytes.{IsIdOf, IsNextOf};
+ghost use Rattle.item_laws.specs.NextIds.{IsNextId};
+ghost use Rattle.item_store.specs.Cached.{latest_on};
+ghost use Rattle.item_store.specs.Latest.{IsTold, TellsOn};
+ghost use Rattle.item_store.specs.Listed.{IsListedOn};
+ghost use Rattle.item_store.specs.Older.{IsNextOlder, newest_before};
+ghost use Rattle.zms_format.specs.Area.{IsListed};
+ghost use Rattle.zms_format.specs.Kinds.{kind, placed_of};
 ghost use Rattle.zms_store.specs.Standing.{IsZmsArea, StandsOn, IsPlacedOn, kind_on, entries_on, items_on, live_cost_on};
 
 use crate::store::Zms;
 use flash_map::{Area, sector_view};
 use flash_sim::{Flash, Steps};
-use ring_store::LastSlots;
+use item_store::LastSlots;
 use std::sync::ledger::Ledger;
 use zms_cycle::entry_in;
-use zms_kind::Found;
+use zms_format::Found;
 
 // The entry in a slot of the list, as the slot has it.
 fn entry_at<F: Flash, L: Ledger>(
     flash: &F,
     area: &Area,
-    placed: &ring_store::Placed,
+    placed: &item_store::Placed,
     steps: &mut Steps<L>,
 ) -> Found
     requires area { IsZmsArea (F.device flash.now).banks area.now }

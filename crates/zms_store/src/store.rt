@@ -7,12 +7,12 @@ ghost use Rattle.flash_map.specs.Touches.{Touches};
 ghost use Rattle.zms_store.specs.Ends.{MountEnds, RoundEnds, KeepsWritten, SameOrWritten, SameBytesOrWritten};
 ghost use Rattle.zms_store.specs.Standing.{IsZmsArea, StandsOn, KeepsItems};
 
+use crate::sectors::ZmsOpen;
 use flash_map::{Area, MountFault};
 use flash_sim::{Flash, PowerLost, Steps};
-use ring_store::Store;
+use item_store::Store;
 use std::alloc::Global;
 use std::sync::ledger::Ledger;
-use zms_sectors::ZmsOpen;
 
 /// A store over the sectors of one area.
 #[derive(Debug, Drop)]

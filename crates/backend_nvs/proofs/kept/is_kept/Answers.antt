@@ -1,9 +1,9 @@
 use Rattle.std.proofs.Common.{◌≡◌, ℕ, ◌+◌, ◌<◌, ◌≤◌, subst, inl, inr, arith}
-use Rattle.pair_laws.specs.Items.{Items}
+use Rattle.item_laws.specs.Items.{Items}
 use Rattle.flash_map.specs.On.{on}
-use Rattle.item_pairs.specs.Pairs.{IsAt}
+use Rattle.named_items.specs.Pairs.{IsAt}
 use Rattle.backend_nvs.specs.Numbers.{numbers_in}
-use Rattle.item_pairs.specs.Pairs.{count_in}
+use Rattle.named_items.specs.Pairs.{count_in}
 use Rattle.std.specs.FinMap.{get}
 use Rattle.backend_nvs.specs.Numbers.{count-few}
 use Rattle.backend_nvs.proofs.kept.is_kept.Goals as goal

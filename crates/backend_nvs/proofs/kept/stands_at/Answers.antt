@@ -2,12 +2,12 @@ use Rattle.std.proofs.Common.{◌≡◌, ℕ, List, sym, subst, ◌∙◌}
 use Rattle.std.specs.FinMap.{get}
 use Rattle.std.proofs.lemmas.Bool.{eqb-false, false≢true}
 use Rattle.setting_name.specs.Name.{IsName}
-use Rattle.pair_laws.specs.Items.{Items}
+use Rattle.item_laws.specs.Items.{Items}
 use Rattle.flash_map.specs.On.{on}
-use Rattle.item_pairs.specs.Pairs.{IsAt, HasName, pair_at}
+use Rattle.named_items.specs.Pairs.{IsAt, HasName, pair_at}
 use Rattle.backend_nvs.specs.Numbers.{numbers_in}
-use Rattle.pair_store.proofs.LookupSteps.{at-lawful, named-as}
-use Rattle.pair_store.proofs.StraySteps.{named-at, same-place}
+use Rattle.named_items.proofs.LookupSteps.{at-lawful, named-as}
+use Rattle.named_items.proofs.StraySteps.{named-at, same-place}
 use Rattle.backend_nvs.proofs.kept.stands_at.Goals as goal
 
 pub returns-in-Err-clause-not_it : goal.returns-in-Err-clause-not_it

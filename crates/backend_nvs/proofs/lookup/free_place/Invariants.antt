@@ -1,6 +1,6 @@
 use Rattle.std.proofs.Common.{ℕ, ◌+◌, ◌<◌, ◌≤◌}
 use Rattle.flash_map.specs.On.{on}
-use Rattle.pair_store.specs.Ends.{IsFree}
+use Rattle.named_items.specs.Ends.{IsFree}
 use Rattle.backend_nvs.proofs.lookup.free_place.Given as goal
 
 abbrev pub invariant-loop-place : goal.invariant-loop-place

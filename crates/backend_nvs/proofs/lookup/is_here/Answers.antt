@@ -5,10 +5,10 @@ use Rattle.std.proofs.lemmas.Bool.{cases_Bool}
 use Rattle.std.proofs.Common.{refl}
 use Rattle.flash_map.specs.On.{on}
 use Rattle.flash_map.specs.declared.area.Area.{Area}
-use Rattle.pair_laws.specs.Items.{Items}
-use Rattle.item_pairs.specs.Numbering.{Numbering}
-use Rattle.item_pairs.specs.Pairs.{pair_at, HasName}
-use Rattle.pair_store.proofs.LookupSteps.{here-has, has-here}
+use Rattle.item_laws.specs.Items.{Items}
+use Rattle.named_items.specs.Numbering.{Numbering}
+use Rattle.named_items.specs.Pairs.{pair_at, HasName}
+use Rattle.named_items.proofs.LookupSteps.{here-has, has-here}
 use Rattle.backend_nvs.specs.Numbers.{numbers_in}
 use Rattle.backend_nvs.proofs.lookup.is_here.Goals as goal
 

@@ -1,6 +1,6 @@
 use Rattle.std.proofs.Common.{ℕ, ◌<◌, ◌≤◌}
 use Rattle.flash_map.specs.On.{on}
-use Rattle.item_pairs.specs.Pairs.{pair_at, HasName}
+use Rattle.named_items.specs.Pairs.{pair_at, HasName}
 use Rattle.backend_nvs.specs.Numbers.{numbers_in}
 use Rattle.backend_nvs.proofs.lookup.place_of.Given as goal
 

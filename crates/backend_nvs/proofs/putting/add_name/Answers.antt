@@ -5,23 +5,23 @@ use Rattle.flash_map.specs.declared.area.Area.{Area}
 use Rattle.flash_map.specs.declared.area.Geometry.{Geometry}
 use Rattle.flash_map.specs.declared.faults.WriteFault.{WriteFault}
 use Rattle.flash_map.specs.Area.{geometry_of, value_limit}
-use Rattle.pair_laws.specs.Items.{Items}
+use Rattle.item_laws.specs.Items.{Items}
 use Rattle.backend_api.specs.declared.backend.SetFault.{SetFault}
 use Rattle.backend_api.specs.Ends.{SetEnds, set_lost}
 use Rattle.backend_api.specs.Map.{Map}
 use Rattle.flash_map.specs.On.{on}
-use Rattle.item_store.specs.Ends as ends
-use Rattle.item_pairs.specs.Pairs.{count_in, settings_in, HasNoStrays, IsInside, IsPlaceOf}
+use Rattle.named_items.specs.StoreEnds as ends
+use Rattle.named_items.specs.Pairs.{count_in, settings_in, HasNoStrays, IsInside, IsPlaceOf}
 use Rattle.flash_map.specs.Touches.{Touches}
-use Rattle.pair_store.specs.Ends.{IsFree}
-use Rattle.pair_store.specs.Putting.{IsPut}
-use Rattle.pair_store.proofs.ChangeSteps.{moved-clean, moved-cost}
-use Rattle.pair_store.proofs.NewSteps.{not-stored, set-after}
-use Rattle.pair_store.proofs.SpendSteps.{spends-some, one-call, spends-both, calls-within, geometry-stays}
+use Rattle.named_items.specs.Ends.{IsFree}
+use Rattle.named_items.specs.Putting.{IsPut}
+use Rattle.named_items.proofs.ChangeSteps.{moved-clean, moved-cost}
+use Rattle.named_items.proofs.NewSteps.{not-stored, set-after}
+use Rattle.named_items.proofs.SpendSteps.{spends-some, one-call, spends-both, calls-within, geometry-stays}
 use Rattle.backend_nvs.specs.Numbers.{count_of, numbers_in, settings_of, nvs_counted, nvs_room, nvs-counts, nvs-numbers, too_many}
 use Rattle.backend_nvs.proofs.CountSteps.{few-free, count-leaves, count-refused, raised-same, raised-kept, raised-inside, raised-free}
 use Rattle.flash_map.proofs.Touches.{then}
-use Rattle.item_pairs.proofs.NameLemmas.{get-nowhere, nowhere-none}
+use Rattle.named_items.proofs.NameLemmas.{get-nowhere, nowhere-none}
 use Rattle.backend_nvs.proofs.putting.add_name.Goals as goal
 
 pub put_new-requires-clause-clean : goal.put_new-requires-clause-clean

@@ -2,9 +2,9 @@ use Rattle.std.proofs.Common.{◌≡◌, ◌+◌, ◌<◌, ◌≤◌, refl, arit
 use Rattle.flash_sim.specs.Device.{Device}
 use Rattle.flash_map.specs.declared.area.Area.{Area}
 use Rattle.flash_map.specs.Area.{geometry_of, sectors_of, value_limit}
-use Rattle.pair_laws.specs.Items.{Items}
+use Rattle.item_laws.specs.Items.{Items}
 use Rattle.flash_map.specs.On.{on}
-use Rattle.item_pairs.specs.Pairs.{count_in}
+use Rattle.named_items.specs.Pairs.{count_in}
 use Rattle.backend_nvs.specs.Numbers.{numbers_in, settings_of, count-few}
 use Rattle.std.specs.FinMap.{get}
 use Rattle.backend_nvs.proofs.CountSteps.{all-used, names-over, few-free, free-few}

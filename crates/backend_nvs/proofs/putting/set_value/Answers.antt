@@ -1,10 +1,10 @@
 use Rattle.std.proofs.Common.{◌+◌, ◌<◌, arith}
 use Rattle.flash_sim.specs.Device.{Device}
 use Rattle.flash_map.specs.declared.area.Area.{Area}
-use Rattle.pair_laws.specs.Items.{Items}
+use Rattle.item_laws.specs.Items.{Items}
 use Rattle.flash_map.specs.On.{on}
 use Rattle.backend_nvs.specs.Numbers.{numbers_in, nvs-within}
-use Rattle.pair_store.proofs.LookupSteps.{at-known}
+use Rattle.named_items.proofs.LookupSteps.{at-known}
 use Rattle.backend_nvs.proofs.putting.set_value.Goals as goal
 
 -- the ids of a setting

@@ -2,7 +2,7 @@ use Rattle.std.proofs.Common.{◌+◌, Bool, ap, subst, ◌∙◌, arith}
 use Rattle.std.specs.Bool.{MatchBool}
 use Rattle.flash_map.specs.Area.{value_limit}
 use Rattle.flash_map.specs.On.{on}
-use Rattle.pair_store.specs.Ends.{IsFree}
+use Rattle.named_items.specs.Ends.{IsFree}
 use Rattle.backend_zms.specs.Hash.{first_of}
 use Rattle.backend_zms.proofs.HomeSteps.{free-at}
 use Rattle.backend_zms.proofs.numbers.free_place.Goals as goal

@@ -1,6 +1,6 @@
 use Rattle.std.proofs.Common.{ℕ, ◌<◌, ◌≤◌}
 use Rattle.flash_map.specs.On.{on}
-use Rattle.item_pairs.specs.Homes.{IsBare}
+use Rattle.named_items.specs.Homes.{IsBare}
 use Rattle.backend_zms.specs.Numbers.{numbers_in}
 use Rattle.backend_zms.proofs.numbers.free_place.Given as goal
 

@@ -1,6 +1,6 @@
 use Rattle.std.proofs.Common.{◌+◌, ◌<◌, arith}
 use Rattle.flash_map.specs.On.{on}
-use Rattle.pair_store.proofs.LookupSteps.{at-known}
+use Rattle.named_items.proofs.LookupSteps.{at-known}
 use Rattle.backend_zms.specs.Numbers.{numbers_in, zms-within}
 use Rattle.backend_zms.proofs.putting.set_value.Goals as goal
 

@@ -1,11 +1,11 @@
 use Rattle.std.proofs.Common.{◌≡◌, ℕ, List, [], length, Some, sym, ap, ◌∙◌}
-use Rattle.ring_laws.specs.Live.{bytes_of}
-use Rattle.ring_store.proofs.Placings.{entry_long}
+use Rattle.item_laws.specs.Live.{bytes_of}
+use Rattle.item_store.proofs.Placings.{entry_long}
 use Rattle.flash_sim.specs.Device.{Device}
 use Rattle.flash_map.specs.declared.area.Area.{Area}
 use Rattle.flash_map.specs.Area.{geometry_of, sectors_of}
-use Rattle.ring_store.specs.Kind.{Kind, IsKind, slots}
-use Rattle.ring_store.proofs.Areas.{unit_is}
+use Rattle.item_store.specs.Kind.{Kind, IsKind, slots}
+use Rattle.item_store.proofs.Areas.{unit_is}
 use Rattle.item_history.proofs.VersionReads.{no_bytes}
 use Rattle.item_history.proofs.history.said.Goals as goal
 

@@ -2,14 +2,14 @@ use Rattle.std.proofs.Common.{◌≡◌, sym, subst, ◌∙◌}
 use Rattle.flash_sim.specs.Device.{Device}
 use Rattle.flash_map.specs.declared.area.Area.{Area}
 use Rattle.flash_map.specs.Area.{geometry_of, sectors_of}
-use Rattle.ring_store.specs.Kind.{IsKind}
-use Rattle.ring_store.proofs.Areas.{unit_is}
-use Rattle.ring_laws.specs.Area.{open_sector}
-use Rattle.ring_laws.specs.Forms.{AtRest}
-use Rattle.ring_store.specs.Listed.{kind_on, list_on}
-use Rattle.ring_store.specs.Standing.{IsStoreArea}
-use Rattle.ring_store.specs.Versions.{versions}
-use Rattle.ring_store.proofs.ReadFacts.{rest_on}
+use Rattle.item_store.specs.Kind.{IsKind}
+use Rattle.item_store.proofs.Areas.{unit_is}
+use Rattle.item_laws.specs.Area.{open_sector}
+use Rattle.item_laws.specs.Forms.{AtRest}
+use Rattle.item_store.specs.Listed.{kind_on, list_on}
+use Rattle.item_store.specs.Standing.{IsStoreArea}
+use Rattle.item_store.specs.Versions.{versions}
+use Rattle.item_store.proofs.ReadFacts.{rest_on}
 use Rattle.item_history.specs.History.{IsVersion}
 use Rattle.item_history.proofs.history.store_older.Goals as goal
 

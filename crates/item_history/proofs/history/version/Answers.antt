@@ -1,11 +1,11 @@
 use Rattle.std.proofs.Common.{ℕ, ◌<◌, List, sym, arith}
-use Rattle.ring_laws.specs.Live.{bytes_of}
-use Rattle.ring_laws.proofs.AreaReads.{length-sectors}
+use Rattle.item_laws.specs.Live.{bytes_of}
+use Rattle.item_laws.proofs.AreaReads.{length-sectors}
 use Rattle.flash_sim.specs.Device.{Device}
 use Rattle.flash_map.specs.declared.area.Area.{Area}
 use Rattle.flash_map.specs.Area.{geometry_of, sectors_of, sector_at}
-use Rattle.ring_store.specs.Kind.{Kind, IsKind, slots}
-use Rattle.ring_store.proofs.Areas.{unit_is, large_there}
+use Rattle.item_store.specs.Kind.{Kind, IsKind, slots}
+use Rattle.item_store.proofs.Areas.{unit_is, large_there}
 use Rattle.item_history.proofs.VersionReads.{version_there, version_gone, told_of}
 use Rattle.item_history.proofs.history.version.Goals as goal
 

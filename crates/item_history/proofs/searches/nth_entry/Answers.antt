@@ -1,16 +1,16 @@
 use Rattle.std.proofs.Common.{◌≡◌, ℕ, ◌+◌, ◌<◌, List, ◌++◌, length, map, refl, sym, ap, subst, ◌∙◌, arith}
-use Rattle.ring_laws.specs.Live.{counted_in, all_placed}
-use Rattle.ring_laws.proofs.AreaReads.{length-sectors, next_there, previous_there}
-use Rattle.ring_laws.proofs.Lists.{counts-at_rest}
-use Rattle.ring_laws.proofs.Places.{after, before}
-use Rattle.ring_store.specs.Seen.{behind}
-use Rattle.ring_store.proofs.CostSteps.{start_seen, more_seen, left, fewer_left}
+use Rattle.item_laws.specs.Live.{counted_in, all_placed}
+use Rattle.item_laws.proofs.AreaReads.{length-sectors, next_there, previous_there}
+use Rattle.item_laws.proofs.Lists.{counts-at_rest}
+use Rattle.item_laws.proofs.Places.{after, before}
+use Rattle.item_store.specs.Seen.{behind}
+use Rattle.item_store.proofs.CostSteps.{start_seen, more_seen, left, fewer_left}
 use Rattle.flash_sim.specs.Device.{Device}
 use Rattle.flash_map.specs.declared.area.Area.{Area}
 use Rattle.flash_map.specs.Area.{geometry_of, sectors_of, sector_at}
-use Rattle.ring_store.specs.declared.entry.Placed.{Placed}
-use Rattle.ring_store.specs.Kind.{Kind, IsKind, placed_at, slots, entries}
-use Rattle.ring_store.proofs.Areas.{unit_is, open_inside}
+use Rattle.item_store.specs.declared.entry.Placed.{Placed}
+use Rattle.item_store.specs.Kind.{Kind, IsKind, placed_at, slots, entries}
+use Rattle.item_store.proofs.Areas.{unit_is, open_inside}
 use Rattle.item_history.specs.declared.searches.Search.{Search}
 use Rattle.item_history.specs.declared.searches.Search.TheVariants.{Found, Left}
 use Rattle.item_history.specs.Searches.{of_id, EndsIn}

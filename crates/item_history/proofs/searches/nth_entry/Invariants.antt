@@ -1,8 +1,8 @@
 use Rattle.std.proofs.Common.{◌<◌}
 use Rattle.flash_map.specs.Area.{sectors_of}
-use Rattle.ring_store.specs.Listed.{kind_on}
-use Rattle.ring_store.specs.Seen.{behind}
-use Rattle.ring_store.proofs.CostSteps.{left}
+use Rattle.item_store.specs.Listed.{kind_on}
+use Rattle.item_store.specs.Seen.{behind}
+use Rattle.item_store.proofs.CostSteps.{left}
 use Rattle.item_history.specs.declared.searches.Search.TheVariants.{Left}
 use Rattle.item_history.specs.Searches.{of_id, EndsIn}
 use Rattle.item_history.proofs.searches.nth_entry.Given as goal

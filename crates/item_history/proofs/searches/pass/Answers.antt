@@ -1,7 +1,7 @@
 use Rattle.std.proofs.Common.{◌≡◌, ◌≢◌, ℕ, ◌+◌, ◌-◌, List, [], ◌∷◌, Some, refl, sym, subst, arith}
 use Rattle.std.specs.Prelude.{slice_get}
 use Rattle.std.proofs.lemmas.Bool.{eq-eqb, ne_eqb}
-use Rattle.ring_store.specs.declared.entry.Placed.{Placed}
+use Rattle.item_store.specs.declared.entry.Placed.{Placed}
 use Rattle.item_history.specs.declared.searches.Search.TheVariants.{Found, Left}
 use Rattle.item_history.specs.Searches.{of_id, EndsIn}
 use Rattle.item_history.proofs.SearchSteps.{of_other, of_own}

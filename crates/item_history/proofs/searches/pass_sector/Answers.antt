@@ -2,8 +2,8 @@ use Rattle.std.proofs.Common.{◌≡◌, ℕ, ◌+◌, ◌-◌, ◌≤◌, List,
 use Rattle.flash_sim.specs.Device.{Device}
 use Rattle.flash_map.specs.declared.area.Area.{Area}
 use Rattle.flash_map.specs.Area.{geometry_of, sectors_of, sector_at}
-use Rattle.ring_store.specs.Kind.{Kind, IsKind, placed_at, entries}
-use Rattle.ring_store.proofs.Areas.{unit_is}
+use Rattle.item_store.specs.Kind.{Kind, IsKind, placed_at, entries}
+use Rattle.item_store.proofs.Areas.{unit_is}
 use Rattle.item_history.specs.declared.searches.Search.TheVariants.{Found, Left}
 use Rattle.item_history.proofs.SearchSteps.{at_slot, behind_slots, none_passed, one_more, whole_sector, from_start, pass_more, found_more}
 use Rattle.item_history.proofs.searches.pass_sector.Goals as goal

@@ -1,6 +1,6 @@
 use Rattle.std.proofs.Common.{◌≤◌}
 use Rattle.flash_map.specs.Area.{sectors_of, sector_at}
-use Rattle.ring_store.specs.Listed.{kind_on}
+use Rattle.item_store.specs.Listed.{kind_on}
 use Rattle.item_history.specs.declared.searches.Search.TheVariants.{Left}
 use Rattle.item_history.specs.Searches.{of_id, EndsIn}
 use Rattle.item_history.proofs.SearchSteps.{behind_slots}

@@ -1,13 +1,13 @@
 use Rattle.std.proofs.Common.{◌≡◌, ℕ, ◌+◌, List, sym, subst, ◌∙◌, arith}
-use Rattle.ring_laws.proofs.AreaReads.{length-sectors}
-use Rattle.ring_store.specs.Listed.{IsListed}
-use Rattle.ring_store.proofs.Placings.{read_listed}
+use Rattle.item_laws.proofs.AreaReads.{length-sectors}
+use Rattle.item_store.specs.Listed.{IsListed}
+use Rattle.item_store.proofs.Placings.{read_listed}
 use Rattle.flash_sim.specs.Device.{Device}
 use Rattle.flash_map.specs.declared.area.Area.{Area}
 use Rattle.flash_map.specs.Area.{geometry_of, sectors_of, sector_at}
-use Rattle.ring_store.specs.declared.entry.Placed.{Placed}
-use Rattle.ring_store.specs.Kind.{Kind, IsKind}
-use Rattle.ring_store.proofs.Areas.{unit_is}
+use Rattle.item_store.specs.declared.entry.Placed.{Placed}
+use Rattle.item_store.specs.Kind.{Kind, IsKind}
+use Rattle.item_store.proofs.Areas.{unit_is}
 use Rattle.item_history.specs.declared.searches.Search.TheVariants.{Left}
 use Rattle.item_history.specs.Searches.{of_id, EndsIn}
 use Rattle.item_history.proofs.SearchSteps.{slot_some, slot_none, found_has}

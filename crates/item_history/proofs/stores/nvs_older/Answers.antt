@@ -1,11 +1,11 @@
 use Rattle.std.proofs.Common.{sym, subst}
 use Rattle.flash_map.specs.declared.area.Role.TheVariants.{Nvs}
-use Rattle.nvs_sectors.specs.declared.sectors.NvsOpen.{NvsOpen}
-use Rattle.nvs_kind.specs.Kinds.{kind}
+use Rattle.nvs_gc.specs.declared.sectors.NvsOpen.{NvsOpen}
+use Rattle.nvs_format.specs.Kinds.{kind}
 use Rattle.nvs_gc.specs.Standing.{kept, list_on}
-use Rattle.ring_store.specs.declared.store.Store.{Store}
-use Rattle.ring_store.specs.Stands.{StandsOn}
-use Rattle.ring_store.specs.Versions.{versions}
+use Rattle.item_store.specs.declared.store.Store.{Store}
+use Rattle.item_store.specs.Stands.{StandsOn}
+use Rattle.item_store.specs.Versions.{versions}
 use Rattle.item_history.specs.History.{IsVersion}
 use Rattle.item_history.proofs.stores.nvs_older.Goals as goal
 

@@ -2,11 +2,11 @@ use Rattle.std.proofs.Common.{◌≡◌, sym, subst}
 use Rattle.flash_sim.specs.Device.{Device}
 use Rattle.flash_map.specs.declared.area.Role.TheVariants.{Nvs}
 use Rattle.flash_map.specs.Area.{sector_size}
-use Rattle.nvs_sectors.specs.declared.sectors.NvsOpen.{NvsOpen}
-use Rattle.nvs_kind.specs.Kinds.{kind}
+use Rattle.nvs_gc.specs.declared.sectors.NvsOpen.{NvsOpen}
+use Rattle.nvs_format.specs.Kinds.{kind}
 use Rattle.nvs_gc.specs.Standing.{kept, kind_on, list_on}
-use Rattle.ring_store.specs.declared.store.Store.{Store}
-use Rattle.ring_store.specs.Stands.{StandsOn}
+use Rattle.item_store.specs.declared.store.Store.{Store}
+use Rattle.item_store.specs.Stands.{StandsOn}
 use Rattle.item_history.specs.Usage.{space_of}
 use Rattle.item_history.proofs.stores.nvs_space.Goals as goal
 

@@ -2,11 +2,11 @@ use Rattle.std.proofs.Common.{◌≡◌, sym, subst}
 use Rattle.flash_sim.specs.Device.{Device}
 use Rattle.flash_map.specs.declared.area.Role.TheVariants.{Zms}
 use Rattle.flash_map.specs.Area.{sector_size}
-use Rattle.zms_sectors.specs.declared.sectors.ZmsOpen.{ZmsOpen}
-use Rattle.zms_kind.specs.Kinds.{kind}
+use Rattle.zms_store.specs.declared.sectors.ZmsOpen.{ZmsOpen}
+use Rattle.zms_format.specs.Kinds.{kind}
 use Rattle.zms_store.specs.Standing.{kept, kind_on, list_on}
-use Rattle.ring_store.specs.declared.store.Store.{Store}
-use Rattle.ring_store.specs.Stands.{StandsOn}
+use Rattle.item_store.specs.declared.store.Store.{Store}
+use Rattle.item_store.specs.Stands.{StandsOn}
 use Rattle.item_history.specs.Usage.{space_of}
 use Rattle.item_history.proofs.stores.zms_space.Goals as goal
 

@@ -3,7 +3,7 @@ use Rattle.flash_map.specs.declared.area.Geometry.{Geometry}
 use Rattle.flash_map.specs.Units.{IsUnit}
 use Rattle.flash_sim.specs.Device.{Device}
 use Rattle.flash_map.specs.declared.area.Area.{Area}
-use Rattle.ring_store.proofs.Areas.{unit_is}
+use Rattle.item_store.proofs.Areas.{unit_is}
 use Rattle.item_history.proofs.usage.room.Goals as goal
 
 pub capacity-requires : goal.capacity-requires

@@ -1,12 +1,12 @@
 use Rattle.std.proofs.Common.{◌≡◌, ℕ, ◌+◌, ◌-◌, List, ap, ◌∙◌, arith}
 use Rattle.std.specs.Prelude.{sum_by}
-use Rattle.ring_store.proofs.OlderSteps.{placed_to}
+use Rattle.item_store.proofs.OlderSteps.{placed_to}
 use Rattle.flash_sim.specs.Device.{Device}
 use Rattle.flash_map.specs.declared.area.Area.{Area}
 use Rattle.flash_map.specs.Area.{geometry_of, sectors_of, sector_at}
-use Rattle.ring_store.specs.declared.entry.Placed.{Placed}
-use Rattle.ring_store.specs.Kind.{Kind, IsKind}
-use Rattle.ring_store.proofs.Areas.{unit_is}
+use Rattle.item_store.specs.declared.entry.Placed.{Placed}
+use Rattle.item_store.specs.Kind.{Kind, IsKind}
+use Rattle.item_store.proofs.Areas.{unit_is}
 use Rattle.item_history.proofs.UsageSteps.{slot_more}
 use Rattle.item_history.proofs.usage.sector_cost.Goals as goal
 

@@ -1,8 +1,8 @@
 use Rattle.std.proofs.Common.{◌≡◌, ◌-◌, ◌*◌, ◌^◌, ◌≤◌}
 use Rattle.std.specs.Prelude.{sum_by}
 use Rattle.flash_map.specs.Area.{sectors_of, sector_at}
-use Rattle.ring_store.specs.Listed.{kind_on}
-use Rattle.ring_store.proofs.OlderSteps.{placed_to}
+use Rattle.item_store.specs.Listed.{kind_on}
+use Rattle.item_store.proofs.OlderSteps.{placed_to}
 use Rattle.item_history.proofs.usage.sector_cost.Given as goal
 
 abbrev pub invariant-loop-slot : goal.invariant-loop-slot

@@ -1,13 +1,13 @@
 use Rattle.std.proofs.Common.{ℕ, List, Option, sym, ap, subst, ◌∙◌}
 use Rattle.flash_map.specs.declared.area.Geometry.{Geometry}
 use Rattle.flash_map.specs.Units.{IsUnit}
-use Rattle.ring_laws.specs.Live.{cost_of}
+use Rattle.item_laws.specs.Live.{cost_of}
 use Rattle.flash_sim.specs.Device.{Device}
 use Rattle.flash_map.specs.declared.area.Area.{Area}
 use Rattle.flash_map.specs.Area.{geometry_of, sectors_of}
-use Rattle.ring_store.specs.declared.entry.Placed.{Placed}
-use Rattle.ring_store.specs.Kind.{Kind, IsKind, slots}
-use Rattle.ring_store.proofs.Areas.{unit_is}
+use Rattle.item_store.specs.declared.entry.Placed.{Placed}
+use Rattle.item_store.specs.Kind.{Kind, IsKind, slots}
+use Rattle.item_store.proofs.Areas.{unit_is}
 use Rattle.item_history.proofs.usage.slot_cost.Goals as goal
 
 pub cost-requires-clause-unit : goal.cost-requires-clause-unit

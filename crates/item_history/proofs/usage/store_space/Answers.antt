@@ -1,15 +1,15 @@
 use Rattle.std.proofs.Common.{◌≡◌, ℕ, ◌-◌, ◌*◌, List, sym, ap, subst, ◌∙◌, arith}
-use Rattle.pair_laws.specs.Rounds.{copies_cost, live_cost}
-use Rattle.ring_laws.specs.Area.{open_sector}
-use Rattle.ring_laws.specs.Forms.{AtRest}
-use Rattle.ring_store.specs.Listed.{kind_on, list_on}
-use Rattle.ring_store.specs.Standing.{IsStoreArea}
-use Rattle.ring_store.proofs.ReadFacts.{rest_on}
+use Rattle.item_laws.specs.PairRounds.{copies_cost, live_cost}
+use Rattle.item_laws.specs.Area.{open_sector}
+use Rattle.item_laws.specs.Forms.{AtRest}
+use Rattle.item_store.specs.Listed.{kind_on, list_on}
+use Rattle.item_store.specs.Standing.{IsStoreArea}
+use Rattle.item_store.proofs.ReadFacts.{rest_on}
 use Rattle.flash_sim.specs.Device.{Device}
 use Rattle.flash_map.specs.declared.area.Area.{Area}
 use Rattle.flash_map.specs.Area.{geometry_of, sector_size, sectors_of}
-use Rattle.ring_store.specs.Kind.{Kind, IsKind}
-use Rattle.ring_store.proofs.Areas.{unit_is}
+use Rattle.item_store.specs.Kind.{Kind, IsKind}
+use Rattle.item_store.proofs.Areas.{unit_is}
 use Rattle.item_history.specs.Usage.{stale_cost}
 use Rattle.item_history.proofs.UsageSteps.{live-stale, space_is}
 use Rattle.item_history.proofs.usage.store_space.Goals as goal

@@ -1,13 +1,13 @@
 use Rattle.std.proofs.Common.{◌≡◌, ℕ, List, length, refl, sym, ap, ◌∙◌, arith}
 use Rattle.std.specs.Prelude.{sum_by}
 use Rattle.std.specs.List.{range_with_len}
-use Rattle.ring_laws.specs.Area.{open_sector}
-use Rattle.ring_laws.proofs.AreaReads.{length-sectors}
+use Rattle.item_laws.specs.Area.{open_sector}
+use Rattle.item_laws.proofs.AreaReads.{length-sectors}
 use Rattle.flash_sim.specs.Device.{Device}
 use Rattle.flash_map.specs.declared.area.Area.{Area}
 use Rattle.flash_map.specs.Area.{geometry_of, sectors_of}
-use Rattle.ring_store.specs.Kind.{Kind, IsKind}
-use Rattle.ring_store.proofs.Areas.{unit_is, large_there}
+use Rattle.item_store.specs.Kind.{Kind, IsKind}
+use Rattle.item_store.proofs.Areas.{unit_is, large_there}
 use Rattle.item_history.proofs.UsageSteps.{sector_total, sector_more, total_at_rest}
 use Rattle.item_history.proofs.usage.total_cost.Goals as goal
 

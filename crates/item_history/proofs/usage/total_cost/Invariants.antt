@@ -2,7 +2,7 @@ use Rattle.std.proofs.Common.{◌≡◌, ◌*◌, ◌^◌, ◌≤◌}
 use Rattle.std.specs.Prelude.{sum_by}
 use Rattle.std.specs.List.{range_with_len}
 use Rattle.flash_map.specs.Area.{sectors_of}
-use Rattle.ring_store.specs.Listed.{kind_on}
+use Rattle.item_store.specs.Listed.{kind_on}
 use Rattle.item_history.proofs.UsageSteps.{sector_total}
 use Rattle.item_history.proofs.usage.total_cost.Given as goal
 

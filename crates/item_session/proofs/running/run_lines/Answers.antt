@@ -1,7 +1,7 @@
 -- the mount, then each line, is carried out behind those before it; or memory was wanting
 use Rattle.std.proofs.Common.{◌+◌, ◌≤◌, [], ◌∷◌, ◌++◌, length, inl, refl, sym, subst, ◌∙◌, arith}
 use Rattle.flash_map.specs.declared.area.Area.{Area}
-use Rattle.item_lines.specs.declared.line.Line.{Line}
+use Rattle.item_session.specs.declared.line.Line.{Line}
 use Rattle.item_session.specs.Device.{IsServedOn}
 use Rattle.item_session.specs.LineDone.{LineDone}
 use Rattle.item_session.proofs.FoldLemmas.{left_as, one_more, opened, ran, served_there, sound_at, stops, stops_next, stops_open, stops_sound}

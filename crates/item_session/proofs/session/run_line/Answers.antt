@@ -1,6 +1,6 @@
 use Rattle.std.proofs.Common.{◌≡◌, false, rules, sym, subst}
-use Rattle.item_lines.specs.declared.line.Line.{Line}
-use Rattle.item_lines.specs.declared.answer.Answer.TheVariants.{Off}
+use Rattle.item_session.specs.declared.line.Line.{Line}
+use Rattle.item_session.specs.declared.answer.Answer.TheVariants.{Off}
 use Rattle.item_session.specs.LineDone.{LineDone}
 use Rattle.item_session.proofs.LineLemmas.{older_off, space_off}
 use Rattle.item_session.proofs.session.run_line.Goals.{in_default-store-3-via-in-Some-store-3+else-is_on-4, in_default-store-3-via-in_default-store-3, in_default-store-4-via-in-Some-store-4+else-is_on-5, in_default-store-4-via-in_default-store-4}

@@ -2,7 +2,7 @@
 use Rattle.std.proofs.Common.{◌≡◌, None, sym, subst}
 use Rattle.std.specs.FinMap.{get}
 use Rattle.flash_map.specs.declared.area.Area.{Area}
-use Rattle.ring_store.specs.Listed.{items_on}
+use Rattle.item_store.specs.Listed.{items_on}
 use Rattle.item_session.proofs.LineLemmas.{none_told}
 use Rattle.item_session.proofs.MemoryLemmas.{item_wants}
 use Rattle.item_session.proofs.telling.tell_item.Goals as goal

@@ -2,8 +2,8 @@
 use Rattle.std.proofs.Common.{◌≡◌, ◌≤◌, [], length, Some, subst}
 use Rattle.std.specs.List.{slice_get}
 use Rattle.flash_map.specs.declared.area.Area.{Area}
-use Rattle.ring_store.specs.Listed.{list_on}
-use Rattle.ring_store.specs.Versions.{versions}
+use Rattle.item_store.specs.Listed.{list_on}
+use Rattle.item_store.specs.Versions.{versions}
 use Rattle.item_session.proofs.LineLemmas.{deleted_told, gone_told, version_at}
 use Rattle.item_session.proofs.MemoryLemmas.{version_wants}
 use Rattle.item_session.proofs.telling.tell_older.Goals as goal

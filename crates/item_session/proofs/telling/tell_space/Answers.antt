@@ -2,7 +2,7 @@ use Rattle.std.proofs.Common.{◌∙◌, ap}
 use Rattle.flash_map.specs.declared.area.Area.{Area}
 use Rattle.flash_map.specs.Area.{sector_size}
 use Rattle.item_history.specs.Usage.{space_of}
-use Rattle.ring_store.specs.Listed.{kind_on, list_on}
+use Rattle.item_store.specs.Listed.{kind_on, list_on}
 use Rattle.item_session.proofs.LineLemmas.{space_told}
 use Rattle.item_session.proofs.telling.tell_space.Goals as goal
 

@@ -1,5 +1,5 @@
 use Rattle.std.specs.Prelude.{◌≡◌}
-use Rattle.ring_store.specs.Stands.{StandsOn}
+use Rattle.item_store.specs.Stands.{StandsOn}
 use Rattle.item_tests.proofs.calls.plays.Given as goal
 
 abbrev pub invariant-loop-call : goal.invariant-loop-call

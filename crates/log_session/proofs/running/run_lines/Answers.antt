@@ -5,7 +5,7 @@ use Rattle.flash_map.specs.declared.area.Area.{Area}
 use Rattle.log_session.specs.LineDone.{LineDone}
 use Rattle.log_session.specs.Running.{RunStops}
 use Rattle.log_session.proofs.FoldLemmas.{one_more, opened, ran, sound_still, rested_still, stops}
-use Rattle.log_lines.specs.declared.line.Line.TheVariants.{Mount}
+use Rattle.log_session.specs.declared.line.Line.TheVariants.{Mount}
 use Rattle.log_session.proofs.running.run_lines.Goals as goal
 
 pub loop-line-init : goal.loop-line-init

@@ -7,9 +7,9 @@ use Rattle.backend_api.specs.Ends.{set_lost}
 use Rattle.backend_api.specs.declared.backend.SetFault.{SetFault}
 use Rattle.backend_api.specs.declared.backend.SetFault.TheVariants.{NoSpace, TooManyNames, PowerLost}
 use Rattle.script_lines.specs.declared.answer.Answer.TheVariants as settings
-use Rattle.mirror_lines.specs.declared.line.Line.TheVariants.{Set}
-use Rattle.mirror_lines.specs.declared.answer.Answer.TheVariants.{Told}
-use Rattle.mirror_lines.specs.Answer.{done, lost}
+use Rattle.mirror_session.specs.declared.line.Line.TheVariants.{Set}
+use Rattle.mirror_session.specs.declared.answer.Answer.TheVariants.{Told}
+use Rattle.mirror_session.specs.Answer.{done, lost}
 use Rattle.mirror_session.specs.Bench.{meanings, moment}
 use Rattle.mirror_session.specs.LineDone.{LineDone}
 use Rattle.mirror_session.proofs.CommandLines.{held_again, set_done, set_full, set_lost_sound, set_many}

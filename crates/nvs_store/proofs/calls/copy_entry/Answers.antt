@@ -15,9 +15,9 @@ use Rattle.flash_map.specs.declared.copies.TheConstants.{COPY_PIECE}
 use Rattle.flash_map.specs.declared.pieces.TheConstants.{PIECE}
 use Rattle.flash_map.proofs.Places.{length-sector}
 use Rattle.flash_map.proofs.Touches.{then}
-use Rattle.ring_laws.specs.Area.{open_sector}
+use Rattle.item_laws.specs.Area.{open_sector}
 use Rattle.flash_map.specs.Area.{sector_at}
-use Rattle.ring_laws.proofs.Stays.{open_within}
+use Rattle.item_laws.proofs.Stays.{open_within}
 use Rattle.nvs_store.specs.declared.entry.Entry.{Entry}
 use Rattle.nvs_store.specs.declared.scan.Scan.{Scan}
 use Rattle.nvs_store.specs.Geometry.{slot_size, cost}
@@ -25,7 +25,7 @@ use Rattle.nvs_store.specs.Entries.{encoded}
 use Rattle.nvs_store.specs.Sector.{low, data_end}
 use Rattle.nvs_store.specs.Scans.{reading, placed_bytes, scan_at, scan_of, AddsPairAt}
 use Rattle.nvs_store.proofs.Appending.{open_is, scan_there, pair_used, scan_added}
-use Rattle.ring_laws.proofs.AreaReads.{length-sectors}
+use Rattle.item_laws.proofs.AreaReads.{length-sectors}
 use Rattle.nvs_store.proofs.Putting.{can_data, data_cut, data_most, can_entry_after, pair_image, pair_put, entry_cut, pair_spent, pair_most}
 use Rattle.nvs_store.proofs.CallFacts.{data-under, not_ok, room-in, short-in, slot-under}
 use Rattle.nvs_store.proofs.Views.{unit_is}

@@ -8,8 +8,8 @@ use Rattle.flash_map.specs.Pieces.{CanProgramAll}
 use Rattle.flash_map.specs.Spending.{Spends, SpendsAtMost}
 use Rattle.flash_map.specs.Units.{IsUnit, padded, padded_bytes}
 use Rattle.flash_map.proofs.Places.{length-sector}
-use Rattle.ring_laws.specs.Area.{open_sector}
-use Rattle.ring_laws.proofs.Stays.{open_within}
+use Rattle.item_laws.specs.Area.{open_sector}
+use Rattle.item_laws.proofs.Stays.{open_within}
 use Rattle.nvs_store.specs.declared.entry.Entry.{Entry}
 use Rattle.nvs_store.specs.declared.scan.Scan.{Scan}
 use Rattle.nvs_store.specs.Geometry.{slot_size}
@@ -19,7 +19,7 @@ use Rattle.nvs_store.specs.Scans.{reading, scan_at}
 use Rattle.nvs_store.proofs.Appending.{open_is, scan_there}
 use Rattle.nvs_store.proofs.EntryBytes.{length-encoded}
 use Rattle.nvs_store.proofs.MarkPutting.{can_close, close_image, close_put, close_cut}
-use Rattle.ring_laws.proofs.AreaReads.{length-sectors}
+use Rattle.item_laws.proofs.AreaReads.{length-sectors}
 use Rattle.nvs_store.proofs.Putting.{slot_size-is}
 use Rattle.nvs_store.proofs.SlotReads.{slot_widths}
 use Rattle.nvs_store.proofs.Views.{unit_is}

@@ -10,9 +10,9 @@ use Rattle.flash_map.specs.Spending.{Spends, SpendsAtMost}
 use Rattle.flash_map.specs.Units.{IsUnit, padded, padded_bytes}
 use Rattle.flash_map.proofs.PieceLemmas.{on_err}
 use Rattle.flash_map.proofs.Places.{length-sector}
-use Rattle.ring_laws.specs.Area.{open_sector}
+use Rattle.item_laws.specs.Area.{open_sector}
 use Rattle.flash_map.specs.Area.{sector_at}
-use Rattle.ring_laws.proofs.Stays.{open_within}
+use Rattle.item_laws.proofs.Stays.{open_within}
 use Rattle.nvs_store.specs.declared.entry.Entry.{Entry}
 use Rattle.nvs_store.specs.declared.scan.Scan.{Scan}
 use Rattle.nvs_store.specs.Geometry.{slot_size, capacity}
@@ -22,7 +22,7 @@ use Rattle.nvs_store.specs.Scans.{reading, scan_at, scan_of, MarksDoneAt}
 use Rattle.nvs_store.proofs.Appending.{open_is, scan_there, scan_marked}
 use Rattle.nvs_store.proofs.EntryBytes.{length-encoded}
 use Rattle.nvs_store.proofs.MarkPutting.{done_room, can_done, done_image, done_put, done_cut}
-use Rattle.ring_laws.proofs.AreaReads.{length-sectors}
+use Rattle.item_laws.proofs.AreaReads.{length-sectors}
 use Rattle.nvs_store.proofs.Putting.{slot_size-is}
 use Rattle.nvs_store.proofs.SlotReads.{slot_widths}
 use Rattle.nvs_store.proofs.Sound.{marks-sound}

@@ -3,15 +3,15 @@ use Rattle.std.specs.Option.{option_and_then}
 use Rattle.std.specs.Prelude.{IfSome}
 use Rattle.flash_sim.specs.Device.{Device}
 use Rattle.flash_map.specs.Area.{unit_of, sector_size, sectors_of}
-use Rattle.pair_laws.specs.Items.{value_of}
-use Rattle.ring_laws.specs.Area.{open_sector}
-use Rattle.ring_laws.proofs.Stays.{open_within}
+use Rattle.item_laws.specs.Items.{value_of}
+use Rattle.item_laws.specs.Area.{open_sector}
+use Rattle.item_laws.proofs.Stays.{open_within}
 use Rattle.nvs_store.specs.declared.scan.Found.{Found}
 use Rattle.nvs_store.specs.Scans.{reading, last_placed, placed_bytes, IsInArea}
 use Rattle.nvs_store.proofs.Appending.{open_is}
 use Rattle.nvs_store.proofs.LastLemmas.{found-value, newest-decides, older-decides}
 use Rattle.nvs_store.proofs.InArea.{last_placed-in}
-use Rattle.ring_laws.proofs.AreaReads.{length-sectors}
+use Rattle.item_laws.proofs.AreaReads.{length-sectors}
 use Rattle.nvs_store.proofs.lookup.find.Goals as goal
 
 pub overflow_add-current : goal.overflow_add-current

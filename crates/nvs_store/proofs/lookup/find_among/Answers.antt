@@ -4,7 +4,7 @@ use Rattle.flash_sim.specs.Device.{Device}
 use Rattle.flash_map.specs.Area.{unit_of, sectors_of}
 use Rattle.nvs_store.specs.declared.scan.Found.{Found}
 use Rattle.flash_map.proofs.MapLemmas.{not_some}
-use Rattle.ring_laws.proofs.Newest.{last-step, last-suffix}
+use Rattle.item_laws.proofs.Newest.{last-step, last-suffix}
 use Rattle.nvs_store.specs.Sector.{is_wanted}
 use Rattle.nvs_store.specs.Scans.{counted_in, last_wanted}
 use Rattle.nvs_store.proofs.LastLemmas.{among}

@@ -4,7 +4,7 @@ use Rattle.flash_sim.specs.Device.{Device}
 use Rattle.flash_map.specs.declared.area.Geometry.{Geometry}
 use Rattle.flash_map.specs.Area.{unit_of, sectors_of, sector_at}
 use Rattle.flash_map.proofs.Places.{length-sector}
-use Rattle.ring_laws.proofs.AreaReads.{length-sectors}
+use Rattle.item_laws.proofs.AreaReads.{length-sectors}
 use Rattle.nvs_store.specs.Sector.{entries_within, last_found}
 use Rattle.nvs_store.specs.Scans.{placed_at, last_wanted, counted_within}
 use Rattle.nvs_store.proofs.LastLemmas.{counted-last, counted-none, counted-whole}

@@ -5,9 +5,9 @@ use Rattle.flash_map.specs.Area.{unit_of, sectors_of}
 use Rattle.nvs_store.specs.declared.scan.Found.{Found}
 use Rattle.nvs_store.specs.Sector.{is_wanted}
 use Rattle.nvs_store.specs.Scans.{counted_in, last_wanted}
-use Rattle.ring_laws.proofs.AreaReads.{length-sectors}
-use Rattle.ring_laws.proofs.Newest.{newest-behind, newest-before}
-use Rattle.ring_laws.proofs.RoundAt.{before-round}
+use Rattle.item_laws.proofs.AreaReads.{length-sectors}
+use Rattle.item_laws.proofs.Newest.{newest-behind, newest-before}
+use Rattle.item_laws.proofs.RoundAt.{before-round}
 use Rattle.nvs_store.proofs.lookup.newest_before.Goals as goal
 
 pub returns-then-is_some : goal.returns-then-is_some

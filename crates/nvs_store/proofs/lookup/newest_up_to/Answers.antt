@@ -3,10 +3,10 @@ use Rattle.std.specs.List.{flat_map}
 use Rattle.flash_sim.specs.Device.{Device}
 use Rattle.flash_map.specs.Area.{unit_of, sectors_of}
 use Rattle.nvs_store.specs.declared.scan.Found.{Found}
-use Rattle.ring_laws.specs.RoundParts.{places_before}
+use Rattle.item_laws.specs.RoundParts.{places_before}
 use Rattle.nvs_store.specs.Sector.{is_wanted}
 use Rattle.nvs_store.specs.Scans.{counted_in, counted_within}
-use Rattle.ring_laws.proofs.Newest.{newest-behind, newest-before}
+use Rattle.item_laws.proofs.Newest.{newest-behind, newest-before}
 use Rattle.nvs_store.proofs.lookup.newest_up_to.Goals as goal
 
 pub returns-then-is_some : goal.returns-then-is_some

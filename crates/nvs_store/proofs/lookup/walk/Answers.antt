@@ -4,15 +4,15 @@ use Rattle.std.specs.List.{All}
 use Rattle.flash_sim.specs.Device.{Device}
 use Rattle.flash_map.specs.Area.{unit_of, sector_size, sectors_of, sector_at}
 use Rattle.flash_map.proofs.Places.{length-sector}
-use Rattle.ring_laws.specs.Area.{open_sector}
-use Rattle.ring_laws.proofs.Stays.{open_within}
+use Rattle.item_laws.specs.Area.{open_sector}
+use Rattle.item_laws.proofs.Stays.{open_within}
 use Rattle.nvs_store.specs.declared.scan.Found.{Found}
 use Rattle.nvs_store.specs.Scans.{reading, all_placed, placed_up_to, IsInArea, IsNextOlder}
 use Rattle.nvs_store.proofs.Appending.{open_is}
-use Rattle.ring_laws.proofs.Newest.{last-all}
+use Rattle.item_laws.proofs.Newest.{last-all}
 use Rattle.nvs_store.specs.Sector.{is_wanted}
 use Rattle.nvs_store.proofs.InArea.{listed-in}
-use Rattle.ring_laws.proofs.AreaReads.{length-sectors}
+use Rattle.item_laws.proofs.AreaReads.{length-sectors}
 use Rattle.nvs_store.proofs.Walking.{part_all, walked-newest, walked-older}
 use Rattle.nvs_store.proofs.lookup.walk.Goals as goal
 

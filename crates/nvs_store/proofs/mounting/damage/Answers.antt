@@ -4,11 +4,11 @@ use Rattle.flash_map.specs.Area.{unit_of, sectors_of}
 use Rattle.std.specs.List.{find, range_with_len, slice_get}
 use Rattle.std.specs.Option.{option_map}
 use Rattle.flash_map.specs.declared.faults.Why.TheVariants.{Overfull}
-use Rattle.ring_laws.specs.Area.{openings}
+use Rattle.item_laws.specs.Area.{openings}
 use Rattle.nvs_store.specs.declared.places.Sought.TheVariants as sought
 use Rattle.nvs_store.specs.Scans.{reading}
 use Rattle.nvs_store.specs.Sought.{is_sought}
-use Rattle.ring_laws.proofs.AreaReads.{length-sectors}
+use Rattle.item_laws.proofs.AreaReads.{length-sectors}
 use Rattle.nvs_store.proofs.MountLemmas.{all_closed, two_open, dirty, unfenced, full}
 use Rattle.nvs_store.proofs.mounting.damage.Goals as goal
 

@@ -1,7 +1,7 @@
 use Rattle.std.proofs.Common.{◌≡◌, ◌-◌, ℕ, List, length, sym, ◌∙◌, arith}
 use Rattle.flash_sim.specs.Device.{Device}
 use Rattle.flash_map.specs.Area.{unit_of, sectors_of}
-use Rattle.ring_laws.proofs.AreaReads.{length-sectors, open-opening, open-blank}
+use Rattle.item_laws.proofs.AreaReads.{length-sectors, open-opening, open-blank}
 use Rattle.nvs_store.specs.Scans.{reading}
 use Rattle.nvs_store.proofs.mounting.open_sector.Goals as goal
 

@@ -1,11 +1,11 @@
 use Rattle.std.proofs.Common.{◌≡◌, ℕ, List, true, false, refl, sym, ap, ◌∙◌}
 use Rattle.flash_sim.specs.Device.{Device}
 use Rattle.flash_map.specs.Area.{unit_of, sectors_of}
-use Rattle.ring_laws.specs.Area.{next, is_closed_at}
+use Rattle.item_laws.specs.Area.{next, is_closed_at}
 use Rattle.flash_map.specs.Area.{sector_at}
 use Rattle.nvs_store.specs.Scans.{reading}
 use Rattle.nvs_store.specs.Sector.{has_gc_done}
-use Rattle.ring_laws.proofs.AreaReads.{next_there}
+use Rattle.item_laws.proofs.AreaReads.{next_there}
 use Rattle.nvs_store.proofs.MountLemmas.{redo_is}
 use Rattle.nvs_store.proofs.mounting.redo.Goals as goal
 

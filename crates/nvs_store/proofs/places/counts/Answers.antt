@@ -1,8 +1,8 @@
 use Rattle.std.proofs.Common.{◌≡◌, ℕ, true, false, sym, ap, ◌∙◌}
 use Rattle.flash_sim.specs.Device.{Device}
 use Rattle.flash_map.specs.Area.{unit_of, sectors_of}
-use Rattle.ring_laws.specs.Area.{next, is_closed_at}
-use Rattle.ring_laws.proofs.AreaReads.{next_there, counts_closed, counts_open}
+use Rattle.item_laws.specs.Area.{next, is_closed_at}
+use Rattle.item_laws.proofs.AreaReads.{next_there, counts_closed, counts_open}
 use Rattle.nvs_store.specs.Scans.{reading}
 use Rattle.nvs_store.proofs.places.counts.Goals as goal
 use Rattle.nvs_store.proofs.places.counts.Goals.{then-has_gc_done, else-has_gc_done}

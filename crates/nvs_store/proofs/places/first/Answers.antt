@@ -2,7 +2,7 @@ use Rattle.std.proofs.Common.{◌-◌, sym, ◌∙◌, arith}
 use Rattle.flash_sim.specs.Device.{Device}
 use Rattle.flash_map.specs.Area.{unit_of, sectors_of}
 use Rattle.nvs_store.specs.Sought.{is_sought}
-use Rattle.ring_laws.proofs.Searches.{find_from, find_nowhere}
+use Rattle.item_laws.proofs.Searches.{find_from, find_nowhere}
 use Rattle.nvs_store.proofs.places.first.Goals as goal
 
 pub returns-then-is_sought-clause-value : goal.returns-then-is_sought-clause-value

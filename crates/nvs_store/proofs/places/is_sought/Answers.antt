@@ -2,10 +2,10 @@ use Rattle.std.proofs.Common.{◌≡◌, ℕ, List, false, sym, ap, ◌∙◌}
 use Rattle.flash_sim.specs.Device.{Device}
 use Rattle.flash_map.specs.declared.area.Geometry.{Geometry}
 use Rattle.flash_map.specs.Area.{unit_of, sectors_of}
-use Rattle.ring_laws.specs.Area.{is_closed_at}
+use Rattle.item_laws.specs.Area.{is_closed_at}
 use Rattle.nvs_store.specs.Scans.{reading}
 use Rattle.nvs_store.specs.Sector.{is_closed}
-use Rattle.ring_laws.proofs.AreaReads.{previous_there}
+use Rattle.item_laws.proofs.AreaReads.{previous_there}
 use Rattle.nvs_store.proofs.MountLemmas.{opening_is}
 use Rattle.nvs_store.proofs.places.is_sought.Goals as goal
 

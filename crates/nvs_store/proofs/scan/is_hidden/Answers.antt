@@ -1,6 +1,6 @@
 use Rattle.std.proofs.Common.{ℕ, ◌∙◌, ap, sym}
 use Rattle.nvs_store.proofs.HiddenSectors.{counts_all, counts_but_victim, counts_but_open}
-use Rattle.ring_laws.proofs.Places.{after}
+use Rattle.item_laws.proofs.Places.{after}
 use Rattle.nvs_store.proofs.scan.is_hidden.Goals as goal
 
 pub returns-in-Nothing : goal.returns-in-Nothing

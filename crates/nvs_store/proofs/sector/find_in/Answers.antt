@@ -4,7 +4,7 @@ use Rattle.nvs_store.specs.declared.scan.Found.{Found}
 use Rattle.nvs_store.specs.Sector.{slot_at, counting_entry, is_wanted, last_found}
 use Rattle.nvs_store.specs.Scans.{placed_at}
 use Rattle.nvs_store.proofs.SlotReads.{slot_size_bounds}
-use Rattle.ring_laws.proofs.SlotWalks.{found_here}
+use Rattle.item_laws.proofs.SlotWalks.{found_here}
 use Rattle.nvs_store.specs.Geometry.{slot_size}
 use Rattle.nvs_store.proofs.Lookups.{entries_to, used_inside, entries_to_within}
 use Rattle.nvs_store.proofs.WantedSlots.{wanted_some, wanted_none}

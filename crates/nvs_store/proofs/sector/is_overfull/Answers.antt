@@ -5,7 +5,7 @@ use Rattle.nvs_store.specs.declared.scan.SlotEntry.{SlotEntry}
 use Rattle.nvs_store.specs.Geometry.{slot_size, capacity}
 use Rattle.nvs_store.specs.Sector.{counting_entry, used_slots, low, entry_cost}
 use Rattle.nvs_store.proofs.SlotReads.{slot_size_bounds}
-use Rattle.ring_laws.proofs.SlotWalks.{any_step, sum_step}
+use Rattle.item_laws.proofs.SlotWalks.{any_step, sum_step}
 use Rattle.nvs_store.proofs.Lookups.{used_inside, entries_to_used, overfull_is}
 use Rattle.nvs_store.proofs.sector.is_overfull.Goals as goal
 use Rattle.nvs_store.proofs.sector.is_overfull.Goals.{At-loop-index}

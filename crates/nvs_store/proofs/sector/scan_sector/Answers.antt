@@ -7,9 +7,9 @@ use Rattle.flash_map.specs.Units.{padded}
 use Rattle.nvs_store.specs.Sector.{counting_entry, is_gc_done, is_used, used_slots, low, data_end, entry_end}
 use Rattle.nvs_store.proofs.SlotReads.{slot_size_bounds}
 use Rattle.nvs_store.proofs.Lookups.{used_inside, entries_to_used, data_end_is}
-use Rattle.ring_laws.proofs.SlotCounts.{slots_to_used}
-use Rattle.ring_laws.proofs.SlotWalks.{most_step, slot_step, sum_step}
-use Rattle.ring_laws.proofs.SlotLemmas.{factor_le}
+use Rattle.item_laws.proofs.SlotCounts.{slots_to_used}
+use Rattle.item_laws.proofs.SlotWalks.{most_step, slot_step, sum_step}
+use Rattle.item_laws.proofs.SlotLemmas.{factor_le}
 use Rattle.nvs_store.proofs.ScanLemmas.{scan_is}
 use Rattle.nvs_store.proofs.sector.scan_sector.Goals as goal
 use Rattle.nvs_store.proofs.sector.scan_sector.Goals.{After-max-2}

@@ -3,7 +3,7 @@ use Rattle.std.specs.Prelude.{fold, sum_by}
 use Rattle.std.specs.List.{list_any}
 use Rattle.flash_map.specs.Units.{padded}
 use Rattle.nvs_store.specs.Sector.{entry_end, is_gc_done}
-use Rattle.ring_laws.proofs.SlotCounts.{slots_to}
+use Rattle.item_laws.proofs.SlotCounts.{slots_to}
 use Rattle.nvs_store.specs.Geometry.{slot_size}
 use Rattle.nvs_store.proofs.Lookups.{entries_to}
 use Rattle.nvs_store.proofs.sector.scan_sector.Given as goal

@@ -1,5 +1,5 @@
 use Rattle.std.proofs.Common.{ℕ, List, slice_range, ap, ◌+◌, ◌∙◌}
-use Rattle.ring_laws.proofs.SlotLemmas.{bytes-slot_at}
+use Rattle.item_laws.proofs.SlotLemmas.{bytes-slot_at}
 use Rattle.nvs_store.specs.Geometry.{slot_size}
 use Rattle.nvs_store.proofs.slots.slot_of.Goals as goal
 

@@ -1,7 +1,7 @@
 use Rattle.std.proofs.Common.{◌+◌, arith}
 use Rattle.nvs_store.specs.Geometry.{slot_size}
 use Rattle.nvs_store.proofs.SlotReads.{slot_size_bounds}
-use Rattle.ring_laws.proofs.SlotLemmas.{factor_le}
+use Rattle.item_laws.proofs.SlotLemmas.{factor_le}
 use Rattle.nvs_store.proofs.slots.slot_start.Goals as goal
 
 pub overflow_add-result : goal.overflow_add-result

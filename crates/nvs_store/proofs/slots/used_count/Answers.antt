@@ -1,5 +1,5 @@
 use Rattle.std.proofs.Common.{ℕ, ◌/◌, ◌∙◌, sym, ap, length, arith}
-use Rattle.ring_laws.proofs.SlotCounts.{used_count_is}
+use Rattle.item_laws.proofs.SlotCounts.{used_count_is}
 use Rattle.nvs_store.specs.Geometry.{slot_size}
 use Rattle.nvs_store.specs.Sector.{is_used}
 use Rattle.nvs_store.proofs.Lookups.{is_used-erased}

@@ -1,7 +1,7 @@
 use Rattle.std.proofs.Common.{ℕ, List, All, sym, subst}
 use Rattle.flash_map.specs.Area.{value_limit}
-use Rattle.item_lines.specs.Line.{ids_end}
-use Rattle.item_lines.specs.declared.line.Line.{Line}
+use Rattle.item_session.specs.Line.{ids_end}
+use Rattle.item_session.specs.declared.line.Line.{Line}
 use Rattle.item_session.specs.Device.{IsServed, IsServedOn}
 use Rattle.item_session.proofs.ServedLemmas.{lines_are_served}
 use Rattle.session_tests.proofs.item_scripts.transcript.Goals as goal

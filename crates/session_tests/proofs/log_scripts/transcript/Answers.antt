@@ -1,6 +1,6 @@
 use Rattle.std.proofs.Common.{ℕ, List, All, sym, subst}
 use Rattle.flash_map.specs.Area.{value_limit}
-use Rattle.log_lines.specs.declared.line.Line.{Line}
+use Rattle.log_session.specs.declared.line.Line.{Line}
 use Rattle.log_session.specs.LineDone.{IsServed}
 use Rattle.log_session.proofs.ServedLemmas.{lines_are_served}
 use Rattle.session_tests.proofs.log_scripts.transcript.Goals as goal

@@ -1,6 +1,6 @@
 use Rattle.std.proofs.Common.{ap, sym, ◌∙◌, arith}
 use Rattle.flash_map.specs.Area.{sector_bytes}
-use Rattle.ring_laws.proofs.SlotLemmas.{bytes-slot_at}
+use Rattle.item_laws.proofs.SlotLemmas.{bytes-slot_at}
 use Rattle.zms_cycle.specs.Entries.{decoded}
 use Rattle.zms_cycle.proofs.AreaFacts.{size_is}
 use Rattle.zms_cycle.proofs.CopyCalls.{ordinary_is, ordinary_none}

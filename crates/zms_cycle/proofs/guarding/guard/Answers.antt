@@ -4,7 +4,7 @@ use Rattle.flash_sim.specs.declared.flash.Kind.TheVariants.{Erasing, Rewritable}
 use Rattle.flash_map.specs.Area.{sector_bytes}
 use Rattle.flash_map.specs.declared.area.Geometry.{Geometry}
 use Rattle.flash_map.proofs.SpendingBounds.{between_none}
-use Rattle.ring_laws.proofs.SlotLemmas.{bytes-slot_at}
+use Rattle.item_laws.proofs.SlotLemmas.{bytes-slot_at}
 use Rattle.zms_cycle.specs.Areas.{kind_on}
 use Rattle.zms_cycle.specs.Sector.{slot_of, is_valid_under}
 use Rattle.zms_cycle.specs.Changes.{with_slot, guard_units}

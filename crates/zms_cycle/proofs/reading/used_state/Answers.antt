@@ -1,7 +1,7 @@
 use Rattle.std.proofs.Common.{◌≡◌, ℕ, ◌+◌, ◌-◌, max, map, Bool, ◌||◌, Some, sym, ap, ◌∙◌, arith}
 use Rattle.std.specs.Prelude.{fold, sum_by}
 use Rattle.std.specs.List.{list_any}
-use Rattle.ring_laws.proofs.SlotCounts.{slots_to}
+use Rattle.item_laws.proofs.SlotCounts.{slots_to}
 use Rattle.zms_cycle.specs.declared.reading.SectorState.TheVariants.{Used}
 use Rattle.zms_cycle.specs.Sector.{value_end, data_len, holds_done}
 use Rattle.zms_cycle.proofs.Scanning.{entries_to, found_is, ends_step, lens_step, done_step, state_is, used_some, listed_count}

@@ -1,5 +1,5 @@
 use Rattle.std.proofs.Common.{Some, arith}
-use Rattle.ring_laws.proofs.SlotCounts.{used_count_fits}
+use Rattle.item_laws.proofs.SlotCounts.{used_count_fits}
 use Rattle.zms_cycle.specs.Sector.{is_valid}
 use Rattle.zms_cycle.proofs.reading.valid_count.Goals as goal
 

@@ -1,6 +1,6 @@
 use Rattle.std.proofs.Common.{ℕ, leb, ◌&&◌, List, Some, ap, ◌∙◌, arith}
 use Rattle.std.specs.Prelude.{slice_index}
-use Rattle.ring_laws.proofs.SlotCounts.{used_count_fits}
+use Rattle.item_laws.proofs.SlotCounts.{used_count_fits}
 use Rattle.zms_cycle.specs.Entries.{entry_of}
 use Rattle.zms_cycle.specs.Sector.{slot_of, is_valid}
 use Rattle.zms_cycle.proofs.SlotSearch.{other_cycle, valid_before, reach_step}

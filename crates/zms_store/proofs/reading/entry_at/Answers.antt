@@ -1,8 +1,8 @@
 use Rattle.std.proofs.Common.{◌≡◌, ◌+◌, ◌*◌, ◌≤◌, ℕ, List, length, Some, sym, ap, subst, ◌∙◌, arith}
 use Rattle.flash_map.specs.Area.{sectors_of, sector_at}
-use Rattle.ring_laws.proofs.AreaReads.{length-sectors}
+use Rattle.item_laws.proofs.AreaReads.{length-sectors}
 use Rattle.zms_cycle.specs.Sector.{slot_of, entry_in}
-use Rattle.zms_kind.proofs.Sectors.{read_room, listed_here}
+use Rattle.zms_format.proofs.Sectors.{read_room, listed_here}
 use Rattle.zms_store.proofs.Places.{read_same}
 use Rattle.zms_store.proofs.reading.entry_at.Goals as goal
 

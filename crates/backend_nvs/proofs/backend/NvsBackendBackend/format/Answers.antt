@@ -1,6 +1,6 @@
 use Rattle.std.proofs.lemmas.Result.{on_ok_weaker}
 use Rattle.flash_sim.specs.Device.{Device}
-use Rattle.pair_store.proofs.FormatSteps.{blanked-on}
+use Rattle.named_items.proofs.FormatSteps.{blanked-on}
 use Rattle.backend_nvs.proofs.FormatSteps.{format-undamaged, format-empty}
 use Rattle.backend_nvs.proofs.backend.NvsBackendBackend.format.Goals as goal
 

@@ -2,8 +2,8 @@ use Rattle.std.proofs.Common.{sym, subst}
 use Rattle.flash_sim.specs.Device.{Device}
 use Rattle.flash_map.specs.declared.area.Area.{Area}
 use Rattle.flash_map.specs.On.{on}
-use Rattle.item_pairs.specs.Pairs.{HasNoStrays}
-use Rattle.item_store.specs.NvsStore.{nvs_items, nvs-fits}
+use Rattle.named_items.specs.Pairs.{HasNoStrays}
+use Rattle.named_items.specs.NvsStore.{nvs_items, nvs-fits}
 use Rattle.backend_nvs.specs.Numbers.{numbers_in}
 use Rattle.backend_nvs.proofs.backend.NvsBackendBackend.set.Goals as goal
 

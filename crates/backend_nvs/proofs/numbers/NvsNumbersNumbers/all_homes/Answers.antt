@@ -1,7 +1,7 @@
 use Rattle.std.proofs.Common.{◌≡◌, ◌+◌, ◌<◌, ◌≤◌, [], ◌∷◌, ap, arith}
 use Rattle.std.specs.FinMap.{get, empty, insert}
-use Rattle.pair_laws.specs.Items.{Items}
-use Rattle.item_pairs.proofs.CostLemmas.{get-put}
+use Rattle.item_laws.specs.Items.{Items}
+use Rattle.named_items.proofs.CostLemmas.{get-put}
 use Rattle.backend_nvs.specs.Numbers.{count_of, count-few}
 use Rattle.backend_nvs.proofs.numbers.NvsNumbersNumbers.all_homes.Goals as goal
 

@@ -2,8 +2,8 @@ use Rattle.std.proofs.Common.{sym, subst}
 use Rattle.flash_sim.specs.Device.{Device}
 use Rattle.flash_map.specs.declared.area.Area.{Area}
 use Rattle.flash_map.specs.On.{on}
-use Rattle.item_pairs.specs.Pairs.{HasNoStrays}
-use Rattle.item_store.specs.ZmsStore.{zms_items}
+use Rattle.named_items.specs.Pairs.{HasNoStrays}
+use Rattle.named_items.specs.ZmsStore.{zms_items}
 use Rattle.backend_zms.specs.Numbers.{numbers_in}
 use Rattle.backend_zms.proofs.backend.ZmsBackendBackend.mount.Goals as goal
 

@@ -1,6 +1,6 @@
 use Rattle.std.proofs.Common.{◌+◌, ◌<◌, ◌≤◌, arith}
 use Rattle.std.specs.FinMap.{empty}
-use Rattle.pair_laws.specs.Items.{Items}
+use Rattle.item_laws.specs.Items.{Items}
 use Rattle.backend_zms.specs.Numbers.{places}
 use Rattle.backend_zms.proofs.GroupLemmas.{all-places}
 use Rattle.backend_zms.proofs.numbers.ZmsNumbersNumbers.all_homes.Goals as goal

@@ -1,7 +1,7 @@
 use Rattle.std.proofs.Common.{◌≡◌, ◌+◌, ◌<◌, ◌≤◌, ap, ◌∙◌, arith}
 use Rattle.std.specs.FinMap.{empty}
 use Rattle.flash_map.specs.Area.{value_limit}
-use Rattle.pair_laws.specs.Items.{Items}
+use Rattle.item_laws.specs.Items.{Items}
 use Rattle.backend_zms.specs.Hash.{first_of}
 use Rattle.backend_zms.specs.Numbers.{places}
 use Rattle.backend_zms.proofs.GroupLemmas.{group-homes}

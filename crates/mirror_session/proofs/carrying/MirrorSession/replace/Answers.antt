@@ -1,8 +1,8 @@
 use Rattle.std.specs.Prelude.{is_some}
 use Rattle.std.proofs.Common.{◌≡◌, ◌∙◌, ◌&&◌, ℕ, Bool, List, Option, true, false, Some, None, sym, ap, subst, rules}
 use Rattle.flash_map.specs.declared.area.Area.{Area}
-use Rattle.mirror_lines.specs.declared.answer.Answer.{Answer}
-use Rattle.mirror_lines.specs.declared.line.Line.TheVariants.{Blank}
+use Rattle.mirror_session.specs.declared.answer.Answer.{Answer}
+use Rattle.mirror_session.specs.declared.line.Line.TheVariants.{Blank}
 use Rattle.migrator.proofs.AreaLemmas.{store-within}
 use Rattle.mirror_session.specs.Bench.{labelled, meanings, moment}
 use Rattle.mirror_session.specs.LineDone.{LineDone, blanked}

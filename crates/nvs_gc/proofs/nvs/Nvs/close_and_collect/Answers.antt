@@ -1,9 +1,9 @@
 use Rattle.std.proofs.Common.{◌≡◌, ℕ, ◌<◌, List, length, sym, subst, inl, inr, arith}
 use Rattle.flash_map.specs.Area.{sectors_of}
-use Rattle.ring_laws.specs.Area.{open_sector}
-use Rattle.ring_laws.proofs.AreaReads.{length-sectors}
-use Rattle.ring_laws.proofs.Stays.{open_within}
-use Rattle.ring_store.proofs.ClosingSteps.{same-or-used}
+use Rattle.item_laws.specs.Area.{open_sector}
+use Rattle.item_laws.proofs.AreaReads.{length-sectors}
+use Rattle.item_laws.proofs.Stays.{open_within}
+use Rattle.item_store.proofs.ClosingSteps.{same-or-used}
 use Rattle.nvs_gc.specs.Standing.{kind_on}
 use Rattle.nvs_gc.proofs.nvs.Nvs.close_and_collect.Goals as goal
 

@@ -1,6 +1,6 @@
 use Rattle.std.proofs.Common.{◌≡◌, ℕ, ◌^◌, ◌<◌, List, Option, Some, None, IfSome, sym, subst, arith}
-use Rattle.pair_laws.specs.Bytes.{IsIdOf}
-use Rattle.pair_laws.specs.Items.{Items}
+use Rattle.item_laws.specs.Bytes.{IsIdOf}
+use Rattle.item_laws.specs.Items.{Items}
 use Rattle.nvs_gc.specs.Standing.{items_on}
 use Rattle.nvs_gc.proofs.nvs.Nvs.id_of.Goals as goal
 

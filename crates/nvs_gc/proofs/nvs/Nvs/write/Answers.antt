@@ -1,7 +1,7 @@
 use Rattle.std.proofs.Common.{◌≡◌, None}
 use Rattle.flash_map.specs.Area.{sectors_of}
-use Rattle.nvs_kind.specs.Kinds.{kind}
-use Rattle.ring_store.proofs.CallFacts.{from_geometry}
+use Rattle.nvs_format.specs.Kinds.{kind}
+use Rattle.item_store.proofs.CallFacts.{from_geometry}
 use Rattle.nvs_gc.proofs.nvs.Nvs.write.Goals as goal
 
 pub returns-clause-undamaged : goal.returns-clause-undamaged

@@ -3,9 +3,9 @@ use Rattle.std.specs.Prelude.{IfSome}
 use Rattle.flash_sim.specs.Device.{Device}
 use Rattle.flash_map.specs.declared.area.Area.{Area}
 use Rattle.flash_map.specs.Area.{geometry_of, sectors_of, sector_at}
-use Rattle.ring_store.specs.declared.entry.Placed.{Placed}
-use Rattle.ring_store.specs.Older.{IsNextOlder, newest_before}
-use Rattle.zms_kind.specs.Area.{IsListed}
+use Rattle.item_store.specs.declared.entry.Placed.{Placed}
+use Rattle.item_store.specs.Older.{IsNextOlder, newest_before}
+use Rattle.zms_format.specs.Area.{IsListed}
 use Rattle.zms_store.specs.Standing.{entries_on, kind_on}
 use Rattle.zms_store.proofs.Places.{placed_there}
 use Rattle.zms_store.proofs.store.Zms.walk.Goals as goal

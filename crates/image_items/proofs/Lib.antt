@@ -1,4 +1,0 @@
-mod AreaLemmas
-mod InputLemmas
-mod Endings
-mod WholeLemmas

@@ -1,0 +1,9 @@
+pub mod BlankLemmas
+mod Endings
+mod Held
+pub mod Labels
+pub mod LineLemmas
+pub mod MapLemmas
+mod ScriptText
+mod Served
+pub mod ServedLemmas

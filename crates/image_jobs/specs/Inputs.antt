@@ -1,0 +1,67 @@
+-- Which image a play begins with and which lines it plays, or why there are none; and what it tells of the
+-- answers.
+use Rattle.std.specs.Prelude.{◌≡◌, ℕ, Option, Some, None, List, [], ◌∷◌, ◌++◌, codes}
+use Rattle.text_parts.specs.Parts.{parts}
+use Rattle.zs_host.specs.Outside.{Outside}
+use Rattle.image_file.specs.Format.{Plain}
+use Rattle.image_file.specs.Spec.{IsSpec, FirstBad, nothing_listed}
+use Rattle.command_words.specs.declared.commands.StoreKind.{StoreKind}
+use Rattle.command_words.specs.declared.commands.StoreKind.TheVariants as store
+use Rattle.command_words.specs.Commands.{store_word}
+use Rattle.script_lines.specs.declared.line.Line.{Line}
+use Rattle.script_lines.specs.declared.line.Line.TheVariants as line
+use Rattle.script_lines.specs.declared.answer.Answer.{Answer}
+use Rattle.script_lines.specs.Generator.{generated}
+use Rattle.image_jobs.specs.declared.plays.Start.{Start}
+use Rattle.image_jobs.specs.declared.plays.Start.TheVariants.{File, Blank}
+use Rattle.image_jobs.specs.declared.plays.Source.{Source}
+use Rattle.image_jobs.specs.declared.plays.Source.TheVariants.{Script, Names, Migration, Generated}
+use Rattle.image_jobs.specs.declared.plays.Telling.{Telling}
+use Rattle.image_jobs.specs.declared.plays.Telling.TheVariants.{All, Last, Summary}
+use Rattle.image_jobs.specs.declared.plays.Output.{Output}
+use Rattle.image_jobs.specs.declared.plays.Output.TheVariants.{Nowhere, Into}
+use Rattle.image_jobs.specs.declared.stops.Refusal.{Refusal}
+use Rattle.image_jobs.specs.declared.stops.Refusal.TheVariants.{BadSpec}
+use Rattle.image_jobs.specs.Reading.{HasImage, LacksImage, HasScript, LacksScript}
+use Rattle.image_jobs.specs.Texts.{texts, last_text, summary}
+
+-- SPEC describes no image: some item is the first that is not lawful
+abbrev pub LacksSpec : List ℕ → Refusal → Type 0
+LacksSpec spec refusal = (refusal ≡ BadSpec) × (n : ℕ) × FirstBad nothing_listed (parts 44 spec) n
+
+-- the blank image on which a generated script runs
+abbrev pub blank_spec : StoreKind → List ℕ
+blank_spec store.Nvs = codes "bank=erasing/4/4096/4,area=nvs/main/0/0/4"
+blank_spec store.Zms = codes "bank=rewritable/16/4096/4,area=zms/main/0/0/4"
+blank_spec store.Fcb = codes "bank=erasing/4/4096/4,area=fcb/main/0/0/4"
+
+abbrev pub BeginsWith : Start → Outside → Plain → Type 0
+BeginsWith (File name) host image = HasImage host name.now image
+BeginsWith (Blank kind) host image = IsSpec (blank_spec kind) image
+
+abbrev pub LacksStart : Start → Outside → Refusal → Type 0
+LacksStart (File name) host refusal = LacksImage host name.now refusal
+LacksStart (Blank kind) host refusal = LacksSpec (blank_spec kind) refusal
+
+-- the lines of a play, whose values have at most so many bytes
+abbrev pub PlaysLines : Source → ℕ → Outside → List Line → Type 0
+PlaysLines (Script name) limit host lines = HasScript limit host name.now lines
+PlaysLines Names limit host lines = lines ≡ line.Names ∷ []
+PlaysLines Migration limit host lines = lines ≡ line.Mount ∷ line.Migrate ∷ []
+PlaysLines (Generated n) limit host lines = lines ≡ generated n ++ line.Names ∷ []
+
+abbrev pub LacksSource : Source → ℕ → Outside → Refusal → Type 0
+LacksSource (Script name) limit host refusal = LacksScript limit host name.now refusal
+LacksSource Names limit host refusal = ⊥
+LacksSource Migration limit host refusal = ⊥
+LacksSource (Generated n) limit host refusal = ⊥
+
+abbrev pub told_by : Telling → List Line → List Answer → List ℕ
+told_by All lines answers = texts answers
+told_by Last lines answers = last_text answers
+told_by (Summary kind n) lines answers = summary (store_word kind) n lines answers
+
+-- the file into which the image that is left is written
+abbrev pub out_of : Output → Option (List ℕ)
+out_of Nowhere = None
+out_of (Into name) = Some name.now

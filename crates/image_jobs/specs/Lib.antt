@@ -1,0 +1,11 @@
+pub mod Blank
+pub mod Held
+pub mod Images
+pub mod Inputs
+pub mod Laws
+pub mod Lines
+pub mod Plays
+pub mod Reading
+pub mod Refusals
+pub mod Stages
+pub mod Texts

@@ -1,3 +1,0 @@
-mod AreaLemmas
-mod InputLemmas
-mod Endings

@@ -1,4 +1,0 @@
-pub mod BlankLemmas
-pub mod LineLemmas
-pub mod MapLemmas
-pub mod ServedLemmas

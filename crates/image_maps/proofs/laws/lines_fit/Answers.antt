@@ -1,5 +1,0 @@
-use Rattle.image_maps.proofs.LineLemmas.{lines_are_served}
-use Rattle.image_maps.proofs.laws.lines_fit.Goals as goal
-
-pub returns : goal.returns
-returns c = lines_are_served

@@ -1,4 +1,0 @@
-pub mod Blank
-pub mod Held
-pub mod Laws
-pub mod Lines

@@ -1,5 +1,0 @@
-mod AreaLemmas
-mod InputLemmas
-mod TellLemmas
-mod SoundLemmas
-mod Endings

@@ -1,5 +1,0 @@
-mod Held
-pub mod Labels
-mod ScriptText
-mod Served
-mod Endings

@@ -1,0 +1,16 @@
+pub mod Area
+pub mod Bytes
+pub mod Costs
+pub mod Entries
+pub mod Forms
+pub mod Items
+pub mod Live
+pub mod LivePairs
+pub mod NextIds
+pub mod PairRounds
+pub mod Reading
+pub mod RoundParts
+pub mod Rounds
+pub mod Slots
+pub mod Steps
+pub mod Walk

@@ -1,3 +1,0 @@
-mod NumberPairs
-mod TableFacts
-mod TableLaws

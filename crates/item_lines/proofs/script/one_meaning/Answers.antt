@@ -1,5 +1,0 @@
-use Rattle.item_lines.proofs.TableLaws as laws
-use Rattle.item_lines.proofs.script.one_meaning.Goals as goal
-
-pub returns : goal.returns
-returns c = laws.one_meaning

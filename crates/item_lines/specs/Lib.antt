@@ -1,4 +1,0 @@
-pub mod Answer
-pub mod Laws
-pub mod Line
-pub mod Plan

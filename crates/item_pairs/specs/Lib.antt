@@ -1,5 +1,0 @@
-pub mod Cost
-pub mod Homes
-pub mod Numbering
-pub mod PairRoom
-pub mod Pairs

@@ -1,0 +1,50 @@
+// Which ids items have.
+ghost use Rattle.std.specs.Prelude.{◌≡◌, ℕ, ◌^◌, ◌≤◌};
+
+/// Which ids items have.
+#[derive(Clone, Copy, Debug, PartialEq, Eq)]
+pub enum Ids {
+    /// Ids of 16 bits, as those of NVS: 0 to 65,534.
+    Short,
+    /// Ids of 32 bits, as those of ZMS: 0 to 4,294,967,294.
+    Long,
+}
+
+/// Short ids end here.
+pub const SHORT_END: u64 = 0xFFFF;
+
+/// Long ids end here.
+pub const LONG_END: u64 = 0xFFFF_FFFF;
+
+// Where ids end, as a type.
+pub(crate) trait IdsEnd {
+    ghost below: { ℕ };
+
+    fn end() -> u64
+        ensures value { result ≡ below }
+        ensures small { result ≤ 2 ^ 32 };
+}
+
+pub(crate) struct ShortIds;
+
+pub(crate) struct LongIds;
+
+impl IdsEnd for ShortIds {
+    ghost use Rattle.item_session.specs.declared.ids.TheConstants.{SHORT_END};
+
+    ghost below = { SHORT_END };
+
+    fn end() -> u64 {
+        SHORT_END
+    }
+}
+
+impl IdsEnd for LongIds {
+    ghost use Rattle.item_session.specs.declared.ids.TheConstants.{LONG_END};
+
+    ghost below = { LONG_END };
+
+    fn end() -> u64 {
+        LONG_END
+    }
+}

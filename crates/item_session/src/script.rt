@@ -1,0 +1,104 @@
+// A whole script.
+ghost use Rattle.std.specs.Prelude.{◌≡◌, IfOk, map};
+ghost use Rattle.script_lines.specs.Script.{ReadsLines};
+ghost use Rattle.item_session.specs.LineLaws.{EachIsRead, OneMeaning};
+ghost use Rattle.item_session.specs.Line.{ReadsScript, item_forms, row_of};
+
+use crate::ids::{Ids, IdsEnd, LongIds, ShortIds};
+use crate::line::Line;
+use crate::reading::read_line;
+use flash_sim::NoMemory;
+use script_lines::{LineFault, ScriptFault, ScriptLine, read_lines};
+use std::alloc::Global;
+use std::marker::PhantomData;
+
+// A line whose ids are below the end that the type says.
+#[derive(Drop)]
+struct LineBelow<I> {
+    line: Line,
+    ids: PhantomData<I>,
+}
+
+impl<I: IdsEnd> ScriptLine for LineBelow<I> {
+    ghost use Rattle.item_session.specs.Line.{item_forms, row_of};
+
+    ghost forms = { item_forms I.below };
+
+    ghost says = { λ told. row_of told.line };
+
+    fn read(alloc: Global, text: &[u8], limit: usize) -> Result<LineBelow<I>, LineFault> {
+        match read_line(alloc, text, I::end(), limit) {
+            Ok(line) => Ok(LineBelow {
+                line,
+                ids: PhantomData,
+            }),
+            Err(fault) => Err(fault),
+        }
+    }
+}
+
+// The lines alone.
+fn lines_of<I>(alloc: Global, told: Vec<LineBelow<I>>) -> Result<Vec<Line>, NoMemory>
+    ensures { IfOk result
+        (λ lines. map row_of lines.items ≡ map (λ below. row_of below.line) told.items) }
+{
+    let mut lines = Vec::new(alloc);
+    for below in told {
+        match lines.push(below.line) {
+            Ok(()) => {}
+            Err(_) => return Err(NoMemory),
+        }
+    }
+    Ok(lines)
+}
+
+fn read_below<I: IdsEnd>(
+    alloc: Global,
+    bytes: &[u8],
+    limit: usize,
+) -> Result<Vec<Line>, ScriptFault>
+    ensures { ReadsLines (item_forms I.below) row_of limit bytes.now result }
+{
+    match read_lines::<LineBelow<I>>(alloc, bytes, limit) {
+        Ok(told) => match lines_of(alloc, told) {
+            Ok(lines) => Ok(lines),
+            Err(_) => Err(ScriptFault::NoMemory),
+        },
+        Err(fault) => Err(fault),
+    }
+}
+
+/// The lines of a script on numbered items.
+///
+/// Lines end with LF, which the last may lack. An empty line and one that begins with `#` are
+/// skipped, and counted. A line's words are separated by one space. The lines are `set ID HEX`,
+/// `get ID`, `del ID`, `older ID N`, `space`, `cut N`, `uncut` and `mount`. ID is one of these ids
+/// and N below 2^32, in decimal without a sign or leading zeros; HEX is one byte at least and no
+/// more than the limit, in digits of either case.
+///
+/// # Errors
+/// `BadLine` where a line is no line of these: the first such line, with its first cause. `NoMemory`.
+pub fn read_script(
+    alloc: Global,
+    bytes: &[u8],
+    ids: Ids,
+    limit: usize,
+) -> Result<Vec<Line>, ScriptFault>
+    ensures { ReadsScript ids limit bytes.now result }
+{
+    match ids {
+        Ids::Short => read_below::<ShortIds>(alloc, bytes, limit),
+        Ids::Long => read_below::<LongIds>(alloc, bytes, limit),
+    }
+}
+
+/// No two lines say the same. That no text has two readings, or both a reading and a refusal, holds
+/// by any table: `script_lines::one_reading`.
+pub fn one_meaning()
+    ensures { OneMeaning }
+{}
+
+/// Words spell a line or are refused for some cause.
+pub fn each_is_read()
+    ensures { EachIsRead }
+{}

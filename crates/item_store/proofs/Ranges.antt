@@ -1,0 +1,152 @@
+-- What steps one after the other spend, within their ranges.
+use Rattle.std.proofs.Common.{◌≡◌, ℕ, ◌+◌, ◌≤◌, max, Bool, true, false, cond, List, [], ◌∷◌, length, arith}
+use Rattle.std.proofs.lemmas.List.Sums.{sum_by-cons}
+use Rattle.flash_sim.specs.Device.{Device}
+use Rattle.flash_map.proofs.SpendingBounds.{between_then, between_within}
+use Rattle.item_laws.specs.PairRounds.{copies_cost}
+use Rattle.item_laws.specs.Area.{next}
+use Rattle.item_laws.specs.Forms.{to_copy}
+use Rattle.flash_map.specs.Area.{sector_at}
+use Rattle.item_store.specs.declared.entry.Redo.{Redo}
+use Rattle.item_store.specs.declared.entry.Redo.TheVariants.{Nothing, ClearNext, CollectAgain}
+use Rattle.item_store.specs.Collecting.{redo_units}
+use Rattle.item_store.specs.Kind.{Range, LiesIn, CoversWhole, Kind, IsKind, is_clean_at, making_ready}
+use Rattle.item_store.specs.Spending.{none, both, copies, collect_units, ready_units, again_units, has_victim, round_units}
+use Rattle.item_store.specs.Standing.{SpendsIn, SpendsUpTo}
+
+pub both-in : (a b c : Device) (one other : Range) → SpendsIn a b one → SpendsIn b c other → SpendsIn a c (both one other)
+both-in a b c one other first second = between_then first second
+
+max-first : (m n : ℕ) → m ≤ max m n
+max-first m n = omega arith
+
+max-second : (m n : ℕ) → n ≤ max m n
+max-second m n = omega arith
+
+-- the first step was cut
+pub first-lost : (a b : Device) (one other : Range) → SpendsUpTo a b one → SpendsUpTo a b (both one other)
+first-lost a b one other first =
+    let le = max-first one.lost (one.most + other.lost) in
+    between_within first 0 (max one.lost (one.most + other.lost)) (omega arith) (omega arith)
+
+-- the second was
+pub then-lost : (a b c : Device) (one other : Range) → SpendsIn a b one → SpendsUpTo b c other → SpendsUpTo a c (both one other)
+then-lost a b c one other first second =
+    let le = max-second one.lost (one.most + other.lost) in
+    between_within (between_then first second) 0 (max one.lost (one.most + other.lost)) (omega arith) (omega arith)
+
+-- a wider range
+pub within-in : (a b : Device) (one wide : Range) → LiesIn one wide → SpendsIn a b one → SpendsIn a b wide
+within-in a b one wide lies spends = between_within spends wide.least wide.most lies.least lies.most
+
+pub within-lost : (a b : Device) (one wide : Range) → LiesIn one wide → SpendsUpTo a b one → SpendsUpTo a b wide
+within-lost a b one wide lies spends = between_within spends 0 wide.lost (omega arith) lies.lost
+
+-- both are covered
+pub both-covers : (one other : Range) → CoversWhole one → CoversWhole other → CoversWhole (both one other)
+both-covers one other first second = let le = max-second one.lost (one.most + other.lost) in omega arith
+
+-- and a loss in either is no more than the losses in each
+pub both-lost : (one other : Range) → CoversWhole one → (both one other).lost ≤ one.lost + other.lost
+both-lost one other covers = most-of one.lost one.most other.lost covers
+  where
+    most-of : (a m b : ℕ) → m ≤ a → max a (m + b) ≤ a + b
+    most-of a m b le = omega arith
+
+-- ---- the copies of a collection, its steps, and rounds
+
+-- a higher price
+pub copies-cover : (price higher : ℕ → ℕ) → ((len : ℕ) → price len ≤ higher len) → (pairs : List (ℕ × List ℕ)) → copies_cost price pairs ≤ copies_cost higher pairs
+copies-cover price higher le [] = omega arith
+copies-cover price higher le (p ∷ ps) =
+    let rest = copies-cover price higher le ps in
+    let here = le (length p.1) in
+    let low : copies_cost price (p ∷ ps) ≡ price (length p.1) + copies_cost price ps = sum_by-cons (λ (q : ℕ × List ℕ). price (length q.1)) p ps in
+    let high : copies_cost higher (p ∷ ps) ≡ higher (length p.1) + copies_cost higher ps = sum_by-cons (λ (q : ℕ × List ℕ). higher (length q.1)) p ps in
+    omega arith
+
+one-covers : (t : Bool) (one other : Range) → CoversWhole one → CoversWhole other → CoversWhole (cond t one other)
+one-covers true one other first second = first
+one-covers false one other first second = second
+
+-- one of two
+one-lost : (t : Bool) (one other : Range) (most : ℕ) → other.lost ≤ most → (cond t one other).lost ≤ max one.lost most
+one-lost true one other most le = max-first one.lost most
+one-lost false one other most le = let second = max-second one.lost most in omega arith
+
+module _ (k : Kind) (law : IsKind k) where
+  copied-covers : (pairs : List (ℕ × List ℕ)) → CoversWhole (copies k pairs)
+  copied-covers pairs = copies-cover (λ len. (k.units.any_copy len).most) (λ len. (k.units.any_copy len).lost) law.units.any_copies pairs
+
+  -- gc-done, and the emptying of the victim
+  done-covers : CoversWhole (both k.units.any_done k.units.any_clear)
+  done-covers = both-covers k.units.any_done k.units.any_clear law.units.any_dones law.units.any_clears
+
+  collect-covers : (sectors : List (List ℕ)) (place : ℕ) → CoversWhole (collect_units k sectors place)
+  collect-covers sectors place = both-covers (copies k (to_copy k.reading sectors place)) (both k.units.any_done k.units.any_clear) (copied-covers (to_copy k.reading sectors place)) done-covers
+
+  collect-lost : (sectors : List (List ℕ)) (place : ℕ) → (collect_units k sectors place).lost ≤ copies_cost (λ len. (k.units.any_copy len).lost) (to_copy k.reading sectors place) + (k.units.any_done.lost + k.units.any_clear.lost)
+  collect-lost sectors place =
+      let outer = both-lost (copies k (to_copy k.reading sectors place)) (both k.units.any_done k.units.any_clear) (copied-covers (to_copy k.reading sectors place)) in
+      let inner = both-lost k.units.any_done k.units.any_clear law.units.any_dones in
+      omega arith
+
+  ready-covers : (sectors : List (List ℕ)) (place : ℕ) → CoversWhole (ready_units k sectors place)
+  ready-covers sectors place =
+      one-covers (is_clean_at k sectors place) (k.units.begin (sector_at sectors place)) (k.units.clear (sector_at sectors place)) (law.units.begins (sector_at sectors place)) (law.units.clears (sector_at sectors place))
+
+  pub again-lost : (sectors : List (List ℕ)) (place : ℕ) → (again_units k sectors place).lost
+      ≤ max (k.units.begin (sector_at sectors place)).lost k.units.any_clear.lost + (copies_cost (λ len. (k.units.any_copy len).lost) (to_copy k.reading sectors place) + (k.units.any_done.lost + k.units.any_clear.lost))
+  again-lost sectors place =
+      let outer = both-lost (ready_units k sectors place) (collect_units k sectors place) (ready-covers sectors place) in
+      let first = one-lost (is_clean_at k sectors place) (k.units.begin (sector_at sectors place)) (k.units.clear (sector_at sectors place)) k.units.any_clear.lost (law.units.clear_in (sector_at sectors place)).lost in
+      let later = collect-lost sectors place in
+      omega arith
+
+  -- what a mount has to do
+  pub redo-covers : (sectors : List (List ℕ)) (place : ℕ) (redo : Redo) → CoversWhole (redo_units k sectors place redo)
+  redo-covers sectors place Nothing = omega arith
+  redo-covers sectors place ClearNext = law.units.clears (sector_at sectors (next sectors place))
+  redo-covers sectors place CollectAgain = both-covers (ready_units k sectors place) (collect_units k sectors place) (ready-covers sectors place) (collect-covers sectors place)
+
+  -- the collection of a round
+  module _ (sectors : List (List ℕ)) (place : ℕ) where
+    abbrev opened : ℕ
+    opened = next sectors place
+
+    none-covers : CoversWhole none
+    none-covers = omega arith
+
+    -- with no victim
+    abbrev opening : Range
+    opening = cond k.opens_ready (ready_units k sectors opened) none
+
+    opening-covers : CoversWhole opening
+    opening-covers = one-covers k.opens_ready (ready_units k sectors opened) none (ready-covers sectors opened) none-covers
+
+    again-covers : CoversWhole (again_units k sectors opened)
+    again-covers = both-covers (ready_units k sectors opened) (collect_units k sectors opened) (ready-covers sectors opened) (collect-covers sectors opened)
+
+    pub round-covers : CoversWhole (round_units k sectors place)
+    round-covers =
+        both-covers (k.units.close (sector_at sectors place)) (cond (has_victim k sectors place) (again_units k sectors opened) opening) (law.units.closes (sector_at sectors place))
+        (one-covers (has_victim k sectors place) (again_units k sectors opened) opening again-covers opening-covers)
+
+    opening-lost : (t : Bool) → (cond t (ready_units k sectors opened) none).lost ≤ (ready_units k sectors opened).lost
+    opening-lost true = omega arith
+    opening-lost false = omega arith
+
+    rest-lost : (t : Bool) → (cond t (again_units k sectors opened) opening).lost
+        ≤ (ready_units k sectors opened).lost + (copies_cost (λ len. (k.units.any_copy len).lost) (to_copy k.reading sectors opened) + (k.units.any_done.lost + k.units.any_clear.lost))
+    rest-lost false = let le = opening-lost k.opens_ready in omega arith
+    rest-lost true =
+        let inner = both-lost (ready_units k sectors opened) (collect_units k sectors opened) (ready-covers sectors opened) in
+        let later = collect-lost sectors opened in
+        omega arith
+
+    pub round-lost : (round_units k sectors place).lost ≤ (k.units.close (sector_at sectors place)).lost
+        + ((making_ready k (sector_at sectors (next sectors place))).lost + (copies_cost (λ len. (k.units.any_copy len).lost) (to_copy k.reading sectors (next sectors place)) + (k.units.any_done.lost + k.units.any_clear.lost)))
+    round-lost =
+        let outer = both-lost (k.units.close (sector_at sectors place)) (cond (has_victim k sectors place) (again_units k sectors opened) opening) (law.units.closes (sector_at sectors place)) in
+        let later = rest-lost (has_victim k sectors place) in
+        omega arith

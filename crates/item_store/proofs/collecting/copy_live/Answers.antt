@@ -1,0 +1,325 @@
+use Rattle.std.proofs.Common.{◌≡◌, ◌+◌, ◌-◌, ◌<◌, ℕ, Bool, List, [], ◌∷◌, inl, inr, sym, ap, subst, ◌∙◌, arith}
+use Rattle.flash_sim.specs.Device.{Device}
+use Rattle.flash_sim.specs.declared.flash.Bank.{Bank}
+use Rattle.flash_map.specs.declared.area.Area.{Area}
+use Rattle.flash_map.specs.Area.{geometry_of, sectors_of, sector_at}
+use Rattle.flash_map.specs.Touches.{Touches}
+use Rattle.flash_map.proofs.PieceLemmas.{on_err}
+use Rattle.flash_map.proofs.Touches.{then}
+use Rattle.item_laws.specs.Area.{next}
+use Rattle.item_store.specs.Kind.{IsKind}
+use Rattle.item_store.specs.Standing.{IsStoreArea}
+use Rattle.item_store.proofs.Areas.{unit_is, large_there}
+use Rattle.item_store.proofs.CopyLoop.{IsCopying, copying_start, copying_end}
+use Rattle.item_laws.proofs.RingSteps.{reads}
+use Rattle.item_store.specs.Seen.{holds_live}
+use Rattle.item_store.proofs.LiveSteps.{victim_counts}
+use Rattle.item_store.proofs.SlotFacts.{live_flag, current_within, next_within, opens, within, room, inside, apart, listed_there, ready, closed, not_done, source, kept_there, one_more, one_lost, one_most, kept_after}
+use Rattle.item_store.proofs.collecting.copy_live.Goals as goal
+
+pub slots-slots-requires-clause-inside : goal.slots-slots-requires-clause-inside
+slots-slots-requires-clause-inside g c =
+    let a : Device = g.F.Flash.device c.args.flash.now in
+    let area : Area = c.args.area.now in
+    let place : ℕ = c.args.current in
+    let law : IsKind (g.T.SlotSectors.kind (geometry_of a area)) = g.met.T.SlotSectors.lawful (geometry_of a area) (unit_is a area (g.met.F.Flash.is_lawful c.args.flash.now) c.requires.area.lawful) in
+    let within = next_within a area place c.requires.collecting.ring.within in omega (arith, c.requires.victim)
+
+pub loop-slot-init : goal.loop-slot-init
+loop-slot-init g c =
+    let a : Device = g.F.Flash.device c.args.flash.now in
+    let area : Area = c.args.area.now in
+    let place : ℕ = c.args.current in
+    let law : IsKind (g.T.SlotSectors.kind (geometry_of a area)) = g.met.T.SlotSectors.lawful (geometry_of a area) (unit_is a area (g.met.F.Flash.is_lawful c.args.flash.now) c.requires.area.lawful) in
+    let none : c.first_slot-first.result - c.first_slot-first.result ≡ 0 = omega arith in
+    record {
+      copying = subst (λ (n : ℕ). IsCopying (g.T.SlotSectors.kind (geometry_of a area)) a a area place n) (sym none) (copying_start (g.T.SlotSectors.kind (geometry_of a area)) law a area place c.requires.begun);
+      kept = c.requires.kept;
+    }
+
+pub copy_slot-requires-clause-current : goal.copy_slot-requires-clause-current
+copy_slot-requires-clause-current g c =
+    let a : Device = g.F.Flash.device c.args.flash.now in
+    let area : Area = c.args.area.now in
+    let place : ℕ = c.args.current in
+    let law : IsKind (g.T.SlotSectors.kind (geometry_of a area)) = g.met.T.SlotSectors.lawful (geometry_of a area) (unit_is a area (g.met.F.Flash.is_lawful c.args.flash.now) c.requires.area.lawful) in
+    let d : Device = g.F.Flash.device c.loop-slot.flash in
+    let first_is = c.first_slot-first.ensures.value (geometry_of a area) in
+    let kept = c.loop-slot.invariant in
+    let more : c.loop-slot.slot < c.first_slot-first.result + (g.T.SlotSectors.kind (geometry_of a area)).count (sector_at (sectors_of a area) (next (sectors_of a area) place)) =
+    (let count : c.slots-slots.result ≡ (g.T.SlotSectors.kind (geometry_of a area)).count (sector_at (sectors_of a area) (next (sectors_of a area) place)) = c.slots-slots.ensures.value ∙ ap (λ (v : ℕ). (g.T.SlotSectors.kind (geometry_of a area)).count (sector_at (sectors_of a area) v)) c.requires.victim in omega arith) in
+    opens g.T.SlotSectors.kind g.T.SlotSectors.role a d area place c.args.victim c.first_slot-first.result c.loop-slot.slot law (g.met.F.Flash.is_lawful c.args.flash.now) c.requires.area c.requires.collecting c.requires.victim first_is (omega arith) kept.copying
+
+pub copy_slot-requires-clause-place : goal.copy_slot-requires-clause-place
+copy_slot-requires-clause-place g c =
+    let a : Device = g.F.Flash.device c.args.flash.now in
+    let area : Area = c.args.area.now in
+    let place : ℕ = c.args.current in
+    let law : IsKind (g.T.SlotSectors.kind (geometry_of a area)) = g.met.T.SlotSectors.lawful (geometry_of a area) (unit_is a area (g.met.F.Flash.is_lawful c.args.flash.now) c.requires.area.lawful) in
+    current_within a area place c.requires.collecting.ring.within
+
+pub copy_slot-requires-clause-inside : goal.copy_slot-requires-clause-inside
+copy_slot-requires-clause-inside g c =
+    let a : Device = g.F.Flash.device c.args.flash.now in
+    let area : Area = c.args.area.now in
+    let place : ℕ = c.args.current in
+    let law : IsKind (g.T.SlotSectors.kind (geometry_of a area)) = g.met.T.SlotSectors.lawful (geometry_of a area) (unit_is a area (g.met.F.Flash.is_lawful c.args.flash.now) c.requires.area.lawful) in
+    let d : Device = g.F.Flash.device c.loop-slot.flash in
+    let first_is = c.first_slot-first.ensures.value (geometry_of a area) in
+    let kept = c.loop-slot.invariant in
+    let more : c.loop-slot.slot < c.first_slot-first.result + (g.T.SlotSectors.kind (geometry_of a area)).count (sector_at (sectors_of a area) (next (sectors_of a area) place)) =
+    (let count : c.slots-slots.result ≡ (g.T.SlotSectors.kind (geometry_of a area)).count (sector_at (sectors_of a area) (next (sectors_of a area) place)) = c.slots-slots.ensures.value ∙ ap (λ (v : ℕ). (g.T.SlotSectors.kind (geometry_of a area)).count (sector_at (sectors_of a area) v)) c.requires.victim in omega arith) in
+    inside g.T.SlotSectors.kind g.T.SlotSectors.role a d area place c.args.victim c.first_slot-first.result c.loop-slot.slot law (g.met.F.Flash.is_lawful c.args.flash.now) c.requires.area c.requires.collecting c.requires.victim first_is (omega arith) kept.copying
+
+pub copy_slot-requires-clause-within : goal.copy_slot-requires-clause-within
+copy_slot-requires-clause-within g c =
+    let a : Device = g.F.Flash.device c.args.flash.now in
+    let area : Area = c.args.area.now in
+    let place : ℕ = c.args.current in
+    let law : IsKind (g.T.SlotSectors.kind (geometry_of a area)) = g.met.T.SlotSectors.lawful (geometry_of a area) (unit_is a area (g.met.F.Flash.is_lawful c.args.flash.now) c.requires.area.lawful) in
+    let d : Device = g.F.Flash.device c.loop-slot.flash in
+    let first_is = c.first_slot-first.ensures.value (geometry_of a area) in
+    let kept = c.loop-slot.invariant in
+    let more : c.loop-slot.slot < c.first_slot-first.result + (g.T.SlotSectors.kind (geometry_of a area)).count (sector_at (sectors_of a area) (next (sectors_of a area) place)) =
+    (let count : c.slots-slots.result ≡ (g.T.SlotSectors.kind (geometry_of a area)).count (sector_at (sectors_of a area) (next (sectors_of a area) place)) = c.slots-slots.ensures.value ∙ ap (λ (v : ℕ). (g.T.SlotSectors.kind (geometry_of a area)).count (sector_at (sectors_of a area) v)) c.requires.victim in omega arith) in
+    within g.T.SlotSectors.kind g.T.SlotSectors.role a d area place c.args.victim c.first_slot-first.result c.loop-slot.slot law (g.met.F.Flash.is_lawful c.args.flash.now) c.requires.area c.requires.collecting c.requires.victim first_is (omega arith) kept.copying
+
+pub copy_slot-requires-clause-room : goal.copy_slot-requires-clause-room
+copy_slot-requires-clause-room g c =
+    let a : Device = g.F.Flash.device c.args.flash.now in
+    let area : Area = c.args.area.now in
+    let place : ℕ = c.args.current in
+    let law : IsKind (g.T.SlotSectors.kind (geometry_of a area)) = g.met.T.SlotSectors.lawful (geometry_of a area) (unit_is a area (g.met.F.Flash.is_lawful c.args.flash.now) c.requires.area.lawful) in
+    let d : Device = g.F.Flash.device c.loop-slot.flash in
+    let first_is = c.first_slot-first.ensures.value (geometry_of a area) in
+    let kept = c.loop-slot.invariant in
+    let more : c.loop-slot.slot < c.first_slot-first.result + (g.T.SlotSectors.kind (geometry_of a area)).count (sector_at (sectors_of a area) (next (sectors_of a area) place)) =
+    (let count : c.slots-slots.result ≡ (g.T.SlotSectors.kind (geometry_of a area)).count (sector_at (sectors_of a area) (next (sectors_of a area) place)) = c.slots-slots.ensures.value ∙ ap (λ (v : ℕ). (g.T.SlotSectors.kind (geometry_of a area)).count (sector_at (sectors_of a area) v)) c.requires.victim in omega arith) in
+    room g.T.SlotSectors.kind g.T.SlotSectors.role a d area place c.args.victim c.first_slot-first.result c.loop-slot.slot law (g.met.F.Flash.is_lawful c.args.flash.now) c.requires.area c.requires.collecting c.requires.victim first_is (omega arith) kept.copying more
+
+pub returns-in_err-copy_slot-clause-lost : goal.returns-in_err-copy_slot-clause-lost
+returns-in_err-copy_slot-clause-lost g c =
+    let a : Device = g.F.Flash.device c.args.flash.now in
+    let area : Area = c.args.area.now in
+    let place : ℕ = c.args.current in
+    let law : IsKind (g.T.SlotSectors.kind (geometry_of a area)) = g.met.T.SlotSectors.lawful (geometry_of a area) (unit_is a area (g.met.F.Flash.is_lawful c.args.flash.now) c.requires.area.lawful) in
+    let d : Device = g.F.Flash.device c.loop-slot.flash in
+    let first_is = c.first_slot-first.ensures.value (geometry_of a area) in
+    let kept = c.loop-slot.invariant in
+    let more : c.loop-slot.slot < c.first_slot-first.result + (g.T.SlotSectors.kind (geometry_of a area)).count (sector_at (sectors_of a area) (next (sectors_of a area) place)) =
+    (let count : c.slots-slots.result ≡ (g.T.SlotSectors.kind (geometry_of a area)).count (sector_at (sectors_of a area) (next (sectors_of a area) place)) = c.slots-slots.ensures.value ∙ ap (λ (v : ℕ). (g.T.SlotSectors.kind (geometry_of a area)).count (sector_at (sectors_of a area) v)) c.requires.victim in omega arith) in
+    let e : Device = g.F.Flash.device c.copy_slot.new.flash in
+    on_err c.from_residual.result (one_lost g.T.SlotSectors.kind g.T.SlotSectors.role a d area place c.args.victim c.first_slot-first.result c.loop-slot.slot law (g.met.F.Flash.is_lawful c.args.flash.now) c.requires.area c.requires.collecting c.requires.victim first_is (omega arith) kept.copying e c.in_err-copy_slot.ensures.only c.in_err-copy_slot.ensures.lost)
+
+pub returns-in_err-copy_slot-clause-spends_lost : goal.returns-in_err-copy_slot-clause-spends_lost
+returns-in_err-copy_slot-clause-spends_lost g c =
+    let a : Device = g.F.Flash.device c.args.flash.now in
+    let area : Area = c.args.area.now in
+    let place : ℕ = c.args.current in
+    let law : IsKind (g.T.SlotSectors.kind (geometry_of a area)) = g.met.T.SlotSectors.lawful (geometry_of a area) (unit_is a area (g.met.F.Flash.is_lawful c.args.flash.now) c.requires.area.lawful) in
+    let d : Device = g.F.Flash.device c.loop-slot.flash in
+    let first_is = c.first_slot-first.ensures.value (geometry_of a area) in
+    let kept = c.loop-slot.invariant in
+    let more : c.loop-slot.slot < c.first_slot-first.result + (g.T.SlotSectors.kind (geometry_of a area)).count (sector_at (sectors_of a area) (next (sectors_of a area) place)) =
+    (let count : c.slots-slots.result ≡ (g.T.SlotSectors.kind (geometry_of a area)).count (sector_at (sectors_of a area) (next (sectors_of a area) place)) = c.slots-slots.ensures.value ∙ ap (λ (v : ℕ). (g.T.SlotSectors.kind (geometry_of a area)).count (sector_at (sectors_of a area) v)) c.requires.victim in omega arith) in
+    let e : Device = g.F.Flash.device c.copy_slot.new.flash in
+    on_err c.from_residual.result (one_most g.T.SlotSectors.kind g.T.SlotSectors.role a d area place c.args.victim c.first_slot-first.result c.loop-slot.slot law (g.met.F.Flash.is_lawful c.args.flash.now) c.requires.area c.requires.collecting c.requires.victim first_is (omega arith) kept.copying e more c.in_err-copy_slot.ensures.spends_lost)
+
+pub loop-slot-preserved : goal.loop-slot-preserved
+loop-slot-preserved g c =
+    let a : Device = g.F.Flash.device c.args.flash.now in
+    let area : Area = c.args.area.now in
+    let place : ℕ = c.args.current in
+    let law : IsKind (g.T.SlotSectors.kind (geometry_of a area)) = g.met.T.SlotSectors.lawful (geometry_of a area) (unit_is a area (g.met.F.Flash.is_lawful c.args.flash.now) c.requires.area.lawful) in
+    let d : Device = g.F.Flash.device c.loop-slot.flash in
+    let first_is = c.first_slot-first.ensures.value (geometry_of a area) in
+    let kept = c.loop-slot.invariant in
+    let more : c.loop-slot.slot < c.first_slot-first.result + (g.T.SlotSectors.kind (geometry_of a area)).count (sector_at (sectors_of a area) (next (sectors_of a area) place)) =
+    (let count : c.slots-slots.result ≡ (g.T.SlotSectors.kind (geometry_of a area)).count (sector_at (sectors_of a area) (next (sectors_of a area) place)) = c.slots-slots.ensures.value ∙ ap (λ (v : ℕ). (g.T.SlotSectors.kind (geometry_of a area)).count (sector_at (sectors_of a area) v)) c.requires.victim in omega arith) in
+    let e : Device = g.F.Flash.device c.copy_slot.new.flash in
+    record {
+      copying = one_more g.T.SlotSectors.kind g.T.SlotSectors.role a d area place c.args.victim c.first_slot-first.result c.loop-slot.slot law (g.met.F.Flash.is_lawful c.args.flash.now) c.requires.area c.requires.collecting c.requires.victim first_is (omega arith) kept.copying e more c.in_ok-copy_slot.ensures.touches c.in_ok-copy_slot.ensures.copies c.in_ok-copy_slot.ensures.spends;
+      kept = kept_after g.T.SlotSectors.kind g.T.SlotSectors.role a d area place c.args.victim c.first_slot-first.result c.loop-slot.slot law (g.met.F.Flash.is_lawful c.args.flash.now) c.requires.area c.requires.collecting c.requires.victim first_is (omega arith) kept.copying g.T.SlotSectors.kept c.copy_slot.new.opened e c.in_ok-copy_slot.ensures.kept;
+    }
+
+pub returns-clause-copies : goal.returns-clause-copies
+returns-clause-copies g c =
+    let a : Device = g.F.Flash.device c.args.flash.now in
+    let area : Area = c.args.area.now in
+    let place : ℕ = c.args.current in
+    let law : IsKind (g.T.SlotSectors.kind (geometry_of a area)) = g.met.T.SlotSectors.lawful (geometry_of a area) (unit_is a area (g.met.F.Flash.is_lawful c.args.flash.now) c.requires.area.lawful) in
+    let d : Device = g.F.Flash.device c.loop-slot.flash in
+    let nw = next_within a area place c.requires.collecting.ring.within in
+    let large = large_there g.T.SlotSectors.role a area (g.met.F.Flash.is_lawful c.args.flash.now) c.requires.area (next (sectors_of a area) place) nw in
+    let count : c.slots-slots.result ≡ (g.T.SlotSectors.kind (geometry_of a area)).count (sector_at (sectors_of a area) (next (sectors_of a area) place)) = c.slots-slots.ensures.value ∙ ap (λ (v : ℕ). (g.T.SlotSectors.kind (geometry_of a area)).count (sector_at (sectors_of a area) v)) c.requires.victim in
+    let all : c.loop-slot.slot - c.first_slot-first.result ≡ (g.T.SlotSectors.kind (geometry_of a area)).count (sector_at (sectors_of a area) (next (sectors_of a area) place)) = omega arith in
+    let done = copying_end (g.T.SlotSectors.kind (geometry_of a area)) law a d area place (c.loop-slot.slot - c.first_slot-first.result) c.requires.collecting large all c.loop-slot.invariant.copying in
+    done.0
+
+pub returns-clause-spends : goal.returns-clause-spends
+returns-clause-spends g c =
+    let a : Device = g.F.Flash.device c.args.flash.now in
+    let area : Area = c.args.area.now in
+    let place : ℕ = c.args.current in
+    let law : IsKind (g.T.SlotSectors.kind (geometry_of a area)) = g.met.T.SlotSectors.lawful (geometry_of a area) (unit_is a area (g.met.F.Flash.is_lawful c.args.flash.now) c.requires.area.lawful) in
+    let d : Device = g.F.Flash.device c.loop-slot.flash in
+    let nw = next_within a area place c.requires.collecting.ring.within in
+    let large = large_there g.T.SlotSectors.role a area (g.met.F.Flash.is_lawful c.args.flash.now) c.requires.area (next (sectors_of a area) place) nw in
+    let count : c.slots-slots.result ≡ (g.T.SlotSectors.kind (geometry_of a area)).count (sector_at (sectors_of a area) (next (sectors_of a area) place)) = c.slots-slots.ensures.value ∙ ap (λ (v : ℕ). (g.T.SlotSectors.kind (geometry_of a area)).count (sector_at (sectors_of a area) v)) c.requires.victim in
+    let all : c.loop-slot.slot - c.first_slot-first.result ≡ (g.T.SlotSectors.kind (geometry_of a area)).count (sector_at (sectors_of a area) (next (sectors_of a area) place)) = omega arith in
+    let done = copying_end (g.T.SlotSectors.kind (geometry_of a area)) law a d area place (c.loop-slot.slot - c.first_slot-first.result) c.requires.collecting large all c.loop-slot.invariant.copying in
+    done.1
+
+pub live_slots-requires-clause-current : goal.live_slots-requires-clause-current
+live_slots-requires-clause-current g c =
+    let a : Device = g.F.Flash.device c.args.flash.now in
+    let area : Area = c.args.area.now in
+    let place : ℕ = c.args.current in
+    let law : IsKind (g.T.SlotSectors.kind (geometry_of a area)) = g.met.T.SlotSectors.lawful (geometry_of a area) (unit_is a area (g.met.F.Flash.is_lawful c.args.flash.now) c.requires.area.lawful) in
+    sym (reads (g.T.SlotSectors.kind (geometry_of a area)).reading (sectors_of a area) place (inr (inl c.requires.collecting))).0
+
+pub live_slots-requires-clause-inside : goal.live_slots-requires-clause-inside
+live_slots-requires-clause-inside g c =
+    let a : Device = g.F.Flash.device c.args.flash.now in
+    let area : Area = c.args.area.now in
+    let place : ℕ = c.args.current in
+    let law : IsKind (g.T.SlotSectors.kind (geometry_of a area)) = g.met.T.SlotSectors.lawful (geometry_of a area) (unit_is a area (g.met.F.Flash.is_lawful c.args.flash.now) c.requires.area.lawful) in
+    let within = next_within a area place c.requires.collecting.ring.within in omega (arith, c.requires.victim)
+
+pub live_slots-requires-clause-counts : goal.live_slots-requires-clause-counts
+live_slots-requires-clause-counts g c =
+    let a : Device = g.F.Flash.device c.args.flash.now in
+    let area : Area = c.args.area.now in
+    let place : ℕ = c.args.current in
+    let law : IsKind (g.T.SlotSectors.kind (geometry_of a area)) = g.met.T.SlotSectors.lawful (geometry_of a area) (unit_is a area (g.met.F.Flash.is_lawful c.args.flash.now) c.requires.area.lawful) in
+    victim_counts (g.T.SlotSectors.kind (geometry_of a area)) (sectors_of a area) place c.args.victim c.requires.collecting c.requires.victim
+
+pub has-is-requires : goal.has-is-requires
+has-is-requires g c =
+    omega (arith, c.slots-slots.ensures.few)
+
+pub copy_slot-requires-clause-live : goal.copy_slot-requires-clause-live
+copy_slot-requires-clause-live g c =
+    let a : Device = g.F.Flash.device c.args.flash.now in
+    let area : Area = c.args.area.now in
+    let place : ℕ = c.args.current in
+    let law : IsKind (g.T.SlotSectors.kind (geometry_of a area)) = g.met.T.SlotSectors.lawful (geometry_of a area) (unit_is a area (g.met.F.Flash.is_lawful c.args.flash.now) c.requires.area.lawful) in
+    let d : Device = g.F.Flash.device c.loop-slot.flash in
+    let first_is = c.first_slot-first.ensures.value (geometry_of a area) in
+    let kept = c.loop-slot.invariant in
+    let more : c.loop-slot.slot < c.first_slot-first.result + (g.T.SlotSectors.kind (geometry_of a area)).count (sector_at (sectors_of a area) (next (sectors_of a area) place)) =
+    (let count : c.slots-slots.result ≡ (g.T.SlotSectors.kind (geometry_of a area)).count (sector_at (sectors_of a area) (next (sectors_of a area) place)) = c.slots-slots.ensures.value ∙ ap (λ (v : ℕ). (g.T.SlotSectors.kind (geometry_of a area)).count (sector_at (sectors_of a area) v)) c.requires.victim in omega arith) in
+    let count : c.slots-slots.result ≡ (g.T.SlotSectors.kind (geometry_of a area)).count (sector_at (sectors_of a area) c.args.victim) = c.slots-slots.ensures.value in
+    let back : (g.T.SlotSectors.kind (geometry_of a area)).first + (c.loop-slot.slot - c.first_slot-first.result) ≡ c.loop-slot.slot = omega arith in
+    live_flag g.T.SlotSectors.kind g.T.SlotSectors.role a d area place c.args.victim c.first_slot-first.result c.loop-slot.slot law (g.met.F.Flash.is_lawful c.args.flash.now) c.requires.area c.requires.collecting c.requires.victim first_is (omega arith) kept.copying c.has-is.result
+    (c.has-is.ensures ∙ c.live_slots.ensures (c.loop-slot.slot - c.first_slot-first.result) (omega arith) ∙ ap (holds_live (g.T.SlotSectors.kind (geometry_of a area)) (sectors_of a area) c.args.victim) back)
+
+pub live_slots-requires-clause-none : goal.live_slots-requires-clause-none
+live_slots-requires-clause-none g c =
+    c.new-live.ensures
+
+pub copy_slot-requires-clause-other : goal.copy_slot-requires-clause-other
+copy_slot-requires-clause-other g c =
+    let a : Device = g.F.Flash.device c.args.flash.now in
+    let area : Area = c.args.area.now in
+    let place : ℕ = c.args.current in
+    let law : IsKind (g.T.SlotSectors.kind (geometry_of a area)) = g.met.T.SlotSectors.lawful (geometry_of a area) (unit_is a area (g.met.F.Flash.is_lawful c.args.flash.now) c.requires.area.lawful) in
+    let d : Device = g.F.Flash.device c.loop-slot.flash in
+    let first_is = c.first_slot-first.ensures.value (geometry_of a area) in
+    let kept = c.loop-slot.invariant in
+    let more : c.loop-slot.slot < c.first_slot-first.result + (g.T.SlotSectors.kind (geometry_of a area)).count (sector_at (sectors_of a area) (next (sectors_of a area) place)) =
+    (let count : c.slots-slots.result ≡ (g.T.SlotSectors.kind (geometry_of a area)).count (sector_at (sectors_of a area) (next (sectors_of a area) place)) = c.slots-slots.ensures.value ∙ ap (λ (v : ℕ). (g.T.SlotSectors.kind (geometry_of a area)).count (sector_at (sectors_of a area) v)) c.requires.victim in omega arith) in
+    apart g.T.SlotSectors.kind g.T.SlotSectors.role a d area place c.args.victim c.first_slot-first.result c.loop-slot.slot law (g.met.F.Flash.is_lawful c.args.flash.now) c.requires.area c.requires.collecting c.requires.victim first_is (omega arith) kept.copying
+
+pub copy_slot-requires-clause-listed : goal.copy_slot-requires-clause-listed
+copy_slot-requires-clause-listed g c =
+    let a : Device = g.F.Flash.device c.args.flash.now in
+    let area : Area = c.args.area.now in
+    let place : ℕ = c.args.current in
+    let law : IsKind (g.T.SlotSectors.kind (geometry_of a area)) = g.met.T.SlotSectors.lawful (geometry_of a area) (unit_is a area (g.met.F.Flash.is_lawful c.args.flash.now) c.requires.area.lawful) in
+    let d : Device = g.F.Flash.device c.loop-slot.flash in
+    let first_is = c.first_slot-first.ensures.value (geometry_of a area) in
+    let kept = c.loop-slot.invariant in
+    let more : c.loop-slot.slot < c.first_slot-first.result + (g.T.SlotSectors.kind (geometry_of a area)).count (sector_at (sectors_of a area) (next (sectors_of a area) place)) =
+    (let count : c.slots-slots.result ≡ (g.T.SlotSectors.kind (geometry_of a area)).count (sector_at (sectors_of a area) (next (sectors_of a area) place)) = c.slots-slots.ensures.value ∙ ap (λ (v : ℕ). (g.T.SlotSectors.kind (geometry_of a area)).count (sector_at (sectors_of a area) v)) c.requires.victim in omega arith) in
+    listed_there g.T.SlotSectors.kind g.T.SlotSectors.role a d area place c.args.victim c.first_slot-first.result c.loop-slot.slot law (g.met.F.Flash.is_lawful c.args.flash.now) c.requires.area c.requires.collecting c.requires.victim first_is (omega arith) kept.copying more
+
+pub copy_slot-requires-clause-ready : goal.copy_slot-requires-clause-ready
+copy_slot-requires-clause-ready g c =
+    let a : Device = g.F.Flash.device c.args.flash.now in
+    let area : Area = c.args.area.now in
+    let place : ℕ = c.args.current in
+    let law : IsKind (g.T.SlotSectors.kind (geometry_of a area)) = g.met.T.SlotSectors.lawful (geometry_of a area) (unit_is a area (g.met.F.Flash.is_lawful c.args.flash.now) c.requires.area.lawful) in
+    let d : Device = g.F.Flash.device c.loop-slot.flash in
+    let first_is = c.first_slot-first.ensures.value (geometry_of a area) in
+    let kept = c.loop-slot.invariant in
+    let more : c.loop-slot.slot < c.first_slot-first.result + (g.T.SlotSectors.kind (geometry_of a area)).count (sector_at (sectors_of a area) (next (sectors_of a area) place)) =
+    (let count : c.slots-slots.result ≡ (g.T.SlotSectors.kind (geometry_of a area)).count (sector_at (sectors_of a area) (next (sectors_of a area) place)) = c.slots-slots.ensures.value ∙ ap (λ (v : ℕ). (g.T.SlotSectors.kind (geometry_of a area)).count (sector_at (sectors_of a area) v)) c.requires.victim in omega arith) in
+    ready g.T.SlotSectors.kind g.T.SlotSectors.role a d area place c.args.victim c.first_slot-first.result c.loop-slot.slot law (g.met.F.Flash.is_lawful c.args.flash.now) c.requires.area c.requires.collecting c.requires.victim first_is (omega arith) kept.copying
+
+pub copy_slot-requires-clause-collecting : goal.copy_slot-requires-clause-collecting
+copy_slot-requires-clause-collecting g c =
+    let a : Device = g.F.Flash.device c.args.flash.now in
+    let area : Area = c.args.area.now in
+    let place : ℕ = c.args.current in
+    let law : IsKind (g.T.SlotSectors.kind (geometry_of a area)) = g.met.T.SlotSectors.lawful (geometry_of a area) (unit_is a area (g.met.F.Flash.is_lawful c.args.flash.now) c.requires.area.lawful) in
+    let d : Device = g.F.Flash.device c.loop-slot.flash in
+    let first_is = c.first_slot-first.ensures.value (geometry_of a area) in
+    let kept = c.loop-slot.invariant in
+    let more : c.loop-slot.slot < c.first_slot-first.result + (g.T.SlotSectors.kind (geometry_of a area)).count (sector_at (sectors_of a area) (next (sectors_of a area) place)) =
+    (let count : c.slots-slots.result ≡ (g.T.SlotSectors.kind (geometry_of a area)).count (sector_at (sectors_of a area) (next (sectors_of a area) place)) = c.slots-slots.ensures.value ∙ ap (λ (v : ℕ). (g.T.SlotSectors.kind (geometry_of a area)).count (sector_at (sectors_of a area) v)) c.requires.victim in omega arith) in
+    closed g.T.SlotSectors.kind g.T.SlotSectors.role a d area place c.args.victim c.first_slot-first.result c.loop-slot.slot law (g.met.F.Flash.is_lawful c.args.flash.now) c.requires.area c.requires.collecting c.requires.victim first_is (omega arith) kept.copying
+
+pub copy_slot-requires-clause-not_done : goal.copy_slot-requires-clause-not_done
+copy_slot-requires-clause-not_done g c =
+    let a : Device = g.F.Flash.device c.args.flash.now in
+    let area : Area = c.args.area.now in
+    let place : ℕ = c.args.current in
+    let law : IsKind (g.T.SlotSectors.kind (geometry_of a area)) = g.met.T.SlotSectors.lawful (geometry_of a area) (unit_is a area (g.met.F.Flash.is_lawful c.args.flash.now) c.requires.area.lawful) in
+    let d : Device = g.F.Flash.device c.loop-slot.flash in
+    let first_is = c.first_slot-first.ensures.value (geometry_of a area) in
+    let kept = c.loop-slot.invariant in
+    let more : c.loop-slot.slot < c.first_slot-first.result + (g.T.SlotSectors.kind (geometry_of a area)).count (sector_at (sectors_of a area) (next (sectors_of a area) place)) =
+    (let count : c.slots-slots.result ≡ (g.T.SlotSectors.kind (geometry_of a area)).count (sector_at (sectors_of a area) (next (sectors_of a area) place)) = c.slots-slots.ensures.value ∙ ap (λ (v : ℕ). (g.T.SlotSectors.kind (geometry_of a area)).count (sector_at (sectors_of a area) v)) c.requires.victim in omega arith) in
+    not_done g.T.SlotSectors.kind g.T.SlotSectors.role a d area place c.args.victim c.first_slot-first.result c.loop-slot.slot law (g.met.F.Flash.is_lawful c.args.flash.now) c.requires.area c.requires.collecting c.requires.victim first_is (omega arith) kept.copying
+
+pub copy_slot-requires-clause-source : goal.copy_slot-requires-clause-source
+copy_slot-requires-clause-source g c =
+    let a : Device = g.F.Flash.device c.args.flash.now in
+    let area : Area = c.args.area.now in
+    let place : ℕ = c.args.current in
+    let law : IsKind (g.T.SlotSectors.kind (geometry_of a area)) = g.met.T.SlotSectors.lawful (geometry_of a area) (unit_is a area (g.met.F.Flash.is_lawful c.args.flash.now) c.requires.area.lawful) in
+    let d : Device = g.F.Flash.device c.loop-slot.flash in
+    let first_is = c.first_slot-first.ensures.value (geometry_of a area) in
+    let kept = c.loop-slot.invariant in
+    let more : c.loop-slot.slot < c.first_slot-first.result + (g.T.SlotSectors.kind (geometry_of a area)).count (sector_at (sectors_of a area) (next (sectors_of a area) place)) =
+    (let count : c.slots-slots.result ≡ (g.T.SlotSectors.kind (geometry_of a area)).count (sector_at (sectors_of a area) (next (sectors_of a area) place)) = c.slots-slots.ensures.value ∙ ap (λ (v : ℕ). (g.T.SlotSectors.kind (geometry_of a area)).count (sector_at (sectors_of a area) v)) c.requires.victim in omega arith) in
+    source g.T.SlotSectors.kind g.T.SlotSectors.role a d area place c.args.victim c.first_slot-first.result c.loop-slot.slot law (g.met.F.Flash.is_lawful c.args.flash.now) c.requires.area c.requires.collecting c.requires.victim first_is (omega arith) kept.copying
+
+pub copy_slot-requires-clause-kept : goal.copy_slot-requires-clause-kept
+copy_slot-requires-clause-kept g c =
+    let a : Device = g.F.Flash.device c.args.flash.now in
+    let area : Area = c.args.area.now in
+    let place : ℕ = c.args.current in
+    let law : IsKind (g.T.SlotSectors.kind (geometry_of a area)) = g.met.T.SlotSectors.lawful (geometry_of a area) (unit_is a area (g.met.F.Flash.is_lawful c.args.flash.now) c.requires.area.lawful) in
+    let d : Device = g.F.Flash.device c.loop-slot.flash in
+    let first_is = c.first_slot-first.ensures.value (geometry_of a area) in
+    let kept = c.loop-slot.invariant in
+    let more : c.loop-slot.slot < c.first_slot-first.result + (g.T.SlotSectors.kind (geometry_of a area)).count (sector_at (sectors_of a area) (next (sectors_of a area) place)) =
+    (let count : c.slots-slots.result ≡ (g.T.SlotSectors.kind (geometry_of a area)).count (sector_at (sectors_of a area) (next (sectors_of a area) place)) = c.slots-slots.ensures.value ∙ ap (λ (v : ℕ). (g.T.SlotSectors.kind (geometry_of a area)).count (sector_at (sectors_of a area) v)) c.requires.victim in omega arith) in
+    kept_there g.T.SlotSectors.kind g.T.SlotSectors.role a d area place c.args.victim c.first_slot-first.result c.loop-slot.slot law (g.met.F.Flash.is_lawful c.args.flash.now) c.requires.area c.requires.collecting c.requires.victim first_is (omega arith) kept.copying g.T.SlotSectors.kept c.loop-slot.opened kept.kept
+
+pub copy_slot-requires-clause-area : goal.copy_slot-requires-clause-area
+copy_slot-requires-clause-area g c =
+    subst (λ (banks : List Bank). IsStoreArea g.T.SlotSectors.role banks c.args.area.now) (sym c.loop-slot.invariant.copying.touches.banks) c.requires.area
+
+pub returns-clause-touches : goal.returns-clause-touches
+returns-clause-touches g c = c.loop-slot.invariant.copying.touches
+
+pub returns-clause-kept : goal.returns-clause-kept
+returns-clause-kept g c = c.loop-slot.invariant.kept
+
+pub returns-in_err-copy_slot-clause-touches : goal.returns-in_err-copy_slot-clause-touches
+returns-in_err-copy_slot-clause-touches g c =
+    subst (λ (lost : Bool). Touches (c.args.area.now ∷ []) (g.F.Flash.device c.args.flash.now) (g.F.Flash.device c.copy_slot.new.flash) lost) (sym c.from_residual.ensures.0)
+    (then c.loop-slot.invariant.copying.touches c.in_err-copy_slot.ensures.touches)

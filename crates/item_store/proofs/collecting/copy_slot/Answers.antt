@@ -1,0 +1,60 @@
+use Rattle.std.proofs.Common.{rules, ◌≡◌, ◌+◌, ◌<◌, ◌≤◌, ℕ, List, Some, sym, subst, ◌∙◌}
+use Rattle.std.specs.Option.{option_map}
+use Rattle.std.specs.Prelude.{Option, OnOk, OnErr}
+use Rattle.std.proofs.lemmas.Result.{on_ok_weaker, on_err_weaker}
+use Rattle.flash_sim.specs.Device.{Device}
+use Rattle.flash_map.specs.Area.{geometry_of, sectors_of, sector_at}
+use Rattle.item_store.specs.Kind.{Kind, IsKind, placed_at}
+use Rattle.item_store.specs.declared.entry.Placed.{Placed}
+use Rattle.item_store.specs.Collecting.{copy_units}
+use Rattle.item_store.specs.Standing.{SpendsIn, SpendsUpTo}
+use Rattle.item_store.proofs.Areas.{unit_is}
+use Rattle.item_store.proofs.Ranges.{within-in, within-lost}
+use Rattle.item_store.proofs.CopyLoop.{live-bytes}
+use Rattle.item_store.proofs.collecting.copy_slot.Goals as goal
+
+pub copy-requires-clause-source : goal.copy-requires-clause-source
+copy-requires-clause-source g c = record {
+  has_source = search rules;
+  other = search rules;
+  source = search rules;
+  listed =
+      let d : Device = g.F.Flash.device c.args.flash.now in
+      let k : Kind = g.T.SlotSectors.kind (geometry_of d c.args.area.now) in
+      let law : IsKind (g.T.SlotSectors.kind (geometry_of d c.args.area.now)) = g.met.T.SlotSectors.lawful (geometry_of d c.args.area.now) (unit_is d c.args.area.now (g.met.F.Flash.is_lawful c.args.flash.now) c.requires.area.lawful) in
+      let listed = c.requires.listed in
+      let l = live-bytes k law (sectors_of d c.args.area.now) c.args.victim c.args.slot c.in-Some.placed c.requires.within listed.0 listed.1 (sym c.live_in.ensures.entry ∙ c.in-Some.is) in
+      subst (λ (v : ℕ). (k.first ≤ c.in-Some.placed.slot) × (c.in-Some.placed.slot < k.first + k.count (sector_at (sectors_of d c.args.area.now) v))) (sym l.sector)
+      (subst (λ (s : ℕ). (k.first ≤ s) × (s < k.first + k.count (sector_at (sectors_of d c.args.area.now) c.args.victim))) (sym l.slot_is) listed);
+  there =
+      let d : Device = g.F.Flash.device c.args.flash.now in
+      let k : Kind = g.T.SlotSectors.kind (geometry_of d c.args.area.now) in
+      let law : IsKind (g.T.SlotSectors.kind (geometry_of d c.args.area.now)) = g.met.T.SlotSectors.lawful (geometry_of d c.args.area.now) (unit_is d c.args.area.now (g.met.F.Flash.is_lawful c.args.flash.now) c.requires.area.lawful) in
+      let listed = c.requires.listed in
+      let l = live-bytes k law (sectors_of d c.args.area.now) c.args.victim c.args.slot c.in-Some.placed c.requires.within listed.0 listed.1 (sym c.live_in.ensures.entry ∙ c.in-Some.is) in
+      subst (λ (v : ℕ). option_map (placed_at v) (k.in_slot (sector_at (sectors_of d c.args.area.now) v) c.in-Some.placed.slot) ≡ Some c.in-Some.placed) (sym l.sector)
+      (subst (λ (s : ℕ). option_map (placed_at c.args.victim) (k.in_slot (sector_at (sectors_of d c.args.area.now) c.args.victim) s) ≡ Some c.in-Some.placed) (sym l.slot_is) l.read);
+  some = search rules;
+}
+
+pub returns-in-Some-clause-spends : goal.returns-in-Some-clause-spends
+returns-in-Some-clause-spends g c =
+    let d : Device = g.F.Flash.device c.args.flash.now in
+    let e : Device = g.F.Flash.device c.copy.new.flash in
+    let k : Kind = g.T.SlotSectors.kind (geometry_of d c.args.area.now) in
+    let law : IsKind (g.T.SlotSectors.kind (geometry_of d c.args.area.now)) = g.met.T.SlotSectors.lawful (geometry_of d c.args.area.now) (unit_is d c.args.area.now (g.met.F.Flash.is_lawful c.args.flash.now) c.requires.area.lawful) in
+    let b : List ℕ = sector_at (sectors_of d c.args.area.now) c.args.current in
+    let len : ℕ = c.in-Some.placed.len in
+    subst (λ (o : Option Placed). OnOk c.copy.result (SpendsIn d e (copy_units k o))) (sym (sym c.live_in.ensures.entry ∙ c.in-Some.is))
+    (on_ok_weaker c.copy.result (λ s. within-in d e (k.units.copy b len) (k.units.any_copy len) (law.units.copy_in b len) s) c.copy.ensures.spends)
+
+pub returns-in-Some-clause-spends_lost : goal.returns-in-Some-clause-spends_lost
+returns-in-Some-clause-spends_lost g c =
+    let d : Device = g.F.Flash.device c.args.flash.now in
+    let e : Device = g.F.Flash.device c.copy.new.flash in
+    let k : Kind = g.T.SlotSectors.kind (geometry_of d c.args.area.now) in
+    let law : IsKind (g.T.SlotSectors.kind (geometry_of d c.args.area.now)) = g.met.T.SlotSectors.lawful (geometry_of d c.args.area.now) (unit_is d c.args.area.now (g.met.F.Flash.is_lawful c.args.flash.now) c.requires.area.lawful) in
+    let b : List ℕ = sector_at (sectors_of d c.args.area.now) c.args.current in
+    let len : ℕ = c.in-Some.placed.len in
+    subst (λ (o : Option Placed). OnErr c.copy.result (SpendsUpTo d e (copy_units k o))) (sym (sym c.live_in.ensures.entry ∙ c.in-Some.is))
+    (on_err_weaker c.copy.result (λ s. within-lost d e (k.units.copy b len) (k.units.any_copy len) (law.units.copy_in b len) s) c.copy.ensures.spends_lost)

@@ -1,0 +1,62 @@
+-- The cache of a store: for each cache slot, where the latest entry of its ids stands.
+use Rattle.std.specs.Prelude.{◌≡◌, ℕ, ◌+◌, ◌%◌, List, [], ◌∷◌, ◌++◌, length, fold, Option, Some, None, ◌==◌, if◌then◌else◌}
+use Rattle.std.specs.Option.{option_map}
+use Rattle.flash_sim.specs.Device.{Device}
+use Rattle.flash_map.specs.declared.area.Area.{Area}
+use Rattle.flash_map.specs.declared.area.Geometry.{Geometry}
+use Rattle.flash_map.specs.Area.{sector_at}
+use Rattle.lookup_cache.specs.Places.{place_of}
+use Rattle.item_laws.specs.Area.{next}
+use Rattle.item_laws.specs.Forms.{AtRest}
+use Rattle.item_laws.specs.Live.{all_placed}
+use Rattle.item_store.specs.declared.entry.Placed.{Placed}
+use Rattle.item_store.specs.Collecting.{TurnsAt}
+use Rattle.item_store.specs.Kind.{Kind, placed_at, slots}
+use Rattle.item_store.specs.Listed.{entries_on}
+use Rattle.item_store.specs.Steps.{new_entry}
+
+-- the latest of these entries whose ids have this cache slot, one of 64
+abbrev pub latest_of : ℕ → List Placed → Option Placed
+latest_of slot placed = fold (λ latest p. if p.id % 64 == slot then Some p else latest) None placed
+
+-- where an entry stands
+abbrev pub stands_at : Placed → ℕ × ℕ
+stands_at p = (p.sector, p.slot)
+
+-- Each of the 64 cache slots has the place of the latest of these entries whose ids are its own, and nothing
+-- where none is.
+pub record IsCacheOf (cache : List (Option (ℕ × ℕ))) (placed : List Placed) : Type 0 where
+  pub slots : length cache ≡ 64
+  pub latest : (id : ℕ) → place_of cache id ≡ option_map stands_at (latest_of (id % 64) placed)
+
+-- one of these entries more, in the last slot of a sector
+pub record AddsEntry (k : Kind) (old new : List (List ℕ)) (place id len : ℕ) : Type 0 where
+  pub slot : ℕ
+  pub last : slot + 1 ≡ k.first + k.count (sector_at new place)
+  pub list : all_placed (slots k) new
+      ≡ all_placed (slots k) old ++ placed_at place (new_entry slot id len) ∷ []
+
+-- ---- behind a round
+
+-- A round from this sector on made of an area at rest what it is now.
+pub record IsTurned (k : Kind) (size : ℕ) (old new : List (List ℕ)) (place : ℕ) : Type 0 where
+  pub rested : AtRest k.reading old place
+  pub long : length new ≡ length old
+  pub turns : TurnsAt k size old new place
+
+-- By whatever round this sector became the open one, of a cache of the list before it came one of the list
+-- behind it.
+abbrev pub FollowsRound : Kind → List (List ℕ) → ℕ → List (Option (ℕ × ℕ)) → List (Option (ℕ × ℕ)) → Type 0
+FollowsRound k new opened before behind =
+    (size : ℕ) (old : List (List ℕ)) (place : ℕ) → IsTurned k size old new place → opened ≡ next old place
+    → IsCacheOf before (all_placed (slots k) old) → IsCacheOf behind (all_placed (slots k) new)
+
+-- ---- an area on a device
+
+-- the latest entry of an id's cache slot
+abbrev pub latest_on : (Geometry → Kind) → Device → Area → ℕ → Option Placed
+latest_on kind d area id = latest_of (id % 64) (entries_on kind d area)
+
+-- the cache is that of the entries of the list
+abbrev pub IsCacheOn : (Geometry → Kind) → Device → Area → List (Option (ℕ × ℕ)) → Type 0
+IsCacheOn kind d area cache = IsCacheOf cache (entries_on kind d area)

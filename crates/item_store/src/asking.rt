@@ -1,0 +1,156 @@
+// Looking for bytes among the items.
+ghost use Rattle.std.specs.Prelude.{◌≡◌, ◌+◌, ◌<◌, ◌&&◌, true, false, Some, option_map};
+ghost use Rattle.item_laws.specs.Bytes.{is_past, IsIdOf, IsNextOf};
+ghost use Rattle.item_laws.specs.Items.{value_of};
+ghost use Rattle.item_laws.specs.Live.{bytes_of};
+ghost use Rattle.flash_map.specs.Area.{sectors_of};
+ghost use Rattle.item_store.specs.Asking.{is_below, lesser_of};
+ghost use Rattle.item_store.specs.Kind.{slots};
+ghost use Rattle.item_store.specs.Listed.{kind_on, items_on, IsPlacedOn};
+ghost use Rattle.item_store.specs.Stands.{StandsOn};
+
+use crate::entry::Placed;
+use crate::lasts::Lasts;
+use crate::sectors::SlotSectors;
+use crate::store::Store;
+use flash_sim::{Flash, Steps};
+use std::sync::ledger::Ledger;
+
+// Whether bytes are greater than some others and less than others still, where there are such.
+fn is_between(bytes: &[u8], after: Option<&[u8]>, least: Option<&[u8]>) -> bool
+    ensures { result
+        ≡ (is_past (option_map (λ other. other.now) after.entry) bytes.now
+        && is_below bytes.now (option_map (λ other. other.now) least.entry)) }
+{
+    after.is_none_or(|after| after.cmp(bytes).is_lt())
+        && least.is_none_or(|least| bytes.cmp(least).is_lt())
+}
+
+impl<T: SlotSectors> Store<T> {
+    // Whether an entry gives its id these bytes.
+    fn has_bytes<F: Flash, L: Ledger>(
+        &self,
+        flash: &F,
+        placed: &Placed,
+        bytes: &[u8],
+        steps: &mut Steps<L>,
+    ) -> bool
+        requires stands { StandsOn T.role T.kind T.kept (F.device flash.now) self.now }
+        requires placed { IsPlacedOn T.kind (F.device flash.now) self.now.area self.now.current
+            placed.now }
+        ensures yes_it { let d = F.device flash.now in
+            result ≡ true
+            → value_of
+            (bytes_of (slots (kind_on T.kind d self.now.area)) (sectors_of d self.now.area)
+            placed.now) ≡ Some bytes.now }
+        ensures not_it { let d = F.device flash.now in
+            result ≡ false
+            → value_of
+            (bytes_of (slots (kind_on T.kind d self.now.area)) (sectors_of d self.now.area)
+            placed.now) ≡ Some bytes.now → ⊥ }
+    {
+        if placed.len as usize != bytes.len() {
+            return false;
+        }
+        match self.bytes_at(flash, placed, steps) {
+            Some(own) => own == bytes,
+            None => false,
+        }
+    }
+
+    /// The id of an item that has these bytes, of the ids from `least` to `most`, no more than
+    /// 0x1_0020; any of them where several have. It is one walk over the list at most, from its
+    /// newest entry back.
+    pub fn id_of<F: Flash, L: Ledger>(
+        &self,
+        flash: &F,
+        least: u32,
+        most: u32,
+        bytes: &[u8],
+        steps: &mut Steps<L>,
+    ) -> Option<u32>
+        requires stands { StandsOn T.role T.kind T.kept (F.device flash.now) self.now }
+        requires range { most < least + 0x1_0020 }
+        ensures { IsIdOf least most (items_on T.kind (F.device flash.now) self.now.area) bytes.now
+            result }
+    {
+        let mut lasts = Lasts::start(
+            flash,
+            &self.area,
+            &self.opened,
+            self.current,
+            least,
+            most,
+            steps,
+        );
+        while let Some(placed) = lasts.next(flash, &self.area, &self.opened, self.current, steps) {
+            if self.has_bytes(flash, &placed, bytes, steps) {
+                return Some(placed.id);
+            }
+        }
+        None
+    }
+
+    // The bytes of an entry, where they are greater than some and less than the least so far; else
+    // the least so far.
+    fn lesser_bytes<'a, F: Flash, L: Ledger>(
+        &self,
+        flash: &'a F,
+        placed: &Placed,
+        after: Option<&[u8]>,
+        least: Option<&'a [u8]>,
+        steps: &mut Steps<L>,
+    ) -> Option<&'a [u8]>
+        requires stands { StandsOn T.role T.kind T.kept (F.device flash.now) self.now }
+        requires placed { IsPlacedOn T.kind (F.device flash.now) self.now.area self.now.current
+            placed.now }
+        ensures { let d = F.device flash.now in
+            option_map (λ bytes. bytes.now) result
+            ≡ lesser_of (option_map (λ other. other.now) after.entry)
+            (value_of
+            (bytes_of (slots (kind_on T.kind d self.now.area)) (sectors_of d self.now.area)
+            placed.now)) (option_map (λ bytes. bytes.now) least.entry) }
+    {
+        match self.bytes_at(flash, placed, steps) {
+            Some(bytes) => {
+                if is_between(bytes, after, least) {
+                    Some(bytes)
+                } else {
+                    least
+                }
+            }
+            None => least,
+        }
+    }
+
+    /// The least bytes of an item that are greater than `after`, or the least of all, of the ids
+    /// from `least` to `most`, no more than 0x1_0020. It is one walk over the list.
+    pub fn next_of<'a, F: Flash, L: Ledger>(
+        &self,
+        flash: &'a F,
+        least: u32,
+        most: u32,
+        after: Option<&[u8]>,
+        steps: &mut Steps<L>,
+    ) -> Option<&'a [u8]>
+        requires stands { StandsOn T.role T.kind T.kept (F.device flash.now) self.now }
+        requires range { most < least + 0x1_0020 }
+        ensures { IsNextOf least most (items_on T.kind (F.device flash.now) self.now.area)
+            (option_map (λ other. other.now) after.entry) (option_map (λ bytes. bytes.now) result) }
+    {
+        let mut lasts = Lasts::start(
+            flash,
+            &self.area,
+            &self.opened,
+            self.current,
+            least,
+            most,
+            steps,
+        );
+        let mut found = None;
+        while let Some(placed) = lasts.next(flash, &self.area, &self.opened, self.current, steps) {
+            found = self.lesser_bytes(flash, &placed, after, found, steps);
+        }
+        found
+    }
+}

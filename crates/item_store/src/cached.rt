@@ -1,0 +1,80 @@
+// The cache of a store: the place of the latest entry of each cache slot's ids.
+ghost use Rattle.std.specs.Prelude.{◌≡◌, ◌<◌, length};
+ghost use Rattle.flash_map.specs.Area.{sectors_of};
+ghost use Rattle.item_store.specs.OnSector.{IsKeptOn, IsOpenOn};
+ghost use Rattle.item_store.specs.Cached.{IsCacheOf, IsCacheOn, FollowsRound};
+ghost use Rattle.item_store.specs.Listed.{kind_on};
+ghost use Rattle.item_store.specs.Standing.{IsStoreArea};
+
+use crate::entry::Placed;
+use crate::noting::{Notes, note_among, note_sector};
+use crate::sectors::SlotSectors;
+use flash_map::Area;
+use flash_sim::{Flash, Steps};
+use lookup_cache::Cache;
+use std::sync::ledger::Ledger;
+
+/// So many slots a cache has.
+pub const CACHE_SLOTS: usize = 64;
+
+impl Notes for Cache {
+    ghost noted = { λ limit cache placed. IsCacheOf cache placed };
+
+    fn note(&mut self, placed: &Placed) {
+        Cache::note(self, placed.id, placed.sector, placed.slot);
+    }
+}
+
+/// Makes it the cache of the list, whatever it had. Each sector that counts is looked at once.
+pub fn fill<T: SlotSectors, F: Flash, L: Ledger>(
+    flash: &F,
+    area: &Area,
+    opened: &T,
+    current: u32,
+    cache: &mut Cache,
+    steps: &mut Steps<L>,
+)
+    requires area { IsStoreArea T.role (F.device flash.now).banks area.now }
+    requires kept { IsKeptOn T.kept (F.device flash.now) area.now current opened.now }
+    requires current { IsOpenOn T.kind (F.device flash.now) area.now current }
+    requires slots { length cache.old ≡ 64 }
+
+    ensures { IsCacheOn T.kind (F.device flash.now) area.now cache.new }
+{
+    cache.clear();
+    let older = current + 1;
+    note_among(
+        flash,
+        area,
+        opened,
+        current,
+        older,
+        area.sectors,
+        cache,
+        steps,
+    );
+    note_among(flash, area, opened, current, 0, older, cache, steps);
+}
+
+/// Keeps it the cache of the list behind a round by which this sector became the open one. What
+/// stood in the sector after it, the victim, is forgotten, and the entries of the open one are
+/// noted, which stand last. Where the round had no victim, no entry of the list stood in that
+/// sector.
+pub fn follow_round<T: SlotSectors, F: Flash, L: Ledger>(
+    flash: &F,
+    area: &Area,
+    opened: u32,
+    cache: &mut Cache,
+    steps: &mut Steps<L>,
+)
+    requires area { IsStoreArea T.role (F.device flash.now).banks area.now }
+    requires inside { opened < area.now.sectors }
+
+    ensures { let d = F.device flash.now in
+        FollowsRound (kind_on T.kind d area.now) (sectors_of d area.now) opened cache.old
+        cache.new }
+{
+    let victim = area.next(opened);
+    cache.forget_sector(victim);
+    note_sector::<T, Cache, F, L>(flash, area, opened, cache, steps);
+}

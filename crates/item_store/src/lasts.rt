@@ -1,0 +1,266 @@
+// The last entries of the ids in a range, from the newest entry back. No table is made of them.
+ghost use Rattle.std.specs.Prelude.{◌≡◌, ◌⊎◌, ◌+◌, ◌-◌, ◌^◌, ◌<◌, ◌≤◌, ◌||◌, ◌&&◌, ◌==◌, ℕ, true, not, Some, None, IfSome};
+ghost use Rattle.flash_map.specs.Area.{sectors_of, sector_at};
+ghost use Rattle.item_laws.specs.Area.{counts_at, next, previous};
+ghost use Rattle.item_store.specs.OnSector.{sector_on, IsKeptOn, IsOpenOn};
+ghost use Rattle.item_store.specs.declared.entry.Placed.{Placed as PlacedEntry};
+ghost use Rattle.item_store.specs.Lasts.{in_range, slots_left, AreOthers, IsAt, SameRange, TellsNext, WasTold, IsLastIn};
+ghost use Rattle.item_store.specs.Listed.{kind_on, IsPlacedOn};
+ghost use Rattle.item_store.specs.Seen.{has_bit};
+ghost use Rattle.item_store.specs.Standing.{IsStoreArea};
+
+use crate::bits::{has_bit, set_bit};
+use crate::entry::Placed;
+use crate::lookup::counts;
+use crate::sectors::SlotSectors;
+use flash_map::Area;
+use flash_sim::{Flash, Steps};
+use std::sync::ledger::Ledger;
+
+// A bit for each of 0x1_0020 ids, as many as a range may have.
+const BYTES: usize = 0x2004;
+
+/// A walk over the last entries of the ids in a range, from the newest back. Each id is told once.
+#[derive(Drop)]
+pub struct Lasts {
+    pub(crate) least: u32,
+    pub(crate) most: u32,
+    // the sector that is looked at, and how many of its first slots are left
+    pub(crate) place: u32,
+    pub(crate) left: u32,
+    // the ids of the entries behind these slots, as far as they are in the range
+    pub(crate) seen: [u8; BYTES],
+}
+
+// How many of the first slots of a sector have to be looked at; none where it does not count.
+fn reach_counting<T: SlotSectors, F: Flash, L: Ledger>(
+    flash: &F,
+    area: &Area,
+    opened: &T,
+    current: u32,
+    place: u32,
+    least: u32,
+    most: u32,
+    steps: &mut Steps<L>,
+) -> u32
+    requires area { IsStoreArea T.role (F.device flash.now).banks area.now }
+    requires kept { IsKeptOn T.kept (F.device flash.now) area.now current opened.now }
+    requires current { current < area.now.sectors }
+    requires inside { place < area.now.sectors }
+    ensures few { let d = F.device flash.now in
+        result ≤ (kind_on T.kind d area.now).count (sector_on d area.now place) }
+    ensures small { result ≤ 2 ^ 15 }
+    ensures counts { let d = F.device flash.now in
+        0 < result
+        → counts_at (kind_on T.kind d area.now).reading (sectors_of d area.now) current place
+        ≡ true }
+    ensures others { let d = F.device flash.now in let k = kind_on T.kind d area.now in
+        let b = sector_at (sectors_of d area.now) place in
+        counts_at k.reading (sectors_of d area.now) current place ≡ true
+        → AreOthers k b result (k.count b) least most }
+{
+    if counts(flash, area, opened, current, place, steps) {
+        T::reach(flash, area, place, least, most, steps)
+    } else {
+        0
+    }
+}
+
+impl Lasts {
+    /// Before the newest entry.
+    pub fn start<T: SlotSectors, F: Flash, L: Ledger>(
+        flash: &F,
+        area: &Area,
+        opened: &T,
+        current: u32,
+        least: u32,
+        most: u32,
+        steps: &mut Steps<L>,
+    ) -> Lasts
+        requires area { IsStoreArea T.role (F.device flash.now).banks area.now }
+        requires kept { IsKeptOn T.kept (F.device flash.now) area.now current opened.now }
+        requires current { IsOpenOn T.kind (F.device flash.now) area.now current }
+        requires range { most < least + 0x1_0020 }
+        ensures at { let d = F.device flash.now in
+            IsAt (kind_on T.kind d area.now) (sectors_of d area.now) current result }
+        ensures none { let d = F.device flash.now in
+            (p : PlacedEntry)
+            → ¬ WasTold (kind_on T.kind d area.now) (sectors_of d area.now) current result p }
+        ensures least { result.least ≡ least }
+        ensures most { result.most ≡ most }
+    {
+        Lasts {
+            least,
+            most,
+            place: current,
+            left: reach_counting(flash, area, opened, current, current, least, most, steps),
+            seen: [0; BYTES],
+        }
+    }
+
+    // Whether an id is in the range and was not noted. It is noted then.
+    fn is_new(&mut self, id: u32) -> bool
+        requires { self.old.most < self.old.least + 0x1_0020 }
+        ensures new { result
+            ≡ (in_range self.old.least self.old.most id
+            && not (has_bit self.old.seen (id - self.old.least))) }
+        ensures noted { (other : ℕ) → in_range self.old.least self.old.most other ≡ true
+            → has_bit self.new.seen (other - self.old.least)
+            ≡ (has_bit self.old.seen (other - self.old.least) || (id == other)) }
+        ensures range { SameRange self.old self.new }
+        ensures place { self.new.place ≡ self.old.place }
+        ensures left { self.new.left ≡ self.old.left }
+    {
+        if id < self.least || self.most < id {
+            return false;
+        }
+        let bit = id - self.least;
+        if has_bit(&self.seen, bit) {
+            return false;
+        }
+        set_bit(&mut self.seen, bit);
+        true
+    }
+
+    // Looks at the last one of the slots that are left. Its entry is the next one where its id is
+    // in the range and was not noted.
+    fn look_at_slot<T: SlotSectors, F: Flash, L: Ledger>(
+        &mut self,
+        flash: &F,
+        area: &Area,
+        current: u32,
+        steps: &mut Steps<L>,
+    ) -> Option<Placed>
+        requires area { IsStoreArea T.role (F.device flash.now).banks area.now }
+        requires current { IsOpenOn T.kind (F.device flash.now) area.now current }
+        requires at { let d = F.device flash.now in
+            IsAt (kind_on T.kind d area.now) (sectors_of d area.now) current self.old }
+        requires some_left { 0 < self.old.left }
+        ensures at { let d = F.device flash.now in
+            IsAt (kind_on T.kind d area.now) (sectors_of d area.now) current self.new }
+        ensures range { SameRange self.old self.new }
+        ensures place { self.new.place ≡ self.old.place }
+        ensures fewer { self.new.left < self.old.left }
+        ensures next { let d = F.device flash.now in let k = kind_on T.kind d area.now in
+            let sectors = sectors_of d area.now in IfSome result (IsLastIn k sectors self.old) }
+        ensures told { let d = F.device flash.now in let k = kind_on T.kind d area.now in
+            let sectors = sectors_of d area.now in
+            (p : PlacedEntry) → WasTold k sectors current self.new p
+            → (Some p ≡ result) ⊎ WasTold k sectors current self.old p }
+    {
+        let rest = self.left - 1;
+        let slot = T::first_slot() + rest;
+        let found = T::entry_in(flash, area, self.place, slot, steps);
+        self.left = T::reach_of(flash, area, self.place, rest, self.least, self.most, steps);
+        match found {
+            Some(placed) => {
+                if self.is_new(placed.id) {
+                    return Some(placed);
+                }
+                None
+            }
+            None => None,
+        }
+    }
+
+    // The next one of the sector that is looked at.
+    fn next_here<T: SlotSectors, F: Flash, L: Ledger>(
+        &mut self,
+        flash: &F,
+        area: &Area,
+        current: u32,
+        steps: &mut Steps<L>,
+    ) -> Option<Placed>
+        requires area { IsStoreArea T.role (F.device flash.now).banks area.now }
+        requires current { IsOpenOn T.kind (F.device flash.now) area.now current }
+        requires at { let d = F.device flash.now in
+            IsAt (kind_on T.kind d area.now) (sectors_of d area.now) current self.old }
+        ensures at { let d = F.device flash.now in
+            IsAt (kind_on T.kind d area.now) (sectors_of d area.now) current self.new }
+        ensures range { SameRange self.old self.new }
+        ensures place { self.new.place ≡ self.old.place }
+        ensures ends { result ≡ None → self.new.left ≡ 0 }
+        ensures fewer { IfSome result (λ _. self.new.left < self.old.left) }
+        ensures next { let d = F.device flash.now in let k = kind_on T.kind d area.now in
+            let sectors = sectors_of d area.now in IfSome result (IsLastIn k sectors self.old) }
+        ensures told { let d = F.device flash.now in let k = kind_on T.kind d area.now in
+            let sectors = sectors_of d area.now in
+            (p : PlacedEntry) → WasTold k sectors current self.new p
+            → (Some p ≡ result) ⊎ WasTold k sectors current self.old p }
+    {
+        while self.left > 0 {
+            let found = self.look_at_slot::<T, F, L>(flash, area, current, steps);
+            if found.is_some() {
+                return found;
+            }
+        }
+        None
+    }
+
+    // Goes to the end of the sector before the one that was looked at.
+    fn step_back<T: SlotSectors, F: Flash, L: Ledger>(
+        &mut self,
+        flash: &F,
+        area: &Area,
+        opened: &T,
+        current: u32,
+        steps: &mut Steps<L>,
+    )
+        requires area { IsStoreArea T.role (F.device flash.now).banks area.now }
+        requires kept { IsKeptOn T.kept (F.device flash.now) area.now current opened.now }
+        requires current { IsOpenOn T.kind (F.device flash.now) area.now current }
+        requires at { let d = F.device flash.now in
+            IsAt (kind_on T.kind d area.now) (sectors_of d area.now) current self.old }
+        requires none_left { self.old.left ≡ 0 }
+        requires further { self.old.place ≡ next (sectors_of (F.device flash.now) area.now) current
+            → ⊥ }
+        ensures at { let d = F.device flash.now in
+            IsAt (kind_on T.kind d area.now) (sectors_of d area.now) current self.new }
+        ensures range { SameRange self.old self.new }
+        ensures place { self.new.place
+            ≡ previous (sectors_of (F.device flash.now) area.now) self.old.place }
+        ensures told { let d = F.device flash.now in let k = kind_on T.kind d area.now in
+            let sectors = sectors_of d area.now in
+            (p : PlacedEntry) → WasTold k sectors current self.new p
+            → WasTold k sectors current self.old p }
+    {
+        self.place = area.previous(self.place);
+        self.left = reach_counting(
+            flash, area, opened, current, self.place, self.least, self.most, steps,
+        );
+    }
+
+    /// The last entry of the next id that was not told so far.
+    pub fn next<T: SlotSectors, F: Flash, L: Ledger>(
+        &mut self,
+        flash: &F,
+        area: &Area,
+        opened: &T,
+        current: u32,
+        steps: &mut Steps<L>,
+    ) -> Option<Placed>
+        requires area { IsStoreArea T.role (F.device flash.now).banks area.now }
+        requires kept { IsKeptOn T.kept (F.device flash.now) area.now current opened.now }
+        requires current { IsOpenOn T.kind (F.device flash.now) area.now current }
+        requires at { let d = F.device flash.now in
+            IsAt (kind_on T.kind d area.now) (sectors_of d area.now) current self.old }
+        ensures at { let d = F.device flash.now in
+            IsAt (kind_on T.kind d area.now) (sectors_of d area.now) current self.new }
+        ensures range { SameRange self.old self.new }
+        ensures placed { IfSome result (IsPlacedOn T.kind (F.device flash.now) area.now current) }
+        ensures next { let d = F.device flash.now in
+            TellsNext (kind_on T.kind d area.now) (sectors_of d area.now) current self.old self.new
+            result }
+        ensures fewer { IfSome result
+            (λ _. slots_left area.now.sectors current self.new
+            < slots_left area.now.sectors current self.old) }
+    {
+        let oldest = area.next(current);
+        let mut found = self.next_here::<T, F, L>(flash, area, current, steps);
+        while found.is_none() && self.place != oldest {
+            self.step_back(flash, area, opened, current, steps);
+            found = self.next_here::<T, F, L>(flash, area, current, steps);
+        }
+        found
+    }
+}

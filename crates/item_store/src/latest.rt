@@ -1,0 +1,434 @@
+// The last entries of ids, by one walk over the list of an area, from its newest entry to its
+// oldest. Where ids neither all have 16 bits nor are all the usual ones of their keys, the list is
+// searched besides for those whose keys were seen.
+ghost use Rattle.std.specs.Prelude.{◌≡◌, ◌+◌, ◌<◌, ◌≤◌, ◌++◌, ◌∷◌, ◌^◌, ◌&&◌, ◌==◌, ℕ, List, [], true, false, None, Some, is_some, length};
+ghost use Rattle.std.specs.Option.{option_map, option_to_list};
+ghost use Rattle.std.specs.List.Sorted.{IsSearchInRange};
+ghost use Rattle.std.specs.List.{AllWithin};
+ghost use Rattle.flash_map.specs.declared.area.Geometry.{Geometry as geometry_type};
+ghost use Rattle.flash_map.specs.Area.{sectors_of};
+ghost use Rattle.item_laws.specs.Area.{counts_at};
+ghost use Rattle.item_laws.specs.Live.{counted_in};
+ghost use Rattle.item_laws.specs.NextIds.{IsBehind};
+ghost use Rattle.item_store.specs.OnSector.{sector_on, IsKeptOn, IsOpenOn};
+ghost use Rattle.item_store.specs.declared.entry.Placed.{Placed as PlacedEntry};
+ghost use Rattle.item_store.specs.Kind.{placed_at, slots};
+ghost use Rattle.item_store.specs.Latest.{last_of_id, Covers, IsTold, Rises, Splits, IsNextIn, DropsGreatest, Tells, TellsOn};
+ghost use Rattle.item_store.specs.Listed.{kind_on, HasSlotOn};
+ghost use Rattle.item_store.specs.Seen.{HasSeen, AreBehind, behind};
+ghost use Rattle.item_store.specs.Standing.{IsStoreArea};
+
+use crate::entry::Placed;
+use crate::lookup::{counts, find};
+use crate::sectors::SlotSectors;
+use crate::seen::Seen;
+use arrayvec::ArrayVec;
+use flash_map::Area;
+use flash_sim::{Flash, Steps};
+use std::sync::ledger::Ledger;
+
+// A table has so many entries at most, of 16 bytes each.
+const ENTRIES: usize = 800;
+
+/// Of each id below a bound the last one of some entries, where that has bytes. There is a bound
+/// only where more ids than the table has places had bytes.
+#[derive(Drop)]
+pub struct LastSlots {
+    // in the order of their ids
+    pub(crate) entries: ArrayVec<Placed, ENTRIES>,
+    // Of this id and greater ones nothing is told. Where there is no bound, each id is told of.
+    pub(crate) bound: Option<u32>,
+}
+
+// Where the entry of an id stands among entries in the order of their ids, or where it would stand.
+fn search(entries: &[Placed], id: u32) -> Result<usize, usize>
+    ensures inside { IsSearchInRange result (length entries.now) }
+    ensures splits { Rises entries.now → Splits entries.now id result }
+{
+    let at = entries.partition_point(|placed| placed.id < id);
+    if at < entries.len() && entries[at].id == id {
+        Ok(at)
+    } else {
+        Err(at)
+    }
+}
+
+impl LastSlots {
+    /// Among no entries.
+    pub fn new() -> LastSlots
+        ensures { (limit : ℕ) → Tells limit result [] }
+    {
+        LastSlots {
+            entries: ArrayVec::new(),
+            bound: None,
+        }
+    }
+
+    // Among no entries, again.
+    fn clear(&mut self)
+        ensures { (limit : ℕ) → Tells limit self.new [] }
+    {
+        self.entries.clear();
+        self.bound = None;
+    }
+
+    /// Whether the table tells of an id.
+    pub fn tells_of(&self, id: u32) -> bool
+        ensures yes_it { result ≡ true → IsTold self.now.bound id }
+        ensures not_it { result ≡ false → IsTold self.now.bound id → ⊥ }
+    {
+        match self.bound {
+            Some(bound) => id < bound,
+            None => true,
+        }
+    }
+
+    /// Whether the table tells of each id.
+    pub fn tells_of_all(&self) -> bool
+        ensures yes_it { result ≡ true → self.now.bound ≡ None }
+        ensures not_it { result ≡ false → self.now.bound ≡ None → ⊥ }
+    {
+        self.bound.is_none()
+    }
+
+    /// The entry of an id, where the table has one.
+    pub fn entry_of(&self, id: u32) -> Option<Placed>
+        ensures { Rises self.now.entries.items → result ≡ last_of_id id self.now.entries.items }
+    {
+        match search(self.entries.as_slice(), id) {
+            Ok(at) => Some(self.entries.as_slice()[at]),
+            Err(_) => None,
+        }
+    }
+
+    // From this place on the ids are behind the given one, and before it none is.
+    fn first_behind(&self, after: Option<u32>) -> usize
+        ensures before { Rises self.now.entries.items
+            → AllWithin (λ p. IsBehind after p.id → ⊥) self.now.entries.items 0 result }
+        ensures behind { Rises self.now.entries.items
+            → AllWithin (λ p. IsBehind after p.id) self.now.entries.items result
+            (length self.now.entries.items) }
+    {
+        match after {
+            Some(after) => match search(self.entries.as_slice(), after) {
+                Ok(at) => at + 1,
+                Err(at) => at,
+            },
+            None => 0,
+        }
+    }
+
+    /// The entry of the least id behind this one, or of the least of all.
+    pub fn next(&self, after: Option<u32>) -> Option<Placed>
+        ensures { Rises self.now.entries.items → IsNextIn after self.now.entries.items result }
+    {
+        let first = self.first_behind(after);
+        if first < self.entries.len() {
+            Some(self.entries.as_slice()[first])
+        } else {
+            None
+        }
+    }
+
+    // Takes out the entry of the greatest id.
+    fn drop_greatest(&mut self)
+        requires { 0 < length self.old.entries.items }
+        ensures { DropsGreatest self.old self.new }
+    {
+        if let Some(greatest) = self.entries.pop() {
+            self.bound = Some(greatest.id);
+        }
+    }
+
+    // Puts an entry with bytes at its place, as the last one of an id of which the table has none.
+    // Where the table is full, the greatest id goes out of it, this one or another.
+    fn put_new(&mut self, at: usize, placed: &Placed)
+        requires inside { at ≤ length self.old.entries.items }
+        ensures { (limit : ℕ) (before : List PlacedEntry) → placed.now.id < limit
+            → ¬ (placed.now.len ≡ 0)
+            → AllWithin (λ p. p.id < placed.now.id) self.old.entries.items 0 at
+            → AllWithin (λ p. placed.now.id < p.id) self.old.entries.items at
+            (length self.old.entries.items) → IsTold self.old.bound placed.now.id
+            → Tells limit self.old before → Tells limit self.new (before ++ placed.now ∷ []) }
+    {
+        if !self.entries.is_full() {
+            self.entries.insert(at, *placed);
+            return;
+        }
+        if at == self.entries.len() {
+            self.bound = Some(placed.id);
+            return;
+        }
+        self.drop_greatest();
+        self.entries.insert(at, *placed);
+    }
+
+    // Takes an entry as the last one of its id, of which the table tells and has none.
+    fn put(&mut self, placed: &Placed)
+        ensures { (limit : ℕ) (before : List PlacedEntry) → placed.now.id < limit
+            → last_of_id placed.now.id before ≡ None → IsTold self.old.bound placed.now.id
+            → Tells limit self.old before → Tells limit self.new (before ++ placed.now ∷ []) }
+    {
+        match search(self.entries.as_slice(), placed.id) {
+            Ok(_) => {}
+            Err(at) => {
+                if placed.len > 0 {
+                    self.put_new(at, placed);
+                }
+            }
+        }
+    }
+
+    // Takes an entry that stands behind others, none of which has its id.
+    fn note(&mut self, placed: &Placed)
+        ensures { (limit : ℕ) (before : List PlacedEntry) → placed.now.id < limit
+            → last_of_id placed.now.id before ≡ None → Tells limit self.old before
+            → Tells limit self.new (before ++ placed.now ∷ []) }
+    {
+        if self.tells_of(placed.id) {
+            self.put(placed);
+        }
+    }
+
+    // Takes an entry that stands in front of others, where none of them has its id.
+    fn take_older(&mut self, placed: &Placed, has_later: bool)
+        ensures { (limit : ℕ) (later : List PlacedEntry) → placed.now.id < limit
+            → has_later ≡ is_some (last_of_id placed.now.id later)
+            → Tells limit self.old later → Tells limit self.new (placed.now ∷ later) }
+    {
+        if !has_later {
+            self.note(placed);
+        }
+    }
+
+    // Whether the table has an entry of the id. Then those that it tells of have one.
+    fn has(&self, id: u32) -> bool
+        ensures { (limit : ℕ) (later : List PlacedEntry) → Tells limit self.now later
+            → result ≡ true → is_some (last_of_id id later) ≡ true }
+    {
+        if !self.tells_of(id) {
+            return false;
+        }
+        self.entry_of(id).is_some()
+    }
+}
+
+// Whether an entry of this very id was told, as far as that is sure.
+fn was_told<T: SlotSectors>(last: &LastSlots, seen: &Seen, id: u32) -> bool
+    ensures { (geometry : geometry_type) (later : List PlacedEntry)
+        → ((T.kind geometry).ids ≤ 2 ^ 16 → id < 2 ^ 16)
+        → Covers (T.kind geometry).ids last.now seen.now later → result ≡ true
+        → is_some (last_of_id id later) ≡ true }
+{
+    if !seen.has(id) {
+        return false;
+    }
+    if T::has_short_ids() {
+        return true;
+    }
+    if seen.is_exact(id) {
+        return true;
+    }
+    last.has(id)
+}
+
+// Whether two entries stand in the same slot.
+fn share_place(one: &Placed, other: &Placed) -> bool
+    ensures { result ≡ ((one.now.sector == other.now.sector) && (one.now.slot == other.now.slot)) }
+{
+    one.sector == other.sector && one.slot == other.slot
+}
+
+// Whether an entry behind this one has its id. The list is searched only where one was seen that
+// may have it.
+fn has_later<T: SlotSectors, F: Flash, L: Ledger>(
+    flash: &F,
+    area: &Area,
+    opened: &T,
+    current: u32,
+    placed: &Placed,
+    seen: &Seen,
+    steps: &mut Steps<L>,
+) -> bool
+    requires area { IsStoreArea T.role (F.device flash.now).banks area.now }
+    requires kept { IsKeptOn T.kept (F.device flash.now) area.now current opened.now }
+    requires current { IsOpenOn T.kind (F.device flash.now) area.now current }
+    ensures { let d = F.device flash.now in let k = kind_on T.kind d area.now in
+        (later : List PlacedEntry) → AreBehind k (sectors_of d area.now) placed.now later
+        → HasSeen k.ids seen.now later → result ≡ is_some (last_of_id placed.now.id later) }
+{
+    if !seen.has(placed.id) {
+        return false;
+    }
+    match find(flash, area, opened, current, placed.id, steps) {
+        Some(last) => !share_place(&last, placed),
+        None => false,
+    }
+}
+
+// Tells of an entry that was read, in front of those that were told. Its id is noted.
+fn tell_entry<T: SlotSectors, F: Flash, L: Ledger>(
+    flash: &F,
+    area: &Area,
+    opened: &T,
+    current: u32,
+    placed: &Placed,
+    last: &mut LastSlots,
+    seen: &mut Seen,
+    steps: &mut Steps<L>,
+)
+    requires area { IsStoreArea T.role (F.device flash.now).banks area.now }
+    requires kept { IsKeptOn T.kept (F.device flash.now) area.now current opened.now }
+    requires current { IsOpenOn T.kind (F.device flash.now) area.now current }
+    requires known { let d = F.device flash.now in placed.now.id < (kind_on T.kind d area.now).ids }
+    ensures { let d = F.device flash.now in let k = kind_on T.kind d area.now in
+        (later : List PlacedEntry) → AreBehind k (sectors_of d area.now) placed.now later
+        → Covers k.ids last.old seen.old later
+        → Covers k.ids last.new seen.new (placed.now ∷ later) }
+{
+    let older = has_later(flash, area, opened, current, placed, seen, steps);
+    last.take_older(placed, older);
+    seen.add(placed.id);
+}
+
+// Tells of the entry in a slot, if there is one, in front of those that were told. The id is read
+// first: where one of this id was told, the slot is passed over, and its CRC is not looked at.
+fn tell_slot<T: SlotSectors, F: Flash, L: Ledger>(
+    flash: &F,
+    area: &Area,
+    opened: &T,
+    current: u32,
+    place: u32,
+    slot: u32,
+    last: &mut LastSlots,
+    seen: &mut Seen,
+    steps: &mut Steps<L>,
+)
+    requires area { IsStoreArea T.role (F.device flash.now).banks area.now }
+    requires kept { IsKeptOn T.kept (F.device flash.now) area.now current opened.now }
+    requires current { IsOpenOn T.kind (F.device flash.now) area.now current }
+    requires inside { place < area.now.sectors }
+    requires listed { HasSlotOn T.kind (F.device flash.now) area.now place slot }
+    ensures { let d = F.device flash.now in let k = kind_on T.kind d area.now in
+        (later : List PlacedEntry)
+        → ((p : PlacedEntry)
+        → option_map (placed_at place) (k.in_slot (sector_on d area.now place) slot) ≡ Some p
+        → AreBehind k (sectors_of d area.now) p later) → Covers k.ids last.old seen.old later
+        → Covers k.ids last.new seen.new
+        (option_to_list (option_map (placed_at place) (k.in_slot (sector_on d area.now place) slot))
+        ++ later) }
+{
+    let id = T::id_in(flash, area, place, slot, steps);
+    if was_told::<T>(last, seen, id) {
+        return;
+    }
+    match T::entry_in(flash, area, place, slot, steps) {
+        Some(placed) => tell_entry(flash, area, opened, current, &placed, last, seen, steps),
+        None => {}
+    }
+}
+
+// Tells of the entries of a sector that counts, in front of those behind it.
+fn tell_sector<T: SlotSectors, F: Flash, L: Ledger>(
+    flash: &F,
+    area: &Area,
+    opened: &T,
+    current: u32,
+    place: u32,
+    last: &mut LastSlots,
+    seen: &mut Seen,
+    steps: &mut Steps<L>,
+)
+    requires area { IsStoreArea T.role (F.device flash.now).banks area.now }
+    requires kept { IsKeptOn T.kept (F.device flash.now) area.now current opened.now }
+    requires current { IsOpenOn T.kind (F.device flash.now) area.now current }
+    requires inside { place < area.now.sectors }
+    requires counts { let d = F.device flash.now in
+        counts_at (kind_on T.kind d area.now).reading (sectors_of d area.now) current place ≡ true }
+    requires covers { let d = F.device flash.now in let k = kind_on T.kind d area.now in
+        Covers k.ids last.old seen.old (behind k (sectors_of d area.now) current place) }
+    ensures { let d = F.device flash.now in let k = kind_on T.kind d area.now in
+        Covers k.ids last.new seen.new
+        (counted_in (slots k) (sectors_of d area.now) current place
+        ++ behind k (sectors_of d area.now) current place) }
+{
+    let first = T::first_slot();
+    let mut left = T::slots(flash, area, place, steps);
+    while left > 0 {
+        let slot = first + (left - 1);
+        tell_slot(flash, area, opened, current, place, slot, last, seen, steps);
+        left -= 1;
+    }
+}
+
+// The same, where the sector counts.
+fn tell_counting<T: SlotSectors, F: Flash, L: Ledger>(
+    flash: &F,
+    area: &Area,
+    opened: &T,
+    current: u32,
+    place: u32,
+    last: &mut LastSlots,
+    seen: &mut Seen,
+    steps: &mut Steps<L>,
+)
+    requires area { IsStoreArea T.role (F.device flash.now).banks area.now }
+    requires kept { IsKeptOn T.kept (F.device flash.now) area.now current opened.now }
+    requires current { IsOpenOn T.kind (F.device flash.now) area.now current }
+    requires inside { place < area.now.sectors }
+    requires covers { let d = F.device flash.now in let k = kind_on T.kind d area.now in
+        Covers k.ids last.old seen.old (behind k (sectors_of d area.now) current place) }
+    ensures { let d = F.device flash.now in let k = kind_on T.kind d area.now in
+        Covers k.ids last.new seen.new
+        (counted_in (slots k) (sectors_of d area.now) current place
+        ++ behind k (sectors_of d area.now) current place) }
+{
+    if counts(flash, area, opened, current, place, steps) {
+        tell_sector(flash, area, opened, current, place, last, seen, steps);
+    }
+}
+
+// Tells a table of none of all entries of the list, from the newest sector to the oldest.
+#[inline(never)]
+fn tell_all<T: SlotSectors, F: Flash, L: Ledger>(
+    flash: &F,
+    area: &Area,
+    opened: &T,
+    current: u32,
+    last: &mut LastSlots,
+    steps: &mut Steps<L>,
+)
+    requires area { IsStoreArea T.role (F.device flash.now).banks area.now }
+    requires kept { IsKeptOn T.kept (F.device flash.now) area.now current opened.now }
+    requires current { IsOpenOn T.kind (F.device flash.now) area.now current }
+    requires none { Tells (kind_on T.kind (F.device flash.now) area.now).ids last.old [] }
+    ensures { TellsOn T.kind (F.device flash.now) area.now last.new }
+{
+    let oldest = area.next(current);
+    let mut seen = Seen::new();
+    let mut place = current;
+    while place != oldest {
+        tell_counting(flash, area, opened, current, place, last, &mut seen, steps);
+        place = area.previous(place);
+    }
+    tell_counting(flash, area, opened, current, oldest, last, &mut seen, steps);
+}
+
+/// Makes a table of the last entry of each id in the list, as far as it has room for them. What it
+/// told before is gone. Each sector that counts is looked at once.
+pub fn tell_last_slots<T: SlotSectors, F: Flash, L: Ledger>(
+    flash: &F,
+    area: &Area,
+    opened: &T,
+    current: u32,
+    last: &mut LastSlots,
+    steps: &mut Steps<L>,
+)
+    requires area { IsStoreArea T.role (F.device flash.now).banks area.now }
+    requires kept { IsKeptOn T.kept (F.device flash.now) area.now current opened.now }
+    requires current { IsOpenOn T.kind (F.device flash.now) area.now current }
+    ensures { TellsOn T.kind (F.device flash.now) area.now last.new }
+{
+    last.clear();
+    tell_all(flash, area, opened, current, last, steps);
+}

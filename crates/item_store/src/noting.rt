@@ -1,0 +1,127 @@
+// Noting the entries of the list, sector by sector.
+ghost use Rattle.std.specs.Prelude.{◌-◌, ◌<◌, ◌≤◌, ℕ, List, [], ◌∷◌, ◌++◌, map};
+ghost use Rattle.std.specs.List.{flat_map, range_with_len};
+ghost use Rattle.std.specs.Option.{option_map, option_to_list};
+ghost use Rattle.flash_map.specs.Area.{sectors_of};
+ghost use Rattle.item_laws.specs.Live.{counted_in};
+ghost use Rattle.item_store.specs.OnSector.{sector_on, IsKeptOn};
+ghost use Rattle.item_store.specs.declared.entry.Placed.{Placed as PlacedEntry};
+ghost use Rattle.item_store.specs.Kind.{placed_at, slots};
+ghost use Rattle.item_store.specs.Listed.{kind_on, HasSlotOn};
+ghost use Rattle.item_store.specs.Standing.{IsStoreArea};
+
+use crate::entry::Placed;
+use crate::lookup::counts;
+use crate::sectors::SlotSectors;
+use flash_map::Area;
+use flash_sim::{Flash, Steps};
+use std::sync::ledger::Ledger;
+
+/// What is noted of entries, one after the other.
+pub trait Notes {
+    /// These entries were noted. Their ids are below this limit.
+    ghost noted: { ℕ → Self → List PlacedEntry → Type 0 };
+
+    fn note(&mut self, placed: &Placed)
+        ensures { (limit : ℕ) (before : List PlacedEntry) → placed.now.id < limit
+            → noted limit self.old before → noted limit self.new (before ++ placed.now ∷ []) };
+}
+
+// Notes the entry in a slot, if there is one.
+fn note_slot<T: SlotSectors, N: Notes, F: Flash, L: Ledger>(
+    flash: &F,
+    area: &Area,
+    place: u32,
+    slot: u32,
+    notes: &mut N,
+    steps: &mut Steps<L>,
+)
+    requires area { IsStoreArea T.role (F.device flash.now).banks area.now }
+    requires inside { place < area.now.sectors }
+    requires listed { HasSlotOn T.kind (F.device flash.now) area.now place slot }
+    ensures { let d = F.device flash.now in let k = kind_on T.kind d area.now in
+        (before : List PlacedEntry) → N.noted k.ids notes.old before
+        → N.noted k.ids notes.new
+        (before
+        ++ option_to_list
+        (option_map (placed_at place) (k.in_slot (sector_on d area.now place) slot))) }
+{
+    match T::entry_in(flash, area, place, slot, steps) {
+        Some(placed) => notes.note(&placed),
+        None => {}
+    }
+}
+
+/// Notes the entries of a sector.
+pub fn note_sector<T: SlotSectors, N: Notes, F: Flash, L: Ledger>(
+    flash: &F,
+    area: &Area,
+    place: u32,
+    notes: &mut N,
+    steps: &mut Steps<L>,
+)
+    requires area { IsStoreArea T.role (F.device flash.now).banks area.now }
+    requires inside { place < area.now.sectors }
+    ensures { let d = F.device flash.now in let k = kind_on T.kind d area.now in
+        (before : List PlacedEntry) → N.noted k.ids notes.old before
+        → N.noted k.ids notes.new
+        (before ++ map (placed_at place) ((slots k).entries (sector_on d area.now place))) }
+{
+    let slots = T::slots(flash, area, place, steps);
+    let first = T::first_slot();
+    for slot in first..first + slots {
+        note_slot::<T, N, F, L>(flash, area, place, slot, notes, steps);
+    }
+}
+
+// Notes them where the sector counts with `current` open.
+fn note_counting<T: SlotSectors, N: Notes, F: Flash, L: Ledger>(
+    flash: &F,
+    area: &Area,
+    opened: &T,
+    current: u32,
+    place: u32,
+    notes: &mut N,
+    steps: &mut Steps<L>,
+)
+    requires area { IsStoreArea T.role (F.device flash.now).banks area.now }
+    requires kept { IsKeptOn T.kept (F.device flash.now) area.now current opened.now }
+    requires current { current < area.now.sectors }
+    requires inside { place < area.now.sectors }
+    ensures { let d = F.device flash.now in let k = kind_on T.kind d area.now in
+        (before : List PlacedEntry) → N.noted k.ids notes.old before
+        → N.noted k.ids notes.new
+        (before ++ counted_in (slots k) (sectors_of d area.now) current place) }
+{
+    if counts(flash, area, opened, current, place, steps) {
+        note_sector::<T, N, F, L>(flash, area, place, notes, steps);
+    }
+}
+
+/// Notes those of the sectors from `first` to the one before `end`, of those that count.
+pub fn note_among<T: SlotSectors, N: Notes, F: Flash, L: Ledger>(
+    flash: &F,
+    area: &Area,
+    opened: &T,
+    current: u32,
+    first: u32,
+    end: u32,
+    notes: &mut N,
+    steps: &mut Steps<L>,
+)
+    requires area { IsStoreArea T.role (F.device flash.now).banks area.now }
+    requires kept { IsKeptOn T.kept (F.device flash.now) area.now current opened.now }
+    requires current { current < area.now.sectors }
+    requires order { first ≤ end }
+    requires inside { end ≤ area.now.sectors }
+    ensures { let d = F.device flash.now in let k = kind_on T.kind d area.now in
+        (before : List PlacedEntry) → N.noted k.ids notes.old before
+        → N.noted k.ids notes.new
+        (before
+        ++ flat_map (counted_in (slots k) (sectors_of d area.now) current)
+        (range_with_len first (end - first))) }
+{
+    for place in first..end {
+        note_counting(flash, area, opened, current, place, notes, steps);
+    }
+}

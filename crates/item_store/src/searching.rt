@@ -1,0 +1,66 @@
+// A search that goes from a sector back to the oldest one.
+ghost use Rattle.std.specs.Prelude.{◌≡◌, ◌<◌, [], ◌∷◌, ◌++◌, length};
+ghost use Rattle.std.specs.List.{flat_map};
+ghost use Rattle.flash_map.specs.Area.{sectors_of};
+ghost use Rattle.item_laws.specs.Live.{last_of, counted_in};
+ghost use Rattle.item_laws.specs.RoundParts.{places_before};
+ghost use Rattle.item_store.specs.OnSector.{IsKeptOn};
+ghost use Rattle.item_store.specs.Listed.{kind_on};
+ghost use Rattle.item_store.specs.Kind.{slots};
+ghost use Rattle.item_store.specs.Standing.{IsStoreArea};
+
+use crate::entry::Placed;
+use crate::lookup::find_among;
+use crate::sectors::SlotSectors;
+use flash_map::Area;
+use flash_sim::{Flash, Steps};
+use std::sync::ledger::Ledger;
+
+/// The last entry of the id in this sector and those before it, in the round to the open one. Of
+/// those that count, a delete too.
+pub fn find_up_to<T: SlotSectors, F: Flash, L: Ledger>(
+    flash: &F,
+    area: &Area,
+    opened: &T,
+    current: u32,
+    place: u32,
+    id: u32,
+    steps: &mut Steps<L>,
+) -> Option<Placed>
+    requires area { IsStoreArea T.role (F.device flash.now).banks area.now }
+    requires kept { IsKeptOn T.kept (F.device flash.now) area.now current opened.now }
+    requires current { current < area.now.sectors }
+    requires inside { place < area.now.sectors }
+    ensures { let d = F.device flash.now in let k = kind_on T.kind d area.now in
+        result
+        ≡ last_of (slots k) id
+        (flat_map (counted_in (slots k) (sectors_of d area.now) current)
+        (places_before (length (sectors_of d area.now)) current place ++ place ∷ [])) }
+{
+    if current < place {
+        return find_among(
+            flash,
+            area,
+            opened,
+            current,
+            current + 1,
+            place + 1,
+            id,
+            steps,
+        );
+    }
+    let newest = find_among(flash, area, opened, current, 0, place + 1, id, steps);
+    if newest.is_some() {
+        return newest;
+    }
+    find_among(
+        flash,
+        area,
+        opened,
+        current,
+        current + 1,
+        area.sectors,
+        id,
+        steps,
+    )
+}

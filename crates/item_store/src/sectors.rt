@@ -1,0 +1,457 @@
+// The trait of a store's sectors.
+ghost use Rattle.std.specs.Prelude.{◌≡◌, ◌⊎◌, ℕ, ◌+◌, ◌*◌, ◌^◌, ◌<◌, ◌≤◌, ◌∷◌, [], true, false, List, length, Some, None, is_err, Option, IfOk, IfErr, IfSome, IsTrue, OnOk, OnErr};
+ghost use Rattle.std.specs.Option.{option_map};
+ghost use Rattle.flash_map.specs.declared.area.Geometry.{Geometry as geometry_type};
+ghost use Rattle.flash_map.specs.declared.area.Role.{Role as role_type};
+ghost use Rattle.flash_map.specs.Area.{sectors_of, sector_at};
+ghost use Rattle.flash_map.specs.Touches.{Touches};
+ghost use Rattle.flash_map.specs.Units.{IsUnit};
+ghost use Rattle.item_laws.specs.Area.{is_closed_at};
+ghost use Rattle.item_laws.specs.Live.{last_in, bytes_of};
+ghost use Rattle.item_store.specs.Kind.{Kind, IsKind, placed_at, slots, fits};
+ghost use Rattle.item_store.specs.Lasts.{AreOthers};
+ghost use Rattle.item_store.specs.Listed.{IsListedOn, IsWithinOn, kind_on};
+ghost use Rattle.item_store.specs.OnSector.{IsMarked, StopsMarking, IsOpenSector, IsCollecting, IsSource, PutEnds, sector_on, free_on, bytes_on, IsKeptOn, IsKeptAfter, IsSoundOn, IsOpenOn, NextIsNotClosedOn, FitsOn, HasCopyRoomOn, ChangesOnlyOn, KeepsOn, KeepsMarksOn, MarksOn, AddsOn, ClosesOn, ClearsOn, BeginsOn, StopsClearingOn};
+ghost use Rattle.item_store.specs.Standing.{IsStoreArea, SpendsIn, SpendsUpTo};
+ghost use Rattle.item_store.specs.Steps.{Keeps, LeavesRoom, Marks, Closes};
+
+use crate::entry::Placed;
+use flash_map::{Area, Damaged, Geometry};
+use flash_sim::{Flash, PowerLost, Steps};
+use std::sync::ledger::Ledger;
+
+/// What a store keeps of its open sector, and the calls on sectors. An item's bytes and their entry
+/// go into one sector.
+pub trait SlotSectors: Copy {
+    /// The role of the areas that it serves.
+    ghost role: { role_type };
+
+    /// How sectors read and what steps in them spend, in an area of this geometry.
+    ghost kind: { geometry_type → Kind };
+
+    /// What is kept of a sector with these bytes.
+    ghost kept: { geometry_type → List ℕ → Self };
+
+    // ---- numbers
+
+    /// The number of the first slot of an entry.
+    fn first_slot() -> u32
+        ensures value { (geometry : geometry_type) → result ≡ (kind geometry).first }
+        ensures small { result < 2 ^ 8 };
+
+    /// Whether the ids of items have 16 bits.
+    fn has_short_ids() -> bool
+        ensures short { (geometry : geometry_type) → IsTrue result → (kind geometry).ids ≤ 2 ^ 16 }
+        ensures wide { (geometry : geometry_type) → (kind geometry).ids ≤ 2 ^ 16 → IsTrue result };
+
+    /// What bytes of this length and their entry take up, in bytes.
+    fn cost(geometry: &Geometry, len: u32) -> u64
+        requires unit { IsUnit geometry.now.unit }
+        requires short { len < 2 ^ 16 }
+        ensures value { result ≡ (kind geometry.now).cost len }
+        ensures small { result < 2 ^ 18 };
+
+    /// What a sector has for values and entries, in bytes.
+    fn capacity(geometry: &Geometry) -> u32
+        requires unit { IsUnit geometry.now.unit }
+        ensures { result ≡ (kind geometry.now).cap geometry.now.sector };
+
+    /// The bytes of a slot.
+    fn slot_size(geometry: &Geometry) -> u32
+        requires unit { IsUnit geometry.now.unit }
+        ensures value { result ≡ (kind geometry.now).slot }
+        ensures small { result < 2 ^ 8 };
+
+    /// Whether a sector is made clean and ready as soon as it is the open one.
+    fn opens_ready(geometry: &Geometry) -> bool
+        ensures { result ≡ (kind geometry.now).opens_ready };
+
+    // ---- reading
+
+    /// Whether a sector has no entry, and all that a sector has is free in it.
+    fn is_clean<F: Flash, L: Ledger>(
+        flash: &F,
+        area: &Area,
+        place: u32,
+        steps: &mut Steps<L>,
+    ) -> bool
+        requires area { IsStoreArea role (F.device flash.now).banks area.now }
+        requires inside { place < area.now.sectors }
+        ensures { let d = F.device flash.now in
+            result ≡ (kind_on kind d area.now).is_clean (sector_on d area.now place) };
+
+    /// Whether a sector is closed.
+    fn is_closed<F: Flash, L: Ledger>(
+        flash: &F,
+        area: &Area,
+        place: u32,
+        steps: &mut Steps<L>,
+    ) -> bool
+        requires area { IsStoreArea role (F.device flash.now).banks area.now }
+        requires inside { place < area.now.sectors }
+        ensures { let d = F.device flash.now in
+            result ≡ is_closed_at (kind_on kind d area.now).reading (sectors_of d area.now) place };
+
+    /// What is kept of a sector, read from it.
+    fn keep<F: Flash, L: Ledger>(flash: &F, area: &Area, place: u32, steps: &mut Steps<L>) -> Self
+        requires area { IsStoreArea role (F.device flash.now).banks area.now }
+        requires inside { place < area.now.sectors }
+        ensures { IsKeptOn kept (F.device flash.now) area.now place result };
+
+    /// Whether gc-done stands in the sector.
+    fn has_gc_done(&self) -> bool
+        ensures { (geometry : geometry_type) (b : List ℕ) → self.now ≡ kept geometry b
+            → result ≡ (kind geometry).reading.has_gc_done b };
+
+    /// The bytes between what stands of values in the sector, cut ones too, and its slots.
+    fn free<F: Flash, L: Ledger>(
+        &self,
+        flash: &F,
+        area: &Area,
+        place: u32,
+        steps: &mut Steps<L>,
+    ) -> u32
+        requires area { IsStoreArea role (F.device flash.now).banks area.now }
+        requires inside { place < area.now.sectors }
+        requires kept { IsKeptOn kept (F.device flash.now) area.now place self.now }
+        ensures { let d = F.device flash.now in
+            result ≡ (kind_on kind d area.now).free (sector_on d area.now place) };
+
+    /// How many slots the list of the sector has of which this is kept.
+    fn own_slots<F: Flash, L: Ledger>(
+        &self,
+        flash: &F,
+        area: &Area,
+        place: u32,
+        steps: &mut Steps<L>,
+    ) -> u32
+        requires area { IsStoreArea role (F.device flash.now).banks area.now }
+        requires inside { place < area.now.sectors }
+        requires kept { IsKeptOn kept (F.device flash.now) area.now place self.now }
+        ensures value { let d = F.device flash.now in
+            result ≡ (kind_on kind d area.now).count (sector_on d area.now place) }
+        ensures few { result ≤ 2 ^ 15 };
+
+    /// How many slots the list of a sector has.
+    fn slots<F: Flash, L: Ledger>(flash: &F, area: &Area, place: u32, steps: &mut Steps<L>) -> u32
+        requires area { IsStoreArea role (F.device flash.now).banks area.now }
+        requires inside { place < area.now.sectors }
+        ensures value { let d = F.device flash.now in
+            result ≡ (kind_on kind d area.now).count (sector_on d area.now place) }
+        ensures few { result ≤ 2 ^ 15 };
+
+    /// The entry in a slot of a sector's list. It is one step at most.
+    fn entry_in<F: Flash, L: Ledger>(
+        flash: &F,
+        area: &Area,
+        place: u32,
+        slot: u32,
+        steps: &mut Steps<L>,
+    ) -> Option<Placed>
+        requires area { IsStoreArea role (F.device flash.now).banks area.now }
+        requires inside { place < area.now.sectors }
+        requires listed { let d = F.device flash.now in let k = kind_on kind d area.now in
+            (k.first ≤ slot) × (slot < k.first + k.count (sector_on d area.now place)) }
+        ensures entry { let d = F.device flash.now in let k = kind_on kind d area.now in
+            result ≡ option_map (placed_at place) (k.in_slot (sector_on d area.now place) slot) }
+        ensures small { let d = F.device flash.now in
+            IfSome result (λ p. p.id < (kind_on kind d area.now).ids) }
+        ensures short { IfSome result (λ p. p.len < 2 ^ 16) }
+        ensures step { steps.new ≤ steps.old + 1 };
+
+    /// The id that a slot of a sector's list has where an entry has its own, whether it has an
+    /// entry or not. It is one step at most.
+    fn id_in<F: Flash, L: Ledger>(
+        flash: &F,
+        area: &Area,
+        place: u32,
+        slot: u32,
+        steps: &mut Steps<L>,
+    ) -> u32
+        requires area { IsStoreArea role (F.device flash.now).banks area.now }
+        requires inside { place < area.now.sectors }
+        requires listed { let d = F.device flash.now in let k = kind_on kind d area.now in
+            (k.first ≤ slot) × (slot < k.first + k.count (sector_on d area.now place)) }
+        ensures id { let d = F.device flash.now in let k = kind_on kind d area.now in
+            IfSome (k.in_slot (sector_on d area.now place) slot) (λ e. e.id ≡ result) }
+        ensures small { let d = F.device flash.now in
+            (kind_on kind d area.now).ids ≤ 2 ^ 16 → result < 2 ^ 16 }
+        ensures step { steps.new ≤ steps.old + 1 };
+
+    /// The bytes of an entry of a sector's list. It is one step at most.
+    fn value<'a, F: Flash, L: Ledger>(
+        flash: &'a F,
+        area: &Area,
+        placed: &Placed,
+        steps: &mut Steps<L>,
+    ) -> &'a [u8]
+        requires area { IsStoreArea role (F.device flash.now).banks area.now }
+        requires listed { IsListedOn kind (F.device flash.now) area.now placed.now }
+        requires within { IsWithinOn kind (F.device flash.now) area.now placed.now.sector }
+        ensures bytes { let d = F.device flash.now in
+            result.now
+            ≡ bytes_of (slots (kind_on kind d area.now)) (sectors_of d area.now) placed.now }
+        ensures step { steps.new ≤ steps.old + 1 };
+
+    /// The last entry of an id in a sector.
+    fn find_in<F: Flash, L: Ledger>(
+        flash: &F,
+        area: &Area,
+        place: u32,
+        id: u32,
+        steps: &mut Steps<L>,
+    ) -> Option<Placed>
+        requires area { IsStoreArea role (F.device flash.now).banks area.now }
+        requires inside { place < area.now.sectors }
+        ensures { let d = F.device flash.now in let k = kind_on kind d area.now in
+            result
+            ≡ option_map (placed_at place)
+            (last_in (slots k) place id ((slots k).entries (sector_on d area.now place))) };
+
+    /// How many slots of a sector's list have to be looked at for the ids from `least` to `most`:
+    /// those behind them have no entry of these.
+    fn reach<F: Flash, L: Ledger>(
+        flash: &F,
+        area: &Area,
+        place: u32,
+        least: u32,
+        most: u32,
+        steps: &mut Steps<L>,
+    ) -> u32
+        requires area { IsStoreArea role (F.device flash.now).banks area.now }
+        requires inside { place < area.now.sectors }
+        ensures few { let d = F.device flash.now in
+            result ≤ (kind_on kind d area.now).count (sector_on d area.now place) }
+        ensures small { result ≤ 2 ^ 15 }
+        ensures others { let d = F.device flash.now in let k = kind_on kind d area.now in
+            let b = sector_at (sectors_of d area.now) place in
+            AreOthers k b result (k.count b) least most };
+
+    /// The same for the first so many slots of the list.
+    fn reach_of<F: Flash, L: Ledger>(
+        flash: &F,
+        area: &Area,
+        place: u32,
+        slots: u32,
+        least: u32,
+        most: u32,
+        steps: &mut Steps<L>,
+    ) -> u32
+        requires area { IsStoreArea role (F.device flash.now).banks area.now }
+        requires inside { place < area.now.sectors }
+        requires listed { let d = F.device flash.now in
+            slots ≤ (kind_on kind d area.now).count (sector_on d area.now place) }
+        ensures few { result ≤ slots }
+        ensures others { let d = F.device flash.now in
+            AreOthers (kind_on kind d area.now) (sector_on d area.now place) result slots least
+            most };
+
+    // ---- steps in the open sector
+
+    /// Makes the sector ready for entries. One that is ready stays as it is.
+    ///
+    /// # Errors
+    /// `PowerLost`: its marks are as before, and its list where it is in use; nothing is gone of what was free.
+    fn begin<F: Flash, L: Ledger>(
+        &mut self,
+        flash: &mut F,
+        area: &Area,
+        place: u32,
+        steps: &mut Steps<L>,
+    ) -> Result<(), PowerLost>
+        requires area { IsStoreArea role (F.device flash.old).banks area.now }
+        requires inside { place < area.now.sectors }
+        requires kept { IsKeptOn kept (F.device flash.old) area.now place self.old }
+        requires sound { IsSoundOn kind (F.device flash.old) area.now place }
+        requires opened { let d = F.device flash.old in
+            is_closed_at (kind_on kind d area.now).reading (sectors_of d area.now) place ≡ false }
+        ensures touches { Touches (area.now ∷ []) (F.device flash.old) (F.device flash.new)
+            (is_err result) }
+        ensures only { ChangesOnlyOn (F.device flash.old) (F.device flash.new) area.now place }
+        ensures begins { let d = F.device flash.old in let e = F.device flash.new in
+            OnOk result (BeginsOn kind d e area.now place) }
+        ensures kept { let d = F.device flash.old in let e = F.device flash.new in
+            OnOk result (IsKeptAfter kept d e area.now place self.new) }
+        ensures lost { let d = F.device flash.old in let e = F.device flash.new in
+            OnErr result (KeepsOn kind d e area.now place) }
+        ensures room_lost { let d = F.device flash.old in let e = F.device flash.new in
+            let k = kind_on kind d area.now in
+            OnErr result
+            (LeavesRoom k (sector_on d area.now place) (sector_on e area.now place) 0) }
+        ensures spends { let d = F.device flash.old in let e = F.device flash.new in
+            OnOk result
+            (SpendsIn d e ((kind_on kind d area.now).units.begin (sector_on d area.now place))) }
+        ensures spends_lost { let d = F.device flash.old in let e = F.device flash.new in
+            OnErr result
+            (SpendsUpTo d e ((kind_on kind d area.now).units.begin (sector_on d area.now place))) };
+
+    /// Puts an item's bytes and their entry. No bytes are a delete.
+    ///
+    /// # Errors
+    /// `PowerLost`: the sector's list is as before, or with the pair, and no more is gone of what was free than the pair costs.
+    fn put<F: Flash, L: Ledger>(
+        &mut self,
+        flash: &mut F,
+        area: &Area,
+        place: u32,
+        id: u32,
+        bytes: &[u8],
+        steps: &mut Steps<L>,
+    ) -> Result<(), PowerLost>
+        requires here { IsOpenSector role kind kept (F.device flash.old) area.now place self.old }
+        requires rested { NextIsNotClosedOn kind (F.device flash.old) area.now place }
+        requires ordinary { id < (kind_on kind (F.device flash.old) area.now).ids }
+        requires fits { FitsOn kind (F.device flash.old) area.now place (length bytes.now) }
+        ensures touches { Touches (area.now ∷ []) (F.device flash.old) (F.device flash.new)
+            (is_err result) }
+        ensures ends { let d = F.device flash.old in let e = F.device flash.new in
+            PutEnds kind kept d e area.now place id bytes.now self.new result };
+
+    /// Copies an entry with bytes from another sector.
+    ///
+    /// # Errors
+    /// `PowerLost`: the sector's marks are as before.
+    fn copy<F: Flash, L: Ledger>(
+        &mut self,
+        flash: &mut F,
+        area: &Area,
+        place: u32,
+        from: &Placed,
+        steps: &mut Steps<L>,
+    ) -> Result<(), PowerLost>
+        requires here { IsOpenSector role kind kept (F.device flash.old) area.now place self.old }
+        requires collects { IsCollecting kind (F.device flash.old) area.now place }
+        requires source { IsSource kind (F.device flash.old) area.now place from.now }
+        requires room { HasCopyRoomOn kind (F.device flash.old) area.now place from.now.len }
+        ensures touches { Touches (area.now ∷ []) (F.device flash.old) (F.device flash.new)
+            (is_err result) }
+        ensures only { ChangesOnlyOn (F.device flash.old) (F.device flash.new) area.now place }
+        ensures adds { let d = F.device flash.old in let e = F.device flash.new in
+            OnOk result
+            (AddsOn kind d e area.now place from.now.id (bytes_on kind d area.now from.now)) }
+        ensures kept { OnOk result
+            (IsKeptAfter kept (F.device flash.old) (F.device flash.new) area.now place self.new) }
+        ensures lost { OnErr result
+            (KeepsMarksOn kind (F.device flash.old) (F.device flash.new) area.now place) }
+        ensures spends { let d = F.device flash.old in let e = F.device flash.new in
+            OnOk result
+            (SpendsIn d e
+            ((kind_on kind d area.now).units.copy (sector_on d area.now place) from.now.len)) }
+        ensures spends_lost { let d = F.device flash.old in let e = F.device flash.new in
+            OnErr result
+            (SpendsUpTo d e
+            ((kind_on kind d area.now).units.copy (sector_on d area.now place) from.now.len)) };
+
+    /// Marks the sector as one that has all copies.
+    ///
+    /// # Errors
+    /// `PowerLost`: the sector's marks are as before.
+    fn mark_done<F: Flash, L: Ledger>(
+        &mut self,
+        flash: &mut F,
+        area: &Area,
+        place: u32,
+        steps: &mut Steps<L>,
+    ) -> Result<(), PowerLost>
+        requires here { IsOpenSector role kind kept (F.device flash.old) area.now place self.old }
+        requires collects { IsCollecting kind (F.device flash.old) area.now place }
+        requires room { let d = F.device flash.old in
+            2 * (kind_on kind d area.now).slot ≤ free_on kind d area.now place }
+        ensures touches { Touches (area.now ∷ []) (F.device flash.old) (F.device flash.new)
+            (is_err result) }
+        ensures only { ChangesOnlyOn (F.device flash.old) (F.device flash.new) area.now place }
+        ensures ok { let d = F.device flash.old in let e = F.device flash.new in
+            OnOk result (IsMarked kind kept d e area.now place self.new) }
+        ensures err { let d = F.device flash.old in let e = F.device flash.new in
+            OnErr result (StopsMarking kind d e area.now place) };
+
+    /// Closes the open sector, which is not clean.
+    ///
+    /// # Errors
+    /// `PowerLost`: the sector's list is as before, or the sector is closed. One with no entry is itself as before, or
+    /// closed.
+    fn close<F: Flash, L: Ledger>(
+        &self,
+        flash: &mut F,
+        area: &Area,
+        place: u32,
+        steps: &mut Steps<L>,
+    ) -> Result<(), PowerLost>
+        requires area { IsStoreArea role (F.device flash.old).banks area.now }
+        requires inside { place < area.now.sectors }
+        requires kept { IsKeptOn kept (F.device flash.old) area.now place self.now }
+        requires opened { IsOpenOn kind (F.device flash.old) area.now place }
+        requires rested { NextIsNotClosedOn kind (F.device flash.old) area.now place }
+        requires sound { IsSoundOn kind (F.device flash.old) area.now place }
+        requires not_closed { let d = F.device flash.old in
+            is_closed_at (kind_on kind d area.now).reading (sectors_of d area.now) place ≡ false }
+        requires used { let d = F.device flash.old in
+            (kind_on kind d area.now).is_clean (sector_on d area.now place) ≡ false }
+        ensures touches { Touches (area.now ∷ []) (F.device flash.old) (F.device flash.new)
+            (is_err result) }
+        ensures only { ChangesOnlyOn (F.device flash.old) (F.device flash.new) area.now place }
+        ensures closes { let d = F.device flash.old in let e = F.device flash.new in
+            OnOk result (ClosesOn kind d e area.now place) }
+        ensures lost { let d = F.device flash.old in let k = kind_on kind d area.now in
+            let b = sector_at (sectors_of d area.now) place in
+            let e = sector_at (sectors_of (F.device flash.new) area.now) place in
+            OnErr result (Keeps k b e ⊎ Closes k b e) }
+        ensures blank_lost { let d = F.device flash.old in let k = kind_on kind d area.now in
+            let b = sector_at (sectors_of d area.now) place in
+            let e = sector_at (sectors_of (F.device flash.new) area.now) place in
+            OnErr result (k.reading.is_blank b ≡ true → (e ≡ b) ⊎ Closes k b e) }
+        ensures spends { let d = F.device flash.old in let e = F.device flash.new in
+            OnOk result
+            (SpendsIn d e ((kind_on kind d area.now).units.close (sector_on d area.now place))) }
+        ensures spends_lost { let d = F.device flash.old in let e = F.device flash.new in
+            OnErr result
+            (SpendsUpTo d e ((kind_on kind d area.now).units.close (sector_on d area.now place))) };
+
+    // ---- a step in any sector
+
+    /// Empties a sector.
+    ///
+    /// # Errors
+    /// `PowerLost`: its marks are as before, or it is clean.
+    fn clear<F: Flash, L: Ledger>(
+        flash: &mut F,
+        area: &Area,
+        place: u32,
+        steps: &mut Steps<L>,
+    ) -> Result<(), PowerLost>
+        requires area { IsStoreArea role (F.device flash.old).banks area.now }
+        requires inside { place < area.now.sectors }
+        ensures touches { Touches (area.now ∷ []) (F.device flash.old) (F.device flash.new)
+            (is_err result) }
+        ensures only { ChangesOnlyOn (F.device flash.old) (F.device flash.new) area.now place }
+        ensures clears { let d = F.device flash.old in let e = F.device flash.new in
+            OnOk result (ClearsOn kind d e area.now place) }
+        ensures lost { let d = F.device flash.old in let e = F.device flash.new in
+            OnErr result (StopsClearingOn kind d e area.now place) }
+        ensures spends { let d = F.device flash.old in let e = F.device flash.new in
+            OnOk result
+            (SpendsIn d e ((kind_on kind d area.now).units.clear (sector_on d area.now place))) }
+        ensures spends_lost { let d = F.device flash.old in let e = F.device flash.new in
+            OnErr result
+            (SpendsUpTo d e ((kind_on kind d area.now).units.clear (sector_on d area.now place))) };
+
+    // ---- reading an area
+
+    /// The open sector, or what is wrong with the area.
+    fn scan<F: Flash, L: Ledger>(
+        flash: &F,
+        area: &Area,
+        steps: &mut Steps<L>,
+    ) -> Result<u32, Damaged>
+        requires area { IsStoreArea role (F.device flash.now).banks area.now }
+        ensures opened { IfOk result (λ place. IsOpenOn kind (F.device flash.now) area.now place) }
+        ensures within { IfOk result (λ place. place < area.now.sectors) }
+        ensures undamaged { let d = F.device flash.now in
+            OnOk result ((kind_on kind d area.now).damage (sectors_of d area.now) ≡ None) }
+        ensures damaged { let d = F.device flash.now in
+            IfErr result
+            (λ damaged. (kind_on kind d area.now).damage (sectors_of d area.now) ≡ Some damaged) };
+
+    /// The kind is one.
+    ghost lawful: { (geometry : geometry_type) → IsUnit geometry.unit → IsKind (kind geometry) };
+}

@@ -1,0 +1,148 @@
+// Which ids the entries behind a place of the list have.
+ghost use Rattle.std.specs.Prelude.{◌≡◌, ◌^◌, ◌<◌, ◌||◌, ◌==◌, ℕ, [], not, nat_lt, IsTrue};
+ghost use Rattle.flash_map.specs.Area.{sectors_of};
+ghost use Rattle.item_store.specs.OnSector.{IsKeptOn};
+ghost use Rattle.item_store.specs.Listed.{kind_on};
+ghost use Rattle.item_store.specs.Seen.{key_of, usual_id, has_bit, HasSeen, IsExact, behind};
+ghost use Rattle.item_store.specs.Standing.{IsStoreArea};
+
+use crate::bits::{has_bit, set_bit};
+use crate::entry::Placed;
+use crate::noting::{Notes, note_among};
+use crate::sectors::SlotSectors;
+use flash_map::Area;
+use flash_sim::{Flash, Steps};
+use std::sync::ledger::Ledger;
+
+// A bit for each key of ids.
+const BYTES: usize = 0x2000;
+
+// The key of an id, a number of 16 bits.
+#[tactic(auto, unfolding(crate::specs::Seen::key_of))]
+fn key_of(id: u32) -> u32
+    ensures key { result ≡ key_of id }
+    ensures below { result < 2 ^ 16 }
+{
+    if id < 0x8000_0000 {
+        id % 0x1_0000
+    } else {
+        id / 0x4000_0000 % 2 * 0x8000 + id % 0x1_0000 / 0x10 * 8 + id % 8
+    }
+}
+
+// The id of a key, where ids are long, that has bit 31 and the bits of the key, and no others.
+#[tactic(auto, unfolding(crate::specs::Seen::usual_id))]
+fn usual_id(key: u32) -> u32
+    requires { key < 2 ^ 16 }
+    ensures { result ≡ usual_id key }
+{
+    0x8000_0000 + key / 0x8000 * 0x4000_0000 + key % 0x8000 / 8 * 0x10 + key % 8
+}
+
+/// Which keys the ids of some entries have.
+#[derive(Drop)]
+pub struct Seen {
+    pub(crate) bits: [u8; BYTES],
+    // some id is another one than the usual one of its key, where ids are long
+    pub(crate) mixed: bool,
+    // some id has more than 16 bits
+    pub(crate) long: bool,
+}
+
+impl Seen {
+    /// None so far.
+    pub fn new() -> Seen
+        ensures { (limit : ℕ) → HasSeen limit result [] }
+    {
+        Seen {
+            bits: [0; BYTES],
+            mixed: false,
+            long: false,
+        }
+    }
+
+    /// Whether an id of the same key was noted.
+    pub fn has(&self, id: u32) -> bool
+        ensures { result ≡ has_bit self.now.bits (key_of id) }
+    {
+        has_bit(&self.bits, key_of(id))
+    }
+
+    /// Whether this id and each one that was noted are the usual ones of their keys, where ids are
+    /// long, or all have 16 bits. Then one that has the key of this id is this id.
+    pub fn is_exact(&self, id: u32) -> bool
+        ensures { IsTrue result → IsExact self.now id }
+    {
+        if !self.long && id < 0x1_0000 {
+            return true;
+        }
+        !self.mixed && id == usual_id(key_of(id))
+    }
+
+    /// Adds an id.
+    pub fn add(&mut self, id: u32)
+        ensures bits { (key : ℕ) → key < 2 ^ 16
+            → has_bit self.new.bits key ≡ (has_bit self.old.bits key || (key_of id == key)) }
+        ensures mixed { self.new.mixed ≡ (self.old.mixed || not (id == usual_id (key_of id))) }
+        ensures long { self.new.long ≡ (self.old.long || not (nat_lt id 0x1_0000)) }
+    {
+        let key = key_of(id);
+        set_bit(&mut self.bits, key);
+        self.mixed = self.mixed || id != usual_id(key);
+        self.long = self.long || id >= 0x1_0000;
+    }
+}
+
+impl Notes for Seen {
+    ghost noted = { λ limit seen placed. HasSeen limit seen placed };
+
+    fn note(&mut self, placed: &Placed) {
+        self.add(placed.id);
+    }
+}
+
+/// Adds the ids of the entries in the sectors behind a place, in the round to the open one. Each is
+/// looked at once.
+pub fn note_behind<T: SlotSectors, F: Flash, L: Ledger>(
+    flash: &F,
+    area: &Area,
+    opened: &T,
+    current: u32,
+    place: u32,
+    seen: &mut Seen,
+    steps: &mut Steps<L>,
+)
+    requires area { IsStoreArea T.role (F.device flash.now).banks area.now }
+    requires kept { IsKeptOn T.kept (F.device flash.now) area.now current opened.now }
+    requires current { current < area.now.sectors }
+    requires inside { place < area.now.sectors }
+    ensures { let d = F.device flash.now in let k = kind_on T.kind d area.now in
+        HasSeen k.ids seen.old []
+        → HasSeen k.ids seen.new (behind k (sectors_of d area.now) current place) }
+{
+    let after = place + 1;
+    if place <= current {
+        note_among(
+            flash,
+            area,
+            opened,
+            current,
+            after,
+            current + 1,
+            seen,
+            steps,
+        );
+        return;
+    }
+    note_among(
+        flash,
+        area,
+        opened,
+        current,
+        after,
+        area.sectors,
+        seen,
+        steps,
+    );
+    note_among(flash, area, opened, current, 0, current + 1, seen, steps);
+}

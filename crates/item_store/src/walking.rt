@@ -1,0 +1,236 @@
+// From the newest entry of the list of an area back to the oldest.
+ghost use Rattle.std.specs.Prelude.{◌≡◌, ◌+◌, ◌-◌, ◌<◌, ◌≤◌, length, map, None, IfSome};
+ghost use Rattle.std.specs.List.{flat_map, last_or, range_with_len};
+ghost use Rattle.flash_map.specs.Area.{sectors_of};
+ghost use Rattle.item_laws.specs.Live.{counted_in};
+ghost use Rattle.item_laws.specs.RoundParts.{places_before};
+ghost use Rattle.item_laws.specs.Walk.{entries_within, counted_within, placed_up_to};
+ghost use Rattle.item_store.specs.OnSector.{sector_on, IsKeptOn, IsOpenOn};
+ghost use Rattle.item_store.specs.Kind.{placed_at, slots};
+ghost use Rattle.item_store.specs.Listed.{kind_on, entries_on, IsListedOn, IsPlacedOn};
+ghost use Rattle.item_store.specs.Older.{IsNextOlder, newest_before as newest_before_place};
+ghost use Rattle.item_store.specs.Standing.{IsStoreArea};
+
+use crate::entry::Placed;
+use crate::lookup::counts;
+use crate::sectors::SlotSectors;
+use flash_map::Area;
+use flash_sim::{Flash, Steps};
+use std::sync::ledger::Ledger;
+
+// The newest entry in the first so many slots of a sector's list.
+fn newest_in<T: SlotSectors, F: Flash, L: Ledger>(
+    flash: &F,
+    area: &Area,
+    place: u32,
+    limit: u32,
+    steps: &mut Steps<L>,
+) -> Option<Placed>
+    requires area { IsStoreArea T.role (F.device flash.now).banks area.now }
+    requires inside { place < area.now.sectors }
+    ensures last { let d = F.device flash.now in
+        result
+        ≡ last_or None
+        (map (placed_at place)
+        (entries_within (slots (kind_on T.kind d area.now)) (sector_on d area.now place) limit)) }
+    ensures listed { IfSome result (IsListedOn T.kind (F.device flash.now) area.now) }
+    ensures sector { IfSome result (λ p. p.sector ≡ place) }
+{
+    let mut count = T::slots(flash, area, place, steps).min(limit);
+    let first = T::first_slot();
+    while count > 0 {
+        let slot = first + (count - 1);
+        if let Some(placed) = T::entry_in(flash, area, place, slot, steps) {
+            return Some(placed);
+        }
+        count -= 1;
+    }
+    None
+}
+
+// The newest entry in the first so many slots of a sector's list, where that counts with `current`
+// open.
+fn newest_at<T: SlotSectors, F: Flash, L: Ledger>(
+    flash: &F,
+    area: &Area,
+    opened: &T,
+    current: u32,
+    place: u32,
+    limit: u32,
+    steps: &mut Steps<L>,
+) -> Option<Placed>
+    requires area { IsStoreArea T.role (F.device flash.now).banks area.now }
+    requires kept { IsKeptOn T.kept (F.device flash.now) area.now current opened.now }
+    requires current { current < area.now.sectors }
+    requires inside { place < area.now.sectors }
+    ensures last { let d = F.device flash.now in
+        result
+        ≡ last_or None
+        (counted_within (slots (kind_on T.kind d area.now)) (sectors_of d area.now) current place
+        limit) }
+    ensures placed { IfSome result (IsPlacedOn T.kind (F.device flash.now) area.now current) }
+{
+    if counts(flash, area, opened, current, place, steps) {
+        newest_in::<T, F, L>(flash, area, place, limit, steps)
+    } else {
+        None
+    }
+}
+
+// The newest entry of a sector, where that counts.
+fn newest_of<T: SlotSectors, F: Flash, L: Ledger>(
+    flash: &F,
+    area: &Area,
+    opened: &T,
+    current: u32,
+    place: u32,
+    steps: &mut Steps<L>,
+) -> Option<Placed>
+    requires area { IsStoreArea T.role (F.device flash.now).banks area.now }
+    requires kept { IsKeptOn T.kept (F.device flash.now) area.now current opened.now }
+    requires current { current < area.now.sectors }
+    requires inside { place < area.now.sectors }
+    ensures last { let d = F.device flash.now in
+        result
+        ≡ last_or None
+        (counted_in (slots (kind_on T.kind d area.now)) (sectors_of d area.now) current place) }
+    ensures placed { IfSome result (IsPlacedOn T.kind (F.device flash.now) area.now current) }
+{
+    let all = T::slots(flash, area, place, steps);
+    newest_at(flash, area, opened, current, place, all, steps)
+}
+
+// The newest entry in the sectors from `first` to the one before `end`, of those that count.
+fn newest_among<T: SlotSectors, F: Flash, L: Ledger>(
+    flash: &F,
+    area: &Area,
+    opened: &T,
+    current: u32,
+    first: u32,
+    end: u32,
+    steps: &mut Steps<L>,
+) -> Option<Placed>
+    requires area { IsStoreArea T.role (F.device flash.now).banks area.now }
+    requires kept { IsKeptOn T.kept (F.device flash.now) area.now current opened.now }
+    requires current { current < area.now.sectors }
+    requires order { first ≤ end }
+    requires inside { end ≤ area.now.sectors }
+    ensures last { let d = F.device flash.now in
+        result
+        ≡ last_or None
+        (flat_map (counted_in (slots (kind_on T.kind d area.now)) (sectors_of d area.now) current)
+        (range_with_len first (end - first))) }
+    ensures placed { IfSome result (IsPlacedOn T.kind (F.device flash.now) area.now current) }
+{
+    let mut place = end;
+    while place > first {
+        let found = newest_of(flash, area, opened, current, place - 1, steps);
+        if found.is_some() {
+            return found;
+        }
+        place -= 1;
+    }
+    None
+}
+
+// The newest entry in the sectors before this one, in the round to the open sector.
+fn newest_before<T: SlotSectors, F: Flash, L: Ledger>(
+    flash: &F,
+    area: &Area,
+    opened: &T,
+    current: u32,
+    place: u32,
+    steps: &mut Steps<L>,
+) -> Option<Placed>
+    requires area { IsStoreArea T.role (F.device flash.now).banks area.now }
+    requires kept { IsKeptOn T.kept (F.device flash.now) area.now current opened.now }
+    requires current { current < area.now.sectors }
+    requires inside { place < area.now.sectors }
+    ensures last { let d = F.device flash.now in
+        result
+        ≡ last_or None
+        (flat_map (counted_in (slots (kind_on T.kind d area.now)) (sectors_of d area.now) current)
+        (places_before (length (sectors_of d area.now)) current place)) }
+    ensures placed { IfSome result (IsPlacedOn T.kind (F.device flash.now) area.now current) }
+{
+    if current < place {
+        return newest_among(flash, area, opened, current, current + 1, place, steps);
+    }
+    let newest = newest_among(flash, area, opened, current, 0, place, steps);
+    if newest.is_some() {
+        return newest;
+    }
+    newest_among(
+        flash,
+        area,
+        opened,
+        current,
+        current + 1,
+        area.sectors,
+        steps,
+    )
+}
+
+// The newest entry up to so many slots of this sector's list, in the round to the open sector.
+fn newest_up_to<T: SlotSectors, F: Flash, L: Ledger>(
+    flash: &F,
+    area: &Area,
+    opened: &T,
+    current: u32,
+    place: u32,
+    limit: u32,
+    steps: &mut Steps<L>,
+) -> Option<Placed>
+    requires area { IsStoreArea T.role (F.device flash.now).banks area.now }
+    requires kept { IsKeptOn T.kept (F.device flash.now) area.now current opened.now }
+    requires current { current < area.now.sectors }
+    requires inside { place < area.now.sectors }
+    ensures last { let d = F.device flash.now in
+        result
+        ≡ last_or None
+        (placed_up_to (slots (kind_on T.kind d area.now)) (sectors_of d area.now) current place
+        limit) }
+    ensures placed { IfSome result (IsPlacedOn T.kind (F.device flash.now) area.now current) }
+{
+    let newest = newest_at(flash, area, opened, current, place, limit, steps);
+    if newest.is_some() {
+        return newest;
+    }
+    newest_before(flash, area, opened, current, place, steps)
+}
+
+/// The next older entry of the list: the one before the entry in this sector and slot, or the
+/// newest one where no place is given. `None` comes exactly at the front of the list. From a place
+/// without an entry it is the newest of the entries before that place, in the round to the open
+/// sector.
+pub fn walk<T: SlotSectors, F: Flash, L: Ledger>(
+    flash: &F,
+    area: &Area,
+    opened: &T,
+    current: u32,
+    after: Option<(u32, u32)>,
+    steps: &mut Steps<L>,
+) -> Option<Placed>
+    requires area { IsStoreArea T.role (F.device flash.now).banks area.now }
+    requires kept { IsKeptOn T.kept (F.device flash.now) area.now current opened.now }
+    requires current { IsOpenOn T.kind (F.device flash.now) area.now current }
+    requires inside { IfSome after (λ place. place.0 < area.now.sectors) }
+
+    ensures older { IsNextOlder (entries_on T.kind (F.device flash.now) area.now) after result }
+    ensures before { let d = F.device flash.now in
+        IfSome after
+        (λ place. result
+        ≡ newest_before_place (kind_on T.kind d area.now) (sectors_of d area.now) place) }
+    ensures placed { IfSome result (IsPlacedOn T.kind (F.device flash.now) area.now current) }
+{
+    match after {
+        Some((sector, slot)) => {
+            let limit = slot.saturating_sub(T::first_slot());
+            newest_up_to(flash, area, opened, current, sector, limit, steps)
+        }
+        None => {
+            let all = T::slots(flash, area, current, steps);
+            newest_up_to(flash, area, opened, current, current, all, steps)
+        }
+    }
+}

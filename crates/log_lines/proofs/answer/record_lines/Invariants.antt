@@ -1,7 +1,0 @@
-use Rattle.std.proofs.Common.{◌≡◌, take, map}
-use Rattle.script_lines.specs.Answer.{lines_text}
-use Rattle.log_lines.specs.Answer.{record_line}
-use Rattle.log_lines.proofs.answer.record_lines.Given as goal
-
-abbrev pub invariant-loop-body : goal.invariant-loop-body
-invariant-loop-body l = l.text.items ≡ lines_text (map record_line (take l.body-index l.bodies))

@@ -1,5 +1,0 @@
-use Rattle.log_lines.proofs.TableLaws as laws
-use Rattle.log_lines.proofs.script.one_meaning.Goals as goal
-
-pub returns : goal.returns
-returns c = laws.one_meaning

@@ -1,4 +1,0 @@
-pub mod Answer
-pub mod Line
-pub mod Laws
-pub mod Plan

@@ -1,0 +1,44 @@
+-- What settings cost in an area, by its role. Nothing is mirrored in areas of the other roles.
+use Rattle.flash_map.specs.declared.area.Area.{Area}
+use Rattle.flash_map.specs.declared.area.Geometry.{Geometry}
+use Rattle.flash_map.specs.declared.area.Role.{Role}
+use Rattle.flash_map.specs.declared.area.Role.TheVariants.{Nvs, Zms, Fcb, Sel}
+use Rattle.named_items.specs.NvsStore.{nvs_price, nvs_cap}
+use Rattle.named_items.specs.ZmsStore.{zms_price, zms_cap}
+use Rattle.backend_nvs.specs.Numbers.{nvs_counted}
+use Rattle.backend_zms.specs.Hash.{group_of}
+use Rattle.backend_zms.specs.declared.hash.TheConstants.{GROUP_SIZE}
+use Rattle.mirror.specs.Room.{Prices}
+use Rattle.mirror.specs.declared.store.TheConstants.{NVS_NAMES}
+
+-- of NVS: all names are of one class, and so an area has so many at most
+abbrev pub of_nvs : Geometry → Prices
+of_nvs geometry = record {
+  price = nvs_price geometry;
+  counted = nvs_counted (nvs_price geometry);
+  cap = nvs_cap geometry;
+  class = λ name. 0;
+  most = NVS_NAMES;
+}
+
+-- of ZMS: names are of the groups of their hashes, and there is no count
+abbrev pub of_zms : Geometry → Prices
+of_zms geometry = record {
+  price = zms_price geometry;
+  counted = 0;
+  cap = zms_cap geometry;
+  class = group_of;
+  most = GROUP_SIZE;
+}
+
+abbrev pub none : Prices
+none = record { price = λ length. 0; counted = 0; cap = 0; class = λ name. 0; most = 0 }
+
+abbrev pub prices_as : Role → Geometry → Prices
+prices_as Nvs geometry = of_nvs geometry
+prices_as Zms geometry = of_zms geometry
+prices_as Fcb geometry = none
+prices_as Sel geometry = none
+
+abbrev pub mirror_prices : Area → Geometry → Prices
+mirror_prices area geometry = prices_as area.role geometry

@@ -1,5 +1,0 @@
-use Rattle.mirror_lines.proofs.TableLaws as laws
-use Rattle.mirror_lines.proofs.script.each_is_read.Goals as goal
-
-pub returns : goal.returns
-returns c = laws.each_is_read

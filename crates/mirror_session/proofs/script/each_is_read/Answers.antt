@@ -1,0 +1,5 @@
+use Rattle.mirror_session.proofs.TableLaws as laws
+use Rattle.mirror_session.proofs.script.each_is_read.Goals as goal
+
+pub returns : goal.returns
+returns c = laws.each_is_read

@@ -1,0 +1,46 @@
+// A whole script.
+ghost use Rattle.mirror_session.specs.LineLaws.{EachIsRead, OneMeaning};
+ghost use Rattle.mirror_session.specs.Line.{ReadsScript};
+
+use crate::line::Line;
+use crate::reading::read_line;
+use script_lines::{LineFault, ScriptFault, ScriptLine, read_lines};
+use std::alloc::Global;
+
+impl ScriptLine for Line {
+    ghost use Rattle.mirror_session.specs.Line.{mirror_forms, row_of};
+
+    ghost forms = { mirror_forms };
+
+    ghost says = { row_of };
+
+    fn read(alloc: Global, text: &[u8], limit: usize) -> Result<Line, LineFault> {
+        read_line(alloc, text, limit)
+    }
+}
+
+/// The lines of a script on a mirror.
+///
+/// Lines end with LF, which the last may lack. An empty line and one that begins with `#` are skipped, and counted. A
+/// line's words are separated by one space. The lines are `set NAME HEX`, `get NAME`, `del NAME`, `names`, `mount`, `cut N`,
+/// `uncut` and `blank LABEL`. HEX is `-` for no bytes, or one byte at least and no more than the limit, in digits of either
+/// case; N is below 2^32, in decimal without a sign or leading zeros; LABEL has 1 to 8 bytes of `a` to `z` and `0` to `9`.
+///
+/// # Errors
+/// `BadLine` where a line is no line of these: the first such line, with its first cause. `NoMemory`.
+pub fn read_script(alloc: Global, bytes: &[u8], limit: usize) -> Result<Vec<Line>, ScriptFault>
+    ensures { ReadsScript limit bytes.now result }
+{
+    read_lines(alloc, bytes, limit)
+}
+
+/// No two lines say the same. That no text has two readings, or both a reading and a refusal, holds by any table:
+/// `script_lines::one_reading`.
+pub fn one_meaning()
+    ensures { OneMeaning }
+{}
+
+/// Words spell a line or are refused for some cause.
+pub fn each_is_read()
+    ensures { EachIsRead }
+{}

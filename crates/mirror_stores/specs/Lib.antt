@@ -1,3 +1,0 @@
-pub mod Prices
-pub mod Standing
-pub mod Laws

@@ -1,0 +1,126 @@
+-- What the settings become where the value of a setting is changed.
+use Rattle.std.proofs.Common.{◌≡◌, ℕ, ◌+◌, ◌<◌, ◌≤◌, Bool, true, false, List, length, Some, is_some, refl, sym, ap, subst, ◌∙◌, inl, inr, arith}
+use Rattle.std.specs.FinMap.{get, insert, contains_key}
+use Rattle.flash_sim.specs.Device.{Device}
+use Rattle.flash_map.specs.declared.area.Area.{Area}
+use Rattle.flash_map.specs.declared.area.Geometry.{Geometry}
+use Rattle.flash_map.specs.Area.{geometry_of}
+use Rattle.flash_map.specs.On.{on}
+use Rattle.item_laws.specs.Costs.{items_cost}
+use Rattle.item_laws.specs.Items.{Items}
+use Rattle.backend_api.specs.Map.{Map, IsStored}
+use Rattle.backend_api.specs.Ends.{SpendsSome, Sets, FindsNoSpace}
+use Rattle.backend_api.proofs.MapLemmas.{get-insert_same}
+use Rattle.named_items.specs.StoreEnds as stored
+use Rattle.named_items.specs.Numbering.{Numbering, IsNumbering}
+use Rattle.named_items.specs.PairRoom.{pair_room, IsCountCost}
+use Rattle.named_items.specs.Pairs.{count_in, is_pair, pair_at, settings_in, IsAt, HasNoStrays}
+use Rattle.named_items.proofs.CostLemmas.{get-put, get-put_other}
+use Rattle.named_items.proofs.PairLemmas.{Makes, pair-made, made-pair, one-name, place-put}
+use Rattle.named_items.proofs.NameLemmas.{get-at, at-value}
+use Rattle.named_items.proofs.RoomLemmas.{refused-room, stored-numbers, items-within}
+use Rattle.named_items.proofs.StrayLemmas.{one-place, put-clean}
+use Rattle.named_items.specs.Putting.{room_in, IsPut}
+use Rattle.named_items.proofs.SpendSteps.{geometry-stays}
+
+some_same : {A : Type 0} (x y : A) → Some x ≡ Some y → x ≡ y
+some_same x y e = cc
+
+-- ---- the same, on the area that a call hands back
+
+module _ (numbers : Area → Numbering) (counted : (ℕ → ℕ) → ℕ) (too_many : Map → List ℕ → Bool) (contents : Area → Geometry → List (List ℕ) → Items) (own other : Area) (same : other ≡ own) where
+  pub moved-clean : (b : Device) → HasNoStrays (numbers own) (on contents b own) → HasNoStrays (numbers other) (on contents b other)
+  moved-clean b clean = subst (λ (x : Area). HasNoStrays (numbers x) (on contents b x)) (sym same) clean
+
+  pub moved-cost : (price : Geometry → ℕ → ℕ) (cap : Geometry → ℕ) (a b : Device) (settings : Map) → b.banks ≡ a.banks → settings_in (numbers own) (on contents b own) ≡ settings
+      → (room_in counted too_many price cap (geometry_of b other)).cost (settings_in (numbers other) (on contents b other)) ≡ (room_in counted too_many price cap (geometry_of a own)).cost settings
+  moved-cost price cap a b settings banks is =
+      ap (λ (x : Area). (room_in counted too_many price cap (geometry_of b x)).cost (settings_in (numbers x) (on contents b x))) same
+      ∙ ap (λ (g : Geometry). (room_in counted too_many price cap g).cost (settings_in (numbers own) (on contents b own))) (geometry-stays a b own banks)
+      ∙ ap (λ (m : Map). (room_in counted too_many price cap (geometry_of a own)).cost m) is
+
+  pub moved-price : (price : Geometry → ℕ → ℕ) (a b : Device) (length : ℕ) → b.banks ≡ a.banks → price (geometry_of b other) length ≡ price (geometry_of a own) length
+  moved-price price a b length banks =
+      ap (λ (x : Area). price (geometry_of b x) length) same ∙ ap (λ (g : Geometry). price g length) (geometry-stays a b own banks)
+
+module _ (n : Numbering) (laws : IsNumbering n) (counted : (ℕ → ℕ) → ℕ) (too_many : Map → List ℕ → Bool) (counts : (price : ℕ → ℕ) → IsCountCost n price (counted price))
+    (stored-few : (settings : Map) (name : List ℕ) → contains_key settings name ≡ true → too_many settings name ≡ false)
+    (items : Items) (clean : HasNoStrays n items) (name value : List ℕ) (place second : ℕ) (at : IsAt n items name place) (passes : is_pair n place name value ≡ true) (is_second : second ≡ place + n.step) where
+  abbrev new : Items
+  new = insert items (place + n.step) value
+
+  apart : place ≡ place + n.step → ⊥
+  apart e =
+      let high : place < n.first + count_in n items = at.inside.to in
+      let low : n.first ≤ place = at.inside.from in
+      let few : count_in n items ≤ n.step = laws.few (get items n.count_id) in
+      absurd (omega arith)
+
+  made : Makes n place name (get items place) (get items (place + n.step))
+  made = pair-made n place name (get items place) (get items (place + n.step)) at.here
+
+  new-pair : pair_at n (insert items (place + n.step) value) place ≡ Some (name, value)
+  new-pair =
+      made-pair n place name value (get new place) (get new (place + n.step))
+      (get-put_other items (place + n.step) value place (λ (e : place ≡ place + n.step). apart e) ∙ made.is_name) (get-put items (place + n.step) value) passes
+
+  pub change-sets : settings_in n (insert items (place + n.step) value) ≡ insert (settings_in n items) name value
+  change-sets =
+      place-put n items new (place + n.step) (λ other off. get-put_other items (place + n.step) value other off) laws place at.inside (inr refl) name value new-pair
+      (λ x has. one-name (pair_at n items place) x name has at.here) at.lowest
+
+  pub change-clean : HasNoStrays n (insert items second value)
+  change-clean = subst (λ (id : ℕ). HasNoStrays n (insert items id value)) (sym is_second)
+      (put-clean n laws items new place at.inside (λ id a b. get-put_other items (place + n.step) value id b) name value new-pair
+      (λ other within has. one-place n laws items clean name other place within at.inside has at.here) clean)
+
+  holds-at : IsStored (settings_in n items) name value → stored.Holds items (place + n.step) value
+  holds-at is =
+      let v = at-value n items name place at in
+      let same : v.0 ≡ value = some_same v.0 value (sym (get-at n items name v.0 place at v.1) ∙ is) in
+      v.1 ∙ ap (λ (x : List ℕ). Some x) same
+
+  pub stored-holds : IsStored (settings_in n items) name value → stored.Holds items second value
+  stored-holds is = subst (λ (id : ℕ). stored.Holds items id value) (sym is_second) (holds-at is)
+
+  abbrev old : List ℕ
+  old = (at-value n items name place at).0
+
+  has-old : get (settings_in n items) name ≡ Some old
+  has-old = get-at n items name old place at (at-value n items name place at).1
+
+  contains : contains_key (settings_in n items) name ≡ true
+  contains = ap is_some has-old
+
+  pub change-few : too_many (settings_in n items) name ≡ false
+  change-few = stored-few (settings_in n items) name contains
+
+  module _ (price : ℕ → ℕ) (cap sectors : ℕ) (d e : Device) (after : Items) where
+    pub change-done : (after ≡ insert items second value) → (stored.Holds items second value → e ≡ d) → (¬ (settings_in n after ≡ settings_in n items) → SpendsSome d e)
+        → Sets (pair_room price cap (counted price) too_many) d e (settings_in n items) (settings_in n after) name value
+    change-done is equal spends =
+        let sets : settings_in n after ≡ insert (settings_in n items) name value = ap (settings_in n) (is ∙ ap (λ (id : ℕ). insert items id value) is_second) ∙ change-sets in
+        record {
+          free = change-few;
+          settings = sets;
+          same = λ is. equal (stored-holds is);
+          spends = λ other. spends (λ same. other (ap (λ (m : Map). get m name) (sym same ∙ sets) ∙ get-insert_same (settings_in n items) name value));
+        }
+
+    pub change-refused : (need live : ℕ) → stored.FindsNoSpace price cap sectors items after second value need live → (given cost : ℕ) → given ≡ price (length value) → cost ≡ (pair_room price cap (counted price) too_many).cost (settings_in n items)
+        → FindsNoSpace (pair_room price cap (counted price) too_many) sectors (settings_in n items) (settings_in n after) name value given cost
+    change-refused need live finds given cost needs lives =
+        let numbers = stored-numbers price cap (counted price) too_many (settings_in n items) name value contains in
+        let largest : (pair_room price cap (counted price) too_many).largest (settings_in n items) name value ≡ price (length value) = numbers.0 in
+        let most = items-within price cap (counted price) too_many n laws (counts price) items clean in
+        record {
+          free = change-few;
+          other = λ is. finds.other (stored-holds is);
+          full = refused-room price cap (counted price) too_many sectors (price (length value)) (items_cost price items) (settings_in n items) name value (omega arith) (omega arith) finds.full;
+          needs = needs ∙ sym numbers.1;
+          lives = lives;
+          settings = ap (settings_in n) finds.items;
+        }
+
+    pub change-cut : stored.StopsWriting price cap items after second value → IsPut (settings_in n items) (settings_in n after) name value
+    change-cut stops = elim stops.items [ inl same ↦ inl (ap (settings_in n) same) | inr put ↦ inr (ap (settings_in n) (put ∙ ap (λ (id : ℕ). insert items id value) is_second) ∙ change-sets) ]

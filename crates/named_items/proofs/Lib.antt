@@ -1,0 +1,28 @@
+pub mod ChangeSteps
+pub mod CostLemmas
+pub mod EmptySteps
+pub mod FormatSteps
+pub mod HomeLemmas
+mod ItemSteps
+pub mod LawfulLemmas
+pub mod LookupSteps
+mod MostUnits
+pub mod NameLemmas
+pub mod NewSteps
+mod NvsSteps
+mod OtherSteps
+pub mod PairLemmas
+mod PlaceSteps
+mod PutSteps
+pub mod RangePairs
+mod RemovalUnits
+mod RemovedSteps
+mod RingSteps
+pub mod RoomLemmas
+mod SetSteps
+mod SoFar
+pub mod SpendSteps
+mod StopSteps
+pub mod StrayLemmas
+pub mod StraySteps
+mod ZmsSteps

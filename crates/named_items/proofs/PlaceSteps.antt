@@ -1,0 +1,138 @@
+-- Names by their bytes: which items of the ids of names are the names of settings that count, where items are strays and where none is.
+use Rattle.std.proofs.Common.{◌≡◌, ℕ, zero, suc, ◌+◌, ◌-◌, ◌^◌, ◌<◌, ◌≤◌, true, List, Option, Some, None, is_some, refl, sym, ap, subst, ◌∙◌, inl, inr, arith}
+use Rattle.std.specs.FinMap.{get, contains_key}
+use Rattle.std.proofs.lemmas.Bool.{false≢true}
+use Rattle.setting_name.specs.Name.{IsName}
+use Rattle.item_laws.specs.Bytes.{is_past, HasBytes, IsIdOf, IsNextOf}
+use Rattle.item_laws.specs.Items.{Items}
+use Rattle.backend_api.specs.Least.{IsLeast}
+use Rattle.backend_api.specs.Map.{is_behind, next_name}
+use Rattle.backend_api.proofs.LeastLemmas.{next-least}
+use Rattle.named_items.specs.Numbering.{Numbering, IsNumbering}
+use Rattle.named_items.specs.Pairs.{count_in, pair_at, settings_in, HasName, IsInside, IsAt, IsPlaceOf, IsKept, HasNoStrays}
+use Rattle.named_items.proofs.HomeLemmas.{at-home}
+use Rattle.named_items.proofs.NameLemmas.{get-at, at-value, get-nowhere}
+use Rattle.named_items.proofs.StrayLemmas.{seek}
+use Rattle.named_items.specs.PairHomes.{AreOfNames, IsAmong, HasHomes, HasAllHomes}
+use Rattle.named_items.specs.Looking.{IsForName}
+use Rattle.named_items.specs.declared.homes.Ids.{Ids}
+use Rattle.named_items.proofs.LookupSteps.{at-lawful, has-here, named-as}
+use Rattle.named_items.proofs.StraySteps.{named-at}
+
+some_none : {A : Type 0} (x : A) → Some x ≡ None → ⊥
+some_none x e = cc
+
+-- greater in byte order, said of bytes and of names
+past-behind : (after : Option (List ℕ)) (name : List ℕ) → is_past after name ≡ is_behind after name
+past-behind None name = refl
+past-behind (Some text) name = refl
+
+-- ---- also where items are strays
+
+-- each of these ids is for names, is the store's, and has one behind it
+pub among-own : (n : Numbering) (top : ℕ) (ids : Ids) → AreOfNames n top ids → (id : ℕ) → ids.least ≤ id → id < ids.most + 1 → IsForName n id
+among-own n top ids own id low high =
+    let first : n.first ≤ ids.least = own.from in
+    let last : ids.most < n.first + n.step = own.to in
+    record { from = omega arith; to = omega arith }
+
+pub among-below : (n : Numbering) (top : ℕ) (ids : Ids) → AreOfNames n top ids → (id : ℕ) → id < ids.most + 1 → id < top
+among-below n top ids own id high = let most : ids.most < top = own.most in omega arith
+
+pub among-small : (n : Numbering) (top : ℕ) (ids : Ids) → AreOfNames n top ids → top < 2 ^ 32 → ids.most + 1 < 2 ^ 32
+among-small n top ids own small = let most : ids.most < top = own.most in omega arith
+
+module _ (n : Numbering) (items : Items) where
+  -- an id for names that is kept is the place of the setting whose name is there
+  pub kept-at : (laws : IsNumbering n) (name : List ℕ) (id : ℕ) → IsForName n id → get items id ≡ Some name → IsKept n items id → IsAt n items name id
+  kept-at laws name id own has kept =
+      let low : n.first ≤ id = own.from in
+      let high : id < n.first + n.step = own.to in
+      elim kept [
+        | inl count ↦
+            let e : id ≡ n.count_id = count.is in
+            let below : n.count_id < n.first = laws.below in
+            absurd (omega arith)
+        | inr part ↦ elim part.is [
+          | inl e ↦
+              let at : IsAt n items part.name id = subst (λ (k : ℕ). IsAt n items part.name k) (sym e) part.at in
+              let same : part.name ≡ name = named-as part.name name (get items id) (named-at n items part.name id at) has in
+              subst (λ (t : List ℕ). IsAt n items t id) same at
+          | inr e ↦
+              let from : n.first ≤ part.place = part.at.inside.from in
+              absurd (omega arith)
+        ]
+      ]
+
+  pub at-kept : (name : List ℕ) (place : ℕ) → IsAt n items name place → IsKept n items place
+  at-kept name place at = inr (record { name = name; place = place; at = at; is = inl refl })
+
+  -- of the places that have a name, the lowest counts
+  lowest-by : (m : ℕ) (name : List ℕ) (place : ℕ) → place < n.first + m → IsInside n items place → HasName (pair_at n items place) name → (low : ℕ) × IsAt n items name low
+  lowest-by zero name place under inside has = let from : n.first ≤ place = inside.from in absurd (omega arith)
+  lowest-by (suc m) name place under inside has =
+      let from : n.first ≤ place = inside.from in
+      let to : place < n.first + count_in n items = inside.to in
+      elim (seek (pair_at n items) name n.first (place - n.first)) [
+        | inl lower ↦
+            let low : n.first ≤ lower.0 = lower.1 in
+            let high : lower.0 < n.first + (place - n.first) = lower.2 in
+            lowest-by m name lower.0 (omega arith) (record { from = low; to = omega arith }) lower.3
+        | inr none ↦ (place, record { inside = inside; here = has; lowest = λ other low less. none other low (omega arith) })
+      ]
+
+  -- where the setting stands at none of the ids of the name, there is none
+  pub none-among : (name : List ℕ) (ids : Ids) → HasHomes n name ids → ((id : ℕ) → ids.least ≤ id → id < ids.most + 1 → ¬ IsAt n items name id) → IsPlaceOf n items name None
+  none-among name ids homes none = λ other inside has.
+      let to : other < n.first + count_in n items = inside.to in
+      let low = lowest-by (count_in n items) name other to inside has in
+      let among = homes items low.0 low.1.inside (at-home n items name low.0 low.1.here) in
+      let high : low.0 ≤ ids.most = among.to in
+      none low.0 among.from (omega arith) low.1
+
+-- ---- where none is
+
+module _ (n : Numbering) (laws : IsNumbering n) (items : Items) (clean : HasNoStrays n items) (top : ℕ) (ids : Ids) (own : AreOfNames n top ids) where
+  -- it is neither a count nor a value
+  name-is : (id : ℕ) (bytes : List ℕ) → HasBytes ids.least ids.most items id bytes → IsAt n items bytes id
+  name-is id bytes has =
+      let high : id ≤ ids.most = has.to in
+      elim (clean id) [
+        | inl none ↦ absurd (some_none bytes (sym has.has ∙ none))
+        | inr kept ↦ kept-at n items laws bytes id (among-own n top ids own id has.from (omega arith)) has.has kept
+      ]
+
+  here-bytes : (name : List ℕ) (place : ℕ) → HasName (pair_at n items place) name → IsAmong ids place → HasBytes ids.least ids.most items place name
+  here-bytes name place has among = record { from = among.from; to = among.to; has = (has-here n place name (get items place) (get items (place + n.step)) has).named }
+
+  -- an id that has the bytes of a name is its place, and without one the name has none
+  pub place-found : (name : List ℕ) → HasHomes n name ids → (o : Option ℕ) → IsIdOf ids.least ids.most items name o → IsPlaceOf n items name o
+  place-found name homes None none = λ other inside has. none other (here-bytes name other has (homes items other inside (at-home n items name other has)))
+  place-found name homes (Some id) has = name-is id name has
+
+  at-key : (name : List ℕ) (place : ℕ) → IsAt n items name place → contains_key (settings_in n items) name ≡ true
+  at-key name place at = let value = at-value n items name place at in ap is_some (get-at n items name value.0 place at value.1)
+
+  module _ (homes : HasAllHomes n ids) (after : Option (List ℕ)) where
+    key-bytes : (name : List ℕ) → contains_key (settings_in n items) name ≡ true → (place : ℕ) × HasBytes ids.least ids.most items place name
+    key-bytes name has =
+        elim (seek (pair_at n items) name n.first (count_in n items)) [
+          | inl some ↦ (some.0, here-bytes name some.0 some.3 (homes items some.0 (record { from = some.1; to = some.2 })))
+          | inr none ↦ absurd (false≢true (sym (ap is_some (get-nowhere n items name (λ place inside. none place inside.from inside.to))) ∙ has))
+        ]
+
+    next-is : (o : Option (List ℕ)) → IsNextOf ids.least ids.most items after o → IsLeast after (contains_key (settings_in n items)) o
+    next-is None none = λ name is. let some = key-bytes name is in sym (past-behind after name) ∙ none some.0 name some.1
+    next-is (Some next) is = (
+      at-key next is.0.0 (name-is is.0.0 next is.0.1),
+      sym (past-behind after next) ∙ is.1,
+      λ name key behind. let some = key-bytes name key in is.2 some.0 name some.1 (past-behind after name ∙ behind),
+    )
+
+    -- the least bytes that are greater are the next name
+    pub next-found : (o : Option (List ℕ)) → IsNextOf ids.least ids.most items after o → o ≡ next_name (settings_in n items) after
+    next-found o next = sym (next-least (settings_in n items) after o (next-is o next))
+
+    -- and lawful
+    pub next-lawful : (name : List ℕ) → IsNextOf ids.least ids.most items after (Some name) → IsName name
+    next-lawful name is = at-lawful n items name is.0.0 (name-is is.0.0 name is.0.1)

@@ -1,0 +1,45 @@
+-- What steps in sectors of ZMS spend, and which of them are blank.
+use Rattle.std.proofs.Common.{◌≡◌, ℕ, ◌/◌, ◌≤◌, true, List, refl, sym, subst, arith}
+use Rattle.flash_sim.specs.Device.{Device}
+use Rattle.flash_map.specs.declared.area.Area.{Area}
+use Rattle.flash_map.specs.declared.area.Geometry.{Geometry}
+use Rattle.flash_map.specs.declared.area.Role.{Role}
+use Rattle.flash_map.specs.declared.area.Role.TheVariants.{Zms as ZmsRole}
+use Rattle.flash_map.specs.Area.{geometry_of, sector_size, unit_of}
+use Rattle.flash_map.specs.Lawful.{IsLawfulFor, HasUnit}
+use Rattle.flash_map.specs.Units.{is_erased}
+use Rattle.item_store.specs.Kind.{IsKind}
+use Rattle.zms_cycle.specs.Sector.{cost, data_len}
+use Rattle.zms_format.specs.Kinds.{kind}
+use Rattle.zms_format.proofs.Erased.{erased-unused}
+use Rattle.zms_format.proofs.KindLemmas.{zms_is_kind}
+use Rattle.named_items.specs.RingStore.{IsFrugal}
+use Rattle.named_items.proofs.MostUnits.{units-within}
+
+no-data : data_len 0 ≡ 0
+unfolding data_len
+no-data = refl
+
+module _ (d : Device) (area : Area) (own : IsLawfulFor d.banks area) (role : area.role ≡ ZmsRole) where
+  unit_16 : unit_of d area ≡ 16
+  unit_16 = subst (λ (r : Role). HasUnit r (unit_of d area)) role own.unit
+
+  frugal_16 : IsFrugal (kind (geometry_of d area)) (sector_size d area) (sector_size d area / 16)
+  frugal_16 = record {
+    round = omega arith;
+    entry = λ len short.
+        let entry : cost len / 16 ≤ sector_size d area / 16 = units-within (cost len) (sector_size d area) 16 (omega arith) (omega arith) in
+        omega arith;
+    mount = omega arith;
+    delete = let least = own.at_least in let none = no-data in omega arith;
+  }
+
+  pub zms-frugal : IsFrugal (kind (geometry_of d area)) (sector_size d area) (sector_size d area / unit_of d area)
+  zms-frugal = subst (λ (u : ℕ). IsFrugal (kind (geometry_of d area)) (sector_size d area) (sector_size d area / u)) (sym unit_16) frugal_16
+
+pub zms-law : (geometry : Geometry) → IsKind (kind geometry)
+zms-law geometry = zms_is_kind geometry
+
+-- a sector all of whose bytes are FF is not in use
+pub zms-erased : (geometry : Geometry) (b : List ℕ) → is_erased b ≡ true → (kind geometry).reading.is_blank b ≡ true
+zms-erased geometry b erased = erased-unused geometry.kind b erased

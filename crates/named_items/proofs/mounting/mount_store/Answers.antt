@@ -1,0 +1,151 @@
+use Rattle.std.proofs.Common.{◌≡◌, ◌*◌, ◌∷◌, [], true, None, refl, sym, ap, subst, ◌∙◌, inr}
+use Rattle.std.specs.FinMap.{get, len}
+use Rattle.flash_sim.specs.Device.{Device}
+use Rattle.flash_map.specs.declared.area.Area.{Area}
+use Rattle.flash_map.specs.declared.area.Geometry.{Geometry}
+use Rattle.flash_map.specs.Area.{geometry_of}
+use Rattle.flash_map.specs.Spending.{SpendsAtMost}
+use Rattle.flash_map.specs.Touches.{Touches}
+use Rattle.flash_map.proofs.Touches.{then}
+use Rattle.flash_map.specs.On.{on}
+use Rattle.item_laws.specs.Items.{Items}
+use Rattle.backend_api.specs.Room.{removal_units}
+use Rattle.backend_api.specs.Written.{StaysWritten}
+use Rattle.named_items.specs.Strays.{KeepsEach, OnlyRemoves}
+use Rattle.named_items.proofs.RemovalUnits.{store-mounted, all-removed}
+use Rattle.named_items.proofs.SpendSteps.{geometry-stays}
+use Rattle.named_items.specs.Pairs.{HasNoStrays}
+use Rattle.named_items.proofs.mounting.mount_store.Goals as goal
+
+pub returns-in-Ok-remove_strays-clause-kept : goal.returns-in-Ok-remove_strays-clause-kept
+returns-in-Ok-remove_strays-clause-kept g c = λ none.
+    let d : Device = g.F.Flash.device c.args.flash.now in
+    let e : Device = g.F.Flash.device c.mount.new.flash in
+    let f : Device = g.F.Flash.device c.remove_strays.new.flash in
+    let own : Area = c.args.area in
+    let on_it : g.S.ItemStore.mounted_on c.in-Ok.store ≡ own = c.in-Ok.ensures.on in
+    let keeps : on g.S.ItemStore.contents e own ≡ on g.S.ItemStore.contents d own = c.in-Ok.ensures.keeps none in
+    subst (λ (m : Items). KeepsEach (g.N.Numbers.numbers own) m (on g.S.ItemStore.contents f own)) keeps
+    (subst (λ (x : Area). KeepsEach (g.N.Numbers.numbers x) (on g.S.ItemStore.contents e x) (on g.S.ItemStore.contents f x)) on_it c.remove_strays.ensures.kept)
+
+pub returns-in-Err-remove_strays-clause-kept : goal.returns-in-Err-remove_strays-clause-kept
+returns-in-Err-remove_strays-clause-kept g c = λ none.
+    let d : Device = g.F.Flash.device c.args.flash.now in
+    let e : Device = g.F.Flash.device c.mount.new.flash in
+    let f : Device = g.F.Flash.device c.remove_strays.new.flash in
+    let own : Area = c.args.area in
+    let on_it : g.S.ItemStore.mounted_on c.in-Ok.store ≡ own = c.in-Ok.ensures.on in
+    let keeps : on g.S.ItemStore.contents e own ≡ on g.S.ItemStore.contents d own = c.in-Ok.ensures.keeps none in
+    subst (λ (m : Items). KeepsEach (g.N.Numbers.numbers own) m (on g.S.ItemStore.contents f own)) keeps
+    (subst (λ (x : Area). KeepsEach (g.N.Numbers.numbers x) (on g.S.ItemStore.contents e x) (on g.S.ItemStore.contents f x)) on_it c.remove_strays.ensures.kept)
+
+pub returns-in-Ok-remove_strays-clause-rests : goal.returns-in-Ok-remove_strays-clause-rests
+returns-in-Ok-remove_strays-clause-rests g c = λ rest none.
+    let d : Device = g.F.Flash.device c.args.flash.now in
+    let e : Device = g.F.Flash.device c.mount.new.flash in
+    let own : Area = c.args.area in
+    let on_it : g.S.ItemStore.mounted_on c.in-Ok.store ≡ own = c.in-Ok.ensures.on in
+    let idle : e ≡ d = c.in-Ok.ensures.rests rest in
+    c.remove_strays.ensures.rests (subst (λ (x : Area). HasNoStrays (g.N.Numbers.numbers x) (on g.S.ItemStore.contents e x)) (sym on_it) (subst (λ (y : Device). HasNoStrays (g.N.Numbers.numbers own) (on g.S.ItemStore.contents y own)) (sym idle) none)) ∙ idle
+
+pub returns-in-Ok-remove_strays-clause-clean : goal.returns-in-Ok-remove_strays-clause-clean
+returns-in-Ok-remove_strays-clause-clean g c =
+    let d : Device = g.F.Flash.device c.args.flash.now in
+    let e : Device = g.F.Flash.device c.mount.new.flash in
+    let own : Area = c.args.area in
+    let on_it : g.S.ItemStore.mounted_on c.in-Ok.store ≡ own = c.in-Ok.ensures.on in
+    let f : Device = g.F.Flash.device c.remove_strays.new.flash in
+    subst (λ (x : Area). HasNoStrays (g.N.Numbers.numbers x) (on g.S.ItemStore.contents f x)) on_it (c.in-Ok-remove_strays.ensures.clean refl)
+
+pub returns-in-Err-remove_strays-clause-touches : goal.returns-in-Err-remove_strays-clause-touches
+returns-in-Err-remove_strays-clause-touches g c =
+    let d : Device = g.F.Flash.device c.args.flash.now in
+    let e : Device = g.F.Flash.device c.mount.new.flash in
+    let own : Area = c.args.area in
+    let on_it : g.S.ItemStore.mounted_on c.in-Ok.store ≡ own = c.in-Ok.ensures.on in
+    let f : Device = g.F.Flash.device c.remove_strays.new.flash in
+    then c.in-Ok.ensures.touches (subst (λ (x : Area). Touches (x ∷ []) e f true) on_it c.in-Err-remove_strays.ensures.touches)
+
+pub returns-in-Err-remove_strays-clause-rests : goal.returns-in-Err-remove_strays-clause-rests
+returns-in-Err-remove_strays-clause-rests g c = λ rest none.
+    let d : Device = g.F.Flash.device c.args.flash.now in
+    let e : Device = g.F.Flash.device c.mount.new.flash in
+    let own : Area = c.args.area in
+    let on_it : g.S.ItemStore.mounted_on c.in-Ok.store ≡ own = c.in-Ok.ensures.on in
+    let idle : e ≡ d = c.in-Ok.ensures.rests rest in
+    c.remove_strays.ensures.rests (subst (λ (x : Area). HasNoStrays (g.N.Numbers.numbers x) (on g.S.ItemStore.contents e x)) (sym on_it) (subst (λ (y : Device). HasNoStrays (g.N.Numbers.numbers own) (on g.S.ItemStore.contents y own)) (sym idle) none)) ∙ idle
+
+pub returns-in-Err-clause-kept : goal.returns-in-Err-clause-kept
+returns-in-Err-clause-kept g c = λ none id is. ap (λ (m : Items). get m id) (c.in-Err.ensures.keeps none)
+
+pub returns-in-Ok-remove_strays-clause-at_most : goal.returns-in-Ok-remove_strays-clause-at_most
+returns-in-Ok-remove_strays-clause-at_most g c =
+    let d : Device = g.F.Flash.device c.args.flash.now in
+    let e : Device = g.F.Flash.device c.mount.new.flash in
+    let f : Device = g.F.Flash.device c.remove_strays.new.flash in
+    let own : Area = c.args.area in
+    let on_it : g.S.ItemStore.mounted_on c.in-Ok.store ≡ own = c.in-Ok.ensures.on in
+    let none : on g.S.ItemStore.damage d own ≡ None = c.in-Ok.ensures.ends in
+    let keeps : on g.S.ItemStore.contents e own ≡ on g.S.ItemStore.contents d own = c.in-Ok.ensures.keeps none in
+    let few = g.met.S.ItemStore.few d own (g.met.F.Flash.is_lawful c.args.flash.now) c.requires.lawful c.requires.serves in
+    all-removed (geometry_of d own) d e f (len (on g.S.ItemStore.contents d own)) few c.in-Ok.ensures.at_most
+    (subst (λ (k : Geometry). SpendsAtMost e f (len (on g.S.ItemStore.contents d own) * removal_units k)) (geometry-stays d e own c.in-Ok.ensures.touches.banks)
+    (subst (λ (m : Items). SpendsAtMost e f (len m * removal_units (geometry_of e own))) keeps
+    (subst (λ (x : Area). SpendsAtMost e f (len (on g.S.ItemStore.contents e x) * removal_units (geometry_of e x))) on_it c.remove_strays.ensures.at_most)))
+
+pub returns-in-Err-remove_strays-clause-at_most : goal.returns-in-Err-remove_strays-clause-at_most
+returns-in-Err-remove_strays-clause-at_most g c =
+    let d : Device = g.F.Flash.device c.args.flash.now in
+    let e : Device = g.F.Flash.device c.mount.new.flash in
+    let f : Device = g.F.Flash.device c.remove_strays.new.flash in
+    let own : Area = c.args.area in
+    let on_it : g.S.ItemStore.mounted_on c.in-Ok.store ≡ own = c.in-Ok.ensures.on in
+    let none : on g.S.ItemStore.damage d own ≡ None = c.in-Ok.ensures.ends in
+    let keeps : on g.S.ItemStore.contents e own ≡ on g.S.ItemStore.contents d own = c.in-Ok.ensures.keeps none in
+    let few = g.met.S.ItemStore.few d own (g.met.F.Flash.is_lawful c.args.flash.now) c.requires.lawful c.requires.serves in
+    all-removed (geometry_of d own) d e f (len (on g.S.ItemStore.contents d own)) few c.in-Ok.ensures.at_most
+    (subst (λ (k : Geometry). SpendsAtMost e f (len (on g.S.ItemStore.contents d own) * removal_units k)) (geometry-stays d e own c.in-Ok.ensures.touches.banks)
+    (subst (λ (m : Items). SpendsAtMost e f (len m * removal_units (geometry_of e own))) keeps
+    (subst (λ (x : Area). SpendsAtMost e f (len (on g.S.ItemStore.contents e x) * removal_units (geometry_of e x))) on_it c.remove_strays.ensures.at_most)))
+
+pub returns-in-Err-clause-at_most : goal.returns-in-Err-clause-at_most
+returns-in-Err-clause-at_most g c = store-mounted (geometry_of (g.F.Flash.device c.args.flash.now) c.args.area) (g.F.Flash.device c.args.flash.now) (g.F.Flash.device c.mount.new.flash) c.in-Err.ensures.at_most
+
+pub returns-in-Ok-remove_strays-clause-gone : goal.returns-in-Ok-remove_strays-clause-gone
+returns-in-Ok-remove_strays-clause-gone g c = λ none.
+    let d : Device = g.F.Flash.device c.args.flash.now in
+    let e : Device = g.F.Flash.device c.mount.new.flash in
+    let f : Device = g.F.Flash.device c.remove_strays.new.flash in
+    let own : Area = c.args.area in
+    let on_it : g.S.ItemStore.mounted_on c.in-Ok.store ≡ own = c.in-Ok.ensures.on in
+    let keeps : on g.S.ItemStore.contents e own ≡ on g.S.ItemStore.contents d own = c.in-Ok.ensures.keeps none in
+    subst (λ (m : Items). OnlyRemoves m (on g.S.ItemStore.contents f own)) keeps
+    (subst (λ (x : Area). OnlyRemoves (on g.S.ItemStore.contents e x) (on g.S.ItemStore.contents f x)) on_it c.remove_strays.ensures.gone)
+
+pub returns-in-Err-remove_strays-clause-gone : goal.returns-in-Err-remove_strays-clause-gone
+returns-in-Err-remove_strays-clause-gone g c = λ none.
+    let d : Device = g.F.Flash.device c.args.flash.now in
+    let e : Device = g.F.Flash.device c.mount.new.flash in
+    let f : Device = g.F.Flash.device c.remove_strays.new.flash in
+    let own : Area = c.args.area in
+    let on_it : g.S.ItemStore.mounted_on c.in-Ok.store ≡ own = c.in-Ok.ensures.on in
+    let keeps : on g.S.ItemStore.contents e own ≡ on g.S.ItemStore.contents d own = c.in-Ok.ensures.keeps none in
+    subst (λ (m : Items). OnlyRemoves m (on g.S.ItemStore.contents f own)) keeps
+    (subst (λ (x : Area). OnlyRemoves (on g.S.ItemStore.contents e x) (on g.S.ItemStore.contents f x)) on_it c.remove_strays.ensures.gone)
+
+pub returns-in-Err-clause-gone : goal.returns-in-Err-clause-gone
+returns-in-Err-clause-gone g c = λ none id. inr (ap (λ (m : Items). get m id) (c.in-Err.ensures.keeps none))
+
+pub returns-in-Ok-remove_strays-clause-written : goal.returns-in-Ok-remove_strays-clause-written
+returns-in-Ok-remove_strays-clause-written g c = λ blank.
+    let e : Device = g.F.Flash.device c.mount.new.flash in
+    let f : Device = g.F.Flash.device c.remove_strays.new.flash in
+    let on_it : g.S.ItemStore.mounted_on c.in-Ok.store ≡ c.args.area = c.in-Ok.ensures.on in
+    c.in-Ok.ensures.written (subst (λ (x : Area). StaysWritten e f x) on_it c.remove_strays.ensures.written blank)
+
+pub returns-in-Err-remove_strays-clause-written : goal.returns-in-Err-remove_strays-clause-written
+returns-in-Err-remove_strays-clause-written g c = λ blank.
+    let e : Device = g.F.Flash.device c.mount.new.flash in
+    let f : Device = g.F.Flash.device c.remove_strays.new.flash in
+    let on_it : g.S.ItemStore.mounted_on c.in-Ok.store ≡ c.args.area = c.in-Ok.ensures.on in
+    c.in-Ok.ensures.written (subst (λ (x : Area). StaysWritten e f x) on_it c.remove_strays.ensures.written blank)

@@ -1,0 +1,183 @@
+-- In the loop the store's area is that of the start by an equation alone, so each fact of a step is moved along it.
+use Rattle.std.proofs.Common.{◌≡◌, ℕ, ◌<◌, ◌∷◌, [], Bool, false, true, Option, Some, None, refl, sym, ap, subst, ◌∙◌, inr}
+use Rattle.std.specs.Prelude.{IfSome}
+use Rattle.std.specs.FinMap.{get}
+use Rattle.std.proofs.lemmas.Option.{IfSome_then}
+use Rattle.flash_sim.specs.Device.{Device}
+use Rattle.flash_map.specs.declared.area.Area.{Area}
+use Rattle.flash_map.specs.declared.area.Geometry.{Geometry}
+use Rattle.flash_map.specs.Area.{geometry_of}
+use Rattle.flash_map.specs.Spending.{SpendsAtMost}
+use Rattle.flash_map.specs.Touches.{Touches}
+use Rattle.flash_map.proofs.Touches.{then, untouched}
+use Rattle.flash_map.specs.On.{on}
+use Rattle.named_items.specs.Pairs.{settings_in, AltersOnly, HasNoStrays, IsKept}
+use Rattle.named_items.specs.StoreEnds.{IsNextId}
+use Rattle.backend_api.specs.Room.{removal_units}
+use Rattle.backend_api.specs.Written.{StaysWritten}
+use Rattle.named_items.specs.Strays.{KeepsEach, OnlyRemoves, Removes, SpendsPerItem, StaysKept, StopsAt}
+use Rattle.named_items.proofs.RemovalUnits.{per-none, per-most, per-then, per-cut}
+use Rattle.named_items.proofs.RemovedSteps.{StaysAhead, gone-then, ahead-start, ahead-step, stops-at}
+use Rattle.named_items.proofs.SpendSteps.{geometry-stays}
+use Rattle.named_items.proofs.SoFar.{HasNoneBefore, ids_left}
+use Rattle.named_items.proofs.StraySteps.{kept-more, stays-more, strays-start, strays-step, strays-end, left-smaller}
+use Rattle.named_items.proofs.strays.remove_strays.Goals as goal
+
+pub loop-at-init : goal.loop-at-init
+loop-at-init g c =
+    let a : Device = g.F.Flash.device c.args.flash.now in
+    let own : Area = g.S.ItemStore.mounted_on c.args.store.now in
+    record {
+      touches = untouched (own ∷ []) a;
+      area = refl;
+      stands = c.requires.stands;
+      tells = c.tell.ensures;
+      sound = c.requires.sound;
+      keeps = refl;
+      kept = λ id is. (is, refl);
+      gone = λ id. inr refl;
+      ahead = ahead-start (on g.S.ItemStore.contents a own) c.next_by-at.result;
+      same = λ clean. refl;
+      written = λ blank. blank;
+      so_far = strays-start (g.N.Numbers.numbers own) (on g.S.ItemStore.contents a own) c.next_by-at.result c.next_by-at.ensures.next;
+      per_item = per-none (removal_units (geometry_of a own)) a (on g.S.ItemStore.contents a own);
+      known = IfSome_then c.next_by-at.result c.next_by-at.ensures.known (λ id is. c.requires.ids.only id is);
+    }
+
+pub remove_if_stray-requires-clause-known : goal.remove_if_stray-requires-clause-known
+remove_if_stray-requires-clause-known g c = subst (λ (o : Option ℕ). IfSome o (λ id. id < g.N.Numbers.top)) c.in-Some.is c.loop-at.invariant.known
+
+pub loop-at-preserved : goal.loop-at-preserved
+loop-at-preserved g c =
+    let a : Device = g.F.Flash.device c.args.flash.now in
+    let b : Device = g.F.Flash.device c.loop-at.flash in
+    let e : Device = g.F.Flash.device c.remove_if_stray.new.flash in
+    let own : Area = g.S.ItemStore.mounted_on c.args.store.now in
+    let kept = c.loop-at.invariant in
+    let step = c.in_ok-remove_if_stray.ensures in
+    let area : g.S.ItemStore.mounted_on c.remove_if_stray.new.store ≡ own = step.area ∙ kept.area in
+    record {
+      touches = then kept.touches (subst (λ (x : Area). Touches (x ∷ []) b e false) kept.area step.touches);
+      area = area;
+      stands = step.stands refl;
+      tells = step.tells refl;
+      sound = subst (λ (x : Area). on g.S.ItemStore.damage e x ≡ None) kept.area step.sound;
+      keeps = subst (λ (x : Area). settings_in (g.N.Numbers.numbers x) (on g.S.ItemStore.contents e x) ≡ settings_in (g.N.Numbers.numbers x) (on g.S.ItemStore.contents b x)) kept.area step.keeps ∙ kept.keeps;
+      kept = stays-more (g.N.Numbers.numbers own) (on g.S.ItemStore.contents a own) (on g.S.ItemStore.contents b own) (on g.S.ItemStore.contents e own) kept.kept c.in-Some.id
+          (subst (λ (x : Area). Removes (g.N.Numbers.numbers x) (on g.S.ItemStore.contents b x) (on g.S.ItemStore.contents e x) c.in-Some.id) kept.area (step.removes refl))
+          (subst (λ (x : Area). KeepsEach (g.N.Numbers.numbers x) (on g.S.ItemStore.contents b x) (on g.S.ItemStore.contents e x)) kept.area step.kept)
+          (λ is. ap (λ (d : Device). on g.S.ItemStore.contents d own) (step.idle (subst (λ (x : Area). IsKept (g.N.Numbers.numbers x) (on g.S.ItemStore.contents b x) c.in-Some.id) (sym kept.area) is)));
+      gone = gone-then (on g.S.ItemStore.contents a own) (on g.S.ItemStore.contents b own) (on g.S.ItemStore.contents e own) kept.gone
+          (subst (λ (x : Area). OnlyRemoves (on g.S.ItemStore.contents b x) (on g.S.ItemStore.contents e x)) kept.area step.gone);
+      ahead = ahead-step (on g.S.ItemStore.contents a own) (on g.S.ItemStore.contents b own) (on g.S.ItemStore.contents e own) c.in-Some.id
+          (subst (λ (x : Area). AltersOnly (on g.S.ItemStore.contents b x) (on g.S.ItemStore.contents e x) c.in-Some.id) kept.area step.others)
+          (subst (λ (o : Option ℕ). StaysAhead (on g.S.ItemStore.contents a own) (on g.S.ItemStore.contents b own) o) c.in-Some.is kept.ahead)
+          c.next_by-at-in-Some.result
+          (subst (λ (x : Area). IsNextId (on g.S.ItemStore.contents e x) (Some c.in-Some.id) c.next_by-at-in-Some.result) area c.next_by-at-in-Some.ensures.next);
+      same = λ clean.
+          let same = kept.same clean in
+          step.rests (subst (λ (x : Area). HasNoStrays (g.N.Numbers.numbers x) (on g.S.ItemStore.contents b x)) (sym kept.area) (subst (λ (d : Device). HasNoStrays (g.N.Numbers.numbers own) (on g.S.ItemStore.contents d own)) (sym same) clean)) ∙ same;
+      written = λ blank. kept.written (subst (λ (x : Area). StaysWritten b e x) kept.area step.written blank);
+      so_far = strays-step (g.N.Numbers.numbers own) (on g.S.ItemStore.contents b own) (on g.S.ItemStore.contents e own) c.in-Some.id c.next_by-at-in-Some.result
+          (subst (λ (x : Area). Removes (g.N.Numbers.numbers x) (on g.S.ItemStore.contents b x) (on g.S.ItemStore.contents e x) c.in-Some.id) kept.area (step.removes refl))
+          (subst (λ (x : Area). IsNextId (on g.S.ItemStore.contents e x) (Some c.in-Some.id) c.next_by-at-in-Some.result) area c.next_by-at-in-Some.ensures.next)
+          (subst (λ (o : Option ℕ). HasNoneBefore (g.N.Numbers.numbers own) (on g.S.ItemStore.contents b own) o) c.in-Some.is kept.so_far);
+      per_item = per-then (removal_units (geometry_of a own)) a b e (on g.S.ItemStore.contents a own) (on g.S.ItemStore.contents b own) kept.per_item (on g.S.ItemStore.contents e own)
+          (subst (λ (k : Geometry). SpendsPerItem (removal_units k) b e (on g.S.ItemStore.contents b own) (on g.S.ItemStore.contents e own)) (geometry-stays a b own kept.touches.banks)
+          (subst (λ (x : Area). SpendsPerItem (removal_units (geometry_of b x)) b e (on g.S.ItemStore.contents b x) (on g.S.ItemStore.contents e x)) kept.area (step.per_item refl)));
+      known = IfSome_then c.next_by-at-in-Some.result c.next_by-at-in-Some.ensures.known (λ id is. c.requires.ids.only id is);
+    }
+
+pub loop-at-smaller : goal.loop-at-smaller
+loop-at-smaller g c =
+    let e : Device = g.F.Flash.device c.remove_if_stray.new.flash in
+    let known : IfSome c.next_by-at-in-Some.result (λ id. id < g.N.Numbers.top) = IfSome_then c.next_by-at-in-Some.result c.next_by-at-in-Some.ensures.known (λ id is. c.requires.ids.only id is) in
+    subst (λ (o : Option ℕ). ids_left c.next_by-at-in-Some.result < ids_left o) (sym c.in-Some.is)
+    (left-smaller g.N.Numbers.top (on g.S.ItemStore.contents e (g.S.ItemStore.mounted_on c.remove_if_stray.new.store)) c.in-Some.id c.next_by-at-in-Some.result g.met.N.Numbers.top_small known
+    (subst (λ (o : Option ℕ). IfSome o (λ id. id < g.N.Numbers.top)) c.in-Some.is c.loop-at.invariant.known) c.next_by-at-in-Some.ensures.next)
+
+pub returns-in_err-remove_if_stray-clause-touches : goal.returns-in_err-remove_if_stray-clause-touches
+returns-in_err-remove_if_stray-clause-touches g c =
+    let b : Device = g.F.Flash.device c.loop-at.flash in
+    let e : Device = g.F.Flash.device c.remove_if_stray.new.flash in
+    let kept = c.loop-at.invariant in
+    subst (λ (lost : Bool). Touches (g.S.ItemStore.mounted_on c.args.store.now ∷ []) (g.F.Flash.device c.args.flash.now) e lost) (sym c.from_residual.ensures.0) (then kept.touches (subst (λ (x : Area). Touches (x ∷ []) b e true) kept.area c.in_err-remove_if_stray.ensures.touches))
+
+pub returns-in_err-remove_if_stray-clause-rests : goal.returns-in_err-remove_if_stray-clause-rests
+returns-in_err-remove_if_stray-clause-rests g c = λ clean.
+    let b : Device = g.F.Flash.device c.loop-at.flash in
+    let own : Area = g.S.ItemStore.mounted_on c.args.store.now in
+    let kept = c.loop-at.invariant in
+    let same = kept.same clean in
+    c.in_err-remove_if_stray.ensures.rests (subst (λ (x : Area). HasNoStrays (g.N.Numbers.numbers x) (on g.S.ItemStore.contents b x)) (sym kept.area) (subst (λ (d : Device). HasNoStrays (g.N.Numbers.numbers own) (on g.S.ItemStore.contents d own)) (sym same) clean)) ∙ same
+
+pub returns-in_err-remove_if_stray-clause-kept : goal.returns-in_err-remove_if_stray-clause-kept
+returns-in_err-remove_if_stray-clause-kept g c =
+    let a : Device = g.F.Flash.device c.args.flash.now in
+    let b : Device = g.F.Flash.device c.loop-at.flash in
+    let e : Device = g.F.Flash.device c.remove_if_stray.new.flash in
+    let own : Area = g.S.ItemStore.mounted_on c.args.store.now in
+    let kept = c.loop-at.invariant in
+    kept-more (g.N.Numbers.numbers own) (on g.S.ItemStore.contents a own) (on g.S.ItemStore.contents b own) (on g.S.ItemStore.contents e own) kept.kept
+    (subst (λ (x : Area). KeepsEach (g.N.Numbers.numbers x) (on g.S.ItemStore.contents b x) (on g.S.ItemStore.contents e x)) kept.area c.in_err-remove_if_stray.ensures.kept)
+
+pub returns-clause-kept : goal.returns-clause-kept
+returns-clause-kept g c = λ id is. (c.loop-at.invariant.kept id is).1
+
+pub returns-clause-clean : goal.returns-clause-clean
+returns-clause-clean g c = λ ok.
+    let b : Device = g.F.Flash.device c.loop-at.flash in
+    let own : Area = g.S.ItemStore.mounted_on c.args.store.now in
+    strays-end (g.N.Numbers.numbers own) (on g.S.ItemStore.contents b own) (subst (λ (o : Option ℕ). HasNoneBefore (g.N.Numbers.numbers own) (on g.S.ItemStore.contents b own) o) c.in_default.is c.loop-at.invariant.so_far)
+
+pub returns-clause-at_most : goal.returns-clause-at_most
+returns-clause-at_most g c =
+    let a : Device = g.F.Flash.device c.args.flash.now in
+    let b : Device = g.F.Flash.device c.loop-at.flash in
+    let own : Area = g.S.ItemStore.mounted_on c.args.store.now in
+    per-most (removal_units (geometry_of a own)) a b (on g.S.ItemStore.contents a own) (on g.S.ItemStore.contents b own) c.loop-at.invariant.per_item
+
+pub returns-in_err-remove_if_stray-clause-at_most : goal.returns-in_err-remove_if_stray-clause-at_most
+returns-in_err-remove_if_stray-clause-at_most g c =
+    let a : Device = g.F.Flash.device c.args.flash.now in
+    let b : Device = g.F.Flash.device c.loop-at.flash in
+    let e : Device = g.F.Flash.device c.remove_if_stray.new.flash in
+    let own : Area = g.S.ItemStore.mounted_on c.args.store.now in
+    let kept = c.loop-at.invariant in
+    per-cut (removal_units (geometry_of a own)) a b e (on g.S.ItemStore.contents a own) (on g.S.ItemStore.contents b own) kept.per_item c.in-Some.id
+    (subst (λ (x : Area). ¬ (get (on g.S.ItemStore.contents b x) c.in-Some.id ≡ None)) kept.area (c.in_err-remove_if_stray.ensures.present refl))
+    (subst (λ (k : Geometry). SpendsAtMost b e (removal_units k)) (geometry-stays a b own kept.touches.banks)
+    (subst (λ (x : Area). SpendsAtMost b e (removal_units (geometry_of b x))) kept.area c.in_err-remove_if_stray.ensures.at_most))
+
+pub returns-in_err-remove_if_stray-clause-gone : goal.returns-in_err-remove_if_stray-clause-gone
+returns-in_err-remove_if_stray-clause-gone g c =
+    let a : Device = g.F.Flash.device c.args.flash.now in
+    let b : Device = g.F.Flash.device c.loop-at.flash in
+    let e : Device = g.F.Flash.device c.remove_if_stray.new.flash in
+    let own : Area = g.S.ItemStore.mounted_on c.args.store.now in
+    let kept = c.loop-at.invariant in
+    gone-then (on g.S.ItemStore.contents a own) (on g.S.ItemStore.contents b own) (on g.S.ItemStore.contents e own) kept.gone
+    (subst (λ (x : Area). OnlyRemoves (on g.S.ItemStore.contents b x) (on g.S.ItemStore.contents e x)) kept.area c.in_err-remove_if_stray.ensures.gone)
+
+pub returns-in_err-remove_if_stray-clause-order : goal.returns-in_err-remove_if_stray-clause-order
+returns-in_err-remove_if_stray-clause-order g c = λ lost.
+    let a : Device = g.F.Flash.device c.args.flash.now in
+    let b : Device = g.F.Flash.device c.loop-at.flash in
+    let e : Device = g.F.Flash.device c.remove_if_stray.new.flash in
+    let own : Area = g.S.ItemStore.mounted_on c.args.store.now in
+    let kept = c.loop-at.invariant in
+    let n = g.N.Numbers.numbers own in
+    let stops : StopsAt n (on g.S.ItemStore.contents a own) (on g.S.ItemStore.contents e own) c.in-Some.id =
+    stops-at (on g.S.ItemStore.contents a own) (on g.S.ItemStore.contents b own) (on g.S.ItemStore.contents e own) c.in-Some.id
+    (subst (λ (x : Area). AltersOnly (on g.S.ItemStore.contents b x) (on g.S.ItemStore.contents e x) c.in-Some.id) kept.area c.in_err-remove_if_stray.ensures.others)
+    (subst (λ (o : Option ℕ). StaysAhead (on g.S.ItemStore.contents a own) (on g.S.ItemStore.contents b own) o) c.in-Some.is kept.ahead)
+    n
+    (subst (λ (x : Area). StaysKept (g.N.Numbers.numbers x) (on g.S.ItemStore.contents b x) (on g.S.ItemStore.contents e x)) kept.area c.in_err-remove_if_stray.ensures.still)
+    (subst (λ (o : Option ℕ). HasNoneBefore n (on g.S.ItemStore.contents b own) o) c.in-Some.is kept.so_far) in
+    (c.in-Some.id, stops)
+
+pub returns-in_err-remove_if_stray-clause-written : goal.returns-in_err-remove_if_stray-clause-written
+returns-in_err-remove_if_stray-clause-written g c = λ blank.
+    let b : Device = g.F.Flash.device c.loop-at.flash in
+    let e : Device = g.F.Flash.device c.remove_if_stray.new.flash in
+    c.loop-at.invariant.written (subst (λ (x : Area). StaysWritten b e x) c.loop-at.invariant.area c.in_err-remove_if_stray.ensures.written blank)

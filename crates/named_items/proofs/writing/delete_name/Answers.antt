@@ -1,0 +1,58 @@
+use Rattle.std.proofs.Common.{◌≡◌, ℕ, ◌+◌, ◌∷◌, [], refl, sym, ap, subst}
+use Rattle.std.specs.Prelude.{is_err}
+use Rattle.flash_sim.specs.Device.{Device}
+use Rattle.flash_map.specs.declared.area.Area.{Area}
+use Rattle.flash_map.specs.On.{on}
+use Rattle.item_laws.specs.Items.{Items}
+use Rattle.named_items.specs.Numbering.{Numbering}
+use Rattle.named_items.specs.Pairs.{settings_in}
+use Rattle.named_items.specs.Ends.{AltersTwo, DeletesPair}
+use Rattle.named_items.proofs.ItemSteps.{delete-ends, delete-cut, delete-clean, delete-absent}
+use Rattle.named_items.proofs.OtherSteps.{deletes-alters}
+use Rattle.named_items.proofs.StraySteps.{same-place}
+use Rattle.named_items.proofs.SpendSteps.{spends-some}
+use Rattle.named_items.proofs.writing.delete_name.Goals as goal
+
+pub returns-in-Some-clause-ends : goal.returns-in-Some-clause-ends
+returns-in-Some-clause-ends g c =
+    let d : Device = g.F.Flash.device c.args.flash.now in
+    let e : Device = g.F.Flash.device c.delete_pair.new.flash in
+    let area : Area = g.S.ItemStore.mounted_on c.args.store.now in
+    let n : Numbering = g.N.Numbers.numbers area in
+    delete-ends n (g.met.N.Numbers.is_numbering area) (on g.S.ItemStore.contents d area) c.requires.clean c.args.name.now c.in-Some.place c.in-Some.ensures d e (on g.S.ItemStore.contents e area) c.delete_pair.result
+    (λ changed. spends-some g.S.ItemStore.contents d e area (area ∷ []) (is_err c.delete_pair.result) c.delete_pair.ensures.touches (λ same. changed (ap (settings_in n) same))) (subst (λ (k : ℕ). DeletesPair (on g.S.ItemStore.contents d area) (on g.S.ItemStore.contents e area) c.in-Some.place (c.in-Some.place + k) c.delete_pair.result) (sym (c.step.ensures area)) c.delete_pair.ensures.ends)
+
+pub returns-in-Some-clause-cut : goal.returns-in-Some-clause-cut
+returns-in-Some-clause-cut g c = λ lost.
+    let d : Device = g.F.Flash.device c.args.flash.now in
+    let e : Device = g.F.Flash.device c.delete_pair.new.flash in
+    let area : Area = g.S.ItemStore.mounted_on c.args.store.now in
+    delete-cut (g.N.Numbers.numbers area) (g.met.N.Numbers.is_numbering area) (on g.S.ItemStore.contents d area) c.requires.clean c.args.name.now c.in-Some.place c.in-Some.ensures (on g.S.ItemStore.contents e area) c.delete_pair.result lost (subst (λ (k : ℕ). DeletesPair (on g.S.ItemStore.contents d area) (on g.S.ItemStore.contents e area) c.in-Some.place (c.in-Some.place + k) c.delete_pair.result) (sym (c.step.ensures area)) c.delete_pair.ensures.ends)
+
+pub returns-in-Some-clause-clean : goal.returns-in-Some-clause-clean
+returns-in-Some-clause-clean g c = λ kept.
+    let d : Device = g.F.Flash.device c.args.flash.now in
+    let e : Device = g.F.Flash.device c.delete_pair.new.flash in
+    let area : Area = g.S.ItemStore.mounted_on c.args.store.now in
+    delete-clean (g.N.Numbers.numbers area) (g.met.N.Numbers.is_numbering area) (on g.S.ItemStore.contents d area) c.requires.clean c.args.name.now c.in-Some.place c.in-Some.ensures (on g.S.ItemStore.contents e area) c.delete_pair.result kept (subst (λ (k : ℕ). DeletesPair (on g.S.ItemStore.contents d area) (on g.S.ItemStore.contents e area) c.in-Some.place (c.in-Some.place + k) c.delete_pair.result) (sym (c.step.ensures area)) c.delete_pair.ensures.ends)
+
+pub returns-in-None-clause-ends : goal.returns-in-None-clause-ends
+returns-in-None-clause-ends g c =
+    let d : Device = g.F.Flash.device c.args.flash.now in
+    let area : Area = g.S.ItemStore.mounted_on c.args.store.now in
+    delete-absent d (g.N.Numbers.numbers area) (on g.S.ItemStore.contents d area) c.args.name.now c.in-None.ensures
+
+pub returns-in-Some-clause-others : goal.returns-in-Some-clause-others
+returns-in-Some-clause-others g c = λ place at.
+    let d : Device = g.F.Flash.device c.args.flash.now in
+    let e : Device = g.F.Flash.device c.delete_pair.new.flash in
+    let area : Area = g.S.ItemStore.mounted_on c.args.store.now in
+    let n : Numbering = g.N.Numbers.numbers area in
+    let before : Items = on g.S.ItemStore.contents d area in
+    let after : Items = on g.S.ItemStore.contents e area in
+    let same : c.in-Some.place ≡ place = same-place n before c.args.name.now c.in-Some.place place c.in-Some.ensures at in
+    subst (λ (k : ℕ). AltersTwo before after k (k + n.step)) same
+    (subst (λ (k : ℕ). AltersTwo before after c.in-Some.place (c.in-Some.place + k)) (sym (c.step.ensures area)) (deletes-alters before after c.in-Some.place (c.in-Some.place + c.step.result) c.delete_pair.result c.delete_pair.ensures.ends))
+
+pub returns-in-None-clause-others : goal.returns-in-None-clause-others
+returns-in-None-clause-others g c = λ place at id one two. refl

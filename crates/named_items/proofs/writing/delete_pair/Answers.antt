@@ -1,0 +1,16 @@
+use Rattle.std.proofs.Common.{arith}
+use Rattle.flash_sim.specs.Device.{Device}
+use Rattle.flash_map.specs.Area.{geometry_of}
+use Rattle.named_items.specs.StoreEnds as items
+use Rattle.named_items.proofs.SpendSteps.{spends-calls, one-call, calls-within}
+use Rattle.named_items.proofs.writing.delete_pair.Goals as goal
+
+pub returns-clause-at_most : goal.returns-clause-at_most
+returns-clause-at_most g c =
+    let a : Device = g.F.Flash.device c.args.flash.now in
+    let b : Device = g.F.Flash.device c.delete.new.flash in
+    let e : Device = g.F.Flash.device c.delete-2.new.flash in
+    let area = g.S.ItemStore.mounted_on c.args.store.now in
+    calls-within a e 2 (geometry_of a (g.S.ItemStore.mounted_on c.args.store.now)) (omega arith)
+    (spends-calls a b e (g.S.ItemStore.mounted_on c.args.store.now) (g.S.ItemStore.mounted_on c.delete.new.self) 1 c.delete.ensures.touches.banks c.delete.ensures.area
+    (one-call a b (items.most_units (geometry_of a (g.S.ItemStore.mounted_on c.args.store.now))) c.delete.ensures.at_most) c.delete-2.ensures.at_most)

@@ -1,0 +1,85 @@
+-- How the calls of a store of items end, on the maps of items before and after.
+use Rattle.std.specs.Prelude.{◌≡◌, ◌⊎◌, ℕ, ◌+◌, ◌-◌, ◌*◌, ◌/◌, ◌<◌, ◌≤◌, List, length, Option, Some, None, Result, Ok, Err}
+use Rattle.std.specs.FinMap.{get, insert, remove}
+use Rattle.flash_sim.specs.Device.{Device}
+use Rattle.flash_sim.specs.declared.flash.PowerLost.{PowerLost as Lost}
+use Rattle.flash_map.specs.declared.area.Geometry.{Geometry}
+use Rattle.flash_map.specs.declared.faults.WriteFault.{WriteFault}
+use Rattle.flash_map.specs.declared.faults.WriteFault.TheVariants.{NoSpace, TooLong, PowerLost}
+use Rattle.item_laws.specs.Costs.{items_cost}
+use Rattle.item_laws.specs.Items.{Items}
+use Rattle.item_laws.specs.NextIds.{IsBehind}
+
+-- the most units and erases of one write or delete
+abbrev pub most_units : Geometry → ℕ
+most_units geometry = 3 * geometry.sectors * (geometry.sector / geometry.unit + 3)
+
+-- how many items an area has at most: each has an entry of its own, of 8 bytes or more
+abbrev pub most_items : Geometry → ℕ
+most_items geometry = geometry.sectors * (geometry.sector / 8)
+
+-- the least id behind this one that has a value
+abbrev pub IsNextId : Items → Option ℕ → Option ℕ → Type 0
+IsNextId items after None = (id : ℕ) → IsBehind after id → get items id ≡ None
+IsNextId items after (Some next) =
+    IsBehind after next × (get items next ≡ None → ⊥)
+    × ((id : ℕ) → IsBehind after id → id < next → get items id ≡ None)
+
+-- ---- writing
+
+-- these bytes are the item's already
+abbrev pub Holds : Items → ℕ → List ℕ → Type 0
+Holds items id bytes = get items id ≡ Some bytes
+
+-- the item has these bytes, and all others stay; equal bytes program nothing
+pub record Writes (price : ℕ → ℕ) (cap : ℕ) (old new : Device) (before after : Items) (id : ℕ)
+    (bytes : List ℕ) : Type 0 where
+  pub short : price (length bytes) ≤ cap
+  pub items : after ≡ insert before id bytes
+  pub equal : Holds before id bytes → new ≡ old
+
+-- There is no room: the items cost too much. They stay.
+pub record FindsNoSpace (price : ℕ → ℕ) (cap sectors : ℕ) (before after : Items) (id : ℕ) (bytes : List ℕ)
+    (need live : ℕ) : Type 0 where
+  pub short : price (length bytes) ≤ cap
+  pub needs : need ≡ price (length bytes)
+  pub lives : live ≡ items_cost price before
+  pub full : (sectors - 1) * (cap - price (length bytes)) < items_cost price before
+  pub other : ¬ Holds before id bytes
+  pub items : after ≡ before
+
+-- power was lost: the items are the old ones, or those with the item
+pub record StopsWriting (price : ℕ → ℕ) (cap : ℕ) (before after : Items) (id : ℕ) (bytes : List ℕ) :
+    Type 0 where
+  pub short : price (length bytes) ≤ cap
+  pub other : ¬ Holds before id bytes
+  pub items : (after ≡ before) ⊎ (after ≡ insert before id bytes)
+
+-- on an area of so many sectors; `TooLong` exactly where the bytes and their entry cost more than a sector
+-- has
+abbrev pub WriteEnds : {T : Type 0} → (ℕ → ℕ) → ℕ → ℕ → Device → Device → Items → Items → ℕ → List ℕ
+    → Result T WriteFault → Type 0
+WriteEnds price cap sectors old new before after id bytes (Ok _) =
+    Writes price cap old new before after id bytes
+WriteEnds price cap sectors old new before after id bytes (Err (NoSpace need live)) =
+    FindsNoSpace price cap sectors before after id bytes need live
+WriteEnds price cap sectors old new before after id bytes (Err TooLong) =
+    (cap < price (length bytes)) × (new ≡ old)
+WriteEnds price cap sectors old new before after id bytes (Err PowerLost) =
+    StopsWriting price cap before after id bytes
+
+-- ---- deleting
+
+-- the id has no item, and all others stay; where it has none, nothing is programmed
+pub record Deletes (old new : Device) (before after : Items) (id : ℕ) : Type 0 where
+  pub items : after ≡ remove before id
+  pub absent : get before id ≡ None → new ≡ old
+
+-- power was lost: the items are the old ones, or those without the id
+pub record StopsDeleting (before after : Items) (id : ℕ) : Type 0 where
+  pub present : ¬ (get before id ≡ None)
+  pub items : (after ≡ before) ⊎ (after ≡ remove before id)
+
+abbrev pub DeleteEnds : {T : Type 0} → Device → Device → Items → Items → ℕ → Result T Lost → Type 0
+DeleteEnds old new before after id (Ok _) = Deletes old new before after id
+DeleteEnds old new before after id (Err _) = StopsDeleting before after id

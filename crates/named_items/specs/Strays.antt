@@ -1,0 +1,37 @@
+-- The removal of items that belong to no setting, in rising order of their ids.
+use Rattle.std.specs.Prelude.{◌≡◌, ◌⊎◌, ℕ, ◌+◌, ◌*◌, ◌<◌, ◌≤◌, None}
+use Rattle.std.specs.FinMap.{get, len}
+use Rattle.flash_sim.specs.Device.{Device}
+use Rattle.flash_map.specs.Spending.{Spends}
+use Rattle.item_laws.specs.Items.{Items}
+use Rattle.named_items.specs.Numbering.{Numbering}
+use Rattle.named_items.specs.Pairs.{IsKept}
+
+-- each item that is kept has the bytes that it had
+abbrev pub KeepsEach : Numbering → Items → Items → Type 0
+KeepsEach n before after = (id : ℕ) → IsKept n before id → get after id ≡ get before id
+
+-- what is kept is kept still
+abbrev pub StaysKept : Numbering → Items → Items → Type 0
+StaysKept n before after = (id : ℕ) → IsKept n before id → IsKept n after id
+
+-- no item is new or has other bytes: each id reads as before, or has no item
+abbrev pub OnlyRemoves : Items → Items → Type 0
+OnlyRemoves before after = (id : ℕ) → (get after id ≡ None) ⊎ (get after id ≡ get before id)
+
+-- The removal came as far as this id: no stray is left below it, and each item above it is as before.
+pub record StopsAt (n : Numbering) (before after : Items) (id : ℕ) : Type 0 where
+  pub below : (other : ℕ) → other < id → (get after other ≡ None) ⊎ IsKept n after other
+  pub above : (other : ℕ) → id < other → get after other ≡ get before other
+
+-- One id was looked at: it has no stray any more. What all others have stays, as does what is kept.
+pub record Removes (n : Numbering) (before after : Items) (id : ℕ) : Type 0 where
+  pub done : (get after id ≡ None) ⊎ IsKept n after id
+  pub others : (other : ℕ) → ¬ (other ≡ id) → get after other ≡ get before other
+  pub kept : (other : ℕ) → ¬ (other ≡ id) → IsKept n before other → IsKept n after other
+
+-- at most so many units were spent for each item that is gone
+pub record SpendsPerItem (most : ℕ) (old new : Device) (before after : Items) : Type 0 where
+  pub units : ℕ
+  pub at_most : units + len after * most ≤ len before * most
+  pub spent : Spends old new units

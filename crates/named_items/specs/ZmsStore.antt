@@ -1,0 +1,61 @@
+-- How a ZMS area holds items, by its geometry and its sectors alone.
+use Rattle.std.specs.Prelude.{◌≡◌, ℕ, ◌+◌, ◌-◌, ◌≤◌, List, Option}
+use Rattle.std.proofs.Common.{arith}
+use Rattle.std.proofs.lemmas.Bool.Decides.{nat_tests}
+use Rattle.flash_sim.specs.Device.{Device}
+use Rattle.flash_map.specs.Area.{geometry_of, value_limit}
+use Rattle.flash_map.specs.Lawful.{IsLawfulFor}
+use Rattle.flash_map.specs.Units.{padded}
+use Rattle.flash_map.specs.declared.area.Area.{Area}
+use Rattle.flash_map.specs.declared.area.Geometry.{Geometry}
+use Rattle.flash_map.specs.declared.area.Role.TheVariants.{Zms as ZmsRole}
+use Rattle.flash_map.specs.declared.faults.Damaged.{Damaged}
+use Rattle.item_laws.specs.Items.{Items, items_of}
+use Rattle.item_store.specs.declared.latest.LastSlots.{LastSlots}
+use Rattle.zms_cycle.specs.Sector.{cost, capacity, data_len}
+use Rattle.zms_format.specs.Area.{damage_of, list_of}
+use Rattle.zms_format.specs.Kinds.{kind}
+use Rattle.zms_store.specs.declared.store.Zms.{Zms}
+use Rattle.zms_store.specs.Standing.{kept}
+use Rattle.named_items.specs.Limits.{value-leaves_room}
+use Rattle.named_items.specs.RingStore.{ring_rests, RingStands, ring-rested, ring_tells}
+
+abbrev pub zms_damage : Area → Geometry → List (List ℕ) → Option Damaged
+zms_damage area geometry sectors = damage_of geometry.kind sectors
+
+abbrev pub zms_items : Area → Geometry → List (List ℕ) → Items
+zms_items area geometry sectors = items_of (list_of geometry.kind sectors)
+
+-- no loss of power left anything undone
+abbrev pub zms_rests : Area → Geometry → List (List ℕ) → Type 0
+zms_rests area geometry sectors = ring_rests kind area geometry sectors
+
+abbrev pub zms_price : Geometry → ℕ → ℕ
+zms_price geometry = cost
+
+abbrev pub zms_cap : Geometry → ℕ
+zms_cap geometry = capacity geometry.sector
+
+-- The store is up: the area is not damaged and at rest, and the store knows its open sector.
+abbrev pub ZmsStands : Zms → Geometry → List (List ℕ) → Type 0
+ZmsStands zms geometry sectors = RingStands ZmsRole kind kept zms.store geometry sectors
+
+-- the index is a table of the last entries of ids
+abbrev pub zms_tells : LastSlots → Geometry → List (List ℕ) → Type 0
+zms_tells last geometry sectors = ring_tells kind last geometry sectors
+
+-- a mount of such an area would have nothing to do
+pub zms-rested : (zms : Zms) (geometry : Geometry) (sectors : List (List ℕ)) → ZmsStands zms geometry sectors
+    → zms_rests zms.store.area geometry sectors
+zms-rested zms geometry sectors stands = ring-rested ZmsRole kind kept zms.store geometry sectors stands
+
+value-fits : (sector length : ℕ) → length + 256 ≤ sector → 16 + data_len length ≤ sector - 80
+unfolding data_len padded
+value-fits sector length short = grind (arith, nat_tests)
+
+-- what a value as long as the area allows costs fits a sector
+pub zms-fits : (d : Device) (area : Area) (length : ℕ) → IsLawfulFor d.banks area
+    → area.role ≡ ZmsRole → length ≤ value_limit area
+    → zms_price (geometry_of d area) length ≤ zms_cap (geometry_of d area)
+zms-fits d area length lawful serves short =
+    value-fits (geometry_of d area).sector length (value-leaves_room d area length lawful short)

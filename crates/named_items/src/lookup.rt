@@ -1,0 +1,222 @@
+// Looking at two items as a name and its value.
+ghost use Rattle.std.specs.Prelude.{◌≡◌, ◌+◌, ◌<◌, ◌≤◌, true, false, Some, option_map};
+ghost use Rattle.std.specs.Bool.{MatchBool};
+ghost use Rattle.std.specs.FinMap as finite;
+ghost use Rattle.setting_name.specs.Name.{IsName};
+ghost use Rattle.flash_map.specs.Area.{value_limit};
+ghost use Rattle.flash_map.specs.Lawful.{IsLawfulFor};
+ghost use Rattle.flash_map.specs.On.{on, HoldsOn, StandsOn};
+ghost use Rattle.named_items.specs.Pairs.{settings_in, HasNoStrays, IsAt, IsPlaceOf};
+ghost use Rattle.named_items.specs.Ends.{IsFree};
+ghost use Rattle.named_items.specs.Looking.{is_value, HasIds, IsForName, StandsHere};
+
+use crate::numbers::Numbers;
+use crate::store::ItemStore;
+use flash_sim::{Flash, Steps};
+use setting_name::Name;
+use std::sync::ledger::Ledger;
+
+/// Whether the item is this name, which is lawful.
+pub fn is_named(found: Option<&[u8]>, name: &Name) -> bool
+    ensures yes_it { result ≡ true → option_map (λ bytes. bytes.now) found.entry ≡ Some name.now }
+    ensures not_it { result ≡ false → option_map (λ bytes. bytes.now) found.entry ≡ Some name.now
+        → ⊥ }
+    ensures name { IsName name.now }
+{
+    let own = name.bytes();
+    match found {
+        Some(bytes) => bytes == own,
+        None => false,
+    }
+}
+
+/// Whether the item may be a value of at most so many bytes.
+pub fn is_value(found: Option<&[u8]>, longest: u32) -> bool
+    ensures { result ≡ is_value longest (option_map (λ bytes. bytes.now) found.entry) }
+{
+    match found {
+        Some(bytes) => !bytes.is_empty() && bytes.len() <= longest as usize,
+        None => false,
+    }
+}
+
+/// Whether one item is the name and the other a value. It looks at the value only where the name is
+/// there.
+pub fn is_at<S: ItemStore, F: Flash, L: Ledger>(
+    store: &S,
+    flash: &F,
+    index: &S::Index,
+    name: &Name,
+    first: u32,
+    second: u32,
+    steps: &mut Steps<L>,
+) -> bool
+    requires lawful { IsLawfulFor (F.device flash.now).banks (S.mounted_on store.now) }
+    requires stands { StandsOn S.mounted_on S.stands (F.device flash.now) store.now }
+    requires tells { HoldsOn (S.tells index.now) (F.device flash.now) (S.mounted_on store.now) }
+    requires first { S.is_id first }
+    requires second { S.is_id second }
+    ensures yes_it { let area = S.mounted_on store.now in
+        result ≡ true
+        → StandsHere (value_limit area) (on S.contents (F.device flash.now) area) first second
+        name.now }
+    ensures not_it { let area = S.mounted_on store.now in
+        result ≡ false
+        → ¬ StandsHere (value_limit area) (on S.contents (F.device flash.now) area) first second
+        name.now }
+    ensures name { IsName name.now }
+{
+    let longest = store.area().value_limit();
+    if !is_named(store.get_by(flash, index, first, steps), name) {
+        return false;
+    }
+    is_value(store.get_by(flash, index, second, steps), longest)
+}
+
+/// Whether neither of two items is there.
+pub fn is_free<S: ItemStore, F: Flash, L: Ledger>(
+    store: &S,
+    flash: &F,
+    index: &S::Index,
+    first: u32,
+    second: u32,
+    steps: &mut Steps<L>,
+) -> bool
+    requires lawful { IsLawfulFor (F.device flash.now).banks (S.mounted_on store.now) }
+    requires stands { StandsOn S.mounted_on S.stands (F.device flash.now) store.now }
+    requires tells { HoldsOn (S.tells index.now) (F.device flash.now) (S.mounted_on store.now) }
+    requires first { S.is_id first }
+    requires second { S.is_id second }
+    ensures { let items = on S.contents (F.device flash.now) (S.mounted_on store.now) in
+        MatchBool result (IsFree items first second) (¬ IsFree items first second) }
+{
+    if store.get_by(flash, index, first, steps).is_some() {
+        return false;
+    }
+    store.get_by(flash, index, second, steps).is_none()
+}
+
+/// Where the setting of a name stands, if the name has a value. No item may be a stray. It is one
+/// walk over the store's entries at most, and makes no index.
+pub fn standing_place<N: Numbers, S: ItemStore, F: Flash, L: Ledger>(
+    store: &S,
+    flash: &F,
+    name: &Name,
+    steps: &mut Steps<L>,
+) -> Option<u32>
+    requires ids { HasIds N.top S.is_id }
+    requires lawful { IsLawfulFor (F.device flash.now).banks (S.mounted_on store.now) }
+    requires stands { StandsOn S.mounted_on S.stands (F.device flash.now) store.now }
+    requires clean { let area = S.mounted_on store.now in
+        HasNoStrays (N.numbers area) (on S.contents (F.device flash.now) area) }
+    ensures { let area = S.mounted_on store.now in
+        IsPlaceOf (N.numbers area) (on S.contents (F.device flash.now) area) name.now result }
+{
+    let ids = N::homes_of(name);
+    store.id_of(flash, ids.least, ids.most, name.bytes(), steps)
+}
+
+/// The value of a name; none where it has no value. No item may be a stray. Where the name can have
+/// no item by what the store keeps in memory, the entries are not gone over. No index is made.
+pub fn standing_value<'a, N: Numbers, S: ItemStore, F: Flash, L: Ledger>(
+    store: &S,
+    flash: &'a F,
+    name: &Name,
+    steps: &mut Steps<L>,
+) -> Option<&'a [u8]>
+    requires ids { HasIds N.top S.is_id }
+    requires lawful { IsLawfulFor (F.device flash.now).banks (S.mounted_on store.now) }
+    requires stands { StandsOn S.mounted_on S.stands (F.device flash.now) store.now }
+    requires clean { let area = S.mounted_on store.now in
+        HasNoStrays (N.numbers area) (on S.contents (F.device flash.now) area) }
+    ensures { let area = S.mounted_on store.now in
+        option_map (λ bytes. bytes.now) result
+        ≡ finite.get (settings_in (N.numbers area) (on S.contents (F.device flash.now) area))
+        name.now }
+{
+    if !N::may_have(store, flash, name, steps) {
+        return None;
+    }
+    let place = standing_place::<N, S, F, L>(store, flash, name, steps)?;
+    store.get(flash, place + N::step(), steps)
+}
+
+// Whether the setting of a name that counts stands at an id, which is one for names.
+fn counts_at<N: Numbers, S: ItemStore, F: Flash, L: Ledger>(
+    store: &S,
+    flash: &F,
+    index: &S::Index,
+    name: &Name,
+    place: u32,
+    steps: &mut Steps<L>,
+) -> bool
+    requires ids { HasIds N.top S.is_id }
+    requires lawful { IsLawfulFor (F.device flash.now).banks (S.mounted_on store.now) }
+    requires stands { StandsOn S.mounted_on S.stands (F.device flash.now) store.now }
+    requires tells { HoldsOn (S.tells index.now) (F.device flash.now) (S.mounted_on store.now) }
+    requires known { place < N.top }
+    requires own { IsForName (N.numbers (S.mounted_on store.now)) place }
+    ensures yes_it { let area = S.mounted_on store.now in
+        let items = on S.contents (F.device flash.now) area in
+        result ≡ true → IsAt (N.numbers area) items name.now place }
+    ensures not_it { let area = S.mounted_on store.now in
+        let items = on S.contents (F.device flash.now) area in
+        result ≡ false → ¬ IsAt (N.numbers area) items name.now place }
+{
+    if !is_named(store.get_by(flash, index, place, steps), name) {
+        return false;
+    }
+    N::is_kept(store, flash, index, place, steps)
+}
+
+// Where the setting of a name stands, if the name has a value, also where items are strays. It
+// looks at each id of the name.
+fn place_among<N: Numbers, S: ItemStore, F: Flash, L: Ledger>(
+    store: &S,
+    flash: &F,
+    index: &S::Index,
+    name: &Name,
+    steps: &mut Steps<L>,
+) -> Option<u32>
+    requires ids { HasIds N.top S.is_id }
+    requires lawful { IsLawfulFor (F.device flash.now).banks (S.mounted_on store.now) }
+    requires stands { StandsOn S.mounted_on S.stands (F.device flash.now) store.now }
+    requires tells { HoldsOn (S.tells index.now) (F.device flash.now) (S.mounted_on store.now) }
+    ensures { let area = S.mounted_on store.now in
+        IsPlaceOf (N.numbers area) (on S.contents (F.device flash.now) area) name.now result }
+{
+    let ids = N::homes_of(name);
+    for place in ids.least..ids.most + 1 {
+        if counts_at::<N, S, F, L>(store, flash, index, name, place, steps) {
+            return Some(place);
+        }
+    }
+    None
+}
+
+/// The value of a name; none where it has no value. Items may be strays, as before a mount has
+/// removed them: none of them is told as a value. Where the name can have no item by what the store
+/// keeps in memory, the entries are not gone over. Else an index is made, and each id of the name
+/// looked at: where no item is a stray, `standing_value` is faster and tells the same.
+pub fn value_of<'a, N: Numbers, S: ItemStore, F: Flash, L: Ledger>(
+    store: &S,
+    flash: &'a F,
+    name: &Name,
+    steps: &mut Steps<L>,
+) -> Option<&'a [u8]>
+    requires ids { HasIds N.top S.is_id }
+    requires lawful { IsLawfulFor (F.device flash.now).banks (S.mounted_on store.now) }
+    requires stands { StandsOn S.mounted_on S.stands (F.device flash.now) store.now }
+    ensures { let area = S.mounted_on store.now in
+        option_map (λ bytes. bytes.now) result
+        ≡ finite.get (settings_in (N.numbers area) (on S.contents (F.device flash.now) area))
+        name.now }
+{
+    if !N::may_have(store, flash, name, steps) {
+        return None;
+    }
+    let mut index = S::new_index();
+    store.tell(flash, &mut index, steps);
+    let place = place_among::<N, S, F, L>(store, flash, &index, name, steps)?;
+    store.get_by(flash, &index, place + N::step(), steps)
+}

@@ -1,0 +1,77 @@
+// Mounting.
+ghost use Rattle.std.specs.Prelude.{◌≡◌, ◌∷◌, [], None, IfOk};
+ghost use Rattle.flash_map.specs.Area.{geometry_of};
+ghost use Rattle.flash_map.specs.Faults.{mount_lost};
+ghost use Rattle.flash_map.specs.Lawful.{IsLawfulFor};
+ghost use Rattle.flash_map.specs.Spending.{SpendsAtMost};
+ghost use Rattle.flash_map.specs.Touches.{Touches};
+ghost use Rattle.backend_api.specs.Ends.{MountEnds};
+ghost use Rattle.backend_api.specs.Room.{mount_units};
+ghost use Rattle.backend_api.specs.Written.{StaysWritten};
+ghost use Rattle.flash_map.specs.On.{on, HoldsOn, StandsOn};
+ghost use Rattle.named_items.specs.Pairs.{settings_in, HasNoStrays};
+ghost use Rattle.named_items.specs.Looking.{HasIds};
+ghost use Rattle.named_items.specs.Strays.{KeepsEach, OnlyRemoves};
+
+use crate::numbers::Numbers;
+use crate::store::ItemStore;
+use crate::strays::remove_strays;
+use flash_map::{Area, MountFault};
+use flash_sim::{Flash, Steps};
+use std::alloc::Global;
+use std::sync::ledger::Ledger;
+
+/// Mounts a store, and deletes the items that belong to no setting. The settings stay, and each
+/// item that is kept, also where power is lost; no item is new or has other bytes. Whatever the
+/// result, it spends at most so many units and erases as the area's geometry says (`mount_units`).
+/// The area is all FF afterwards only where it was so before.
+///
+/// # Errors
+/// `Damaged` exactly where the area shows damage, and then nothing was programmed; `PowerLost`; `NoMemory`, and then nothing was
+/// programmed either.
+#[tactic(auto, using(flash_map::proofs::Touches::then))]
+pub fn mount_store<N: Numbers, S: ItemStore, F: Flash, L: Ledger>(
+    alloc: Global,
+    flash: &mut F,
+    area: Area,
+    steps: &mut Steps<L>,
+) -> Result<S, MountFault>
+    requires ids { HasIds N.top S.is_id }
+    requires lawful { IsLawfulFor (F.device flash.old).banks area }
+    requires serves { S.serves area (geometry_of (F.device flash.old) area) }
+
+    ensures touches { Touches (area ∷ []) (F.device flash.old) (F.device flash.new)
+        (mount_lost result) }
+    ensures ends { MountEnds (on S.damage (F.device flash.old) area) (F.device flash.old)
+        (F.device flash.new) result }
+    ensures sound { on S.damage (F.device flash.old) area ≡ None
+        → on S.damage (F.device flash.new) area ≡ None }
+    ensures keeps { on S.damage (F.device flash.old) area ≡ None
+        → settings_in (N.numbers area) (on S.contents (F.device flash.new) area)
+        ≡ settings_in (N.numbers area) (on S.contents (F.device flash.old) area) }
+    ensures kept { on S.damage (F.device flash.old) area ≡ None
+        → KeepsEach (N.numbers area) (on S.contents (F.device flash.old) area)
+        (on S.contents (F.device flash.new) area) }
+    ensures gone { on S.damage (F.device flash.old) area ≡ None
+        → OnlyRemoves (on S.contents (F.device flash.old) area)
+        (on S.contents (F.device flash.new) area) }
+    ensures rests { HoldsOn S.rests (F.device flash.old) area
+        → HasNoStrays (N.numbers area) (on S.contents (F.device flash.old) area)
+        → F.device flash.new ≡ F.device flash.old }
+    ensures written { StaysWritten (F.device flash.old) (F.device flash.new) area }
+    ensures at_most { let d = F.device flash.old in
+        SpendsAtMost d (F.device flash.new) (mount_units (geometry_of d area)) }
+    ensures on { IfOk result (λ store. S.mounted_on store ≡ area) }
+    ensures stands { IfOk result
+        (λ store. StandsOn S.mounted_on S.stands (F.device flash.new) store) }
+    ensures clean { IfOk result
+        (λ store. HasNoStrays (N.numbers area) (on S.contents (F.device flash.new) area)) }
+{
+    match S::mount(alloc, flash, area, steps) {
+        Ok(mut store) => match remove_strays::<N, S, F, L>(&mut store, flash, steps) {
+            Ok(()) => Ok(store),
+            Err(_) => Err(MountFault::PowerLost),
+        },
+        Err(fault) => Err(fault),
+    }
+}

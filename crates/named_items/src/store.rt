@@ -1,0 +1,323 @@
+// The trait of a store of items.
+ghost use Rattle.std.specs.Prelude.{◌≡◌, ◌+◌, ◌^◌, ◌<◌, ◌≤◌, ◌∷◌, [], ℕ, Bool, List, length, replicate, true, false, is_err, Option, None, option_map, IfOk, IfSome};
+ghost use Rattle.std.specs.FinMap as finite;
+ghost use Rattle.flash_sim.specs.Bank.{IsLawful};
+ghost use Rattle.flash_sim.specs.Device.{Device};
+ghost use Rattle.flash_map.specs.declared.area.Area.{Area as area_type};
+ghost use Rattle.flash_map.specs.declared.area.Geometry.{Geometry};
+ghost use Rattle.flash_map.specs.declared.faults.Damaged.{Damaged as damaged_type};
+ghost use Rattle.flash_map.specs.Area.{geometry_of, value_limit};
+ghost use Rattle.flash_map.specs.Faults.{mount_lost, write_lost};
+ghost use Rattle.flash_map.specs.Lawful.{IsLawfulFor};
+ghost use Rattle.flash_map.specs.Spending.{SpendsAtMost};
+ghost use Rattle.flash_map.specs.Touches.{Touches};
+ghost use Rattle.item_laws.specs.Bytes.{IsIdOf, IsNextOf};
+ghost use Rattle.item_laws.specs.Costs.{items_cost};
+ghost use Rattle.item_laws.specs.Items.{Items};
+ghost use Rattle.backend_api.specs.Ends.{MountEnds};
+ghost use Rattle.backend_api.specs.Room.{removal_units};
+ghost use Rattle.backend_api.specs.Written.{StaysWritten};
+ghost use Rattle.flash_map.specs.On.{on, HoldsOn, StandsOn};
+ghost use Rattle.named_items.specs.StoreEnds.{most_items, most_units, IsNextId, WriteEnds, DeleteEnds};
+
+use flash_map::{Area, MountFault, WriteFault};
+use flash_sim::{Flash, PowerLost, Steps};
+use std::alloc::Global;
+use std::sync::ledger::Ledger;
+
+/// A store of items on one area. An area without damage holds one map of ids to bytes.
+pub trait ItemStore: Drop {
+    /// Where the items stand among the store's entries.
+    type Index: Drop;
+
+    /// The store serves such an area, with this geometry.
+    ghost serves: { area_type → Geometry → Type 0 };
+
+    /// The damage that the sectors of an area with this geometry show.
+    ghost damage: { area_type → Geometry → List (List ℕ) → Option damaged_type };
+
+    /// The items that they hold, where they show none.
+    ghost contents: { area_type → Geometry → List (List ℕ) → Items };
+
+    /// A mount has nothing to do on these sectors.
+    ghost rests: { area_type → Geometry → List (List ℕ) → Type 0 };
+
+    /// What bytes of this length and their entry cost.
+    ghost price: { Geometry → ℕ → ℕ };
+
+    /// What a sector has for such bytes.
+    ghost cap: { Geometry → ℕ };
+
+    /// An item may have this id.
+    ghost is_id: { ℕ → Type 0 };
+
+    /// The area that the store was mounted on.
+    ghost mounted_on: { Self → area_type };
+
+    /// The store is up, and knows the area's sectors, of this geometry, as they are.
+    ghost stands: { Self → Geometry → List (List ℕ) → Type 0 };
+
+    /// Whether no call of the store answered that power was lost.
+    ghost runs: { Self → Bool };
+
+    /// The index tells where the items of an area stand in its sectors, which have this geometry.
+    ghost tells: { Self.Index → area_type → Geometry → List (List ℕ) → Type 0 };
+
+    /// Mounts a store on an area. The items stay, also where power is lost. It spends no more units
+    /// and erases than a write may. The area is all FF afterwards only where it was so before.
+    ///
+    /// # Errors
+    /// `Damaged` exactly where the area shows damage, and then nothing was programmed; `PowerLost`; `NoMemory`, and then
+    /// nothing was programmed either.
+    fn mount<F: Flash, L: Ledger>(
+        alloc: Global,
+        flash: &mut F,
+        area: Area,
+        steps: &mut Steps<L>,
+    ) -> Result<Self, MountFault>
+        requires lawful { IsLawfulFor (F.device flash.old).banks area }
+        requires serves { serves area (geometry_of (F.device flash.old) area) }
+
+        ensures touches { Touches (area ∷ []) (F.device flash.old) (F.device flash.new)
+            (mount_lost result) }
+        ensures ends { MountEnds (on damage (F.device flash.old) area) (F.device flash.old)
+            (F.device flash.new) result }
+        ensures sound { on damage (F.device flash.old) area ≡ None
+            → on damage (F.device flash.new) area ≡ None }
+        ensures keeps { on damage (F.device flash.old) area ≡ None
+            → on contents (F.device flash.new) area ≡ on contents (F.device flash.old) area }
+        ensures rests { HoldsOn rests (F.device flash.old) area
+            → F.device flash.new ≡ F.device flash.old }
+        ensures written { StaysWritten (F.device flash.old) (F.device flash.new) area }
+        ensures at_most { let d = F.device flash.old in
+            SpendsAtMost d (F.device flash.new) (most_units (geometry_of d area)) }
+        ensures on { IfOk result (λ store. mounted_on store ≡ area) }
+        ensures stands { IfOk result
+            (λ store. StandsOn mounted_on stands (F.device flash.new) store) };
+
+    /// The bytes of an item: none where the id has no item.
+    fn get<'a, F: Flash, L: Ledger>(
+        &self,
+        flash: &'a F,
+        id: u32,
+        steps: &mut Steps<L>,
+    ) -> Option<&'a [u8]>
+        requires lawful { IsLawfulFor (F.device flash.now).banks (mounted_on self.now) }
+        requires stands { StandsOn mounted_on stands (F.device flash.now) self.now }
+        requires known { is_id id }
+        ensures { option_map (λ bytes. bytes.now) result
+            ≡ finite.get (on contents (F.device flash.now) (mounted_on self.now)) id };
+
+    /// Whether an item may be there: where it answers `false`, the id has none. It takes no view of
+    /// the flash.
+    fn may_hold(&self, id: u32) -> bool
+        requires known { is_id id }
+        ensures { (d : Device) → IsLawful d.banks d.bytes
+            → IsLawfulFor d.banks (mounted_on self.now) → StandsOn mounted_on stands d self.now
+            → result ≡ false → finite.get (on contents d (mounted_on self.now)) id ≡ None };
+
+    /// An index for `tell` to fill.
+    fn new_index() -> Self::Index;
+
+    /// Makes an index of where the items stand. It tells so as long as the area stays as it is.
+    /// What it told before is gone.
+    fn tell<F: Flash, L: Ledger>(&self, flash: &F, index: &mut Self::Index, steps: &mut Steps<L>)
+        requires lawful { IsLawfulFor (F.device flash.now).banks (mounted_on self.now) }
+        requires stands { StandsOn mounted_on stands (F.device flash.now) self.now }
+        ensures { HoldsOn (tells index.new) (F.device flash.now) (mounted_on self.now) };
+
+    /// The bytes of an item, as `get` gives them, by what the index tells.
+    fn get_by<'a, F: Flash, L: Ledger>(
+        &self,
+        flash: &'a F,
+        index: &Self::Index,
+        id: u32,
+        steps: &mut Steps<L>,
+    ) -> Option<&'a [u8]>
+        requires lawful { IsLawfulFor (F.device flash.now).banks (mounted_on self.now) }
+        requires stands { StandsOn mounted_on stands (F.device flash.now) self.now }
+        requires tells { HoldsOn (tells index.now) (F.device flash.now) (mounted_on self.now) }
+        requires known { is_id id }
+        ensures { option_map (λ bytes. bytes.now) result
+            ≡ finite.get (on contents (F.device flash.now) (mounted_on self.now)) id };
+
+    /// The id of an item that has these bytes, of the ids from `least` to `most`, no more than
+    /// 0x1_0020. It is one walk over the store's entries at most, and makes no index.
+    fn id_of<F: Flash, L: Ledger>(
+        &self,
+        flash: &F,
+        least: u32,
+        most: u32,
+        bytes: &[u8],
+        steps: &mut Steps<L>,
+    ) -> Option<u32>
+        requires lawful { IsLawfulFor (F.device flash.now).banks (mounted_on self.now) }
+        requires stands { StandsOn mounted_on stands (F.device flash.now) self.now }
+        requires least { is_id least }
+        requires most { is_id most }
+        requires range { most < least + 0x1_0020 }
+        ensures { IsIdOf least most (on contents (F.device flash.now) (mounted_on self.now))
+            bytes.now result };
+
+    /// The least bytes of an item that are greater than `after`, or the least of all, of the ids
+    /// from `least` to `most`, no more than 0x1_0020. It is one walk over the store's entries, and
+    /// makes no index.
+    fn next_of<'a, F: Flash, L: Ledger>(
+        &self,
+        flash: &'a F,
+        least: u32,
+        most: u32,
+        after: Option<&[u8]>,
+        steps: &mut Steps<L>,
+    ) -> Option<&'a [u8]>
+        requires lawful { IsLawfulFor (F.device flash.now).banks (mounted_on self.now) }
+        requires stands { StandsOn mounted_on stands (F.device flash.now) self.now }
+        requires least { is_id least }
+        requires most { is_id most }
+        requires range { most < least + 0x1_0020 }
+        ensures { IsNextOf least most (on contents (F.device flash.now) (mounted_on self.now))
+            (option_map (λ other. other.now) after.entry)
+            (option_map (λ bytes. bytes.now) result) };
+
+    /// Sets an item. Bytes that the item has already are not programmed again.
+    ///
+    /// # Errors
+    /// `TooLong` exactly where the bytes and their entry cost more than a sector has for them; then nothing was programmed.
+    /// `NoSpace` only where the items cost too much; they are as before. `PowerLost`: the items are as before, or with this
+    /// one, and the store is down.
+    fn write<F: Flash, L: Ledger>(
+        &mut self,
+        flash: &mut F,
+        id: u32,
+        bytes: &[u8],
+        steps: &mut Steps<L>,
+    ) -> Result<(), WriteFault>
+        requires lawful { IsLawfulFor (F.device flash.old).banks (mounted_on self.old) }
+        requires stands { StandsOn mounted_on stands (F.device flash.old) self.old }
+        requires known { is_id id }
+        requires some { 0 < length bytes.now }
+
+        ensures touches { Touches (mounted_on self.old ∷ []) (F.device flash.old)
+            (F.device flash.new) (write_lost result) }
+        ensures area { mounted_on self.new ≡ mounted_on self.old }
+        ensures ends { let area = mounted_on self.old in let d = F.device flash.old in
+            let e = F.device flash.new in
+            WriteEnds (price (geometry_of d area)) (cap (geometry_of d area)) area.sectors d e
+            (on contents d area) (on contents e area) id bytes.now result }
+        ensures at_most { let d = F.device flash.old in
+            SpendsAtMost d (F.device flash.new) (most_units (geometry_of d (mounted_on self.old))) }
+        ensures sound { on damage (F.device flash.new) (mounted_on self.old) ≡ None }
+        ensures stands { write_lost result ≡ false
+            → StandsOn mounted_on stands (F.device flash.new) self.new }
+        ensures down { write_lost result ≡ true → runs self.new ≡ false };
+
+    /// Deletes an item. Where the id has none, nothing is programmed. It always finds room, and
+    /// spends at most the units and erases that one collection and one entry may (`removal_units`).
+    /// The area is all FF afterwards only where it was so before.
+    ///
+    /// # Errors
+    /// `PowerLost`: the items are as before, or without this one, and the store is down.
+    fn delete<F: Flash, L: Ledger>(
+        &mut self,
+        flash: &mut F,
+        id: u32,
+        steps: &mut Steps<L>,
+    ) -> Result<(), PowerLost>
+        requires lawful { IsLawfulFor (F.device flash.old).banks (mounted_on self.old) }
+        requires stands { StandsOn mounted_on stands (F.device flash.old) self.old }
+        requires known { is_id id }
+
+        ensures touches { Touches (mounted_on self.old ∷ []) (F.device flash.old)
+            (F.device flash.new) (is_err result) }
+        ensures area { mounted_on self.new ≡ mounted_on self.old }
+        ensures ends { let area = mounted_on self.old in let d = F.device flash.old in
+            let e = F.device flash.new in
+            DeleteEnds d e (on contents d area) (on contents e area) id result }
+        ensures at_most { let d = F.device flash.old in
+            SpendsAtMost d (F.device flash.new) (most_units (geometry_of d (mounted_on self.old))) }
+        ensures written { StaysWritten (F.device flash.old) (F.device flash.new)
+            (mounted_on self.old) }
+        ensures removal { let d = F.device flash.old in
+            SpendsAtMost d (F.device flash.new)
+            (removal_units (geometry_of d (mounted_on self.old))) }
+        ensures sound { on damage (F.device flash.new) (mounted_on self.old) ≡ None }
+        ensures stands { is_err result ≡ false
+            → StandsOn mounted_on stands (F.device flash.new) self.new }
+        ensures down { is_err result ≡ true → runs self.new ≡ false };
+
+    /// The least id behind this one that has a value, or the least of all.
+    fn next_id<F: Flash, L: Ledger>(
+        &self,
+        flash: &F,
+        after: Option<u32>,
+        steps: &mut Steps<L>,
+    ) -> Option<u32>
+        requires lawful { IsLawfulFor (F.device flash.now).banks (mounted_on self.now) }
+        requires stands { StandsOn mounted_on stands (F.device flash.now) self.now }
+        ensures next { IsNextId (on contents (F.device flash.now) (mounted_on self.now)) after
+            result }
+        ensures known { IfSome result is_id };
+
+    /// The least id behind this one that has a value, or the least of all, as `next_id` gives it,
+    /// by what the index tells.
+    fn next_by<F: Flash, L: Ledger>(
+        &self,
+        flash: &F,
+        index: &Self::Index,
+        after: Option<u32>,
+        steps: &mut Steps<L>,
+    ) -> Option<u32>
+        requires lawful { IsLawfulFor (F.device flash.now).banks (mounted_on self.now) }
+        requires stands { StandsOn mounted_on stands (F.device flash.now) self.now }
+        requires tells { HoldsOn (tells index.now) (F.device flash.now) (mounted_on self.now) }
+        ensures next { IsNextId (on contents (F.device flash.now) (mounted_on self.now)) after
+            result }
+        ensures known { IfSome result is_id };
+
+    /// What all items cost, in bytes: the data of each, padded, and its entry.
+    fn live_cost<F: Flash, L: Ledger>(&self, flash: &F, steps: &mut Steps<L>) -> u64
+        requires lawful { IsLawfulFor (F.device flash.now).banks (mounted_on self.now) }
+        requires stands { StandsOn mounted_on stands (F.device flash.now) self.now }
+        ensures { let d = F.device flash.now in let area = mounted_on self.now in
+            result ≡ items_cost (price (geometry_of d area)) (on contents d area) };
+
+    /// What bytes of this length and their entry cost, in bytes.
+    fn price_of<F: Flash>(&self, flash: &F, length: u32) -> u64
+        requires lawful { IsLawfulFor (F.device flash.now).banks (mounted_on self.now) }
+        requires stands { StandsOn mounted_on stands (F.device flash.now) self.now }
+        requires short { length ≤ value_limit (mounted_on self.now) }
+        ensures value { result
+            ≡ price (geometry_of (F.device flash.now) (mounted_on self.now)) length }
+        ensures small { result < 2 ^ 32 };
+
+    /// The area that the store stands on.
+    fn area(&self) -> &Area
+        ensures { result.now ≡ mounted_on self.now };
+
+    /// Whether no call answered that power was lost.
+    fn is_up(&self) -> bool
+        ensures { result ≡ runs self.now };
+
+    // A store that stands is up. The store serves its area, which shows no damage, and a mount of
+    // it would have nothing to do.
+    ghost stands_up: { (store : Self) (geometry : Geometry) (sectors : List (List ℕ)) → stands store geometry sectors → runs store ≡ true };
+
+    ghost stands_serves: { (store : Self) (geometry : Geometry) (sectors : List (List ℕ)) → stands store geometry sectors → serves (mounted_on store) geometry };
+
+    ghost stands_reads: { (store : Self) (geometry : Geometry) (sectors : List (List ℕ)) → stands store geometry sectors → damage (mounted_on store) geometry sectors ≡ None };
+
+    ghost stands_rests: { (store : Self) (geometry : Geometry) (sectors : List (List ℕ)) → stands store geometry sectors → rests (mounted_on store) geometry sectors };
+
+    // What a value as long as the area allows costs fits a sector.
+    ghost fits: { (d : Device) (area : area_type) (length : ℕ) → IsLawfulFor d.banks area → serves area (geometry_of d area) → length ≤ value_limit area
+        → price (geometry_of d area) length ≤ cap (geometry_of d area) };
+
+    // An area holds no more items than it has room for entries.
+    ghost few: { (d : Device) (area : area_type) → IsLawful d.banks d.bytes → IsLawfulFor d.banks area → serves area (geometry_of d area)
+        → finite.len (on contents d area) ≤ most_items (geometry_of d area) };
+
+    // Sectors all of whose bytes are FF show no damage, and hold no items.
+    ghost blank_reads: { (area : area_type) (geometry : Geometry) (sectors size : ℕ) → 2 ≤ sectors → 16 ≤ size → damage area geometry (replicate sectors (replicate size 0xFF)) ≡ None };
+
+    ghost blank_empty: { (area : area_type) (geometry : Geometry) (sectors size : ℕ) → 2 ≤ sectors → 16 ≤ size → contents area geometry (replicate sectors (replicate size 0xFF)) ≡ finite.empty };
+}

@@ -1,0 +1,167 @@
+// Writing and deleting the two items of a setting.
+ghost use Rattle.std.specs.Prelude.{◌≡◌, ◌⊎◌, ℕ, ◌+◌, ◌*◌, ◌<◌, ◌∷◌, [], true, false, None, is_err, length};
+ghost use Rattle.std.specs.FinMap as finite;
+ghost use Rattle.flash_map.specs.Area.{geometry_of};
+ghost use Rattle.flash_map.specs.Faults.{write_lost};
+ghost use Rattle.flash_map.specs.Lawful.{IsLawfulFor};
+ghost use Rattle.flash_map.specs.Spending.{SpendsAtMost};
+ghost use Rattle.flash_map.specs.Touches.{Touches};
+ghost use Rattle.flash_map.specs.On.{on, StandsOn};
+ghost use Rattle.backend_api.specs.Ends.{DeleteEnds};
+ghost use Rattle.backend_api.specs.Room.{most_units};
+ghost use Rattle.named_items.specs.StoreEnds as items;
+ghost use Rattle.named_items.specs.Pairs.{settings_in, HasNoStrays, IsAt};
+ghost use Rattle.named_items.specs.Ends.{AltersTwo, DeletesPair, PutsPair};
+ghost use Rattle.named_items.specs.Looking.{HasIds};
+
+use crate::lookup::standing_place;
+use crate::numbers::Numbers;
+use crate::store::ItemStore;
+use flash_map::WriteFault;
+use flash_sim::{Flash, PowerLost, Steps};
+use setting_name::Name;
+use std::sync::ledger::Ledger;
+
+/// Deletes an item, the name, and then another one, its value.
+///
+/// # Errors
+/// `PowerLost`: neither is deleted, or the first alone, or both.
+#[tactic(auto, using(flash_map::proofs::Touches::then))]
+pub fn delete_pair<S: ItemStore, F: Flash, L: Ledger>(
+    store: &mut S,
+    flash: &mut F,
+    first: u32,
+    second: u32,
+    steps: &mut Steps<L>,
+) -> Result<(), PowerLost>
+    requires lawful { IsLawfulFor (F.device flash.old).banks (S.mounted_on store.old) }
+    requires stands { StandsOn S.mounted_on S.stands (F.device flash.old) store.old }
+    requires first { S.is_id first }
+    requires second { S.is_id second }
+    requires named { let area = S.mounted_on store.old in
+        finite.get (on S.contents (F.device flash.old) area) first ≡ None → ⊥ }
+
+    ensures touches { Touches (S.mounted_on store.old ∷ []) (F.device flash.old)
+        (F.device flash.new) (is_err result) }
+    ensures area { S.mounted_on store.new ≡ S.mounted_on store.old }
+    ensures ends { let area = S.mounted_on store.old in
+        DeletesPair (on S.contents (F.device flash.old) area)
+        (on S.contents (F.device flash.new) area) first second result }
+    ensures at_most { let d = F.device flash.old in
+        SpendsAtMost d (F.device flash.new) (most_units (geometry_of d (S.mounted_on store.old))) }
+    ensures sound { on S.damage (F.device flash.new) (S.mounted_on store.old) ≡ None }
+    ensures stands { is_err result ≡ false
+        → StandsOn S.mounted_on S.stands (F.device flash.new) store.new }
+    ensures down { is_err result ≡ true → S.runs store.new ≡ false }
+{
+    store.delete(flash, first, steps)?;
+    store.delete(flash, second, steps)
+}
+
+/// Takes a name's value away: it deletes the name, and then the value. All other items stay.
+///
+/// # Errors
+/// `PowerLost`: the settings are as before, or without the name.
+pub fn delete_name<N: Numbers, S: ItemStore, F: Flash, L: Ledger>(
+    store: &mut S,
+    flash: &mut F,
+    name: &Name,
+    steps: &mut Steps<L>,
+) -> Result<(), PowerLost>
+    requires ids { HasIds N.top S.is_id }
+    requires lawful { IsLawfulFor (F.device flash.old).banks (S.mounted_on store.old) }
+    requires stands { StandsOn S.mounted_on S.stands (F.device flash.old) store.old }
+    requires clean { let area = S.mounted_on store.old in
+        HasNoStrays (N.numbers area) (on S.contents (F.device flash.old) area) }
+
+    ensures touches { Touches (S.mounted_on store.old ∷ []) (F.device flash.old)
+        (F.device flash.new) (is_err result) }
+    ensures area { S.mounted_on store.new ≡ S.mounted_on store.old }
+    ensures ends { let area = S.mounted_on store.old in let d = F.device flash.old in
+        let e = F.device flash.new in
+        DeleteEnds d e (settings_in (N.numbers area) (on S.contents d area))
+        (settings_in (N.numbers area) (on S.contents e area)) name.now result }
+    ensures others { let area = S.mounted_on store.old in
+        let before = on S.contents (F.device flash.old) area in
+        let after = on S.contents (F.device flash.new) area in
+        (place : ℕ) → IsAt (N.numbers area) before name.now place
+        → AltersTwo before after place (place + (N.numbers area).step) }
+    ensures at_most { let d = F.device flash.old in
+        SpendsAtMost d (F.device flash.new) (most_units (geometry_of d (S.mounted_on store.old))) }
+    ensures sound { on S.damage (F.device flash.new) (S.mounted_on store.old) ≡ None }
+    ensures cut { let area = S.mounted_on store.old in
+        let before = settings_in (N.numbers area) (on S.contents (F.device flash.old) area) in
+        let after = settings_in (N.numbers area) (on S.contents (F.device flash.new) area) in
+        is_err result ≡ true → (after ≡ before) ⊎ (after ≡ finite.remove before name.now) }
+    ensures stands { is_err result ≡ false
+        → StandsOn S.mounted_on S.stands (F.device flash.new) store.new }
+    ensures clean { let area = S.mounted_on store.old in
+        is_err result ≡ false
+        → HasNoStrays (N.numbers area) (on S.contents (F.device flash.new) area) }
+    ensures down { is_err result ≡ true → S.runs store.new ≡ false }
+{
+    match standing_place::<N, S, F, L>(store, flash, name, steps) {
+        Some(place) => delete_pair(store, flash, place, place + N::step(), steps),
+        None => Ok(()),
+    }
+}
+
+/// Writes the value of a new name, and then the name. Where the name is refused, the value is
+/// deleted again.
+///
+/// # Errors
+/// `TooLong`: one of the two and its entry cost more than a sector has for them. `NoSpace`: the items cost too much for one
+/// of the writes, whose need it tells. After both the items are as before. `PowerLost`: neither is written, or
+/// the value alone, or both.
+#[tactic(auto, using(flash_map::proofs::Touches::then))]
+pub fn put_pair<S: ItemStore, F: Flash, L: Ledger>(
+    store: &mut S,
+    flash: &mut F,
+    first: u32,
+    second: u32,
+    name: &Name,
+    value: &[u8],
+    steps: &mut Steps<L>,
+) -> Result<(), WriteFault>
+    requires lawful { IsLawfulFor (F.device flash.old).banks (S.mounted_on store.old) }
+    requires stands { StandsOn S.mounted_on S.stands (F.device flash.old) store.old }
+    requires first { S.is_id first }
+    requires second { S.is_id second }
+    requires some { 0 < length value.now }
+    requires free { let area = S.mounted_on store.old in
+        finite.get (on S.contents (F.device flash.old) area) second ≡ None }
+
+    ensures touches { Touches (S.mounted_on store.old ∷ []) (F.device flash.old)
+        (F.device flash.new) (write_lost result) }
+    ensures area { S.mounted_on store.new ≡ S.mounted_on store.old }
+    ensures ends { let area = S.mounted_on store.old in
+        let g = geometry_of (F.device flash.old) area in
+        PutsPair (S.price g) (S.cap g) area.sectors (on S.contents (F.device flash.old) area)
+        (on S.contents (F.device flash.new) area) first second name.now value.now result }
+    ensures at_most { let d = F.device flash.old in
+        SpendsAtMost d (F.device flash.new)
+        (3 * items.most_units (geometry_of d (S.mounted_on store.old))) }
+    ensures sound { on S.damage (F.device flash.new) (S.mounted_on store.old) ≡ None }
+    ensures stands { write_lost result ≡ false
+        → StandsOn S.mounted_on S.stands (F.device flash.new) store.new }
+    ensures down { write_lost result ≡ true → S.runs store.new ≡ false }
+{
+    match store.write(flash, second, value, steps) {
+        Ok(()) => {}
+        Err(fault) => return Err(fault),
+    }
+    match store.write(flash, first, name.bytes(), steps) {
+        Ok(()) => Ok(()),
+        Err(WriteFault::PowerLost) => Err(WriteFault::PowerLost),
+        Err(WriteFault::TooLong) => match store.delete(flash, second, steps) {
+            Ok(()) => Err(WriteFault::TooLong),
+            Err(_) => Err(WriteFault::PowerLost),
+        },
+        Err(WriteFault::NoSpace { need, live }) => {
+            match store.delete(flash, second, steps) {
+                Ok(()) => Err(WriteFault::NoSpace { need, live }),
+                Err(_) => Err(WriteFault::PowerLost),
+            }
+        }
+    }
+}

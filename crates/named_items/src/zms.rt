@@ -1,0 +1,173 @@
+// The store over ZMS.
+ghost use Rattle.std.specs.Prelude.{◌≡◌, ◌<◌};
+ghost use Rattle.flash_map.specs.declared.area.Role.TheVariants.{Zms as ZmsRole};
+ghost use Rattle.named_items.specs.Blank.{zms-undamaged, zms-empty};
+ghost use Rattle.named_items.specs.Few.{zms-few};
+ghost use Rattle.named_items.specs.ZmsStore.{zms_damage, zms_items, zms_rests, zms_price, zms_cap, zms_tells, ZmsStands, zms-rested, zms-fits};
+
+use crate::store::ItemStore;
+use flash_map::{Area, MountFault, WriteFault};
+use flash_sim::{Flash, PowerLost, Steps};
+use item_store::LastSlots;
+use std::alloc::Global;
+use std::sync::ledger::Ledger;
+use zms_cycle::cost;
+use zms_store::Zms;
+
+impl ItemStore for Zms {
+    type Index = LastSlots;
+
+    ghost serves = { λ area geometry. area.role ≡ ZmsRole };
+
+    ghost damage = { λ area geometry sectors. zms_damage area geometry sectors };
+
+    ghost contents = { λ area geometry sectors. zms_items area geometry sectors };
+
+    ghost rests = { λ area geometry sectors. zms_rests area geometry sectors };
+
+    ghost price = { λ geometry. zms_price geometry };
+
+    ghost cap = { λ geometry. zms_cap geometry };
+
+    ghost is_id = { λ id. id < 0xFFFFFFFF };
+
+    ghost mounted_on = { λ store. store.store.area };
+
+    ghost stands = { λ store geometry sectors. ZmsStands store geometry sectors };
+
+    ghost runs = { λ store. store.store.up };
+
+    ghost tells = { λ last area geometry sectors. zms_tells last geometry sectors };
+
+    ghost stands_up = { λ store geometry sectors stands. stands.up };
+
+    ghost stands_serves = { λ store geometry sectors stands. stands.role };
+
+    ghost stands_reads = { λ store geometry sectors stands. stands.undamaged };
+
+    ghost stands_rests = { λ store geometry sectors stands. zms-rested store geometry sectors stands };
+
+    ghost fits = { λ d area length lawful serves short. zms-fits d area length lawful serves short };
+
+    ghost few = { λ d area bank lawful serves. zms-few d area bank lawful };
+
+    ghost blank_reads = { λ area geometry sectors size several long. zms-undamaged sectors size several geometry.kind };
+
+    ghost blank_empty = { λ area geometry sectors size several long. zms-empty sectors size several geometry.kind };
+
+    fn mount<F: Flash, L: Ledger>(
+        alloc: Global,
+        flash: &mut F,
+        area: Area,
+        steps: &mut Steps<L>,
+    ) -> Result<Zms, MountFault> {
+        Zms::mount(alloc, flash, area, steps)
+    }
+
+    fn get<'a, F: Flash, L: Ledger>(
+        &self,
+        flash: &'a F,
+        id: u32,
+        steps: &mut Steps<L>,
+    ) -> Option<&'a [u8]> {
+        Zms::get(self, flash, id, steps)
+    }
+
+    fn may_hold(&self, id: u32) -> bool {
+        Zms::may_hold(self, id)
+    }
+
+    fn new_index() -> LastSlots {
+        LastSlots::new()
+    }
+
+    fn tell<F: Flash, L: Ledger>(&self, flash: &F, index: &mut LastSlots, steps: &mut Steps<L>) {
+        Zms::tell_last_slots(self, flash, index, steps)
+    }
+
+    fn get_by<'a, F: Flash, L: Ledger>(
+        &self,
+        flash: &'a F,
+        index: &LastSlots,
+        id: u32,
+        steps: &mut Steps<L>,
+    ) -> Option<&'a [u8]> {
+        Zms::get_by(self, flash, index, id, steps)
+    }
+
+    fn id_of<F: Flash, L: Ledger>(
+        &self,
+        flash: &F,
+        least: u32,
+        most: u32,
+        bytes: &[u8],
+        steps: &mut Steps<L>,
+    ) -> Option<u32> {
+        Zms::id_of(self, flash, least, most, bytes, steps)
+    }
+
+    fn next_of<'a, F: Flash, L: Ledger>(
+        &self,
+        flash: &'a F,
+        least: u32,
+        most: u32,
+        after: Option<&[u8]>,
+        steps: &mut Steps<L>,
+    ) -> Option<&'a [u8]> {
+        Zms::next_of(self, flash, least, most, after, steps)
+    }
+
+    fn write<F: Flash, L: Ledger>(
+        &mut self,
+        flash: &mut F,
+        id: u32,
+        bytes: &[u8],
+        steps: &mut Steps<L>,
+    ) -> Result<(), WriteFault> {
+        Zms::write(self, flash, id, bytes, steps)
+    }
+
+    fn delete<F: Flash, L: Ledger>(
+        &mut self,
+        flash: &mut F,
+        id: u32,
+        steps: &mut Steps<L>,
+    ) -> Result<(), PowerLost> {
+        Zms::delete(self, flash, id, steps)
+    }
+
+    fn next_id<F: Flash, L: Ledger>(
+        &self,
+        flash: &F,
+        after: Option<u32>,
+        steps: &mut Steps<L>,
+    ) -> Option<u32> {
+        Zms::next_id(self, flash, after, steps)
+    }
+
+    fn next_by<F: Flash, L: Ledger>(
+        &self,
+        flash: &F,
+        index: &LastSlots,
+        after: Option<u32>,
+        steps: &mut Steps<L>,
+    ) -> Option<u32> {
+        Zms::next_by(self, flash, index, after, steps)
+    }
+
+    fn live_cost<F: Flash, L: Ledger>(&self, flash: &F, steps: &mut Steps<L>) -> u64 {
+        Zms::live_cost(self, flash, steps)
+    }
+
+    fn price_of<F: Flash>(&self, _flash: &F, length: u32) -> u64 {
+        u64::from(cost(length as u16))
+    }
+
+    fn area(&self) -> &Area {
+        Zms::area(self)
+    }
+
+    fn is_up(&self) -> bool {
+        Zms::is_up(self)
+    }
+}

@@ -1,6 +1,0 @@
-pub mod ItemLemmas
-pub mod ItemsCost
-pub mod LivePairs
-pub mod NoRoom
-pub mod Pairs
-pub mod RoundLemmas

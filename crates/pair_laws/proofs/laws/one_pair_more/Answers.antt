@@ -1,5 +1,0 @@
-use Rattle.pair_laws.proofs.Pairs.{last-push}
-use Rattle.pair_laws.proofs.laws.one_pair_more.Goals as goal
-
-pub returns : goal.returns
-returns c = last-push

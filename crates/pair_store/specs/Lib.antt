@@ -1,6 +1,0 @@
-pub mod Ends
-pub mod Homes
-pub mod Looking
-pub mod Putting
-pub mod Strays
-pub mod Walking

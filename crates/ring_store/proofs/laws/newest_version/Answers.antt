@@ -1,5 +1,0 @@
-use Rattle.ring_store.proofs.VersionLemmas.{newest-is}
-use Rattle.ring_store.proofs.laws.newest_version.Goals as goal
-
-pub returns : goal.returns
-returns c = newest-is

@@ -1,7 +1,0 @@
-use Rattle.std.proofs.Common.{ap, ◌∙◌}
-use Rattle.ring_store.specs.Seen.{has_bit}
-use Rattle.ring_store.proofs.seen.Seen.has.Goals as goal
-
-pub returns : goal.returns
-returns c =
-    c.has_bit.ensures ∙ ap (has_bit c.args.self.now.bits) c.key_of.ensures.key

@@ -1,6 +1,0 @@
-use Rattle.ring_store.proofs.SeenSteps.{seen_none}
-use Rattle.ring_store.proofs.seen.Seen.new.Goals as goal
-
-pub returns : goal.returns
-returns c =
-    λ limit. seen_none limit

@@ -1,0 +1,12 @@
+mod ItemAreaLemmas
+mod ItemEndings
+mod ItemInputLemmas
+mod LogAreaLemmas
+mod LogEndings
+mod LogInputLemmas
+mod MirrorAreaLemmas
+mod MirrorEndings
+mod MirrorInputLemmas
+mod SoundLemmas
+mod TellLemmas
+mod WholeLemmas

@@ -1,6 +1,0 @@
-pub mod Last
-pub mod Live
-pub mod Numbers
-pub mod Rounds
-pub mod Settings
-pub mod Torn

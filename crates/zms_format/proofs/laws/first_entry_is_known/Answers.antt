@@ -1,0 +1,5 @@
+use Rattle.zms_format.proofs.KindLemmas.{first_entry_is_known as known}
+use Rattle.zms_format.proofs.laws.first_entry_is_known.Goals as goal
+
+pub returns : goal.returns
+returns c = record { known = known }

@@ -1,0 +1,18 @@
+//! What the list of an area is made of, and what the first entry of a sector spends. The functions
+//! do nothing: their contracts are the laws.
+
+ghost use Rattle.zms_format.specs.Parts.{EachHasItsPart};
+ghost use Rattle.zms_format.specs.Units.{FirstEntryIsKnown};
+
+/// In an area without damage each sector that counts, with at least 48 bytes, is not overfull: its
+/// part of the area's list is its pairs. The list is made of the pairs of the sectors that count,
+/// so it takes none from an overfull sector.
+pub fn parts_of_list()
+    ensures parts { EachHasItsPart }
+{}
+
+/// What the first entry of a sector without a cycle spends, its guard too, is known by the bytes
+/// that the sector has before it is emptied for that entry.
+pub fn first_entry_is_known()
+    ensures known { FirstEntryIsKnown }
+{}

@@ -1,5 +1,0 @@
-use Rattle.zms_kind.proofs.KindLemmas.{first_entry_is_known as known}
-use Rattle.zms_kind.proofs.laws.first_entry_is_known.Goals as goal
-
-pub returns : goal.returns
-returns c = record { known = known }

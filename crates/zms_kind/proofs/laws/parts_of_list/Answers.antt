@@ -1,5 +1,0 @@
-use Rattle.zms_kind.proofs.Damages.{has_its_part}
-use Rattle.zms_kind.proofs.laws.parts_of_list.Goals as goal
-
-pub returns : goal.returns
-returns c = record { parts = has_its_part }

@@ -1,2 +1,0 @@
-mod OpenLemmas
-mod RoomLemmas

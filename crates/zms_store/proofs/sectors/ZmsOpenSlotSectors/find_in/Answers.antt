@@ -1,0 +1,29 @@
+use Rattle.std.proofs.Common.{ℕ, List, sym, ap, ◌∙◌}
+use Rattle.flash_sim.specs.Device.{Device}
+use Rattle.flash_map.specs.declared.area.Area.{Area}
+use Rattle.flash_map.specs.declared.area.Geometry.{Geometry}
+use Rattle.flash_map.specs.Area.{geometry_of, sectors_of, sector_at}
+use Rattle.zms_format.proofs.StepLemmas.{last_same}
+use Rattle.std.specs.Option.{option_map}
+use Rattle.zms_cycle.specs.Sector.{entries}
+use Rattle.zms_format.specs.Kinds.{placed_of}
+use Rattle.zms_format.specs.Area.{placed_at as zms_placed_at, last_in}
+use Rattle.zms_store.proofs.sectors.ZmsOpenSlotSectors.find_in.Goals as goal
+
+pub returns-in-Some : goal.returns-in-Some
+returns-in-Some g c =
+    let a : Device = g.F.Flash.device c.args.flash.now in
+    let area : Area = c.args.area.now in
+    let u : Geometry = geometry_of a area in
+    let bytes = c.sector_view.ensures.bytes in
+    let found = c.find_in.ensures.last ∙ ap (λ (b : List ℕ). option_map (zms_placed_at c.args.place) (last_in c.args.id (entries b))) bytes in
+    (rw c.from.ensures (ap (option_map placed_of) (sym c.in-Some.is ∙ found) ∙ last_same u (sector_at (sectors_of a area) c.args.place) c.args.place c.args.id))
+
+pub returns-in-None : goal.returns-in-None
+returns-in-None g c =
+    let a : Device = g.F.Flash.device c.args.flash.now in
+    let area : Area = c.args.area.now in
+    let u : Geometry = geometry_of a area in
+    let bytes = c.sector_view.ensures.bytes in
+    let found = c.find_in.ensures.last ∙ ap (λ (b : List ℕ). option_map (zms_placed_at c.args.place) (last_in c.args.id (entries b))) bytes in
+    ap (option_map placed_of) (sym c.in-None.is ∙ found) ∙ last_same u (sector_at (sectors_of a area) c.args.place) c.args.place c.args.id

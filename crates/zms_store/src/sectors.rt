@@ -1,0 +1,386 @@
+// What is kept of the open sector, and the calls on sectors.
+ghost use Rattle.std.specs.Prelude.{◌≡◌, ◌+◌, ◌*◌, ◌^◌, ◌<◌, ◌≤◌, ℕ, IfSome, IsSome, List, length, Some, ◌-◌, min};
+ghost use Rattle.std.specs.Option.{option_map};
+ghost use Rattle.flash_map.specs.declared.area.Role.TheVariants.{Zms as zms_role};
+ghost use Rattle.zms_cycle.specs.Entries.{entry_of as fields_of, offset_of};
+ghost use Rattle.zms_cycle.specs.Sector.{slot_of, cycle_of, data_end, entry_in, has_gc_done, valid_slots, value_of};
+ghost use Rattle.zms_format.specs.Kinds.{entry_of, kind};
+ghost use Rattle.zms_format.proofs.KindLemmas.{zms_is_kind};
+ghost use Rattle.item_store.specs.Kind.{placed_at};
+
+use flash_map::{Area, Damaged, Geometry, geometry, sector_view};
+use flash_sim::{Flash, Kind, PowerLost, Steps};
+use item_store::{Placed, SlotSectors};
+use std::sync::ledger::Ledger;
+use zms_cycle::{
+    FIRST, Opened, SLOT, SectorState, SlotEntry, TAIL, TAIL_AT, capacity, close_at, copy_entry_at,
+    cost, empty_sector, has_close, listed_entry, listed_slots, offset_of, put_done_at,
+    put_entry_at, reach_in, reach_within, state,
+};
+use zms_format::{find_in, is_clean, scan};
+
+/// What is kept of an open sector: what is free in it, and where its next entry goes, is known with
+/// no look at its list.
+#[derive(Clone, Copy, Debug, PartialEq, Eq)]
+pub struct ZmsOpen {
+    gc_done: bool,
+    // none where it is blank
+    cycle: Option<u8>,
+    // how many slots its list has
+    slots: u32,
+    // where the next value goes, in bytes; the last number of 32 bits stands for all above it
+    data_end: u32,
+}
+
+impl ZmsOpen {
+    // What a step has to know of a sector that is not blank.
+    fn opened(&self) -> Opened
+        requires { IsSome self.now.cycle }
+        ensures cycle { self.now.cycle ≡ Some result.cycle }
+        ensures slots { result.slots ≡ self.now.slots }
+        ensures data_end { result.data_end ≡ self.now.data_end }
+    {
+        match self.cycle {
+            Some(cycle) => Opened {
+                cycle,
+                slots: self.slots,
+                data_end: self.data_end,
+            },
+            None => unreachable!(),
+        }
+    }
+}
+
+// The entry in this sector, without what is its store's own.
+fn placed(found: SlotEntry, sector: u32) -> Placed
+    ensures placed { result ≡ placed_at sector (entry_of found) }
+    ensures wide { result.id < 2 ^ 32 }
+{
+    Placed {
+        sector,
+        slot: found.slot,
+        id: found.entry.id,
+        len: u32::from(found.entry.len),
+    }
+}
+
+// The bytes that an entry of a sector gives its id: they stand in its tail, or where it says.
+fn value_in<'a>(bytes: &'a [u8], found: &SlotEntry) -> &'a [u8]
+    requires short { length bytes.now ≤ 2 ^ 15 }
+    requires inside { (found.now.slot + 1) * 16 ≤ length bytes.now }
+    requires there { entry_in (slot_of bytes.now found.now.slot) ≡ Some found.now }
+    requires ends { 8 < found.now.entry.len
+        → offset_of found.now.entry + found.now.entry.len ≤ length bytes.now }
+    ensures { result.now ≡ value_of bytes.now found.now.entry }
+{
+    let len = usize::from(found.entry.len);
+    if found.entry.len > TAIL {
+        let offset = offset_of(&found.entry) as usize;
+        return &bytes[offset..offset + len];
+    }
+    let start = bytes.len() - (found.slot + 1) as usize * SLOT as usize + TAIL_AT as usize;
+    &bytes[start..start + len]
+}
+
+// The id that a slot's bytes have where an entry has its own. Their CRC is not looked at.
+fn id_of(slot: &[u8]) -> u32
+    requires { length slot.now ≡ 16 }
+    ensures { result ≡ (fields_of slot.now).id }
+{
+    u32::from_le_bytes([slot[4], slot[5], slot[6], slot[7]])
+}
+
+// The same of a slot of a sector with these bytes.
+fn named_id(bytes: &[u8], slot: u32) -> u32
+    requires short { length bytes.now ≤ 2 ^ 15 }
+    requires inside { (slot + 1) * 16 ≤ length bytes.now }
+    ensures { IfSome (option_map entry_of (entry_in (slot_of bytes.now slot)))
+        (λ e. e.id ≡ result) }
+{
+    let start = bytes.len() - (slot + 1) as usize * SLOT as usize;
+    id_of(&bytes[start..start + SLOT as usize])
+}
+
+impl SlotSectors for ZmsOpen {
+    ghost role = { zms_role };
+
+    ghost kind = { kind };
+
+    ghost kept = { λ geometry b. record { gc_done = has_gc_done b; cycle = cycle_of b; slots = length (valid_slots b); data_end = min (data_end geometry.kind b) (2 ^ 32 - 1) } };
+
+    fn first_slot() -> u32 {
+        2
+    }
+
+    fn has_short_ids() -> bool {
+        false
+    }
+
+    fn cost(_geometry: &Geometry, len: u32) -> u64 {
+        u64::from(cost(len as u16))
+    }
+
+    fn capacity(geometry: &Geometry) -> u32 {
+        capacity(geometry.sector)
+    }
+
+    fn slot_size(_geometry: &Geometry) -> u32 {
+        SLOT
+    }
+
+    fn opens_ready(geometry: &Geometry) -> bool {
+        match geometry.kind {
+            Kind::Rewritable => false,
+            Kind::Erasing => true,
+        }
+    }
+
+    fn is_clean<F: Flash, L: Ledger>(
+        flash: &F,
+        area: &Area,
+        place: u32,
+        steps: &mut Steps<L>,
+    ) -> bool {
+        let kind = geometry(flash, area).kind;
+        is_clean(sector_view(flash, area, place, steps), kind)
+    }
+
+    fn is_closed<F: Flash, L: Ledger>(
+        flash: &F,
+        area: &Area,
+        place: u32,
+        steps: &mut Steps<L>,
+    ) -> bool {
+        has_close(sector_view(flash, area, place, steps))
+    }
+
+    fn keep<F: Flash, L: Ledger>(
+        flash: &F,
+        area: &Area,
+        place: u32,
+        steps: &mut Steps<L>,
+    ) -> ZmsOpen {
+        match state(flash, area, place, steps) {
+            SectorState::Blank => ZmsOpen {
+                gc_done: false,
+                cycle: None,
+                slots: 0,
+                data_end: 0,
+            },
+            SectorState::Used {
+                cycle,
+                slots,
+                data_end,
+                gc_done,
+                ..
+            } => ZmsOpen {
+                gc_done,
+                cycle: Some(cycle),
+                slots,
+                data_end,
+            },
+        }
+    }
+
+    fn has_gc_done(&self) -> bool {
+        self.gc_done
+    }
+
+    fn free<F: Flash, L: Ledger>(
+        &self,
+        flash: &F,
+        area: &Area,
+        _place: u32,
+        _steps: &mut Steps<L>,
+    ) -> u32 {
+        let used = (FIRST + self.slots) * SLOT;
+        let size = geometry(flash, area).sector;
+        size.saturating_sub(used).saturating_sub(self.data_end)
+    }
+
+    fn own_slots<F: Flash, L: Ledger>(
+        &self,
+        _flash: &F,
+        _area: &Area,
+        _place: u32,
+        _steps: &mut Steps<L>,
+    ) -> u32 {
+        self.slots
+    }
+
+    fn slots<F: Flash, L: Ledger>(flash: &F, area: &Area, place: u32, steps: &mut Steps<L>) -> u32 {
+        listed_slots(sector_view(flash, area, place, steps))
+    }
+
+    fn entry_in<F: Flash, L: Ledger>(
+        flash: &F,
+        area: &Area,
+        place: u32,
+        slot: u32,
+        steps: &mut Steps<L>,
+    ) -> Option<Placed> {
+        match listed_entry(sector_view(flash, area, place, steps), slot) {
+            Some(found) => Some(placed(found, place)),
+            None => None,
+        }
+    }
+
+    fn id_in<F: Flash, L: Ledger>(
+        flash: &F,
+        area: &Area,
+        place: u32,
+        slot: u32,
+        steps: &mut Steps<L>,
+    ) -> u32 {
+        named_id(sector_view(flash, area, place, steps), slot)
+    }
+
+    fn value<'a, F: Flash, L: Ledger>(
+        flash: &'a F,
+        area: &Area,
+        placed: &Placed,
+        steps: &mut Steps<L>,
+    ) -> &'a [u8] {
+        let bytes = sector_view(flash, area, placed.sector, steps);
+        match listed_entry(bytes, placed.slot) {
+            Some(found) => value_in(bytes, &found),
+            None => unreachable!(),
+        }
+    }
+
+    fn find_in<F: Flash, L: Ledger>(
+        flash: &F,
+        area: &Area,
+        place: u32,
+        id: u32,
+        steps: &mut Steps<L>,
+    ) -> Option<Placed> {
+        match find_in(sector_view(flash, area, place, steps), place, id) {
+            Some(found) => Some(Placed {
+                sector: found.sector,
+                slot: found.slot,
+                id: found.entry.id,
+                len: u32::from(found.entry.len),
+            }),
+            None => None,
+        }
+    }
+
+    fn reach<F: Flash, L: Ledger>(
+        flash: &F,
+        area: &Area,
+        place: u32,
+        least: u32,
+        most: u32,
+        steps: &mut Steps<L>,
+    ) -> u32 {
+        reach_in(sector_view(flash, area, place, steps), least, most)
+    }
+
+    fn reach_of<F: Flash, L: Ledger>(
+        flash: &F,
+        area: &Area,
+        place: u32,
+        slots: u32,
+        least: u32,
+        most: u32,
+        steps: &mut Steps<L>,
+    ) -> u32 {
+        reach_within(sector_view(flash, area, place, steps), slots, least, most)
+    }
+
+    fn begin<F: Flash, L: Ledger>(
+        &mut self,
+        flash: &mut F,
+        area: &Area,
+        place: u32,
+        steps: &mut Steps<L>,
+    ) -> Result<(), PowerLost> {
+        if self.cycle.is_some() {
+            return Ok(());
+        }
+        empty_sector(flash, area, place, steps)?;
+        *self = ZmsOpen {
+            gc_done: false,
+            // the first one
+            cycle: Some(1),
+            slots: 0,
+            data_end: 0,
+        };
+        Ok(())
+    }
+
+    fn put<F: Flash, L: Ledger>(
+        &mut self,
+        flash: &mut F,
+        area: &Area,
+        place: u32,
+        id: u32,
+        bytes: &[u8],
+        steps: &mut Steps<L>,
+    ) -> Result<(), PowerLost> {
+        let opened = self.opened();
+        put_entry_at(flash, area, place, &opened, id, bytes, steps)?;
+        self.slots += 1;
+        self.data_end += cost(bytes.len() as u16) - SLOT;
+        Ok(())
+    }
+
+    fn copy<F: Flash, L: Ledger>(
+        &mut self,
+        flash: &mut F,
+        area: &Area,
+        place: u32,
+        from: &Placed,
+        steps: &mut Steps<L>,
+    ) -> Result<(), PowerLost> {
+        let opened = self.opened();
+        copy_entry_at(flash, area, place, &opened, from.sector, from.slot, steps)?;
+        self.slots += 1;
+        self.data_end += cost(from.len as u16) - SLOT;
+        Ok(())
+    }
+
+    fn mark_done<F: Flash, L: Ledger>(
+        &mut self,
+        flash: &mut F,
+        area: &Area,
+        place: u32,
+        steps: &mut Steps<L>,
+    ) -> Result<(), PowerLost> {
+        let opened = self.opened();
+        put_done_at(flash, area, place, &opened, steps)?;
+        self.gc_done = true;
+        self.slots += 1;
+        Ok(())
+    }
+
+    fn close<F: Flash, L: Ledger>(
+        &self,
+        flash: &mut F,
+        area: &Area,
+        place: u32,
+        steps: &mut Steps<L>,
+    ) -> Result<(), PowerLost> {
+        close_at(flash, area, place, &self.opened(), steps)
+    }
+
+    fn clear<F: Flash, L: Ledger>(
+        flash: &mut F,
+        area: &Area,
+        place: u32,
+        steps: &mut Steps<L>,
+    ) -> Result<(), PowerLost> {
+        empty_sector(flash, area, place, steps)
+    }
+
+    fn scan<F: Flash, L: Ledger>(
+        flash: &F,
+        area: &Area,
+        steps: &mut Steps<L>,
+    ) -> Result<u32, Damaged> {
+        scan(flash, area, steps)
+    }
+
+    ghost lawful = { λ geometry is. zms_is_kind geometry };
+}

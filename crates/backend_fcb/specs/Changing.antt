@@ -16,11 +16,11 @@ use Rattle.fcb_ring.specs.declared.ring.Stage.TheVariants.{Collecting}
 use Rattle.fcb_ring.specs.declared.writing.AppendFault.{AppendFault}
 use Rattle.fcb_ring.specs.declared.writing.AppendFault.TheVariants.{Full, TooLong, PowerLost}
 use Rattle.backend_api.specs.Ends.{SpendsSome}
-use Rattle.backend_fcb.specs.Live.{live_bodies}
-use Rattle.backend_fcb.specs.Numbers.{cap}
+use Rattle.record_settings.specs.Live.{live_bodies}
+use Rattle.record_settings.specs.Numbers.{cap}
 use Rattle.item_laws.specs.PairRounds.{joined}
-use Rattle.backend_fcb.specs.Rounds.{bodies_cost, FindsNoRoom}
-use Rattle.backend_fcb.specs.Settings.{setting_of, with_setting}
+use Rattle.record_settings.specs.Rounds.{bodies_cost, FindsNoRoom}
+use Rattle.record_settings.specs.Settings.{setting_of, with_setting}
 use Rattle.backend_fcb.specs.Standing.{damage_on, settings_on, IsReady}
 use Rattle.backend_fcb.specs.Tearing.{StopsPutting}
 

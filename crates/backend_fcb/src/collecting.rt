@@ -7,7 +7,7 @@ ghost use Rattle.flash_map.specs.Units.{padded};
 ghost use Rattle.fcb_ring.specs.Chance.{HasNoChance};
 ghost use Rattle.fcb_ring.specs.Changing.{is_scratch_left, newest_place, sector_list};
 ghost use Rattle.fcb_ring.specs.Standing.{StandsOn as RingStandsOn, KeepsEntries, is_up};
-ghost use Rattle.backend_fcb.specs.Rounds.{bodies_cost};
+ghost use Rattle.record_settings.specs.Rounds.{bodies_cost};
 ghost use Rattle.backend_fcb.specs.Changing.{Copies, CopiesLive, Collects, StopsCopying, collect_units};
 ghost use Rattle.backend_fcb.specs.Gathering.{AreKeptWithin, AreShort, IsKept, bodies_at};
 ghost use Rattle.backend_fcb.specs.Standing.{damage_on, settings_on, IsReady};

@@ -9,8 +9,8 @@ use Rattle.fcb_ring.specs.declared.record.RecordAt.{RecordAt}
 use Rattle.fcb_ring.specs.declared.ring.Ring.{Ring}
 use Rattle.fcb_ring.specs.Standing.{IsListed, entries_on, record_places}
 use Rattle.fcb_ring.specs.Entries.{bodies}
-use Rattle.backend_fcb.specs.Live.{live_bodies}
-use Rattle.backend_fcb.specs.Rounds.{bodies_cost}
+use Rattle.record_settings.specs.Live.{live_bodies}
+use Rattle.record_settings.specs.Rounds.{bodies_cost}
 use Rattle.flash_map.specs.Area.{value_limit}
 use Rattle.backend_fcb.specs.Changing.{Copies}
 use Rattle.backend_fcb.specs.Gathering.{AreKeptWithin, AreShort, IsKept, bodies_at, Gathers}

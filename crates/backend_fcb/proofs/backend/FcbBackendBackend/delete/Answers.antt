@@ -12,10 +12,10 @@ use Rattle.backend_api.proofs.MapLemmas.{remove-absent}
 use Rattle.backend_api.specs.Room.{most_units}
 use Rattle.backend_api.specs.Commands.Command.{Del}
 use Rattle.backend_fcb.specs.Changing.{HasNoPlace, PutEnds, SpendsCost, SpendsUpToCost, collect_units}
-use Rattle.backend_fcb.specs.Numbers.{put_cost}
-use Rattle.backend_fcb.specs.Settings.{body_of, setting_of, with_setting}
+use Rattle.record_settings.specs.Numbers.{put_cost}
+use Rattle.record_settings.specs.Settings.{body_of, setting_of, with_setting}
 use Rattle.backend_fcb.specs.Standing.{settings_on}
-use Rattle.backend_fcb.proofs.BodyLemmas.{length-body_of}
+use Rattle.record_settings.proofs.BodyLemmas.{length-body_of}
 use Rattle.backend_fcb.proofs.Ends.{stands-ready, none-more, some-bytes, few-bytes, ready-stands, ready-undamaged, deletes-same, deletes-one, delete-fits, two-rounds, absent-yes, absent-not, delete-cost, takes-value}
 use Rattle.backend_fcb.proofs.Tearing.{stops-at}
 use Rattle.backend_fcb.proofs.backend.FcbBackendBackend.delete.Goals as goal

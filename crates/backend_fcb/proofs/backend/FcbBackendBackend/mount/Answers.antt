@@ -10,7 +10,7 @@ use Rattle.fcb_ring.proofs.AppendLemmas.{unit-after}
 use Rattle.fcb_ring.specs.Rings.{first_damage}
 use Rattle.fcb_ring.specs.Standing.{states_on, erases_due, erases_on}
 use Rattle.backend_api.specs.Room.{mount_units}
-use Rattle.backend_fcb.specs.Numbers.{reserve}
+use Rattle.record_settings.specs.Numbers.{reserve}
 use Rattle.std.specs.Option.{option_map}
 use Rattle.backend_fcb.specs.Reading.{first_overfull}
 use Rattle.backend_fcb.specs.Standing.{IsReady, damage_on}

@@ -17,10 +17,10 @@ use Rattle.backend_api.proofs.MapLemmas.{insert-stored}
 use Rattle.backend_api.specs.Room.{most_units}
 use Rattle.backend_api.specs.Commands.Command.{Put}
 use Rattle.backend_fcb.specs.Changing.{HasNoPlace, PutEnds, SpendsCost, SpendsUpToCost, collect_units}
-use Rattle.backend_fcb.specs.Numbers.{pair_cost}
-use Rattle.backend_fcb.specs.Settings.{body_of, setting_of, with_setting}
+use Rattle.record_settings.specs.Numbers.{pair_cost}
+use Rattle.record_settings.specs.Settings.{body_of, setting_of, with_setting}
 use Rattle.backend_fcb.specs.Standing.{settings_on}
-use Rattle.backend_fcb.proofs.BodyLemmas.{length-body_of}
+use Rattle.record_settings.proofs.BodyLemmas.{length-body_of}
 use Rattle.backend_fcb.proofs.Ends.{stands-ring, stands-ready, none-more, some-bytes, few-bytes, one-less, ready-stands, ready-undamaged, sets-same, sets-new, finds-no_space, few-rounds, puts-value}
 use Rattle.backend_fcb.proofs.Tearing.{stops-at}
 use Rattle.backend_fcb.proofs.backend.FcbBackendBackend.set.Goals as goal

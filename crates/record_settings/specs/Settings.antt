@@ -4,7 +4,7 @@ use Rattle.std.specs.List.{take_while}
 use Rattle.std.specs.FinMap.{empty, insert, remove}
 use Rattle.setting_name.specs.Name.{is_name}
 use Rattle.backend_api.specs.Map.{Map}
-use Rattle.backend_fcb.specs.declared.laws.TheConstants.{NAME_LIMIT}
+use Rattle.record_settings.specs.declared.laws.TheConstants.{NAME_LIMIT}
 
 -- the first `=` ends the name
 abbrev pub name_in : List ℕ → List ℕ

@@ -1,11 +1,11 @@
-// Settings as a list of records: what the bodies of records say, which of them a collection keeps, and what they cost. It has definitions and laws alone.
+// What a collection and a torn record make of settings.
 ghost use Rattle.std.specs.Prelude.{◌≡◌, ◌≤◌, ◌++◌, ℕ, List, length};
 ghost use Rattle.flash_sim.specs.declared.flash.TheConstants.{PROGRAM_LIMIT};
 ghost use Rattle.flash_map.specs.Units.{IsUnit};
 ghost use Rattle.fcb_ring.specs.Writing.{record_cost, spelled, IsChance};
-ghost use Rattle.backend_fcb.specs.Live.{live_bodies};
-ghost use Rattle.backend_fcb.specs.Settings.{setting_of, settings_of};
-ghost use Rattle.backend_fcb.specs.Torn.{torn_body, IsTornOf};
+ghost use Rattle.record_settings.specs.Live.{live_bodies};
+ghost use Rattle.record_settings.specs.Settings.{setting_of, settings_of};
+ghost use Rattle.record_settings.specs.Torn.{torn_body, IsTornOf};
 
 /// The most bytes of a name.
 pub const NAME_LIMIT: u32 = 64;

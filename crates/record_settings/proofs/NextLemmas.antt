@@ -6,13 +6,13 @@ use Rattle.std.proofs.lemmas.Cmp.{nat_list_cmp_total}
 use Rattle.std.proofs.lemmas.List.Sums.{fold_push}
 use Rattle.backend_api.specs.Map.{Map, is_behind, next_name}
 use Rattle.backend_api.proofs.LeastLemmas.{cmp, least-same, next-least, least-more}
-use Rattle.backend_fcb.specs.Settings.{setting_of, settings_of}
+use Rattle.record_settings.specs.Settings.{setting_of, settings_of}
 use Rattle.backend_api.specs.Least.{is_before, IsLeast}
-use Rattle.backend_fcb.specs.Live.{has_name, names, is_live, live_bodies}
-use Rattle.backend_fcb.proofs.BodyLemmas.{settings-none}
-use Rattle.backend_fcb.proofs.FrontLemmas.{settings-dead, settings-live, live-front}
-use Rattle.backend_fcb.proofs.LastLemmas.{tie}
-use Rattle.backend_fcb.proofs.LiveLemmas.{live-says}
+use Rattle.record_settings.specs.Live.{has_name, names, is_live, live_bodies}
+use Rattle.record_settings.proofs.BodyLemmas.{settings-none}
+use Rattle.record_settings.proofs.FrontLemmas.{settings-dead, settings-live, live-front}
+use Rattle.record_settings.proofs.LastLemmas.{tie}
+use Rattle.record_settings.proofs.LiveLemmas.{live-says}
 
 -- the least name after one more record
 abbrev pub least_by : Option (List ℕ) → Option (List ℕ) → Option (List ℕ × List ℕ) → Option (List ℕ)

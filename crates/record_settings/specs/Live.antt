@@ -2,7 +2,7 @@
 use Rattle.std.specs.Prelude.{ℕ, Bool, false, not, ◌&&◌, List, [], ◌∷◌, ◌++◌, length, Option, Some, None, ◌==◌, if◌then◌else◌}
 use Rattle.std.specs.List.{list_any}
 use Rattle.std.specs.Str.{bytes_eq}
-use Rattle.backend_fcb.specs.Settings.{setting_of}
+use Rattle.record_settings.specs.Settings.{setting_of}
 
 abbrev pub has_name : List ℕ → Option (List ℕ × List ℕ) → Bool
 has_name name None = false

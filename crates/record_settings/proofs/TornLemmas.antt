@@ -4,8 +4,8 @@ use Rattle.std.proofs.lemmas.List.{length-replicate}
 use Rattle.std.proofs.lemmas.Bool.{cases_Bool, cases_lt, cond-true, cond-false, and_left, and_right, le-ltb, not_from_true, not_from_false}
 use Rattle.std.proofs.lemmas.List.Sums.{take_while-cons}
 use Rattle.setting_name.specs.Name.{is_name}
-use Rattle.backend_fcb.specs.Settings.{name_in, value_in, setting_of}
-use Rattle.backend_fcb.specs.Torn.{torn_body, IsTornOf}
+use Rattle.record_settings.specs.Settings.{name_in, value_in, setting_of}
+use Rattle.record_settings.specs.Torn.{torn_body, IsTornOf}
 
 erased-length : (n : ℕ) → length (replicate {A = ℕ} n 0xFF) ≡ n
 erased-length n = length-replicate {A = ℕ} n 0xFF

@@ -6,9 +6,9 @@ use Rattle.flash_map.proofs.PieceLemmas.{next_fits}
 use Rattle.flash_map.proofs.Rounding.{padding}
 use Rattle.fcb_ring.specs.Writing.{record_cost, spelled, IsChance}
 use Rattle.fcb_ring.proofs.ImageLemmas.{spelled-is}
-use Rattle.backend_fcb.specs.Settings.{setting_of}
-use Rattle.backend_fcb.specs.Torn.{IsTornOf}
-use Rattle.backend_fcb.proofs.TornLemmas.{torn-setting}
+use Rattle.record_settings.specs.Settings.{setting_of}
+use Rattle.record_settings.specs.Torn.{IsTornOf}
+use Rattle.record_settings.proofs.TornLemmas.{torn-setting}
 
 -- Its body is one of which only the first bytes were put.
 pub spelled-setting : (limit unit : ℕ) (body : List ℕ) (done : ℕ) → IsUnit unit → record_cost unit (length body) ≤ PROGRAM_LIMIT → IsChance unit body done → IsTornOf (setting_of limit body) (setting_of limit (spelled unit body done))

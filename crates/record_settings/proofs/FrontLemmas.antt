@@ -15,16 +15,16 @@ use Rattle.item_laws.specs.Items.{last}
 use Rattle.item_laws.proofs.LivePairs.{last-is, last-append, absent, present}
 use Rattle.setting_name.specs.Name.{IsName}
 use Rattle.backend_api.specs.Map.{Map, IsValue, IsSettings}
-use Rattle.backend_fcb.specs.Settings.{setting_of, settings_of}
-use Rattle.backend_fcb.specs.Last.{last_value, stored}
-use Rattle.backend_fcb.specs.Live.{names, is_live, is_live_by, live_bodies}
-use Rattle.backend_fcb.specs.Numbers.{pair_cost}
+use Rattle.record_settings.specs.Settings.{setting_of, settings_of}
+use Rattle.record_settings.specs.Last.{last_value, stored}
+use Rattle.record_settings.specs.Live.{names, is_live, is_live_by, live_bodies}
+use Rattle.record_settings.specs.Numbers.{pair_cost}
 use Rattle.fcb_ring.specs.Writing.{record_cost}
-use Rattle.backend_fcb.specs.Rounds.{bodies_cost}
-use Rattle.backend_fcb.proofs.BodyLemmas.{setting-says, settings-none}
-use Rattle.backend_fcb.proofs.Coded.{code, pairs_of, pairs-append, names-coded, value_by, last-coded}
-use Rattle.backend_fcb.proofs.LastLemmas.{found_by, last_value-scan, tie, get-settings_of, same_settings}
-use Rattle.backend_fcb.proofs.LiveLemmas.{LiveSetting, live-says}
+use Rattle.record_settings.specs.Rounds.{bodies_cost}
+use Rattle.record_settings.proofs.BodyLemmas.{setting-says, settings-none}
+use Rattle.record_settings.proofs.Coded.{code, pairs_of, pairs-append, names-coded, value_by, last-coded}
+use Rattle.record_settings.proofs.LastLemmas.{found_by, last_value-scan, tie, get-settings_of, same_settings}
+use Rattle.record_settings.proofs.LiveLemmas.{LiveSetting, live-says}
 
 -- ---- where the last record of a name stands
 

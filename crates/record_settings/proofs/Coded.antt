@@ -7,11 +7,11 @@ use Rattle.std.proofs.lemmas.Slice.Eq.{bytes_eq-Decides}
 use Rattle.item_laws.specs.Items.{last, value_of}
 use Rattle.item_laws.specs.LivePairs.{live_pairs, names as ids}
 use Rattle.item_laws.proofs.LivePairs.{step, last_from, last-is, collected}
-use Rattle.backend_fcb.specs.Settings.{value_in, setting_of, settings_of}
-use Rattle.backend_fcb.specs.Last.{last_value, stored}
-use Rattle.backend_fcb.specs.Live.{has_name, names, is_live_by, live_bodies}
-use Rattle.backend_fcb.proofs.BodyLemmas.{setting-says, value-setting}
-use Rattle.backend_fcb.proofs.LastLemmas.{found_by, found_from, last_value-scan, same_settings}
+use Rattle.record_settings.specs.Settings.{value_in, setting_of, settings_of}
+use Rattle.record_settings.specs.Last.{last_value, stored}
+use Rattle.record_settings.specs.Live.{has_name, names, is_live_by, live_bodies}
+use Rattle.record_settings.proofs.BodyLemmas.{setting-says, value-setting}
+use Rattle.record_settings.proofs.LastLemmas.{found_by, found_from, last_value-scan, same_settings}
 
 -- ---- names as numbers
 

@@ -3,7 +3,7 @@
 use Rattle.std.specs.Prelude.{ℕ, List, length, sum_by}
 use Rattle.fcb_ring.specs.Writing.{record_cost}
 use Rattle.item_laws.specs.PairRounds.{LeavesNoRoom}
-use Rattle.backend_fcb.specs.Live.{live_bodies}
+use Rattle.record_settings.specs.Live.{live_bodies}
 
 -- what records with these bodies cost
 abbrev pub bodies_cost : ℕ → List (List ℕ) → ℕ

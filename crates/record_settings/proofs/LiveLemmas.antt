@@ -3,8 +3,8 @@ use Rattle.std.proofs.Common.{◌≡◌, ℕ, Bool, true, false, cond, not, ◌&
 use Rattle.std.proofs.lemmas.Bool.{or_left, or_right}
 use Rattle.std.proofs.lemmas.List.{append-nil}
 use Rattle.std.proofs.lemmas.List.Folds.{list_any-append}
-use Rattle.backend_fcb.specs.Settings.{setting_of}
-use Rattle.backend_fcb.specs.Live.{has_name, names, is_live, is_live_by, live_bodies}
+use Rattle.record_settings.specs.Settings.{setting_of}
+use Rattle.record_settings.specs.Live.{has_name, names, is_live, is_live_by, live_bodies}
 
 -- ---- looking for a name in later records
 

@@ -4,7 +4,7 @@ use Rattle.std.specs.FinMap.{entries}
 use Rattle.flash_map.specs.Units.{padded}
 use Rattle.fcb_ring.specs.Writing.{record_cost}
 use Rattle.backend_api.specs.Room.{Room}
-use Rattle.backend_fcb.specs.Settings.{setting_of, longest}
+use Rattle.record_settings.specs.Settings.{setting_of, longest}
 
 -- each sector keeps room for a delete of the longest name
 abbrev pub reserve : ℕ → ℕ

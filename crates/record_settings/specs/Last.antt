@@ -1,8 +1,8 @@
 -- What the last record of a name says.
 use Rattle.std.specs.Prelude.{ℕ, List, length, filter_map, Option, Some, None, ◌==◌, if◌then◌else◌}
 use Rattle.std.specs.List.{last_or}
-use Rattle.backend_fcb.specs.Live.{value_for}
-use Rattle.backend_fcb.specs.Settings.{setting_of}
+use Rattle.record_settings.specs.Live.{value_for}
+use Rattle.record_settings.specs.Settings.{setting_of}
 
 -- the values that the records of the name give it, in order; no bytes where one takes it away
 abbrev pub values_for : ℕ → List ℕ → List (List ℕ) → List (List ℕ)

@@ -12,9 +12,9 @@ use Rattle.std.proofs.lemmas.List.Sums.{fold_push}
 use Rattle.std.proofs.lemmas.Map.Lookups.{exact_bytes}
 use Rattle.std.proofs.lemmas.Map.Text.{is_eq-slice_cmp}
 use Rattle.backend_api.specs.Map.{Map}
-use Rattle.backend_fcb.specs.Settings.{setting_of, with_setting, settings_of}
-use Rattle.backend_fcb.specs.Last.{values_for, last_value, stored}
-use Rattle.backend_fcb.specs.Live.{value_for}
+use Rattle.record_settings.specs.Settings.{setting_of, with_setting, settings_of}
+use Rattle.record_settings.specs.Last.{values_for, last_value, stored}
+use Rattle.record_settings.specs.Live.{value_for}
 
 -- ---- a scan of the records
 

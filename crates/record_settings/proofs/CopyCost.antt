@@ -4,12 +4,12 @@ use Rattle.std.specs.Prelude.{sum_by}
 use Rattle.std.proofs.lemmas.Bool.{cases_Bool, cond-true, cond-false}
 use Rattle.std.proofs.lemmas.List.Sums.{sum_by-cons}
 use Rattle.fcb_ring.specs.Writing.{record_cost}
-use Rattle.backend_fcb.specs.Settings.{settings_of}
-use Rattle.backend_fcb.specs.Live.{is_live, live_bodies}
-use Rattle.backend_fcb.specs.Numbers.{cost_by, put_cost, room}
-use Rattle.backend_fcb.specs.Rounds.{bodies_cost}
-use Rattle.backend_fcb.proofs.FrontLemmas.{settings-cost}
-use Rattle.backend_fcb.proofs.LiveLemmas.{live-says}
+use Rattle.record_settings.specs.Settings.{settings_of}
+use Rattle.record_settings.specs.Live.{is_live, live_bodies}
+use Rattle.record_settings.specs.Numbers.{cost_by, put_cost, room}
+use Rattle.record_settings.specs.Rounds.{bodies_cost}
+use Rattle.record_settings.proofs.FrontLemmas.{settings-cost}
+use Rattle.record_settings.proofs.LiveLemmas.{live-says}
 
 -- a live record costs what a put of its body does
 pub put-live : (limit unit : ℕ) (body : List ℕ) (later : List (List ℕ)) → is_live limit body later ≡ true → put_cost limit unit body ≡ record_cost unit (length body)

@@ -10,13 +10,13 @@ use Rattle.item_laws.proofs.RoundLemmas.{live-again}
 use Rattle.fcb_ring.specs.Writing.{record_cost}
 use Rattle.backend_api.specs.Map.{Map}
 use Rattle.backend_api.specs.Room.{HasNoRoom}
-use Rattle.backend_fcb.specs.Settings.{settings_of}
-use Rattle.backend_fcb.specs.Live.{live_bodies}
-use Rattle.backend_fcb.specs.Numbers.{cap, pair_cost, room}
-use Rattle.backend_fcb.specs.Rounds.{bodies_cost, FindsNoRoom}
-use Rattle.backend_fcb.proofs.Coded.{pairs_of, pairs-none, pairs-append, bodies_in, bodies-live, pairs-live}
-use Rattle.backend_fcb.proofs.CopyCost.{room-cost}
-use Rattle.backend_fcb.proofs.LiveLemmas.{copies-none}
+use Rattle.record_settings.specs.Settings.{settings_of}
+use Rattle.record_settings.specs.Live.{live_bodies}
+use Rattle.record_settings.specs.Numbers.{cap, pair_cost, room}
+use Rattle.record_settings.specs.Rounds.{bodies_cost, FindsNoRoom}
+use Rattle.record_settings.proofs.Coded.{pairs_of, pairs-none, pairs-append, bodies_in, bodies-live, pairs-live}
+use Rattle.record_settings.proofs.CopyCost.{room-cost}
+use Rattle.record_settings.proofs.LiveLemmas.{copies-none}
 
 -- ---- copies stay live behind the records that they were copied past
 

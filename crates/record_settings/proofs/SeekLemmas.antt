@@ -6,11 +6,11 @@ use Rattle.std.proofs.lemmas.Cmp.{nat_list_cmp_total, tied_itself}
 use Rattle.std.proofs.lemmas.Slice.Eq.{bytes_eq-Decides}
 use Rattle.backend_api.specs.Map.{is_behind, next_name}
 use Rattle.backend_api.proofs.LeastLemmas.{cmp, next-least, greater, behind-later, least-other}
-use Rattle.backend_fcb.specs.Settings.{setting_of, settings_of}
+use Rattle.record_settings.specs.Settings.{setting_of, settings_of}
 use Rattle.backend_api.specs.Least.{IsLeast}
-use Rattle.backend_fcb.specs.Live.{has_name, names, is_live, live_bodies}
-use Rattle.backend_fcb.proofs.FrontLemmas.{live-front}
-use Rattle.backend_fcb.proofs.NextLemmas.{least_of, settings-keys, keys-least, next-found}
+use Rattle.record_settings.specs.Live.{has_name, names, is_live, live_bodies}
+use Rattle.record_settings.proofs.FrontLemmas.{live-front}
+use Rattle.record_settings.proofs.NextLemmas.{least_of, settings-keys, keys-least, next-found}
 
 -- ---- a name with a value is one of a record
 

@@ -9,7 +9,7 @@ use Rattle.std.proofs.lemmas.List.Sums.{fold_push, split_at_first, passes_at_fir
 use Rattle.setting_name.specs.Name.{IsName, is_name}
 use Rattle.setting_name.proofs.KeyLemmas.{name_bytes}
 use Rattle.setting_name.proofs.NameTest.{is_name-sound, is_name-complete}
-use Rattle.backend_fcb.specs.Settings.{name_in, value_in, setting_of, longest, body_of, with_setting, settings_of}
+use Rattle.record_settings.specs.Settings.{name_in, value_in, setting_of, longest, body_of, with_setting, settings_of}
 
 -- what a body is that gives a name a value, or takes it away
 pub record Says (limit : ℕ) (body name value : List ℕ) : Type 0 where

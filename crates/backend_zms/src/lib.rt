@@ -5,7 +5,6 @@
 mod backend;
 mod hash;
 mod numbers;
-mod putting;
 
 pub use backend::ZmsBackend;
 pub use hash::{FIRST, GROUP_SIZE, first_of};

@@ -17,6 +17,6 @@ pub use geometry::{capacity, cost, fits, slot_size};
 pub use lookup::{find, walk};
 pub use mounting::mount_scan;
 pub use places::{is_blank, is_closed};
-pub use scan::{Found, Redo, Scan, SlotEntry, is_hidden};
+pub use scan::{Found, Redo, Scan, SlotEntry};
 pub use sector::{find_in, scan_sector};
 pub use slots::{counting_entry, used_count};

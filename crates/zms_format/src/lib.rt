@@ -9,5 +9,4 @@ mod sector;
 
 pub use laws::{first_entry_is_known, parts_of_list};
 pub use mounting::scan;
-pub use places::marks_at;
 pub use sector::{Found, Marks, find_in, is_clean};

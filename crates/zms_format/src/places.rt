@@ -30,8 +30,8 @@ pub enum Sought {
     Full(u32),
 }
 
-/// The marks of a sector. It is one step.
-pub fn marks_at<F: Flash, L: Ledger>(
+// The marks of a sector. It is one step.
+fn marks_at<F: Flash, L: Ledger>(
     flash: &F,
     area: &Area,
     place: u32,

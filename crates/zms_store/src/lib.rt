@@ -8,10 +8,8 @@ mod reading;
 mod sectors;
 mod store;
 mod writing;
-mod zms;
 
 pub use item_store::LastSlots;
 pub use sectors::ZmsOpen;
 pub use store::Zms;
-pub use zms::mount;
 pub use zms_format::Found;

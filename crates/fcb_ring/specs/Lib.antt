@@ -1,5 +1,6 @@
 pub mod Chance
 pub mod Changing
+pub mod Ends
 pub mod Entries
 pub mod Gains
 pub mod Records

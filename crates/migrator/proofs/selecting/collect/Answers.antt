@@ -47,8 +47,8 @@ returns-clause-collected g c =
     collected-all c.args.map.now (g.F.Flash.device c.args.flash.now) (g.F.Flash.device c.begin_collect.new.flash) (g.F.Flash.device c.copy_last.new.flash) (g.F.Flash.device c.end_collect.new.flash)
     c.args.ring.now c.begin_collect.new.self c.copy_last.new.ring c.end_collect.new.self c.last_record-last.result
     (g.met.F.Flash.is_lawful c.args.flash.now) (g.met.F.Flash.is_lawful c.begin_collect.new.flash) (g.met.F.Flash.is_lawful c.copy_last.new.flash) c.requires.mounted c.requires.left c.last_record-last.ensures
-    one.banks two.touches.banks one.others two.others one.units two.units three.units one.list one.area one.stands one.goes_on two.list two.area two.collecting two.copied three.ends
-    three.stands three.ready (three.reserve ∙ two.reserve ∙ one.reserve) three.end
+    one.banks two.touches.banks one.others two.others one.units two.units three.ended.units one.list one.area one.stands one.goes_on two.list two.area two.collecting two.copied three.ended.ends
+    three.ended.stands three.ended.ready (three.ended.reserve ∙ two.reserve ∙ one.reserve) three.ended.end
 
 pub returns-in_err-begin_collect-clause-at_most : goal.returns-in_err-begin_collect-clause-at_most
 returns-in_err-begin_collect-clause-at_most g c =
@@ -75,7 +75,7 @@ returns-in_err-end_collect-clause-at_most g c =
     let area = c.args.ring.now.area in
     let one = c.in_ok-begin_collect.ensures.begun in
     let two : SpendsAtMost b m (record_units a area 2) = subst (λ (n : ℕ). SpendsAtMost b m n) (record-same a b area c.begin_collect.new.self.area one.banks one.area) c.copy_last.ensures.at_most in
-    most_then a m e (header_units a area + record_units a area 2) 1 (most_then a b m (header_units a area) (record_units a area 2) (spends_most a b (header_units a area) one.units) two) c.in_err-end_collect.ensures.bound
+    most_then a m e (header_units a area + record_units a area 2) 1 (most_then a b m (header_units a area) (record_units a area 2) (spends_most a b (header_units a area) one.units) two) c.in_err-end_collect.ensures.stopped.bound
 
 pub returns-clause-at_most : goal.returns-clause-at_most
 returns-clause-at_most g c =
@@ -86,4 +86,4 @@ returns-clause-at_most g c =
     let area = c.args.ring.now.area in
     let one = c.in_ok-begin_collect.ensures.begun in
     let two : SpendsAtMost b m (record_units a area 2) = subst (λ (n : ℕ). SpendsAtMost b m n) (record-same a b area c.begin_collect.new.self.area one.banks one.area) c.copy_last.ensures.at_most in
-    most_then a m e (header_units a area + record_units a area 2) 1 (most_then a b m (header_units a area) (record_units a area 2) (spends_most a b (header_units a area) one.units) two) (spends_most m e 1 c.in_ok-end_collect.ensures.units)
+    most_then a m e (header_units a area + record_units a area 2) 1 (most_then a b m (header_units a area) (record_units a area 2) (spends_most a b (header_units a area) one.units) two) (spends_most m e 1 c.in_ok-end_collect.ensures.ended.units)

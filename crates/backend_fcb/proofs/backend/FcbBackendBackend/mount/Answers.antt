@@ -138,11 +138,11 @@ returns-in-Ok-finish-clause-stands g c =
     let none : damage_on d area ≡ None = damage-none d area first costs in
     let undamaged = undamaged-kept d e area (g.met.F.Flash.is_lawful c.args.flash.now) (g.met.F.Flash.is_lawful c.finish.new.flash) ring did.touches.banks kept none in
     let unit : c.geometry-unit.result.unit ≡ unit_of d area = ap (λ (x : Geometry). x.unit) c.geometry-unit.ensures in
-    let new-area : c.finish.new.self.area ≡ area = did.area ∙ same in
+    let new-area : c.finish.new.self.area ≡ area = did.finished.area ∙ same in
     let ready : IsReady e c.finish.new.self = record {
-      stands = did.stands;
-      ready = did.ready;
-      reserve = did.reserve ∙ c.in-Ok.ensures.ring.1 ∙ c.reserve.ensures ∙ ap reserve (unit ∙ sym (unit-after d e area c.finish.new.self.area did.touches.banks new-area));
+      stands = did.finished.stands;
+      ready = did.finished.ready;
+      reserve = did.finished.reserve ∙ c.in-Ok.ensures.ring.1 ∙ c.reserve.ensures ∙ ap reserve (unit ∙ sym (unit-after d e area c.finish.new.self.area did.touches.banks new-area));
       undamaged = subst (λ (x : Area). damage_on e x ≡ None) (sym new-area) undamaged;
     } in
     ready-stands e c.finish.new.self area new-area c.requires.serves ready
@@ -161,28 +161,28 @@ pub returns-in-Ok-finish-clause-exact : goal.returns-in-Ok-finish-clause-exact
 returns-in-Ok-finish-clause-exact g c =
     let d : Device = g.F.Flash.device c.args.flash.now in
     let e : Device = g.F.Flash.device c.finish.new.flash in
-    subst (λ (x : Area). Spends d e (erases_on d x)) c.in-Ok.ensures.ring.0 c.in-Ok-finish.ensures.units
+    subst (λ (x : Area). Spends d e (erases_on d x)) c.in-Ok.ensures.ring.0 c.in-Ok-finish.ensures.finished.units
 
 pub returns-in-Ok-finish-clause-few : goal.returns-in-Ok-finish-clause-few
 returns-in-Ok-finish-clause-few g c =
     let d : Device = g.F.Flash.device c.args.flash.now in
     let e : Device = g.F.Flash.device c.finish.new.flash in
-    (erases_on d c.args.area, omega arith, subst (λ (x : Area). Spends d e (erases_on d x)) c.in-Ok.ensures.ring.0 c.in-Ok-finish.ensures.units)
+    (erases_on d c.args.area, omega arith, subst (λ (x : Area). Spends d e (erases_on d x)) c.in-Ok.ensures.ring.0 c.in-Ok-finish.ensures.finished.units)
 
 pub returns-in-Err-finish-clause-few : goal.returns-in-Err-finish-clause-few
 returns-in-Err-finish-clause-few g c =
     let d : Device = g.F.Flash.device c.args.flash.now in
     let e : Device = g.F.Flash.device c.finish.new.flash in
-    subst (λ (x : Area). SpendsAtMost d e (erases_on d x)) c.in-Ok.ensures.ring.0 c.in-Err-finish.ensures.bound
+    subst (λ (x : Area). SpendsAtMost d e (erases_on d x)) c.in-Ok.ensures.ring.0 c.in-Err-finish.ensures.stopped.bound
 
 pub returns-in-Ok-finish-clause-at_most : goal.returns-in-Ok-finish-clause-at_most
 returns-in-Ok-finish-clause-at_most g c =
     let d : Device = g.F.Flash.device c.args.flash.now in
     let e : Device = g.F.Flash.device c.finish.new.flash in
-    mount-most d c.args.area c.requires.lawful e (erases_on d c.args.area, omega arith, subst (λ (x : Area). Spends d e (erases_on d x)) c.in-Ok.ensures.ring.0 c.in-Ok-finish.ensures.units)
+    mount-most d c.args.area c.requires.lawful e (erases_on d c.args.area, omega arith, subst (λ (x : Area). Spends d e (erases_on d x)) c.in-Ok.ensures.ring.0 c.in-Ok-finish.ensures.finished.units)
 
 pub returns-in-Err-finish-clause-at_most : goal.returns-in-Err-finish-clause-at_most
 returns-in-Err-finish-clause-at_most g c =
     let d : Device = g.F.Flash.device c.args.flash.now in
     let e : Device = g.F.Flash.device c.finish.new.flash in
-    mount-most d c.args.area c.requires.lawful e (subst (λ (x : Area). SpendsAtMost d e (erases_on d x)) c.in-Ok.ensures.ring.0 c.in-Err-finish.ensures.bound)
+    mount-most d c.args.area c.requires.lawful e (subst (λ (x : Area). SpendsAtMost d e (erases_on d x)) c.in-Ok.ensures.ring.0 c.in-Err-finish.ensures.stopped.bound)

@@ -5,6 +5,7 @@ pub mod Entries
 pub mod Gains
 pub mod Records
 pub mod Rings
+pub mod Scratch
 pub mod SectorStates
 pub mod Standing
 pub mod Writing

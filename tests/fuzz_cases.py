@@ -27,6 +27,15 @@ WRONG_LINES = ["fly", "", " ", "# a note", "set a", "set a 0g", "set a 1", "set 
                "set a " + "11" * 257, "set a " + "11" * 2049, "put " + "11" * 257, "get " + "n" * 65,
                "get 1/2/3/4/5/6/7/8/9", "migrate x", "direct a="]
 
+# What stands behind each first word of a script on settings: a name, a value, a value or -, a kind, a number, or a name or nothing.
+FIELDS = {"set": "n-", "get": "n", "del": "n", "register": "nk", "load": "?", "direct": "?", "save": "?", "commit": "", "rset": "nv",
+          "rget": "n", "names": "", "mount": "", "cut": "u", "uncut": "", "migrate": ""}
+ODD = {"n": ["", "/", "a//b", "a=b", "/a", "a/", "x" * 65, "1/2/3/4/5/6/7/8/9", "\x7f", "a", "c/d", "~"],
+       "v": ["", "0", "0g", "-", "--", "zz", "a-", "00" * 257, "0" * 513, "AB", "00" * 256],
+       "-": ["", "0", "0g", "-", "--", "zz", "a-", "00" * 257, "0" * 513, "AB", "00" * 256],
+       "k": ["table", "counter", "level", "box", "Table", ""],
+       "u": ["0", "00", "01", "+1", "-1", "", "4294967295", "4294967296", "99999999999999999999999", "7"]}
+
 
 # Images
 
@@ -240,6 +249,17 @@ def script(rng, command, image):
     return ("\n".join(lines) + rng.choice(["", "\n"])).encode()
 
 
+def odd_line(rng):
+    """A line of a script on settings with odd words, lawful or not."""
+    word = rng.choice(list(FIELDS))
+    words = [word] + [rng.choice(ODD[field]) for field in FIELDS[word].replace("?", rng.choice(["", "n"]))]
+    if rng.random() < 0.2:
+        words.insert(rng.randrange(len(words) + 1), rng.choice(["", "x", word]))
+    elif rng.random() < 0.1:
+        words.pop()
+    return " ".join(words)
+
+
 def many_lines(rng, writer):
     """More names of one hash than a group of ZMS holds, many small names, or so many migrations that the selector collects."""
     group = hash_group(b"z0")
@@ -365,8 +385,10 @@ def bytes_case(rng):
         image = changed_bytes(rng, image)
     elif choice < 0.8:
         image = changed_head(rng, image)
-    elif choice < 0.95:
+    elif choice < 0.9:
         text = changed_bytes(rng, text)
+    elif choice < 0.97:
+        text = "\n".join(odd_line(rng) for _ in range(rng.choice([1, 1, 2, 4]))).encode()
     else:
         return words_case(rng, image, text)
     if rng.random() < 0.12:

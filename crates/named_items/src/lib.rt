@@ -1,12 +1,5 @@
-//! Settings as pairs of items: the map of names to values that a map of items reads as, what a
-//! write or a delete of one item makes of it, and what it costs. It has definitions and laws alone;
-//! each function does nothing, and its contract is the law.
-//!
-//! One interface for stores of numbered items. Its meaning is the map of ids to bytes that an area
-//! holds; what stands on it knows no more of a store. The stores over NVS and ZMS meet it.
-//!
-//! Settings: what the backends over a store of items share. A setting is a pair of items, its name
-//! and its value, and a backend says by a type of its own (`Numbers`) at which ids they stand.
+//! Settings kept as pairs of numbered items, one for the name and one for the value: what the
+//! settings stores over NVS and ZMS share.
 #![tactic(auto)]
 
 mod homes;

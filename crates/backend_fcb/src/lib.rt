@@ -1,5 +1,5 @@
-//! Settings over a ring of records: each record gives a name a value, or takes it away, and the
-//! last record of a name decides.
+//! Settings in a ring of FCB records: each record sets or deletes one name, and the last record of
+//! a name decides.
 #![tactic(auto)]
 
 mod backend;

@@ -1,4 +1,4 @@
-//! Runs scripts of settings on simulated flash that may lose power at any unit.
+//! The program `image_tool`: it runs scripts on images of flash that may lose power at any unit.
 #![tactic(auto)]
 
 ghost use Rattle.std.specs.Prelude.{◌≡◌, [], ◌∷◌, ◌++◌, All, OnOk, IfOk, map};

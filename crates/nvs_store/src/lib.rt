@@ -1,4 +1,5 @@
-//! The entries of an NVS store in the sectors of an area.
+//! One NVS sector, with the scan of its area: entries are appended, copied, marked done, closed and
+//! looked up here.
 #![tactic(auto)]
 
 mod calls;

@@ -1,5 +1,6 @@
-//! Plays on application logs, on numbered items and on mirrors: scripts of lines on what an image
-//! holds, on a bench that may lose power at any unit.
+//! The jobs of `image_tool` on numbered items, on an application log and on a mirror of settings:
+//! take an image, carry out the lines of a script on it, power losses included, and keep the
+//! answers and the image that is left.
 #![tactic(auto)]
 
 mod item_opening;

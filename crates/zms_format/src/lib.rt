@@ -1,5 +1,5 @@
-//! How ZMS sectors read: marks, entries, damage, the scan of a mount; and that they are sectors as
-//! the one store of items asks for them.
+//! How ZMS sectors read, as `item_store` asks of a sector format: entries, marks, damage, the scan
+//! of a mount, and what each step costs.
 #![tactic(auto)]
 
 mod laws;

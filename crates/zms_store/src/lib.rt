@@ -1,6 +1,5 @@
-//! A ZMS store: the one store of items over sectors of ZMS.
-//!
-//! The sectors of ZMS for one store of items.
+//! The ZMS store: items with ids of 32 bits, mounted, written and garbage collected by `item_store`
+//! over ZMS sectors.
 #![tactic(auto)]
 
 mod reading;

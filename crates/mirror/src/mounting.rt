@@ -224,7 +224,8 @@ fn repair<K: Priced, F: Flash, L: Ledger>(
     steps: &mut Steps<L>,
 ) -> Result<K, MirrorMount>
     requires other { let d = F.device flash.old in
-        MayCopyTrusted K.serves K.mounted_on K.stands K.contents K.room K.prices d trusted.now area }
+        MayCopyTrusted K.serves K.mounted_on K.stands K.contents K.room K.prices d trusted.now
+        area }
 
     ensures touches { Touches (area ∷ []) (F.device flash.old) (F.device flash.new)
         (mount_lost result) }
@@ -251,7 +252,8 @@ fn open_other<K: Priced, F: Flash, L: Ledger>(
     steps: &mut Steps<L>,
 ) -> Result<K, MirrorMount>
     requires other { let d = F.device flash.old in
-        MayCopyTrusted K.serves K.mounted_on K.stands K.contents K.room K.prices d trusted.now area }
+        MayCopyTrusted K.serves K.mounted_on K.stands K.contents K.room K.prices d trusted.now
+        area }
 
     ensures touches { Touches (area ∷ []) (F.device flash.old) (F.device flash.new)
         (mount_lost result) }

@@ -46,13 +46,13 @@ pub record KeepsSettings (n : Numbering) (before after : Items) : Type 0 where
 -- One id was looked at, and its item deleted if it is a stray. Where it is kept, or where no item is a stray,
 -- nothing is programmed; power is lost only where the id has an item.
 pub record LooksAt (n : Numbering) (old new : Device) (before after : Items) (id : ℕ) (lost : Bool) : Type 0
-    where
-  pub others : AltersOnly before after id
-  pub still : StaysKept n before after
-  pub idle : IsKept n before id → new ≡ old
-  pub rests : HasNoStrays n before → new ≡ old
-  pub present : lost ≡ true → ¬ (get before id ≡ None)
-  pub removes : lost ≡ false → Removes n before after id
+  where
+    pub others : AltersOnly before after id
+    pub still : StaysKept n before after
+    pub idle : IsKept n before id → new ≡ old
+    pub rests : HasNoStrays n before → new ≡ old
+    pub present : lost ≡ true → ¬ (get before id ≡ None)
+    pub removes : lost ≡ false → Removes n before after id
 
 -- it spent what one removal may, and nothing where the item stays
 pub record SpendsOnOne (most : ℕ) (old new : Device) (before after : Items) (lost : Bool) : Type 0 where

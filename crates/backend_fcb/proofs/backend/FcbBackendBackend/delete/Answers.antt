@@ -56,7 +56,6 @@ pub returns-then-is_none-clause-spends : goal.returns-then-is_none-clause-spends
 returns-then-is_none-clause-spends g c = record {
   exact =
       λ changes.
-      
       let d : Device = g.F.Flash.device c.args.flash.now in
       absurd (changes (remove-absent (settings_on d c.args.self.now.ring.area) c.args.name.now (absent-yes (λ b. b.now) c.get.result (finite.get (settings_on d c.args.self.now.ring.area) c.args.name.now) c.get.ensures (c.is_none.ensures ∙ ap not c.if-is_none.true))));
   no_more = λ lost. absurd (false≢true lost);
@@ -92,7 +91,6 @@ pub returns-in-Ok-clause-spends : goal.returns-in-Ok-clause-spends
 returns-in-Ok-clause-spends g c = record {
   exact =
       λ changes.
-      
       let d : Device = g.F.Flash.device c.args.flash.now in
       let e : Device = g.F.Flash.device c.put.new.flash in
       let ring : Ring = c.args.self.now.ring in

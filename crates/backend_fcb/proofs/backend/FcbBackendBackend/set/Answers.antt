@@ -58,7 +58,6 @@ pub returns-then-holds-clause-spends : goal.returns-then-holds-clause-spends
 returns-then-holds-clause-spends g c = record {
   exact =
       λ changes.
-      
       let d : Device = g.F.Flash.device c.args.flash.now in
       absurd (changes (insert-stored (settings_on d c.args.self.now.ring.area) c.args.name.now c.args.value.now (c.holds.ensures.yes_it c.if-holds.true)));
   no_more =
@@ -113,7 +112,6 @@ returns-in-Ok-clause-spends g c =
     record {
       exact =
           λ changes.
-          
           let d : Device = g.F.Flash.device c.args.flash.now in
           let e : Device = g.F.Flash.device c.put.new.flash in
           let ring : Ring = c.args.self.now.ring in
@@ -155,7 +153,6 @@ returns-in-Err-PowerLost-clause-spends g c =
       exact = tt;
       no_more =
           λ lost.
-          
           let d : Device = g.F.Flash.device c.args.flash.now in
           let e : Device = g.F.Flash.device c.put.new.flash in
           let ring : Ring = c.args.self.now.ring in
